@@ -1,0 +1,3 @@
+pub mod SingleByteItems
+pub mod Front
+pub mod NameTests

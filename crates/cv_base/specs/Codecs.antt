@@ -1,0 +1,34 @@
+-- How characters are written, and what every codec keeps.
+use Rattle.std.specs.Prelude.{◌≡◌, ℕ, ◌<◌, ◌≤◌, List, [], ◌∷◌, length, Option, IsSome, IfSome}
+use Rattle.cv_base.specs.Scalars.{question}
+use Rattle.cv_base.specs.Items.{Taken, ItemRelation, Begins, Stands, IsNext}
+use Rattle.cv_base.specs.declared.item.Item.{Item}
+use Rattle.cv_base.specs.declared.item.Item.TheVariants.{Ill}
+use Rattle.cv_base.specs.declared.state.ReadState.{ReadState}
+use Rattle.cv_base.specs.declared.state.WriteState.{WriteState}
+
+-- How an encoding writes a character: its bytes and the state after them, or none where it lacks the character.
+abbrev pub Writing : Type 0
+Writing = WriteState → ℕ → Option (List ℕ × WriteState)
+
+-- Of two items that begin one text both are the same, and an item uses some of its bytes.
+pub record IsReadable (reads : ItemRelation) : Type 0 where
+  pub one_item : (s : ReadState) (text a b : List ℕ) (i j : Taken) → reads s a i → reads s b j → Begins a text → Begins b text → i ≡ j
+  pub uses : (s : ReadState) (a : List ℕ) (i : Taken) → reads s a i → (0 < i.used) × (i.used ≤ length a)
+
+-- The substitute can always be written.
+abbrev pub CanSubstitute : Writing → Type 0
+CanSubstitute writes = (t : WriteState) → IsSome (writes t question)
+
+-- A character is written as so many bytes at most.
+abbrev pub WritesAtMost : ℕ → Writing → Type 0
+WritesAtMost most writes = (t : WriteState) (c : ℕ) → IfSome (writes t c) (λ p. length p.0 ≤ most)
+
+-- What stands next stays when bytes follow, unless more bytes could change it.
+pub record StaysWhenBytesFollow (reads : ItemRelation) : Type 0 where
+  pub item : (s : ReadState) (text more : List ℕ) (i : Taken) → Begins text more → Stands reads s text i → Stands reads s more i
+  pub ill : (s : ReadState) (text more : List ℕ) → Begins text more → IsNext reads s text Ill → IsNext reads s more Ill
+
+-- One thing stands next.
+abbrev pub OneIsNext : ItemRelation → Type 0
+OneIsNext reads = (s : ReadState) (text : List ℕ) (a b : Item) → IsNext reads s text a → IsNext reads s text b → a ≡ b

@@ -1,0 +1,10 @@
+-- Characters (Unicode 3.9, D76).
+use Rattle.std.specs.Prelude.{ℕ, ◌<◌, ◌≤◌}
+
+-- A Unicode scalar value: a number to 10FFFF that is no surrogate.
+abbrev pub IsScalar : ℕ → Type 0
+IsScalar n = (n < 0x110000) × (0xD800 ≤ n → 0xE000 ≤ n)
+
+-- `?`, which stands in for a character that the target lacks
+abbrev pub question : ℕ
+question = 0x3F

@@ -1,0 +1,22 @@
+//! What stands next in a text.
+use crate::scalar::Scalar;
+use crate::state::ReadState;
+
+/// What stands at the front of a text in a reading state.
+#[derive(Clone, Copy, Debug, PartialEq, Eq)]
+pub enum Item {
+    /// The character `c`, of which `n` bytes are used up.
+    Char {
+        c: Scalar,
+        n: usize,
+        next: ReadState,
+    },
+    /// A mark or a shift: `n` bytes are used up and give no character.
+    Shift { n: usize, next: ReadState },
+    /// The front of an item, whose other bytes are not there yet (POSIX: EINVAL).
+    Incomplete,
+    /// Bytes that begin no item, whatever follows (POSIX: EILSEQ).
+    Ill,
+    /// No bytes.
+    End,
+}

@@ -1,0 +1,91 @@
+//! ISO-8859-1.
+ghost use Rattle.std.specs.Prelude.{[]};
+ghost use Rattle.std.proofs.Common.{rules};
+ghost use Rattle.cv_base.specs.SingleBytes.{byte_reads, byte_writes};
+ghost use Rattle.cv_base.specs.SingleByteLaws.{byte_readable};
+
+use crate::ascii_form::AsciiForm;
+use crate::codec::Codec;
+use crate::item::Item;
+use crate::piece::Piece;
+use crate::place::{Put, write_one};
+use crate::scalar::Scalar;
+use crate::state::{ReadState, WriteState};
+
+/// ISO-8859-1: each byte is the character of its number.
+#[derive(Clone, Copy, Debug, PartialEq, Eq)]
+pub struct Latin1;
+
+impl Codec for Latin1 {
+    ghost is_valid = { λ _. Unit {0} };
+
+    ghost reads = { λ _. byte_reads 256 };
+
+    ghost writes = { λ _. byte_writes 256 };
+
+    ghost closes = { λ _ _. [] };
+
+    fn assert_valid(&self) {}
+
+    #[inline]
+    #[tactic(auto, using(crate::proofs::SingleByteItems::byte_stands, crate::proofs::SingleByteItems::byte_ill))]
+    fn item(&self, _state: ReadState, input: &[u8]) -> Item {
+        match input {
+            [] => Item::End,
+            [b, ..] => Item::Char {
+                c: Scalar::known(*b as u32),
+                n: 1,
+                next: ReadState::Start,
+            },
+        }
+    }
+
+    #[inline]
+    fn put(&self, _state: WriteState, c: Scalar) -> Option<(Piece, WriteState)> {
+        let value = c.value();
+        if value < 256 {
+            Some((Piece::one(value as u8), WriteState::Start))
+        } else {
+            None
+        }
+    }
+
+    #[inline]
+    fn put_at(&self, _state: WriteState, c: Scalar, out: &mut [u8], at: usize) -> Put {
+        let value = c.value();
+        if value >= 256 {
+            return Put::Lacks;
+        }
+        if out.len() - at < 1 {
+            return Put::NoRoom;
+        }
+        write_one(out, at, value as u8);
+        Put::Wrote {
+            n: 1,
+            next: WriteState::Start,
+        }
+    }
+
+    fn close(&self, _state: WriteState) -> Piece {
+        Piece::new()
+    }
+
+    #[tactic(auto, using(crate::proofs::SingleByteItems::byte_writes_one))]
+    fn most_bytes(&self) -> usize {
+        1
+    }
+
+    #[inline]
+    fn reads_ascii(&self, state: ReadState) -> Option<AsciiForm> {
+        (state == ReadState::Start).then_some(AsciiForm::Byte)
+    }
+
+    #[inline]
+    fn writes_ascii(&self, state: WriteState) -> Option<AsciiForm> {
+        (state == WriteState::Start).then_some(AsciiForm::Byte)
+    }
+
+    ghost readable = { λ _ _. byte_readable 256 };
+
+    ghost substitutable = { λ _ _ _. Prim.search rules };
+}

@@ -1,0 +1,27 @@
+//! Characters, the items of a text, and the codecs that read and write them.
+#![tactic(auto)]
+
+mod ascii;
+mod ascii_form;
+mod codec;
+mod item;
+mod latin1;
+pub mod laws;
+mod memory;
+mod names;
+mod piece;
+pub mod place;
+mod scalar;
+mod state;
+
+pub use ascii::Ascii;
+pub use ascii_form::AsciiForm;
+pub use codec::Codec;
+pub use item::Item;
+pub use latin1::Latin1;
+pub use memory::Memory;
+pub use names::same_name;
+pub use piece::Piece;
+pub use place::Put;
+pub use scalar::Scalar;
+pub use state::{Bits, ReadState, WriteState};

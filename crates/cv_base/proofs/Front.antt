@@ -1,33 +1,52 @@
 -- What stands at the front of a text.
-use Rattle.std.proofs.Common.{◌≡◌, ℕ, ◌+◌, ◌<◌, ◌≤◌, List, [], ◌∷◌, length, refl, sym, ◌∙◌, ap, arith, inl, inr, Some, None}
+use Rattle.std.proofs.Common.{◌≡◌, ℕ, ◌<◌, ◌≤◌, List, [], ◌∷◌, ◌++◌, length, take, drop, zero, suc, refl, sym, ◌∙◌, ap, arith, inl, inr}
 use Rattle.std.proofs.lemmas.Bool.{cases_lt}
-use Rattle.cv_base.specs.Items.{Taken, taken, ItemRelation, Begins, Stands, NoneStands, CanGrow, IsNext}
+use Rattle.cv_base.specs.Items.{Taken, ItemRelation, Begins, Stands, NoneStands, CanGrow}
 use Rattle.cv_base.specs.Codecs.{IsReadable, StaysWhenBytesFollow, OneIsNext}
 use Rattle.cv_base.specs.declared.state.ReadState.{ReadState}
-use Rattle.cv_base.specs.declared.item.Item.{Item}
 use Rattle.cv_base.specs.declared.item.Item.TheVariants as item
 
-Begins-trans : (a b c : List ℕ) → Begins a b → Begins b c → Begins a c
+-- to begin goes on
+pub Begins-trans : (a b c : List ℕ) → Begins a b → Begins b c → Begins a c
 Begins-trans [] b c p q = tt
 Begins-trans (x ∷ a) [] c p q = absurd p
 Begins-trans (x ∷ a) (y ∷ b) [] p q = absurd q
 Begins-trans (x ∷ a) (y ∷ b) (z ∷ c) p q = (p.0 ∙ q.0, Begins-trans a b c p.1 q.1)
 
-Begins-meet : (a b c : List ℕ) → Begins a c → Begins b c → length a ≤ length b → Begins a b
+-- of two that begin one text, one begins the other
+pub Begins-meet : (a b c : List ℕ) → Begins a c → Begins b c → length a ≤ length b → Begins a b
 Begins-meet [] b c p q l = tt
 Begins-meet (x ∷ a) [] c p q l = absurd (omega arith)
 Begins-meet (x ∷ a) (y ∷ b) [] p q l = absurd p
 Begins-meet (x ∷ a) (y ∷ b) (z ∷ c) p q l = (p.0 ∙ sym q.0, Begins-meet a b c p.1 q.1 (omega arith))
 
-Begins-length : (a b : List ℕ) → Begins a b → length a ≤ length b
+-- what begins a text is no longer than it
+pub Begins-length : (a b : List ℕ) → Begins a b → length a ≤ length b
 Begins-length [] b h = omega arith
 Begins-length (x ∷ a) [] h = absurd h
 Begins-length (x ∷ a) (y ∷ b) h = omega (arith, Begins-length a b h.1)
 
-item_stays : (reads : ItemRelation) (s : ReadState) (text more : List ℕ) (i : Taken) → Begins text more → Stands reads s text i → Stands reads s more i
+pub Begins-drop : (n : ℕ) (a b : List ℕ) → Begins a b → Begins (drop n a) (drop n b)
+Begins-drop zero a b p = p
+Begins-drop (suc n) [] b p = tt
+Begins-drop (suc n) (x ∷ a) [] p = absurd p
+Begins-drop (suc n) (x ∷ a) (y ∷ b) p = Begins-drop n a b p.1
+
+pub Begins-take : (n : ℕ) (text : List ℕ) → Begins (take n text) text
+Begins-take zero text = tt
+Begins-take (suc n) [] = tt
+Begins-take (suc n) (t ∷ text) = (refl, Begins-take n text)
+
+pub Begins-append : (a b : List ℕ) → Begins a (a ++ b)
+Begins-append [] b = tt
+Begins-append (x ∷ a) b = (refl, Begins-append a b)
+
+-- an item stays when bytes follow
+pub item_stays : (reads : ItemRelation) (s : ReadState) (text more : List ℕ) (i : Taken) → Begins text more → Stands reads s text i → Stands reads s more i
 item_stays reads s text more i b p = record { bytes = p.bytes; is_item = p.is_item; front = Begins-trans p.bytes text more p.front b }
 
-none_stays : (reads : ItemRelation) (s : ReadState) (text more : List ℕ) → Begins text more → NoneStands reads s text → (CanGrow reads s text → ⊥) → NoneStands reads s more
+-- what begins no item begins none when bytes follow
+pub none_stays : (reads : ItemRelation) (s : ReadState) (text more : List ℕ) → Begins text more → NoneStands reads s text → (CanGrow reads s text → ⊥) → NoneStands reads s more
 none_stays reads s text more b none grow i p =
     elim (cases_lt (length p.bytes) (length text)) [
       | inl l ↦ none i (record { bytes = p.bytes; is_item = p.is_item; front = Begins-meet p.bytes text more p.front b (omega arith) })
@@ -40,23 +59,26 @@ stays reads = record {
   ill = λ s text more b p. (omega (arith, p.0, Begins-length text more b), none_stays reads s text more b p.1 p.2, λ g. p.2 (record { bytes = g.bytes; item = g.item; is_item = g.is_item; front = Begins-trans text more g.bytes b g.front }));
 }
 
-same : (reads : ItemRelation) → IsReadable reads → (s : ReadState) (text : List ℕ) (i j : Taken) → Stands reads s text i → Stands reads s text j → i ≡ j
-same reads r s text i j p q = r.one_item s text p.bytes q.bytes i j p.is_item q.is_item p.front q.front
+-- one item stands
+pub same_item : (reads : ItemRelation) → IsReadable reads → (s : ReadState) (text : List ℕ) (i j : Taken) → Stands reads s text i → Stands reads s text j → i ≡ j
+same_item reads r s text i j p q = r.one_item s text p.bytes q.bytes i j p.is_item q.is_item p.front q.front
 
-some : (reads : ItemRelation) → IsReadable reads → (s : ReadState) (text : List ℕ) (i : Taken) → Stands reads s text i → 0 < length text
-some reads r s text i p = omega (arith, r.uses s p.bytes i p.is_item, Begins-length p.bytes text p.front)
+-- an item that stands uses some bytes, and not more than there are
+pub stands_within : (reads : ItemRelation) → IsReadable reads → (s : ReadState) (text : List ℕ) (i : Taken) → Stands reads s text i → (0 < i.used) × (i.used ≤ length text)
+stands_within reads r s text i p = let u = r.uses s p.bytes i p.is_item in let l = Begins-length p.bytes text p.front in (u.0, omega (arith, u.1, l))
 
+-- one thing stands next
 pub one_next : (reads : ItemRelation) → IsReadable reads → OneIsNext reads
-one_next reads r s text (item.Char c n next) (item.Char d m then) p q = let e = same reads r s text _ _ p q in cc (ap (λ (t : Taken). t.used) e, ap (λ (t : Taken). t.gives) e, ap (λ (t : Taken). t.next) e)
-one_next reads r s text (item.Char c n next) (item.Shift m then) p q = let e = same reads r s text _ _ p q in cc (ap (λ (t : Taken). t.used) e, ap (λ (t : Taken). t.gives) e, ap (λ (t : Taken). t.next) e)
+one_next reads r s text (item.Char c n next) (item.Char d m then) p q = let e = same_item reads r s text _ _ p q in cc (ap (λ (t : Taken). t.used) e, ap (λ (t : Taken). t.gives) e, ap (λ (t : Taken). t.next) e)
+one_next reads r s text (item.Char c n next) (item.Shift m then) p q = let e = same_item reads r s text _ _ p q in cc (ap (λ (t : Taken). t.used) e, ap (λ (t : Taken). t.gives) e, ap (λ (t : Taken). t.next) e)
 one_next reads r s text (item.Char c n next) item.Incomplete p q = absurd (q.1 _ p)
 one_next reads r s text (item.Char c n next) item.Ill p q = absurd (q.1 _ p)
-one_next reads r s text (item.Char c n next) item.End p q = absurd (omega (arith, some reads r s text _ p, ap length q))
-one_next reads r s text (item.Shift n next) (item.Char d m then) p q = let e = same reads r s text _ _ p q in cc (ap (λ (t : Taken). t.used) e, ap (λ (t : Taken). t.gives) e, ap (λ (t : Taken). t.next) e)
-one_next reads r s text (item.Shift n next) (item.Shift m then) p q = let e = same reads r s text _ _ p q in cc (ap (λ (t : Taken). t.used) e, ap (λ (t : Taken). t.gives) e, ap (λ (t : Taken). t.next) e)
+one_next reads r s text (item.Char c n next) item.End p q = absurd (omega (arith, stands_within reads r s text _ p, ap length q))
+one_next reads r s text (item.Shift n next) (item.Char d m then) p q = let e = same_item reads r s text _ _ p q in cc (ap (λ (t : Taken). t.used) e, ap (λ (t : Taken). t.gives) e, ap (λ (t : Taken). t.next) e)
+one_next reads r s text (item.Shift n next) (item.Shift m then) p q = let e = same_item reads r s text _ _ p q in cc (ap (λ (t : Taken). t.used) e, ap (λ (t : Taken). t.gives) e, ap (λ (t : Taken). t.next) e)
 one_next reads r s text (item.Shift n next) item.Incomplete p q = absurd (q.1 _ p)
 one_next reads r s text (item.Shift n next) item.Ill p q = absurd (q.1 _ p)
-one_next reads r s text (item.Shift n next) item.End p q = absurd (omega (arith, some reads r s text _ p, ap length q))
+one_next reads r s text (item.Shift n next) item.End p q = absurd (omega (arith, stands_within reads r s text _ p, ap length q))
 one_next reads r s text item.Incomplete (item.Char d m then) p q = absurd (p.1 _ q)
 one_next reads r s text item.Incomplete (item.Shift m then) p q = absurd (p.1 _ q)
 one_next reads r s text item.Incomplete item.Incomplete p q = refl
@@ -67,8 +89,8 @@ one_next reads r s text item.Ill (item.Shift m then) p q = absurd (p.1 _ q)
 one_next reads r s text item.Ill item.Incomplete p q = absurd (p.2 q.2)
 one_next reads r s text item.Ill item.Ill p q = refl
 one_next reads r s text item.Ill item.End p q = absurd (omega (arith, p.0, ap length q))
-one_next reads r s text item.End (item.Char d m then) p q = absurd (omega (arith, some reads r s text _ q, ap length p))
-one_next reads r s text item.End (item.Shift m then) p q = absurd (omega (arith, some reads r s text _ q, ap length p))
+one_next reads r s text item.End (item.Char d m then) p q = absurd (omega (arith, stands_within reads r s text _ q, ap length p))
+one_next reads r s text item.End (item.Shift m then) p q = absurd (omega (arith, stands_within reads r s text _ q, ap length p))
 one_next reads r s text item.End item.Incomplete p q = absurd (omega (arith, q.0, ap length p))
 one_next reads r s text item.End item.Ill p q = absurd (omega (arith, q.0, ap length p))
 one_next reads r s text item.End item.End p q = refl

@@ -1,5 +1,5 @@
 -- Where ASCII stands for itself: each ASCII character is one unit of the same form, and the state stays.
-use Rattle.std.specs.Prelude.{◌≡◌, ℕ, ◌<◌, List, [], ◌∷◌, length, Some}
+use Rattle.std.specs.Prelude.{◌≡◌, ℕ, ◌<◌, List, [], ◌∷◌, Some}
 use Rattle.cv_base.specs.Items.{taken, ItemRelation}
 use Rattle.cv_base.specs.Codecs.{Writing}
 use Rattle.cv_base.specs.declared.ascii_form.AsciiForm.{AsciiForm}

@@ -1,5 +1,5 @@
 -- How characters are written, and what every codec keeps.
-use Rattle.std.specs.Prelude.{◌≡◌, ℕ, ◌<◌, ◌≤◌, List, [], ◌∷◌, length, Option, IsSome, IfSome}
+use Rattle.std.specs.Prelude.{◌≡◌, ℕ, ◌<◌, ◌≤◌, List, length, Option, IsSome, IfSome}
 use Rattle.cv_base.specs.Scalars.{question}
 use Rattle.cv_base.specs.Items.{Taken, ItemRelation, Begins, Stands, IsNext}
 use Rattle.cv_base.specs.declared.item.Item.{Item}

@@ -12,7 +12,10 @@ pub enum Item {
         next: ReadState,
     },
     /// A mark or a shift: `n` bytes are used up and give no character.
-    Shift { n: usize, next: ReadState },
+    Shift {
+        n: usize,
+        next: ReadState,
+    },
     /// The front of an item, whose other bytes are not there yet (POSIX: EINVAL).
     Incomplete,
     /// Bytes that begin no item, whatever follows (POSIX: EILSEQ).

@@ -25,3 +25,6 @@ pub use piece::Piece;
 pub use place::Put;
 pub use scalar::Scalar;
 pub use state::{Bits, ReadState, WriteState};
+
+#[cfg(test)]
+mod tests;

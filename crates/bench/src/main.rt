@@ -1,0 +1,48 @@
+//! How long conversions take. It gives figures only where it is asked for them; see `bench/run`.
+#![tactic(auto)]
+
+mod measure;
+
+use measure::{Asked, measure};
+use std::alloc::{AllocError, Global};
+use std::process::ExitCode;
+use std::rt::{Clock, Env};
+use std::{env, io};
+
+fn number(word: &str) -> Option<u64> {
+    word.parse::<u64>().ok()
+}
+
+fn asked<'a>(words: &[&'a str]) -> Option<Asked<'a>> {
+    let [_, to, from, call, rounds] = words else {
+        return None;
+    };
+    Some(Asked {
+        to,
+        from,
+        call: usize::try_from(number(call)?).ok()?,
+        rounds: number(rounds)?,
+    })
+}
+
+fn words_of(alloc: Global, owned: &[String]) -> Result<Vec<&str>, AllocError> {
+    owned.iter().map(|word| word.as_str()).collect(alloc)
+}
+
+fn bench<R: Env + Clock + Input + Print + AllocGlobal>(rt: &R) -> io::Result<()> {
+    let alloc = rt.alloc();
+    let owned: Vec<String> = env::args(rt)?.collect(alloc)?;
+    let words = words_of(alloc, &owned)?;
+    let Some(asked) = asked(&words) else {
+        return println!(rt; "bench TO FROM CALL ROUNDS: the text on standard input");
+    };
+    match measure(rt, &asked)? {
+        Some(spent) => println!(rt; "{spent}"),
+        None => println!(rt; "no such conversion"),
+    }
+}
+
+fn main(rt: HostRuntime) -> io::Result<ExitCode> {
+    bench(&rt)?;
+    Ok(ExitCode::SUCCESS)
+}

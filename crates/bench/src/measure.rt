@@ -1,0 +1,67 @@
+//! Converting a text over and over.
+
+use cv_pivot::{Conversion, builtin};
+use std::alloc::Global;
+use std::io;
+use std::io::Read;
+use std::rt::Clock;
+use std::time::Instant;
+
+/// What is to be measured.
+#[derive(Clone, Copy, Debug)]
+pub struct Asked<'a> {
+    pub to: &'a str,
+    pub from: &'a str,
+    /// How many bytes of the text each call is given.
+    pub call: usize,
+    /// How often the text is converted.
+    pub rounds: u64,
+}
+
+/// The part of a text that a call is given.
+fn part(text: &[u8], at: usize, call: usize) -> &[u8] {
+    let rest = text.get(at..).unwrap_or(&[]);
+    rest.get(..call).unwrap_or(rest)
+}
+
+/// Converts all of a text once, `call` bytes at a time. What a call leaves is given to the next.
+fn convert_all(conversion: &mut Conversion, text: &[u8], call: usize, out: &mut [u8]) {
+    let mut at: usize = 0;
+    for _call in 0..u64::MAX {
+        let given = part(text, at, call);
+        let outcome = conversion.convert(given, out);
+        let used = given.len().saturating_sub(outcome.left);
+        if used == 0 {
+            break;
+        }
+        at = at.saturating_add(used);
+    }
+}
+
+fn read_text<R: Input + AllocGlobal>(rt: &R, alloc: Global) -> io::Result<Vec<u8>> {
+    let mut text = Vec::new(alloc);
+    rt.reader().read_to_end(&mut text)?;
+    Ok(text)
+}
+
+/// The nanoseconds that the fastest round takes. `None`: an encoding isn't there.
+pub fn measure<R: Clock + Input + AllocGlobal>(
+    rt: &R,
+    asked: &Asked<'_>,
+) -> io::Result<Option<u128>> {
+    let (Some(to), Some(from)) = (builtin(asked.to.as_bytes()), builtin(asked.from.as_bytes()))
+    else {
+        return Ok(None);
+    };
+    let alloc = rt.alloc();
+    let text = read_text(rt, alloc)?;
+    let mut out = vec![in alloc; 0u8; asked.call.saturating_mul(8)]?;
+    let mut fastest = u128::MAX;
+    for _round in 0..asked.rounds {
+        let mut conversion = Conversion::new(to, from);
+        let start = Instant::now(rt)?;
+        convert_all(&mut conversion, &text, asked.call, &mut out);
+        fastest = fastest.min(start.elapsed(rt)?.as_nanos());
+    }
+    Ok(Some(fastest))
+}

@@ -1,0 +1,7 @@
+pub mod Spelled
+pub mod Cuts
+pub mod Runs
+pub mod Isolation
+pub mod Answers
+pub mod Prefixes
+pub mod ReadBack

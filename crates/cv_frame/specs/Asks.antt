@@ -1,0 +1,36 @@
+-- What a client asks, as a message. The numbers of the ops are this project's own.
+use Rattle.std.specs.Prelude.{ℕ, ◌≤◌, List, length}
+use Rattle.cv_frame.specs.Message.{Message}
+use Rattle.cv_frame.specs.Bodies.{open_body, conv_body, number_body}
+use Rattle.cv_frame.specs.declared.ask.Ask.{Ask}
+use Rattle.cv_frame.specs.declared.ask.Ask.TheVariants.{Open, Conv, Close, Raw}
+
+-- the number of its op
+abbrev pub ask_code : Ask → ℕ
+ask_code (Open to from) = 3
+ask_code (Conv number room input) = 4
+ask_code (Close number) = 6
+ask_code (Raw op body) = op
+
+-- its body
+abbrev pub ask_body : Ask → List ℕ
+ask_body (Open to from) = open_body to.now from.now
+ask_body (Conv number room input) = conv_body number room input.now
+ask_body (Close number) = number_body number
+ask_body (Raw op body) = body.now
+
+-- the request that a caller sends
+abbrev pub request_of : ℕ → ℕ → Ask → Message
+request_of caller tag ask = record { caller = caller; tag = tag; code = ask_code ask; body = ask_body ask }
+
+-- Each name's length is one byte.
+abbrev pub NamesFit : Ask → Type 0
+NamesFit (Open to from) = (length to.now ≤ 255) × (length from.now ≤ 255)
+NamesFit (Conv number room input) = Unit {0}
+NamesFit (Close number) = Unit {0}
+NamesFit (Raw op body) = Unit {0}
+
+-- It has a frame: each name has at most 255 bytes, and the body at most 1,048,567.
+pub record AskFits (ask : Ask) : Type 0 where
+  pub names : NamesFit ask
+  pub body : length (ask_body ask) ≤ 1048567

@@ -1,0 +1,54 @@
+-- The bodies of requests, whose forms are this project's own. All numbers are of 32 bits, the highest byte first.
+use Rattle.std.specs.Prelude.{◌≡◌, ℕ, ◌<◌, ◌≤◌, ◌^◌, List, [], ◌∷◌, ◌++◌, length, take, drop, nat_lt, ◌==◌, Option, Some, None, if◌then◌else◌}
+use Rattle.std.specs.Int.{w32, to_be_bytes}
+use Rattle.std.specs.Option.{option_and_then}
+use Rattle.cv_frame.specs.Cut.{number_at}
+
+-- ---- how bodies are spelled
+
+-- A name is a byte that tells its length, and then the name.
+abbrev pub name_body : List ℕ → List ℕ
+name_body name = length name ∷ name
+
+-- OPEN has the target's name and then the source's.
+abbrev pub open_body : List ℕ → List ℕ → List ℕ
+open_body to from = name_body to ++ name_body from
+
+-- CONV has the descriptor's number, the room, and the input, which is the rest.
+abbrev pub conv_body : ℕ → ℕ → List ℕ → List ℕ
+conv_body number room input = to_be_bytes w32 number ++ (to_be_bytes w32 room ++ input)
+
+-- CLOSE has the descriptor's number.
+abbrev pub number_body : ℕ → List ℕ
+number_body number = to_be_bytes w32 number
+
+-- ---- how they are read: none where the body isn't exactly of the form
+
+-- the name at the front, and what follows it
+abbrev pub name_at : List ℕ → Option (List ℕ × List ℕ)
+name_at [] = None
+name_at (n ∷ bytes) = if nat_lt (length bytes) n then None else Some (take n bytes, drop n bytes)
+
+-- this value, if nothing is left over
+abbrev pub at_end : {A : Type 0} → A → List ℕ → Option A
+at_end x rest = if length rest == 0 then Some x else None
+
+-- the target's name and the source's
+unfoldable pub open_of : List ℕ → Option (List ℕ × List ℕ)
+open_of body = option_and_then (λ to. option_and_then (λ from. at_end (to.0, from.0) from.1) (name_at to.1)) (name_at body)
+
+-- the descriptor's number, the room and the input
+unfoldable pub conv_of : List ℕ → Option (ℕ × ℕ × List ℕ)
+conv_of body = if nat_lt (length body) 8 then None else Some (number_at body, number_at (drop 4 body), drop 8 body)
+
+-- the descriptor's number
+unfoldable pub number_of : List ℕ → Option ℕ
+number_of body = if length body == 4 then Some (number_at body) else None
+
+-- ---- what is spelled is read
+
+-- Bodies that are spelled of names of at most 255 bytes, and of numbers of 32 bits, are read as those.
+pub record ReadBack : Type 0 where
+  pub opens : (to from : List ℕ) → length to ≤ 255 → length from ≤ 255 → open_of (open_body to from) ≡ Some (to, from)
+  pub converts : (number room : ℕ) (input : List ℕ) → number < 2 ^ 32 → room < 2 ^ 32 → conv_of (conv_body number room input) ≡ Some (number, room, input)
+  pub closes : (number : ℕ) → number < 2 ^ 32 → number_of (number_body number) ≡ Some number

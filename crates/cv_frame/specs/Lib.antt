@@ -1,0 +1,7 @@
+pub mod Message
+pub mod Status
+pub mod Cut
+pub mod Bodies
+pub mod Asks
+pub mod Machine
+pub mod Isolation

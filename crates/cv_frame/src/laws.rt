@@ -1,0 +1,27 @@
+//! Laws of the definitions.
+
+ghost use Rattle.cv_frame.specs.Cut.{OneCut, CutOfJoined};
+ghost use Rattle.cv_frame.specs.Bodies.{ReadBack};
+
+/// Every byte string has one cut: whole frames, and then a rest that begins with none.
+pub fn one_cut()
+    ensures { OneCut }
+{
+    // The contract is the law; nothing runs.
+}
+
+/// The cut of joined frames is the frames, and then the cut of what follows.
+#[tactic(auto, using(crate::proofs::Cuts::cut_of_joined))]
+pub fn cut_of_joined()
+    ensures { CutOfJoined }
+{
+    // The contract is the law; nothing runs.
+}
+
+/// The bodies that `write_request` writes are read by the body readers as what was asked.
+#[tactic(auto, using(crate::proofs::ReadBack::read_back))]
+pub fn read_back()
+    ensures { ReadBack }
+{
+    // The contract is the law; nothing runs.
+}

@@ -1,0 +1,24 @@
+//! Frames: how requests and replies stand in bytes.
+#![tactic(auto)]
+
+mod ask;
+mod bodies;
+mod bytes;
+pub mod laws;
+mod reading;
+mod reply;
+mod request;
+mod status;
+mod writing;
+
+pub use ask::Ask;
+pub use bodies::{read_conv, read_number, read_open};
+pub use bytes::Bytes;
+pub use reading::{Frame, ReplyFrame, next_reply, next_request};
+pub use reply::Reply;
+pub use request::Request;
+pub use status::Status;
+pub use writing::{write_reply, write_request};
+
+#[cfg(test)]
+mod tests;

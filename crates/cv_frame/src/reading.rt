@@ -1,0 +1,87 @@
+//! Reading frames.
+
+ghost use Rattle.std.specs.Prelude.{◌≡◌, ◌≤◌, length};
+ghost use Rattle.cv_frame.specs.Cut.{front_of, front_of_reply, number_at};
+
+use crate::request::Request;
+
+/// What stands at the front of bytes that a client sent.
+#[derive(Debug, Drop)]
+pub enum Frame<'a> {
+    /// A request, and how many bytes its whole frame has.
+    Whole { request: Request<'a>, n: usize },
+    /// Less than a frame: more bytes may make it whole.
+    Partial,
+    /// A length that no frame has: below 9 or above 1,048,576. No bytes that follow mend it.
+    Bad { length: u32 },
+}
+
+/// What stands at the front of bytes that the service sent.
+#[derive(Debug, Drop)]
+pub enum ReplyFrame<'a> {
+    /// A reply, and how many bytes its whole frame has. The status is as it came, known or not.
+    Whole {
+        caller: u32,
+        tag: u32,
+        status: u8,
+        body: &'a [u8],
+        n: usize,
+    },
+    /// Less than a frame: more bytes may make it whole.
+    Partial,
+    /// A length that no frame has: below 9 or above 1,048,576. No bytes that follow mend it.
+    Bad {
+        length: u32,
+    },
+}
+
+/// The number that the first four bytes are, the highest first.
+pub(crate) fn number(bytes: &[u8]) -> u32
+    requires { 4 ≤ length bytes.now }
+    ensures { result ≡ number_at bytes.now }
+{
+    u32::from_be_bytes([bytes[0], bytes[1], bytes[2], bytes[3]])
+}
+
+/// What stands at the front of the bytes, which are requests one after another.
+#[tactic(auto, unfolding(crate::specs::Cut::front_of))]
+pub fn next_request(bytes: &[u8]) -> Frame<'_>
+    ensures { result ≡ front_of bytes.now }
+{
+    if bytes.len() < 4 {
+        return Frame::Partial;
+    }
+    let length = number(bytes);
+    if length < 9 || length > 1_048_576 {
+        return Frame::Bad { length };
+    }
+    let n = 4 + length as usize;
+    if bytes.len() < n {
+        return Frame::Partial;
+    }
+    let request = Request {
+        caller: number(&bytes[4..]),
+        tag: number(&bytes[8..]),
+        op: bytes[12],
+        body: &bytes[13..n],
+    };
+    Frame::Whole { request, n }
+}
+
+/// What stands at the front of the bytes, which are replies one after another. A reply's frame is a request's with the
+/// status in the place of the op.
+pub fn next_reply(bytes: &[u8]) -> ReplyFrame<'_>
+    ensures { front_of_reply result ≡ front_of bytes.now }
+{
+    match next_request(bytes) {
+        Frame::Whole { request, n } => ReplyFrame::Whole {
+            caller: request.caller,
+            tag: request.tag,
+            status: request.op,
+            body: request.body,
+            n,
+        },
+        Frame::Partial => ReplyFrame::Partial,
+        Frame::Bad { length } => ReplyFrame::Bad { length },
+    }
+}

@@ -1,0 +1,23 @@
+//! Requests.
+
+use std::marker::Model;
+
+/// A request as it came. Its body has at most 1,048,567 bytes.
+#[derive(Debug, Drop)]
+pub struct Request<'a> {
+    pub caller: u32,
+    pub tag: u32,
+    pub op: u8,
+    pub body: &'a [u8],
+}
+
+impl<'a> Model for Request<'a> {
+    ghost use Rattle.std.specs.Prelude.{◌≤◌, length};
+    ghost use Rattle.cv_frame.specs.Message.{Message};
+
+    ghost Value = { Message };
+
+    ghost view = { λ r. record { caller = r.caller; tag = r.tag; code = r.op; body = r.body.now } };
+
+    ghost invariant = { λ r. length r.body.now ≤ 1048567 };
+}

@@ -1,0 +1,126 @@
+//! How a request was answered.
+
+ghost use Rattle.std.specs.Prelude.{◌≡◌, ◌<◌, ◌↔◌, IsSome, IfSome};
+ghost use Rattle.cv_frame.specs.Status.{status_number, status_name};
+
+use std::fmt;
+
+/// How a request was answered. It prints as its name.
+#[derive(Clone, Copy, Debug, PartialEq, Eq)]
+pub enum Status {
+    /// It was done.
+    Ok,
+    /// The room didn't suffice.
+    TooBig,
+    /// The input has bytes that are no character.
+    Ill,
+    /// The input ends within a character.
+    Incomplete,
+    /// The number is no open descriptor of the caller.
+    BadDescriptor,
+    /// The caller has as many descriptors as it may.
+    TooManyDescriptors,
+    /// No memory was to be had.
+    NoMemory,
+    /// A name names no encoding.
+    Unsupported,
+    /// The op isn't known, or the body isn't of its form.
+    BadRequest,
+    /// The charmap text has a fault.
+    BadMap,
+    /// A charmap of this name is there already.
+    Exists,
+    /// No charmap has this name.
+    NoName,
+    /// The charmap is used by an open descriptor.
+    Busy,
+    /// The caller's charmaps have as many mappings as they may.
+    Quota,
+    /// The room is more than any reply may take.
+    Room,
+}
+
+impl Status {
+    /// The number that stands for it in a reply.
+    pub fn number(self) -> u8
+        ensures { result ≡ status_number self }
+    {
+        match self {
+            Status::Ok => 0,
+            Status::TooBig => 1,
+            Status::Ill => 2,
+            Status::Incomplete => 3,
+            Status::BadDescriptor => 4,
+            Status::TooManyDescriptors => 5,
+            Status::NoMemory => 6,
+            Status::Unsupported => 7,
+            Status::BadRequest => 8,
+            Status::BadMap => 9,
+            Status::Exists => 10,
+            Status::NoName => 11,
+            Status::Busy => 12,
+            Status::Quota => 13,
+            Status::Room => 14,
+        }
+    }
+
+    /// Its name, in capital letters. Where POSIX has an error of this meaning, it is that error's name.
+    pub fn name(self) -> &'static str
+        ensures { result.now ≡ status_name self }
+    {
+        match self {
+            Status::Ok => "OK",
+            Status::TooBig => "E2BIG",
+            Status::Ill => "EILSEQ",
+            Status::Incomplete => "EINVAL",
+            Status::BadDescriptor => "EBADF",
+            Status::TooManyDescriptors => "EMFILE",
+            Status::NoMemory => "ENOMEM",
+            Status::Unsupported => "UNSUPPORTED",
+            Status::BadRequest => "BADREQ",
+            Status::BadMap => "BADMAP",
+            Status::Exists => "EXISTS",
+            Status::NoName => "NONAME",
+            Status::Busy => "BUSY",
+            Status::Quota => "QUOTA",
+            Status::Room => "ROOM",
+        }
+    }
+
+    /// The status that has this number, if any has.
+    pub fn from_number(number: u8) -> Option<Self>
+        ensures known { IsSome result ↔ (number < 15) }
+        ensures same { IfSome result (λ status. status_number status ≡ number) }
+    {
+        let status = match number {
+            0 => Status::Ok,
+            1 => Status::TooBig,
+            2 => Status::Ill,
+            3 => Status::Incomplete,
+            4 => Status::BadDescriptor,
+            5 => Status::TooManyDescriptors,
+            6 => Status::NoMemory,
+            7 => Status::Unsupported,
+            8 => Status::BadRequest,
+            9 => Status::BadMap,
+            10 => Status::Exists,
+            11 => Status::NoName,
+            12 => Status::Busy,
+            13 => Status::Quota,
+            14 => Status::Room,
+            _ => return None,
+        };
+        Some(status)
+    }
+}
+
+impl fmt::Display for Status {
+    ghost use Rattle.std.specs.Prelude.{Some};
+    ghost use Rattle.cv_frame.specs.Status.{status_name};
+
+    ghost output = { λ s. Some (status_name s) };
+
+    fn fmt<W: fmt::Write>(&self, f: &mut fmt::Formatter<W>) -> fmt::Result {
+        f.write_str(self.name())
+    }
+}

@@ -1,0 +1,102 @@
+//! Writing frames.
+
+ghost use Rattle.std.specs.Prelude.{◌≡◌, ◌≤◌, ◌+◌, ◌++◌, List, ℕ, OnOk, OnErr, length, vec_len, vec_capacity};
+ghost use Rattle.cv_frame.specs.Message.{FitsFrame, spelling};
+ghost use Rattle.cv_frame.specs.Bodies.{name_body};
+ghost use Rattle.cv_frame.specs.Asks.{AskFits, request_of};
+
+use crate::ask::Ask;
+use crate::reply::Reply;
+use cv_base::Memory;
+
+/// Appends bytes for which there is room.
+fn append(out: &mut Vec<u8>, bytes: &[u8])
+    requires { vec_len out.old + length bytes.now ≤ vec_capacity out.old }
+    ensures items { out.new.items ≡ out.old.items ++ bytes.now }
+    ensures len { vec_len out.new ≡ vec_len out.old + length bytes.now }
+    ensures room { vec_capacity out.old ≤ vec_capacity out.new }
+{
+    out.extend_from_slice(bytes).unwrap()
+}
+
+/// Appends a name, behind the byte that tells its length.
+fn append_name(out: &mut Vec<u8>, name: &[u8])
+    requires byte { length name.now ≤ 255 }
+    requires fits { vec_len out.old + 1 + length name.now ≤ vec_capacity out.old }
+    ensures items { out.new.items ≡ out.old.items ++ name_body name.now }
+    ensures len { vec_len out.new ≡ vec_len out.old + 1 + length name.now }
+    ensures room { vec_capacity out.old ≤ vec_capacity out.new }
+{
+    append(out, &[name.len() as u8]);
+    append(out, name);
+}
+
+/// Begins a frame: makes room for all of it, and appends what stands before its body of n bytes.
+fn begin_frame(out: &mut Vec<u8>, caller: u32, tag: u32, code: u8, n: usize) -> Result<(), Memory>
+    requires { n ≤ 1048567 }
+    ensures begins { OnOk result ((body : List ℕ) → length body ≡ n → out.new.items ++ body ≡ out.old.items ++
+        spelling (record { caller = caller; tag = tag; code = code; body = body })) }
+    ensures room { OnOk result (vec_len out.new + n ≤ vec_capacity out.new) }
+    ensures err { OnErr result (out.new.items ≡ out.old.items) }
+{
+    out.reserve(13 + n)?;
+    let length = 9 + n as u32;
+    append(out, &length.to_be_bytes());
+    append(out, &caller.to_be_bytes());
+    append(out, &tag.to_be_bytes());
+    append(out, &[code]);
+    Ok(())
+}
+
+/// Appends the frame of a reply. Where memory lacks the buffer is as it was.
+pub fn write_reply(out: &mut Vec<u8>, reply: &Reply) -> Result<(), Memory>
+    ensures ok { OnOk result (out.new.items ≡ out.old.items ++ spelling reply.now) }
+    ensures err { OnErr result (out.new.items ≡ out.old.items) }
+{
+    let head = reply.head.as_slice();
+    let tail = reply.tail.as_slice();
+    let code = reply.status.number();
+    begin_frame(out, reply.caller, reply.tag, code, head.len() + tail.len())?;
+    append(out, head);
+    append(out, tail);
+    Ok(())
+}
+
+/// Appends the frame of a request. Names have at most 255 bytes and the body at most 1,048,567, so the input of a
+/// `Conv` at most 1,048,559. Where memory lacks the buffer is as it was.
+pub fn write_request(out: &mut Vec<u8>, caller: u32, tag: u32, ask: &Ask<'_>) -> Result<(), Memory>
+    requires { AskFits ask.now }
+    ensures ok { OnOk result (out.new.items ≡ out.old.items ++ spelling (request_of caller tag ask.now)) }
+    ensures fits { FitsFrame (request_of caller tag ask.now) }
+    ensures err { OnErr result (out.new.items ≡ out.old.items) }
+{
+    match *ask {
+        Ask::Open { to, from } => {
+            begin_frame(out, caller, tag, 3, 2 + to.len() + from.len())?;
+            append_name(out, to);
+            append_name(out, from);
+            Ok(())
+        }
+        Ask::Conv {
+            number,
+            room,
+            input,
+        } => {
+            begin_frame(out, caller, tag, 4, 8 + input.len())?;
+            append(out, &number.to_be_bytes());
+            append(out, &room.to_be_bytes());
+            append(out, input);
+            Ok(())
+        }
+        Ask::Close(number) => {
+            begin_frame(out, caller, tag, 6, 4)?;
+            append(out, &number.to_be_bytes());
+            Ok(())
+        }
+        Ask::Raw { op, body } => {
+            begin_frame(out, caller, tag, op, body.len())?;
+            append(out, body);
+            Ok(())
+        }
+    }
+}

@@ -1,0 +1,6 @@
+pub mod Known
+pub mod Batches
+pub mod OneBatch
+pub mod Flows
+pub mod Streams
+pub mod Headline

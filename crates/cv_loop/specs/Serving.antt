@@ -1,0 +1,111 @@
+-- What serving a stream of frames does: which bytes answer which, which result comes where, and what is left then.
+use Rattle.std.specs.Prelude.{◌≡◌, ◌≢◌, ℕ, ◌-◌, ◌^◌, min, true, false, List, [], ◌++◌, length, Option, Some, Bool, Result, Ok, Err}
+use Rattle.std.specs.Io.KnownBytes.{Appends, Consumes}
+use Rattle.std.specs.List.{AllByRecursion}
+use Rattle.cv_frame.specs.Message.{Message, FitsFrame}
+use Rattle.cv_frame.specs.Cut.{front_of, messages_of, rest_of}
+use Rattle.cv_frame.specs.Machine.{Progress, Answers, IsServed, only}
+use Rattle.cv_frame.specs.declared.reading.Frame.TheVariants as front
+use Rattle.cv_world.specs.Turn.{turn}
+use Rattle.cv_world.specs.declared.table.Table.{Table}
+use Rattle.cv_loop.specs.declared.fault.ServeFault.{ServeFault}
+use Rattle.cv_loop.specs.declared.fault.ServeFault.TheVariants as fault
+use Rattle.cv_loop.specs.declared.serving.Served.{Served}
+
+-- ---- what was given, and what was written
+
+-- A source that tells its bytes gave these.
+abbrev pub Gave : Option (List ℕ) → Option (List ℕ) → List ℕ → Type 0
+Gave left left' given = (rest : List ℕ) × (left ≡ Some (given ++ rest)) × (left' ≡ Some rest)
+
+-- A sink that tells its bytes took these.
+abbrev pub Took : Option (List ℕ) → Option (List ℕ) → List ℕ → Type 0
+Took held held' written = (before : List ℕ) × (held ≡ Some before) × (held' ≡ Some (before ++ written))
+
+-- The written bytes answer the given ones, and to each caller its frames alone.
+pub record AnswersEach (tables : ℕ → Table) (given written : List ℕ) : Type 0 where
+  pub all : Answers turn tables given written
+  pub each : (caller : ℕ) → Answers turn tables (only caller given) (only caller written)
+
+-- They answer them, to each caller its frames alone, and memory never lacked.
+pub record ServesEach (tables : ℕ → Table) (given written : List ℕ) : Type 0 where
+  pub all : IsServed turn tables given written
+  pub each : (caller : ℕ) → IsServed turn tables (only caller given) (only caller written)
+
+-- ---- which result comes where
+
+-- Serving came to the end of the stream.
+abbrev pub met_the_end : Result Served ServeFault → Bool
+met_the_end (Ok served) = true
+met_the_end (Err fault.TruncatedFrame) = true
+met_the_end (Err (fault.BadLength n)) = false
+met_the_end (Err fault.Read) = false
+met_the_end (Err (fault.Write n)) = false
+met_the_end (Err fault.TooManyReads) = false
+met_the_end (Err fault.Memory) = false
+
+-- Serving ended since a read failed.
+abbrev pub read_failed : Result Served ServeFault → Bool
+read_failed (Ok served) = false
+read_failed (Err fault.TruncatedFrame) = false
+read_failed (Err (fault.BadLength n)) = false
+read_failed (Err fault.Read) = true
+read_failed (Err (fault.Write n)) = false
+read_failed (Err fault.TooManyReads) = false
+read_failed (Err fault.Memory) = false
+
+-- Serving ended since a write failed, or took nothing.
+abbrev pub write_failed : Result Served ServeFault → Bool
+write_failed (Ok served) = false
+write_failed (Err fault.TruncatedFrame) = false
+write_failed (Err (fault.BadLength n)) = false
+write_failed (Err fault.Read) = false
+write_failed (Err (fault.Write n)) = true
+write_failed (Err fault.TooManyReads) = false
+write_failed (Err fault.Memory) = false
+
+-- Neither a write nor want of memory broke serving off.
+abbrev pub IsUnbroken : Result Served ServeFault → Type 0
+IsUnbroken (Ok served) = Unit {0}
+IsUnbroken (Err fault.TruncatedFrame) = Unit {0}
+IsUnbroken (Err (fault.BadLength n)) = Unit {0}
+IsUnbroken (Err fault.Read) = Unit {0}
+IsUnbroken (Err (fault.Write n)) = ⊥
+IsUnbroken (Err fault.TooManyReads) = Unit {0}
+IsUnbroken (Err fault.Memory) = ⊥
+
+-- A count in a u64, which stays at its greatest value.
+abbrev pub counted : ℕ → ℕ
+counted n = min n (2 ^ 64 - 1)
+
+-- Where each result comes: by the whole frames of what was given, the rest after them, the bytes that were written, and the pulls that were made.
+abbrev pub EndsWhere : Result Served ServeFault → List Message → List ℕ → List ℕ → ℕ → ℕ → Type 0
+EndsWhere (Ok served) frames rest written pulls max_reads = (rest ≡ []) × (served.requests ≡ counted (length frames))
+EndsWhere (Err fault.TruncatedFrame) frames rest written pulls max_reads = (rest ≢ []) × (front_of rest ≡ front.Partial)
+EndsWhere (Err (fault.BadLength n)) frames rest written pulls max_reads = front_of rest ≡ front.Bad n
+EndsWhere (Err fault.Read) frames rest written pulls max_reads = front_of rest ≡ front.Partial
+EndsWhere (Err (fault.Write n)) frames rest written pulls max_reads = n ≡ counted (length written)
+EndsWhere (Err fault.TooManyReads) frames rest written pulls max_reads = (front_of rest ≡ front.Partial) × (pulls ≡ max_reads)
+EndsWhere (Err fault.Memory) frames rest written pulls max_reads = Unit {0}
+
+-- All whole frames of what was given ran, and all of their replies was written.
+pub record IsAll (given : List ℕ) (later : List Message) (unwritten : List ℕ) : Type 0 where
+  pub ran : later ≡ []
+  pub wrote : unwritten ≡ []
+  pub fits : AllByRecursion FitsFrame (messages_of given)
+
+-- What serving a stream did, from the tables old to new.
+pub record Serving (result : Result Served ServeFault) (old new : ℕ → Table) (left left' held held' : Option (List ℕ)) (pulls max_reads : ℕ) : Type 0 where
+  -- what the source gave
+  pub given : List ℕ
+  pub gave : Consumes left left' given
+  -- what the sink took
+  pub written : List ℕ
+  pub took : Appends held held' written
+  -- All whole frames but the later ones ran, and left the new tables. All of their replies but the unwritten end was written.
+  pub later : List Message
+  pub unwritten : List ℕ
+  pub ran : Progress turn old (messages_of given) later written unwritten new
+  -- none is later and nothing is unwritten, if neither a write nor want of memory broke it off
+  pub all : IsUnbroken result → IsAll given later unwritten
+  pub ends : EndsWhere result (messages_of given) (rest_of given) written pulls max_reads

@@ -1,0 +1,85 @@
+//! Answering all whole frames that are held.
+
+ghost use Rattle.std.specs.Prelude.{◌≡◌, false, IfOk, IfErr, OnOk, drop};
+ghost use Rattle.cv_frame.specs.Cut.{front_of};
+ghost use Rattle.cv_frame.specs.declared.reading.Frame.TheVariants as front;
+ghost use Rattle.cv_loop.specs.Steps.{Drained, Stopped, EndsBatch};
+
+use crate::answering::answer;
+use crate::batch::{End, next_batch};
+use crate::ends::Sink;
+use crate::engine::Engine;
+use crate::fault::ServeFault;
+use std::alloc::Global;
+
+/// How much was served in a run. A count that would not fit stays at its greatest value.
+#[derive(Clone, Copy, Debug)]
+pub struct Counts {
+    pub requests: u64,
+    /// How many bytes were written.
+    pub written: u64,
+}
+
+/// Answers the next batch at the front, and says how long it was and why it ended.
+fn drain_batch<R, E: Engine<R>, W: Sink>(
+    engine: &mut E,
+    rt: &R,
+    alloc: Global,
+    writer: &mut W,
+    bytes: &[u8],
+    counts: &mut Counts,
+) -> Result<(usize, End), ServeFault>
+    requires ready { E.ready engine.old }
+    requires works { W.has_failed writer.old ≡ false }
+    ensures ready { E.ready engine.new }
+    ensures ok { IfOk result (λ r. Drained (E.tables engine.old) (W.held writer.old) (W.held writer.new) bytes.now r.0
+        (E.tables engine.new) counts.old.written counts.new.written counts.old.requests counts.new.requests) }
+    ensures works { OnOk result (W.has_failed writer.new ≡ false) }
+    ensures end { IfOk result (λ r. EndsBatch r.1 r.0 (drop r.0 bytes.now)) }
+    ensures err { IfErr result (λ f. Stopped f (E.tables engine.old) (W.held writer.old) (W.held writer.new) bytes.now
+        (E.tables engine.new) counts.old.written (W.has_failed writer.new)) }
+{
+    let batch = next_batch(alloc, bytes)?;
+    let n = batch.requests.len() as u64;
+    answer(
+        engine,
+        rt,
+        alloc,
+        writer,
+        &batch.requests,
+        &mut counts.written,
+    )?;
+    counts.requests = counts.requests.saturating_add(n);
+    Ok((batch.used, batch.end))
+}
+
+/// Answers all whole frames at the front, and says how long they were.
+pub fn drain<R, E: Engine<R>, W: Sink>(
+    engine: &mut E,
+    rt: &R,
+    alloc: Global,
+    writer: &mut W,
+    bytes: &[u8],
+    counts: &mut Counts,
+) -> Result<usize, ServeFault>
+    requires ready { E.ready engine.old }
+    requires works { W.has_failed writer.old ≡ false }
+    ensures ready { E.ready engine.new }
+    ensures ok { IfOk result (λ used. Drained (E.tables engine.old) (W.held writer.old) (W.held writer.new) bytes.now used
+        (E.tables engine.new) counts.old.written counts.new.written counts.old.requests counts.new.requests) }
+    ensures works { OnOk result (W.has_failed writer.new ≡ false) }
+    ensures end { IfOk result (λ used. front_of (drop used bytes.now) ≡ front.Partial) }
+    ensures err { IfErr result (λ f. Stopped f (E.tables engine.old) (W.held writer.old) (W.held writer.new) bytes.now
+        (E.tables engine.new) counts.old.written (W.has_failed writer.new)) }
+{
+    let mut used = 0;
+    loop {
+        let (n, end) = drain_batch(engine, rt, alloc, writer, &bytes[used..], counts)?;
+        used += n;
+        match end {
+            End::Full => {}
+            End::Partial => return Ok(used),
+            End::Bad { length } => return Err(ServeFault::BadLength { length }),
+        }
+    }
+}

@@ -1,0 +1,38 @@
+//! Why serving ended.
+
+use cv_base::Memory;
+use thiserror::Error;
+
+/// Why serving ended before the stream did. Its text is the line that a user reads.
+#[derive(Clone, Copy, Debug, PartialEq, Eq, Error)]
+pub enum ServeFault {
+    /// The stream ended within a frame.
+    #[error("truncated frame")]
+    TruncatedFrame,
+    /// A length that no frame has: the length field counts what follows it, 9 to 1,048,576 bytes.
+    #[error("bad length {length}")]
+    BadLength { length: u32 },
+    /// A read failed.
+    #[error("read failed")]
+    Read,
+    /// A write failed or took no byte, after the writer had taken so many bytes in this run.
+    #[error("write failed after {written} bytes")]
+    Write { written: u64 },
+    /// As many reads as are allowed were made, and the end was not met.
+    #[error("too many reads")]
+    TooManyReads,
+    /// A buffer or a batch could not grow.
+    #[error("out of memory")]
+    Memory,
+}
+
+impl From<Memory> for ServeFault {
+    ghost use Rattle.std.specs.Prelude.{◌≡◌};
+    ghost use Rattle.cv_loop.specs.declared.fault.ServeFault.TheVariants as fault;
+
+    ghost from_gives = { λ _ e. e ≡ fault.Memory };
+
+    fn from(_e: Memory) -> ServeFault {
+        ServeFault::Memory
+    }
+}

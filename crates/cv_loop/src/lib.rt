@@ -1,0 +1,26 @@
+//! Serving a stream of frames: requests are read from a source, an engine answers them, and the replies go to a sink.
+#![tactic(auto)]
+
+mod answering;
+mod batch;
+mod draining;
+mod ends;
+mod engine;
+mod fault;
+mod fresh;
+mod pushing;
+mod reading;
+mod serving;
+mod std_ends;
+mod world_engine;
+
+pub use ends::{Failed, Sink, Source};
+pub use engine::Engine;
+pub use fault::ServeFault;
+pub use fresh::serve_new;
+pub use pushing::push_all;
+pub use serving::{Served, serve};
+pub use std_ends::{FromReader, ToWriter};
+
+#[cfg(test)]
+mod tests;

@@ -1,0 +1,28 @@
+//! A world as an engine.
+
+ghost use Rattle.cv_world.specs.Worlds.{world_tables};
+
+use crate::engine::Engine;
+use cv_base::Memory;
+use cv_frame::{Reply, Request};
+use cv_world::World;
+use std::alloc::Global;
+
+impl<R> Engine<R> for World {
+    ghost tables = { λ w. world_tables w };
+
+    fn batch(
+        &mut self,
+        _rt: &R,
+        alloc: Global,
+        requests: &[Request],
+    ) -> Result<Vec<Reply>, Memory> {
+        let mut replies = Vec::new(alloc);
+        replies.reserve(requests.len())?;
+        for request in requests {
+            let reply = self.answer(alloc, request);
+            replies.push_reserved(reply);
+        }
+        Ok(replies)
+    }
+}

@@ -1,0 +1,99 @@
+-- A run of ASCII is a chain.
+use Rattle.std.proofs.Common.{◌≡◌, ℕ, ◌+◌, ◌<◌, ◌≤◌, List, [], ◌∷◌, ◌++◌, length, take, drop, get_or, refl, sym, ◌∙◌, ap, arith, Some, zero, suc, length-take, length-append}
+use Rattle.cv_base.specs.Items.{Taken, taken, ItemRelation, Begins}
+use Rattle.cv_base.specs.Codecs.{Writing}
+use Rattle.cv_base.specs.Ascii.{unit_of, unit_size, ReadsAscii, WritesAscii}
+use Rattle.cv_base.specs.declared.ascii_form.AsciiForm.{AsciiForm}
+use Rattle.cv_base.specs.declared.ascii_form.AsciiForm.TheVariants.{Byte, TwoBig, TwoLittle, FourBig, FourLittle}
+use Rattle.cv_base.specs.declared.state.ReadState.{ReadState}
+use Rattle.cv_base.specs.declared.state.WriteState.{WriteState}
+use Rattle.cv_base.proofs.Front.{Begins-take}
+use Rattle.cv_pivot.specs.declared.outcome.States.{States}
+use Rattle.cv_pivot.specs.Chains.{IsChain, used_bytes, read_state, Output, output, output_of}
+use Rattle.cv_pivot.specs.Steps.{AreAscii, units_of, TakesSome}
+
+-- a unit has its form's size
+length-unit_of : (form : AsciiForm) (c : ℕ) → length (unit_of form c) ≡ unit_size form
+length-unit_of Byte c = refl
+length-unit_of TwoBig c = refl
+length-unit_of TwoLittle c = refl
+length-unit_of FourBig c = refl
+length-unit_of FourLittle c = refl
+
+-- the items of a run
+ascii_items : ReadState → AsciiForm → List ℕ → List Taken
+ascii_items s form [] = []
+ascii_items s form (c ∷ characters) = taken (unit_size form) (Some c) s ∷ ascii_items s form characters
+
+-- the front of what begins a text, and what follows it
+Begins-front : (a b text : List ℕ) → Begins (a ++ b) text → Begins a text
+Begins-front [] b text p = tt
+Begins-front (x ∷ a) b [] p = absurd p
+Begins-front (x ∷ a) b (t ∷ text) p = (p.0, Begins-front a b text p.1)
+
+Begins-back : (a b text : List ℕ) → Begins (a ++ b) text → Begins b (drop (length a) text)
+Begins-back [] b text p = p
+Begins-back (x ∷ a) b [] p = absurd p
+Begins-back (x ∷ a) b (t ∷ text) p = Begins-back a b text p.1
+
+ascii_chain : (reads : ItemRelation) (s : ReadState) (form : AsciiForm) → ReadsAscii reads s form → (characters text : List ℕ) → AreAscii characters → Begins (units_of form characters) text → IsChain reads s text (ascii_items s form characters)
+unfolding ascii_items
+ascii_chain reads s form r [] text p q = tt
+ascii_chain reads s form r (c ∷ characters) text p q =
+    let back : Begins (units_of form characters) (drop (unit_size form) text) = rw length-unit_of at (Begins-back (unit_of form c) (units_of form characters) text q) in
+    (record { bytes = unit_of form c; is_item = r c p.0; front = Begins-front (unit_of form c) (units_of form characters) text q }, ascii_chain reads s form r characters (drop (unit_size form) text) p.1 back)
+
+ascii_used : (s : ReadState) (form : AsciiForm) (characters : List ℕ) → used_bytes (ascii_items s form characters) ≡ length (units_of form characters)
+unfolding ascii_items
+ascii_used s form [] = refl
+ascii_used s form (c ∷ characters) = omega (arith, ascii_used s form characters, length-unit_of form c, length-append (unit_of form c) (units_of form characters))
+
+ascii_state : (s : ReadState) (form : AsciiForm) (characters : List ℕ) → read_state s (ascii_items s form characters) ≡ s
+unfolding ascii_items
+ascii_state s form [] = refl
+ascii_state s form (c ∷ characters) = ascii_state s form characters
+
+ascii_output : (writes : Writing) (s : ReadState) (t : WriteState) (form target : AsciiForm) → WritesAscii writes t target → (characters : List ℕ) → AreAscii characters → output_of writes t (ascii_items s form characters) ≡ output (units_of target characters) 0 t
+unfolding ascii_items
+ascii_output writes s t form target w [] p = refl
+ascii_output writes s t form target w (c ∷ characters) p = rw (w c p.0) (rw (ascii_output writes s t form target w characters p.1) refl)
+
+-- a byte is its own unit
+pub units_of-Byte : (characters : List ℕ) → units_of Byte characters ≡ characters
+units_of-Byte [] = refl
+units_of-Byte (c ∷ characters) = ap (λ (x : List ℕ). c ∷ x) (units_of-Byte characters)
+
+pub ascii_from : (n : ℕ) (text : List ℕ) → n ≤ length text → ((k : ℕ) → k < n → get_or text k 0 < 128) → AreAscii (take n text)
+ascii_from zero text h p = tt
+ascii_from (suc n) [] h p = tt
+ascii_from (suc n) (t ∷ text) h p = (p 0 (omega arith), ascii_from n text (omega arith) (λ k l. p (suc k) (omega arith)))
+
+-- characters that stand in one form, and were put in another, are a chain
+pub run_takes : (reads : ItemRelation) (writes : Writing) (from : States) (rest before : List ℕ) (at : ℕ) (form target : AsciiForm) (characters : List ℕ) (after : List ℕ) → ReadsAscii reads from.reading form → WritesAscii writes from.writing target → AreAscii characters
+    → Begins (units_of form characters) rest → 0 < length (units_of form characters) → at + length (units_of target characters) ≤ length before
+    → after ≡ take at before ++ units_of target characters ++ drop (at + length (units_of target characters)) before
+    → TakesSome reads writes from rest before at (length (units_of form characters)) (length (units_of target characters)) 0 from after
+run_takes reads writes from rest before at form target characters after r w ascii front some fits put =
+    let items = ascii_items from.reading form characters in
+    let o : output_of writes from.writing items ≡ output (units_of target characters) 0 from.writing = ascii_output writes from.reading from.writing form target w characters ascii in
+    record {
+      chain = items;
+      is_chain = ascii_chain reads from.reading form r characters rest ascii front;
+      some = some;
+      uses = sym (ascii_used from.reading form characters);
+      reading = sym (ascii_state from.reading form characters);
+      counts = sym (ap (λ x. x.count) o);
+      writing = sym (ap (λ x. x.next) o);
+      writes_bytes = sym (ap (λ x. length x.bytes) o);
+      fits = fits;
+      out = put ∙ ap (λ (x : Output). take at before ++ x.bytes ++ drop (at + length (units_of target characters)) before) (sym o);
+    }
+
+-- bytes that were copied
+pub copy_takes : (reads : ItemRelation) (writes : Writing) (from : States) (rest before : List ℕ) (at n : ℕ) (after : List ℕ) → ReadsAscii reads from.reading Byte → WritesAscii writes from.writing Byte → 0 < n → n ≤ length rest → at + n ≤ length before → AreAscii (take n rest) → after ≡ take at before ++ take n rest ++ drop (at + n) before → TakesSome reads writes from rest before at n n 0 from after
+copy_takes reads writes from rest before at n after r w some within fits ascii copied =
+    let bytes = take n rest in
+    let u : units_of Byte bytes ≡ bytes = units_of-Byte bytes in
+    let m : length bytes ≡ n = simp length-take (omega arith) in
+    let l : length (units_of Byte bytes) ≡ n = ap length u ∙ m in
+    rw l at (run_takes reads writes from rest before at Byte Byte bytes after r w ascii (rw u (Begins-take n rest)) (omega (arith, l)) (omega (arith, l)) (copied ∙ rw (u, m) refl))

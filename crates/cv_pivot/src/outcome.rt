@@ -1,0 +1,35 @@
+//! What a conversion answers.
+use cv_base::{ReadState, WriteState};
+
+/// Why a conversion stopped (POSIX `iconv()`).
+#[derive(Clone, Copy, Debug, PartialEq, Eq)]
+pub enum Stop {
+    /// All of the input is used.
+    Done,
+    /// The bytes of the next character don't fit in the room that is left (E2BIG).
+    TooBig,
+    /// The next bytes begin no item, whatever follows (EILSEQ).
+    Ill,
+    /// The input ends inside an item (EINVAL).
+    Incomplete,
+}
+
+/// What a conversion answers.
+#[derive(Clone, Copy, Debug, PartialEq, Eq)]
+pub struct Outcome {
+    /// How many bytes of the input are left.
+    pub left: usize,
+    /// How many bytes of the room are left.
+    pub room_left: usize,
+    /// For how many characters `?` was written.
+    pub count: usize,
+    /// Why it stopped.
+    pub stop: Stop,
+}
+
+/// Where a conversion is on its two sides.
+#[derive(Clone, Copy, Debug, PartialEq, Eq)]
+pub struct States {
+    pub reading: ReadState,
+    pub writing: WriteState,
+}

@@ -1,0 +1,5 @@
+mod Buffers
+mod Changes
+mod Emptiness
+mod OneAnswer
+mod Stepping

@@ -1,0 +1,5 @@
+pub mod Actions
+pub mod Tables
+pub mod Turn
+pub mod Answers
+pub mod Worlds

@@ -1,0 +1,157 @@
+//! One caller's descriptors, and what the ops do to them.
+ghost use Rattle.std.specs.Prelude.{◌≡◌, ◌≤◌, ◌<◌, IfSome, IfOk, IsTrue, Some, None, is_some, ◌↔◌, length, OnErr};
+ghost use Rattle.std.specs.List.{list_any};
+ghost use Rattle.cv_pivot.specs.Converted.{IsConverted};
+ghost use Rattle.cv_pivot.specs.Encodings.{encoding_reads, encoding_writes};
+ghost use Rattle.cv_world.specs.Answers.{answer_code, answer_body, AnswerFits};
+ghost use Rattle.cv_world.specs.Tables.{empty_table, least_free, descriptor_at, with_descriptor};
+ghost use Rattle.cv_world.specs.Turn.{Closes, Convs};
+
+use crate::answer::Answer;
+use cv_base::{Codec, Memory};
+use cv_frame::{Bytes, Status};
+use cv_pivot::{Conversion, Outcome};
+use std::alloc::Global;
+
+/// How many descriptors a caller may have open.
+const DESCRIPTORS: usize = 16;
+
+/// The most room that a request may ask for, in bytes.
+const MOST_ROOM: u32 = 1_000_000;
+
+/// One caller's descriptors, by number.
+#[derive(Clone, Copy, Debug, PartialEq, Eq)]
+pub struct Table {
+    pub descriptors: [Option<Conversion>; 16],
+}
+
+/// What a conversion came to, with its output.
+#[derive(Drop)]
+struct Output {
+    outcome: Outcome,
+    bytes: Vec<u8>,
+}
+
+/// Converts as much of the input as fits in the room. It takes memory for no more than the input can need.
+fn convert(
+    alloc: Global,
+    conversion: &mut Conversion,
+    room: u32,
+    input: &[u8],
+) -> Result<Output, Memory>
+    ensures converted { IfOk result (λ r. IsConverted (encoding_reads conversion.old.from) (encoding_writes conversion.old.to) conversion.old.states input.now room
+        (record { left = r.outcome.left; count = r.outcome.count; stop = r.outcome.stop; output = r.bytes.items; states = conversion.new.states })) }
+    ensures same { (conversion.new.from ≡ conversion.old.from) × (conversion.new.to ≡ conversion.old.to) }
+    ensures few { IfOk result (λ r. (r.outcome.left ≤ length input.now) × (r.outcome.count ≤ length input.now)) }
+    ensures fits { IfOk result (λ r. length r.bytes.items ≤ room) }
+    ensures err { OnErr result (conversion.new ≡ conversion.old) }
+{
+    let most = conversion.to.most_bytes();
+    let size = (room as usize).min(most.saturating_mul(input.len()));
+    let mut bytes = vec![in alloc; 0u8; size]?;
+    let outcome = conversion.convert(input, &mut bytes);
+    bytes.truncate(size - outcome.room_left);
+    Ok(Output { outcome, bytes })
+}
+
+impl Table {
+    /// No descriptor is open.
+    pub fn new() -> Table
+        ensures { result ≡ empty_table }
+    {
+        Table {
+            descriptors: [None; DESCRIPTORS],
+        }
+    }
+
+    fn has_descriptors(&self) -> bool
+        ensures any { result ≡ list_any is_some self.now.descriptors }
+        ensures size { length self.now.descriptors ≡ DESCRIPTORS }
+    {
+        self.descriptors.iter().any(|place| place.is_some())
+    }
+
+    /// Whether no descriptor is open.
+    pub fn is_empty(&self) -> bool
+        ensures { IsTrue result ↔ (self.now ≡ empty_table) }
+    {
+        !self.has_descriptors()
+    }
+
+    fn first_free(&self) -> Option<usize>
+        ensures free { result ≡ least_free self.now }
+        ensures within { IfSome result (λ place. place < 16) }
+    {
+        self.descriptors.iter().position(|place| place.is_none())
+    }
+
+    /// The least number that is free.
+    pub fn least_free(&self) -> Option<u32>
+        ensures free { result ≡ least_free self.now }
+        ensures within { IfSome result (λ number. number < 16) }
+    {
+        match self.first_free() {
+            Some(place) => Some(place as u32),
+            None => None,
+        }
+    }
+
+    /// What a number stands for.
+    pub fn get(&self, number: u32) -> Option<Conversion>
+        ensures found { result ≡ descriptor_at self.now number }
+        ensures within { IfSome result (λ _. number < 16) }
+    {
+        let place = number as usize;
+        if place < DESCRIPTORS {
+            self.descriptors[place]
+        } else {
+            None
+        }
+    }
+
+    /// Binds a number, or gives it back.
+    pub fn set(&mut self, number: u32, descriptor: Option<Conversion>)
+        requires { number < 16 }
+        ensures { self.new ≡ with_descriptor self.old number descriptor }
+    {
+        self.descriptors[number as usize] = descriptor;
+    }
+
+    /// CONV: converts by a descriptor.
+    pub(crate) fn conv(&mut self, alloc: Global, number: u32, room: u32, input: &[u8]) -> Answer
+        requires { length input.now ≤ 1048567 }
+        ensures acts { Convs self.old number (descriptor_at self.old number) room input.now
+            (record { next = self.new; code = answer_code result; body = answer_body result }) }
+        ensures fits { AnswerFits result }
+    {
+        let Some(mut conversion) = self.get(number) else {
+            return Answer::Refused(Status::BadDescriptor);
+        };
+        if room > MOST_ROOM {
+            return Answer::Refused(Status::Room);
+        }
+        let Ok(Output { outcome, bytes }) = convert(alloc, &mut conversion, room, input) else {
+            return Answer::Refused(Status::NoMemory);
+        };
+        self.set(number, Some(conversion));
+        Answer::Converted {
+            stop: outcome.stop,
+            left: outcome.left as u32,
+            count: outcome.count as u32,
+            bytes: Bytes::of(bytes),
+        }
+    }
+
+    /// CLOSE: gives a descriptor back.
+    pub(crate) fn close(&mut self, number: u32) -> Answer
+        ensures acts { Closes self.old number (descriptor_at self.old number)
+            (record { next = self.new; code = answer_code result; body = answer_body result }) }
+        ensures fits { AnswerFits result }
+    {
+        let Some(_) = self.get(number) else {
+            return Answer::Refused(Status::BadDescriptor);
+        };
+        self.set(number, None);
+        Answer::Empty
+    }
+}

@@ -1,0 +1,145 @@
+//! The callers of a shard.
+ghost use Rattle.std.specs.Prelude.{◌≡◌, ◌≤◌, OnOk, OnErr, length};
+ghost use Rattle.cv_frame.specs.Machine.{Steps, with_table};
+ghost use Rattle.cv_world.specs.Actions.{asked, Open, Conv, Close, InputFits};
+ghost use Rattle.cv_world.specs.Answers.{answer_code, answer_body, AnswerFits};
+ghost use Rattle.cv_world.specs.Tables.{no_tables};
+ghost use Rattle.cv_world.specs.Turn.{Acts, turn};
+ghost use Rattle.cv_world.specs.Worlds.{world_tables};
+
+use crate::answer::Answer;
+use crate::op::Op;
+use crate::table::Table;
+use cv_base::Memory;
+use cv_frame::{Reply, Request, Status};
+use cv_pivot::{Conversion, builtin};
+use std::alloc::Global;
+use std::collections::BTreeMap;
+
+/// The callers of a shard, each with its own table. A caller that has no descriptor open takes no memory.
+#[derive(Drop)]
+pub struct World {
+    callers: BTreeMap<u32, Table>,
+}
+
+impl World {
+    /// No caller has asked yet.
+    pub fn new(alloc: Global) -> World
+        ensures { world_tables result ≡ no_tables }
+    {
+        World {
+            callers: BTreeMap::new(alloc),
+        }
+    }
+
+    /// The table of a caller.
+    fn table(&self, caller: u32) -> Table
+        ensures { result ≡ world_tables self.now caller }
+    {
+        self.callers.get(&caller).copied().unwrap_or(Table::new())
+    }
+
+    /// Sets the table of a caller.
+    fn store(&mut self, caller: u32, table: Table) -> Result<(), Memory>
+        ensures own { OnOk result (world_tables self.new caller ≡ table) }
+        ensures others { world_tables self.new ≡ with_table (world_tables self.old) caller (world_tables self.new caller) }
+        ensures err { OnErr result (world_tables self.new ≡ world_tables self.old) }
+    {
+        self.callers.insert(caller, table)?;
+        Ok(())
+    }
+
+    /// Gives back the memory of a caller that has no descriptor open.
+    fn forget_empty(&mut self, caller: u32)
+        ensures { world_tables self.new ≡ world_tables self.old }
+    {
+        if self.table(caller).is_empty() {
+            self.callers.remove(&caller);
+        }
+    }
+
+    /// OPEN
+    fn open(&mut self, caller: u32, to: &[u8], from: &[u8]) -> Answer
+        ensures acts { Acts (world_tables self.old caller) (Open to.now from.now)
+            (record { next = world_tables self.new caller; code = answer_code result; body = answer_body result }) }
+        ensures others { world_tables self.new ≡ with_table (world_tables self.old) caller (world_tables self.new caller) }
+        ensures fits { AnswerFits result }
+    {
+        let mut table = self.table(caller);
+        let Some(number) = table.least_free() else {
+            return Answer::Refused(Status::TooManyDescriptors);
+        };
+        let Some(to) = builtin(to) else {
+            return Answer::Refused(Status::Unsupported);
+        };
+        let Some(from) = builtin(from) else {
+            return Answer::Refused(Status::Unsupported);
+        };
+        table.set(number, Some(Conversion::new(to, from)));
+        match self.store(caller, table) {
+            Ok(()) => Answer::Number(number),
+            Err(Memory) => Answer::Refused(Status::NoMemory),
+        }
+    }
+
+    /// CONV
+    fn conv(&mut self, alloc: Global, caller: u32, number: u32, room: u32, input: &[u8]) -> Answer
+        requires { length input.now ≤ 1048567 }
+        ensures acts { Acts (world_tables self.old caller) (Conv number room input.now)
+            (record { next = world_tables self.new caller; code = answer_code result; body = answer_body result }) }
+        ensures others { world_tables self.new ≡ with_table (world_tables self.old) caller (world_tables self.new caller) }
+        ensures fits { AnswerFits result }
+    {
+        match self.callers.get_mut(&caller) {
+            Some(table) => table.conv(alloc, number, room, input),
+            None => Answer::Refused(Status::BadDescriptor),
+        }
+    }
+
+    /// CLOSE
+    fn close(&mut self, caller: u32, number: u32) -> Answer
+        ensures acts { Acts (world_tables self.old caller) (Close number)
+            (record { next = world_tables self.new caller; code = answer_code result; body = answer_body result }) }
+        ensures others { world_tables self.new ≡ with_table (world_tables self.old) caller (world_tables self.new caller) }
+        ensures fits { AnswerFits result }
+    {
+        match self.callers.get_mut(&caller) {
+            Some(table) => table.close(number),
+            None => Answer::Refused(Status::BadDescriptor),
+        }
+    }
+
+    /// One event: what the op asks is done to the caller's table, and no other caller's changes. A refusal leaves every
+    /// table as it was.
+    pub fn step(&mut self, alloc: Global, caller: u32, op: Op<'_>) -> Answer
+        requires { InputFits op }
+        ensures acts { Acts (world_tables self.old caller) (asked op.entry)
+            (record { next = world_tables self.new caller; code = answer_code result; body = answer_body result }) }
+        ensures others { world_tables self.new ≡ with_table (world_tables self.old) caller (world_tables self.new caller) }
+        ensures fits { AnswerFits result }
+    {
+        match op {
+            Op::Open { to, from } => self.open(caller, to, from),
+            Op::Conv {
+                number,
+                room,
+                input,
+            } => self.conv(alloc, caller, number, room, input),
+            Op::Close(number) => {
+                let answer = self.close(caller, number);
+                self.forget_empty(caller);
+                answer
+            }
+            Op::Bad => Answer::Refused(Status::BadRequest),
+        }
+    }
+
+    /// The reply to one request.
+    pub fn answer(&mut self, alloc: Global, request: &Request) -> Reply
+        ensures { Steps turn (world_tables self.old) request.now result (world_tables self.new) }
+    {
+        let op = Op::read(request.op, request.body);
+        let answer = self.step(alloc, request.caller, op);
+        answer.reply(alloc, request.caller, request.tag)
+    }
+}

@@ -1,0 +1,18 @@
+//! What the command line asks for.
+
+/// What the program is to do.
+#[derive(Clone, Copy, Debug, PartialEq, Eq)]
+pub enum Job {
+    /// A script on standard input, its reply lines on standard output.
+    Run,
+}
+
+/// What the command line says.
+#[derive(Clone, Copy, Debug, PartialEq, Eq)]
+pub struct Options {
+    pub job: Job,
+    /// How many workers serve: 1 where the command has no such option.
+    pub workers: u32,
+    /// How many streams are served: 1 where the command has no such option.
+    pub streams: u64,
+}

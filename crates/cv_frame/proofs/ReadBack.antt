@@ -3,7 +3,7 @@ use Rattle.std.proofs.Common.{◌≡◌, ℕ, ◌^◌, ◌<◌, ◌≤◌, false
 use Rattle.std.proofs.lemmas.Bool.{le-ltb}
 use Rattle.std.proofs.lemmas.List.{take_at, drop_at, append-nil}
 use Rattle.std.proofs.lemmas.Nat.{from_be_bytes-to_be_bytes_4}
-use Rattle.cv_frame.specs.Bodies.{name_body, name_at, open_body, conv_body, number_body, open_of, conv_of, number_of, ReadBack}
+use Rattle.cv_frame.specs.Bodies.{name_body, name_at, open_body, conv_body, number_body, reset_body, open_of, conv_of, number_of, reset_of, ReadBack}
 
 name_back : (name rest : List ℕ) → name_at (name_body name ++ rest) ≡ Some (name, rest)
 name_back name rest =
@@ -22,9 +22,13 @@ conv_back number room input n r =
     let long : ltb (length (conv_body number room input)) 8 ≡ false = le-ltb _ _ (omega arith) in
     rw (long, from_be_bytes-to_be_bytes_4 number n, from_be_bytes-to_be_bytes_4 room r) refl
 
+reset_back : (number room : ℕ) → number < 2 ^ 32 → room < 2 ^ 32 → reset_of (reset_body number room) ≡ Some (number, room)
+unfolding reset_of
+reset_back number room n r = rw (from_be_bytes-to_be_bytes_4 number n, from_be_bytes-to_be_bytes_4 room r) refl
+
 number_back : (number : ℕ) → number < 2 ^ 32 → number_of (number_body number) ≡ Some number
 unfolding number_of
 number_back number n = ap Some (from_be_bytes-to_be_bytes_4 number n)
 
 pub read_back : ReadBack
-read_back = record { opens = open_back; converts = conv_back; closes = number_back }
+read_back = record { opens = open_back; converts = conv_back; resets = reset_back; closes = number_back }

@@ -1,14 +1,15 @@
 -- What a client asks, as a message. The numbers of the ops are this project's own.
 use Rattle.std.specs.Prelude.{ℕ, ◌≤◌, List, length}
 use Rattle.cv_frame.specs.Message.{Message}
-use Rattle.cv_frame.specs.Bodies.{open_body, conv_body, number_body}
+use Rattle.cv_frame.specs.Bodies.{open_body, conv_body, number_body, reset_body}
 use Rattle.cv_frame.specs.declared.ask.Ask.{Ask}
-use Rattle.cv_frame.specs.declared.ask.Ask.TheVariants.{Open, Conv, Close, Raw}
+use Rattle.cv_frame.specs.declared.ask.Ask.TheVariants.{Open, Conv, Reset, Close, Raw}
 
 -- the number of its op
 abbrev pub ask_code : Ask → ℕ
 ask_code (Open to from) = 3
 ask_code (Conv number room input) = 4
+ask_code (Reset number room) = 5
 ask_code (Close number) = 6
 ask_code (Raw op body) = op
 
@@ -16,6 +17,7 @@ ask_code (Raw op body) = op
 abbrev pub ask_body : Ask → List ℕ
 ask_body (Open to from) = open_body to.now from.now
 ask_body (Conv number room input) = conv_body number room input.now
+ask_body (Reset number room) = reset_body number room
 ask_body (Close number) = number_body number
 ask_body (Raw op body) = body.now
 
@@ -27,6 +29,7 @@ request_of caller tag ask = record { caller = caller; tag = tag; code = ask_code
 abbrev pub NamesFit : Ask → Type 0
 NamesFit (Open to from) = (length to.now ≤ 255) × (length from.now ≤ 255)
 NamesFit (Conv number room input) = Unit {0}
+NamesFit (Reset number room) = Unit {0}
 NamesFit (Close number) = Unit {0}
 NamesFit (Raw op body) = Unit {0}
 

@@ -18,6 +18,10 @@ open_body to from = name_body to ++ name_body from
 abbrev pub conv_body : ℕ → ℕ → List ℕ → List ℕ
 conv_body number room input = to_be_bytes w32 number ++ (to_be_bytes w32 room ++ input)
 
+-- RESET has the descriptor's number and the room.
+abbrev pub reset_body : ℕ → ℕ → List ℕ
+reset_body number room = to_be_bytes w32 number ++ to_be_bytes w32 room
+
 -- CLOSE has the descriptor's number.
 abbrev pub number_body : ℕ → List ℕ
 number_body number = to_be_bytes w32 number
@@ -41,6 +45,10 @@ open_of body = option_and_then (λ to. option_and_then (λ from. at_end (to.0, f
 unfoldable pub conv_of : List ℕ → Option (ℕ × ℕ × List ℕ)
 conv_of body = if nat_lt (length body) 8 then None else Some (number_at body, number_at (drop 4 body), drop 8 body)
 
+-- the descriptor's number and the room
+unfoldable pub reset_of : List ℕ → Option (ℕ × ℕ)
+reset_of body = if length body == 8 then Some (number_at body, number_at (drop 4 body)) else None
+
 -- the descriptor's number
 unfoldable pub number_of : List ℕ → Option ℕ
 number_of body = if length body == 4 then Some (number_at body) else None
@@ -51,4 +59,5 @@ number_of body = if length body == 4 then Some (number_at body) else None
 pub record ReadBack : Type 0 where
   pub opens : (to from : List ℕ) → length to ≤ 255 → length from ≤ 255 → open_of (open_body to from) ≡ Some (to, from)
   pub converts : (number room : ℕ) (input : List ℕ) → number < 2 ^ 32 → room < 2 ^ 32 → conv_of (conv_body number room input) ≡ Some (number, room, input)
+  pub resets : (number room : ℕ) → number < 2 ^ 32 → room < 2 ^ 32 → reset_of (reset_body number room) ≡ Some (number, room)
   pub closes : (number : ℕ) → number < 2 ^ 32 → number_of (number_body number) ≡ Some number

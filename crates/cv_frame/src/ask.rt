@@ -14,6 +14,11 @@ pub enum Ask<'a> {
         room: u32,
         input: &'a [u8],
     },
+    /// Ends the text of a descriptor, whose closing bytes take at most `room` bytes.
+    Reset {
+        number: u32,
+        room: u32,
+    },
     /// Closes the descriptor of this number.
     Close(u32),
     /// Any op with any body, also those that the service refuses.

@@ -3,7 +3,7 @@
 
 ghost use Rattle.std.specs.Prelude.{◌≡◌, ◌≤◌, ◌+◌, IfSome, length};
 ghost use Rattle.std.specs.Option.{option_map};
-ghost use Rattle.cv_frame.specs.Bodies.{name_at, open_of, conv_of, number_of};
+ghost use Rattle.cv_frame.specs.Bodies.{name_at, open_of, conv_of, number_of, reset_of};
 
 use crate::reading::number;
 
@@ -43,6 +43,18 @@ pub fn read_conv(body: &[u8]) -> Option<(u32, u32, &[u8])>
         return None;
     }
     Some((number(body), number(&body[4..]), &body[8..]))
+}
+
+/// The body of a RESET: the descriptor's number and the room in bytes.
+#[tactic(auto, unfolding(crate::specs::Bodies::reset_of))]
+pub fn read_reset(body: &[u8]) -> Option<(u32, u32)>
+    ensures { result ≡ reset_of body.now }
+{
+    if body.len() == 8 {
+        Some((number(body), number(&body[4..])))
+    } else {
+        None
+    }
 }
 
 /// The body of a CLOSE: the descriptor's number.

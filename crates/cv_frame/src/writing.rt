@@ -88,6 +88,12 @@ pub fn write_request(out: &mut Vec<u8>, caller: u32, tag: u32, ask: &Ask<'_>) ->
             append(out, input);
             Ok(())
         }
+        Ask::Reset { number, room } => {
+            begin_frame(out, caller, tag, 5, 8)?;
+            append(out, &number.to_be_bytes());
+            append(out, &room.to_be_bytes());
+            Ok(())
+        }
         Ask::Close(number) => {
             begin_frame(out, caller, tag, 6, 4)?;
             append(out, &number.to_be_bytes());

@@ -1,5 +1,5 @@
 -- A run of ASCII is a chain.
-use Rattle.std.proofs.Common.{◌≡◌, ℕ, ◌+◌, ◌<◌, ◌≤◌, List, [], ◌∷◌, ◌++◌, length, take, drop, get_or, refl, sym, ◌∙◌, ap, arith, Some, zero, suc, length-take, length-append}
+use Rattle.std.proofs.Common.{◌≡◌, ℕ, ◌+◌, ◌*◌, ◌<◌, ◌≤◌, List, [], ◌∷◌, ◌++◌, length, take, drop, get_or, refl, sym, ◌∙◌, ap, arith, Some, zero, suc, length-take, length-append}
 use Rattle.cv_base.specs.Items.{Taken, taken, ItemRelation, Begins}
 use Rattle.cv_base.specs.Codecs.{Writing}
 use Rattle.cv_base.specs.Ascii.{unit_of, unit_size, ReadsAscii, WritesAscii}

@@ -1,12 +1,13 @@
 //! One descriptor's conversion.
-ghost use Rattle.std.specs.Prelude.{◌≡◌, ◌≤◌, length};
+ghost use Rattle.std.specs.Prelude.{◌≡◌, ◌≤◌, ◌<◌, [], length, IsErr};
 ghost use Rattle.cv_pivot.specs.Conversions.{Converts, start};
-ghost use Rattle.cv_pivot.specs.Encodings.{encoding_reads, encoding_writes};
+ghost use Rattle.cv_pivot.specs.Encodings.{encoding_reads, encoding_writes, encoding_closes};
 
 use crate::convert::run;
 use crate::encoding::Encoding;
-use crate::outcome::{Outcome, States};
-use cv_base::{Ascii, Codec, Latin1, ReadState, WriteState};
+use crate::outcome::{Outcome, States, TooBig};
+use cv_base::{Ascii, Codec, Latin1, Piece, ReadState, WriteState};
+use cv_utf::{Utf8, Utf16, Utf32};
 
 /// A conversion from one encoding to another, between two calls.
 #[derive(Clone, Copy, Debug, PartialEq, Eq)]
@@ -29,6 +30,9 @@ fn run_to<F: Codec>(
     match to {
         Encoding::Ascii => run(from, &Ascii, states, input, out),
         Encoding::Latin1 => run(from, &Latin1, states, input, out),
+        Encoding::Utf8 => run(from, &Utf8, states, input, out),
+        Encoding::Utf16(order) => run(from, &Utf16(*order), states, input, out),
+        Encoding::Utf32(order) => run(from, &Utf32(*order), states, input, out),
     }
 }
 
@@ -45,6 +49,9 @@ fn run_from(
     match from {
         Encoding::Ascii => run_to(&Ascii, to, states, input, out),
         Encoding::Latin1 => run_to(&Latin1, to, states, input, out),
+        Encoding::Utf8 => run_to(&Utf8, to, states, input, out),
+        Encoding::Utf16(order) => run_to(&Utf16(*order), to, states, input, out),
+        Encoding::Utf32(order) => run_to(&Utf32(*order), to, states, input, out),
     }
 }
 
@@ -74,5 +81,26 @@ impl Conversion {
         ensures size { length out.new ≡ length out.old }
     {
         run_from(&self.from, &self.to, &mut self.states, input, out)
+    }
+
+    /// Goes back to the start. With room 0 it gives both states up and writes nothing; with room above 0 it answers the bytes
+    /// that close the target's shift, or `TooBig` where they don't fit, and then the conversion is unchanged.
+    pub fn reset(&mut self, room: usize) -> Result<Piece, TooBig>
+        ensures gives_up { room ≡ 0 → (result ≡ Ok []) × (self.new ≡ record self.old { states = start }) }
+        ensures closes { 0 < room → length (encoding_closes self.old.to self.old.states.writing) ≤ room
+            → (result ≡ Ok (encoding_closes self.old.to self.old.states.writing)) × (self.new ≡ record self.old { states = start }) }
+        ensures too_big { 0 < room → room < length (encoding_closes self.old.to self.old.states.writing)
+            → IsErr result × (self.new ≡ self.old) }
+    {
+        let closing = if room == 0 {
+            Piece::new()
+        } else {
+            self.to.close(self.states.writing)
+        };
+        if closing.as_slice().len() > room {
+            return Err(TooBig);
+        }
+        *self = Conversion::new(self.to, self.from);
+        Ok(closing)
     }
 }

@@ -6,6 +6,7 @@ ghost use Rattle.cv_pivot.specs.EncodingLaws.{encoding_readable, encoding_substi
 use cv_base::{
     Ascii, AsciiForm, Codec, Item, Latin1, Piece, Put, ReadState, Scalar, WriteState, same_name,
 };
+use cv_utf::{Order, Utf8, Utf16, Utf32};
 
 /// An encoding.
 #[derive(Clone, Copy, Debug, PartialEq, Eq)]
@@ -14,6 +15,12 @@ pub enum Encoding {
     Ascii,
     /// ISO-8859-1.
     Latin1,
+    /// UTF-8.
+    Utf8,
+    /// UTF-16 in an order of bytes.
+    Utf16(Order),
+    /// UTF-32 in an order of bytes.
+    Utf32(Order),
 }
 
 /// The built-in encoding of a name, in any case of its ASCII letters.
@@ -21,13 +28,28 @@ pub enum Encoding {
 pub fn builtin(name: &[u8]) -> Option<Encoding>
     ensures { result ≡ builtin_of name.now }
 {
-    if same_name(name, b"US-ASCII") {
-        Some(Encoding::Ascii)
+    let encoding = if same_name(name, b"US-ASCII") {
+        Encoding::Ascii
     } else if same_name(name, b"ISO-8859-1") {
-        Some(Encoding::Latin1)
+        Encoding::Latin1
+    } else if same_name(name, b"UTF-8") {
+        Encoding::Utf8
+    } else if same_name(name, b"UTF-16") {
+        Encoding::Utf16(Order::Marked)
+    } else if same_name(name, b"UTF-16BE") {
+        Encoding::Utf16(Order::Be)
+    } else if same_name(name, b"UTF-16LE") {
+        Encoding::Utf16(Order::Le)
+    } else if same_name(name, b"UTF-32") {
+        Encoding::Utf32(Order::Marked)
+    } else if same_name(name, b"UTF-32BE") {
+        Encoding::Utf32(Order::Be)
+    } else if same_name(name, b"UTF-32LE") {
+        Encoding::Utf32(Order::Le)
     } else {
-        None
-    }
+        return None;
+    };
+    Some(encoding)
 }
 
 impl Codec for Encoding {
@@ -45,6 +67,9 @@ impl Codec for Encoding {
         match self {
             Encoding::Ascii => Ascii.item(state, input),
             Encoding::Latin1 => Latin1.item(state, input),
+            Encoding::Utf8 => Utf8.item(state, input),
+            Encoding::Utf16(order) => Utf16(*order).item(state, input),
+            Encoding::Utf32(order) => Utf32(*order).item(state, input),
         }
     }
 
@@ -52,6 +77,9 @@ impl Codec for Encoding {
         match self {
             Encoding::Ascii => Ascii.put(state, c),
             Encoding::Latin1 => Latin1.put(state, c),
+            Encoding::Utf8 => Utf8.put(state, c),
+            Encoding::Utf16(order) => Utf16(*order).put(state, c),
+            Encoding::Utf32(order) => Utf32(*order).put(state, c),
         }
     }
 
@@ -59,6 +87,9 @@ impl Codec for Encoding {
         match self {
             Encoding::Ascii => Ascii.put_at(state, c, out, at),
             Encoding::Latin1 => Latin1.put_at(state, c, out, at),
+            Encoding::Utf8 => Utf8.put_at(state, c, out, at),
+            Encoding::Utf16(order) => Utf16(*order).put_at(state, c, out, at),
+            Encoding::Utf32(order) => Utf32(*order).put_at(state, c, out, at),
         }
     }
 
@@ -66,6 +97,9 @@ impl Codec for Encoding {
         match self {
             Encoding::Ascii => Ascii.close(state),
             Encoding::Latin1 => Latin1.close(state),
+            Encoding::Utf8 => Utf8.close(state),
+            Encoding::Utf16(order) => Utf16(*order).close(state),
+            Encoding::Utf32(order) => Utf32(*order).close(state),
         }
     }
 
@@ -73,6 +107,9 @@ impl Codec for Encoding {
         match self {
             Encoding::Ascii => Ascii.most_bytes(),
             Encoding::Latin1 => Latin1.most_bytes(),
+            Encoding::Utf8 => Utf8.most_bytes(),
+            Encoding::Utf16(order) => Utf16(*order).most_bytes(),
+            Encoding::Utf32(order) => Utf32(*order).most_bytes(),
         }
     }
 
@@ -80,6 +117,9 @@ impl Codec for Encoding {
         match self {
             Encoding::Ascii => Ascii.reads_ascii(state),
             Encoding::Latin1 => Latin1.reads_ascii(state),
+            Encoding::Utf8 => Utf8.reads_ascii(state),
+            Encoding::Utf16(order) => Utf16(*order).reads_ascii(state),
+            Encoding::Utf32(order) => Utf32(*order).reads_ascii(state),
         }
     }
 
@@ -87,6 +127,9 @@ impl Codec for Encoding {
         match self {
             Encoding::Ascii => Ascii.writes_ascii(state),
             Encoding::Latin1 => Latin1.writes_ascii(state),
+            Encoding::Utf8 => Utf8.writes_ascii(state),
+            Encoding::Utf16(order) => Utf16(*order).writes_ascii(state),
+            Encoding::Utf32(order) => Utf32(*order).writes_ascii(state),
         }
     }
 

@@ -11,4 +11,4 @@ mod step;
 
 pub use conversion::Conversion;
 pub use encoding::{Encoding, builtin};
-pub use outcome::{Outcome, States, Stop};
+pub use outcome::{Outcome, States, Stop, TooBig};

@@ -33,3 +33,7 @@ pub struct States {
     pub reading: ReadState,
     pub writing: WriteState,
 }
+
+/// The closing bytes don't fit in the room.
+#[derive(Clone, Copy, Debug, PartialEq, Eq)]
+pub struct TooBig;

@@ -1,6 +1,6 @@
 -- What a request asks for, by its op and its body.
 use Rattle.std.specs.Prelude.{ℕ, ◌≤◌, List, length, ◌==◌, Option, Some, None, if◌then◌else◌}
-use Rattle.cv_frame.specs.Bodies.{open_of, conv_of, number_of}
+use Rattle.cv_frame.specs.Bodies.{open_of, conv_of, reset_of, number_of}
 use Rattle.cv_world.specs.declared.op.Op.{Op}
 use Rattle.cv_world.specs.declared.op.Op.TheVariants as op
 
@@ -9,6 +9,8 @@ pub data Action : Type 0 where
   Open : (to from : List ℕ) → Action
   -- a descriptor's conversion of an input into so many bytes of room
   Conv : (number room : ℕ) (input : List ℕ) → Action
+  -- both states of a descriptor at their start, with so many bytes of room for what closes a shift
+  Reset : (number room : ℕ) → Action
   -- a descriptor given back
   Close : (number : ℕ) → Action
   -- nothing that there is
@@ -22,6 +24,10 @@ abbrev pub conv_action : Option (ℕ × ℕ × List ℕ) → Action
 conv_action (Some fields) = Conv fields.0 fields.1 fields.2
 conv_action None = Bad
 
+abbrev pub reset_action : Option (ℕ × ℕ) → Action
+reset_action (Some fields) = Reset fields.0 fields.1
+reset_action None = Bad
+
 abbrev pub close_action : Option ℕ → Action
 close_action (Some number) = Close number
 close_action None = Bad
@@ -31,12 +37,14 @@ abbrev pub action_of : ℕ → List ℕ → Action
 action_of code body =
     if code == 3 then open_action (open_of body) else
     if code == 4 then conv_action (conv_of body) else
+    if code == 5 then reset_action (reset_of body) else
     if code == 6 then close_action (number_of body) else Bad
 
 -- what a value of the program asks for
 abbrev pub asked : Op → Action
 asked (op.Open to from) = Open to.now from.now
 asked (op.Conv number room input) = Conv number room input.now
+asked (op.Reset number room) = Reset number room
 asked (op.Close number) = Close number
 asked op.Bad = Bad
 
@@ -44,5 +52,6 @@ asked op.Bad = Bad
 abbrev pub InputFits : Op → Type 0
 InputFits (op.Open to from) = Unit {0}
 InputFits (op.Conv number room input) = length input.now ≤ 1048567
+InputFits (op.Reset number room) = Unit {0}
 InputFits (op.Close number) = Unit {0}
 InputFits op.Bad = Unit {0}

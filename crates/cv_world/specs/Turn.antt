@@ -1,10 +1,10 @@
 -- What each request may do to its caller's table, and what it answers: the cases in the order of refusal
 -- (POSIX iconv_open(), iconv(), iconv_close()).
-use Rattle.std.specs.Prelude.{◌⊎◌, ℕ, List, [], ◌++◌, nat_lt, Option, Some, None}
+use Rattle.std.specs.Prelude.{◌⊎◌, ℕ, List, [], ◌++◌, length, ◌==◌, nat_lt, Option, Some, None}
 use Rattle.std.specs.Int.{w32, to_be_bytes}
 use Rattle.cv_pivot.specs.Conversions.{start}
 use Rattle.cv_pivot.specs.Converted.{Converted, IsConverted}
-use Rattle.cv_pivot.specs.Encodings.{builtin_of, encoding_reads, encoding_writes}
+use Rattle.cv_pivot.specs.Encodings.{builtin_of, encoding_reads, encoding_writes, encoding_closes}
 use Rattle.cv_pivot.specs.declared.conversion.Conversion.{Conversion}
 use Rattle.cv_pivot.specs.declared.encoding.Encoding.{Encoding}
 use Rattle.cv_pivot.specs.declared.outcome.States.{States}
@@ -14,7 +14,7 @@ use Rattle.cv_frame.specs.Machine.{Outcome, Gives, When, Turn}
 use Rattle.cv_frame.specs.Status.{status_number}
 use Rattle.cv_frame.specs.declared.status.Status.{Status}
 use Rattle.cv_frame.specs.declared.status.Status.TheVariants as status
-use Rattle.cv_world.specs.Actions.{Action, Open, Conv, Close, Bad, action_of}
+use Rattle.cv_world.specs.Actions.{Action, Open, Conv, Reset, Close, Bad, action_of}
 use Rattle.cv_world.specs.Tables.{least_free, descriptor_at, with_descriptor}
 use Rattle.cv_world.specs.declared.table.Table.{Table}
 
@@ -67,6 +67,20 @@ Convs table number None room input outcome = Refuses outcome table status.BadDes
 Convs table number (Some d) room input outcome =
     When (nat_lt most_room room) (Refuses outcome table status.Room) (Converts table number d room input outcome ⊎ Refuses outcome table status.NoMemory)
 
+-- ---- RESET
+
+-- Both states go to their start. With room 0 nothing is written, else what closes the target's shift, if it fits.
+abbrev pub Restarts : Table → ℕ → Conversion → ℕ → List ℕ → Outcome Table → Type 0
+Restarts table number d room closing outcome =
+    When (room == 0) (Gives outcome (with_states table number d start) (status_number status.Ok) []) (
+    When (nat_lt room (length closing)) (Refuses outcome table status.TooBig) (
+    Gives outcome (with_states table number d start) (status_number status.Ok) closing))
+
+abbrev pub Resets : Table → ℕ → Option Conversion → ℕ → Outcome Table → Type 0
+Resets table number None room outcome = Refuses outcome table status.BadDescriptor
+Resets table number (Some d) room outcome =
+    When (nat_lt most_room room) (Refuses outcome table status.Room) (Restarts table number d room (encoding_closes d.to d.states.writing) outcome)
+
 -- ---- CLOSE
 
 abbrev pub Closes : Table → ℕ → Option Conversion → Outcome Table → Type 0
@@ -79,6 +93,7 @@ Closes table number (Some d) outcome = Gives outcome (with_descriptor table numb
 abbrev pub Acts : Table → Action → Outcome Table → Type 0
 Acts table (Open to from) outcome = Opens table (least_free table) to from outcome
 Acts table (Conv number room input) outcome = Convs table number (descriptor_at table number) room input outcome
+Acts table (Reset number room) outcome = Resets table number (descriptor_at table number) room outcome
 Acts table (Close number) outcome = Closes table number (descriptor_at table number) outcome
 Acts table Bad outcome = Refuses outcome table status.BadRequest
 

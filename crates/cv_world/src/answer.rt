@@ -25,6 +25,8 @@ pub enum Answer {
         count: u32,
         bytes: Bytes,
     },
+    /// What closes the shift.
+    Written(Piece),
     /// Nothing was done, for this cause.
     Refused(Status),
 }
@@ -73,6 +75,7 @@ impl Answer {
                 count,
                 bytes,
             } => (status_of(stop), two_numbers(left, count), bytes),
+            Answer::Written(bytes) => (Status::Ok, bytes, Bytes::new(alloc)),
             Answer::Refused(status) => (status, Piece::new(), Bytes::new(alloc)),
         };
         Reply::new(caller, tag, status, head, tail)

@@ -5,7 +5,7 @@ ghost use Rattle.cv_pivot.specs.Converted.{IsConverted};
 ghost use Rattle.cv_pivot.specs.Encodings.{encoding_reads, encoding_writes};
 ghost use Rattle.cv_world.specs.Answers.{answer_code, answer_body, AnswerFits};
 ghost use Rattle.cv_world.specs.Tables.{empty_table, least_free, descriptor_at, with_descriptor};
-ghost use Rattle.cv_world.specs.Turn.{Closes, Convs};
+ghost use Rattle.cv_world.specs.Turn.{Closes, Convs, Resets};
 
 use crate::answer::Answer;
 use cv_base::{Codec, Memory};
@@ -140,6 +140,26 @@ impl Table {
             count: outcome.count as u32,
             bytes: Bytes::of(bytes),
         }
+    }
+
+    /// RESET: takes a descriptor back to its start.
+    pub(crate) fn reset(&mut self, number: u32, room: u32) -> Answer
+        ensures acts { Resets self.old number (descriptor_at self.old number) room
+            (record { next = self.new; code = answer_code result; body = answer_body result }) }
+        ensures fits { AnswerFits result }
+    {
+        let Some(mut conversion) = self.get(number) else {
+            return Answer::Refused(Status::BadDescriptor);
+        };
+        if room > MOST_ROOM {
+            return Answer::Refused(Status::Room);
+        }
+        let Ok(closing) = conversion.reset(room as usize) else {
+            return Answer::Refused(Status::TooBig);
+        };
+        let _few = closing.as_slice();
+        self.set(number, Some(conversion));
+        Answer::Written(closing)
     }
 
     /// CLOSE: gives a descriptor back.

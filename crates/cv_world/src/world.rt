@@ -1,7 +1,7 @@
 //! The callers of a shard.
 ghost use Rattle.std.specs.Prelude.{◌≡◌, ◌≤◌, OnOk, OnErr, length};
 ghost use Rattle.cv_frame.specs.Machine.{Steps, with_table};
-ghost use Rattle.cv_world.specs.Actions.{asked, Open, Conv, Close, InputFits};
+ghost use Rattle.cv_world.specs.Actions.{asked, Open, Conv, Reset, Close, InputFits};
 ghost use Rattle.cv_world.specs.Answers.{answer_code, answer_body, AnswerFits};
 ghost use Rattle.cv_world.specs.Tables.{no_tables};
 ghost use Rattle.cv_world.specs.Turn.{Acts, turn};
@@ -36,7 +36,10 @@ impl World {
     fn table(&self, caller: u32) -> Table
         ensures { result ≡ world_tables self.now caller }
     {
-        self.callers.get(&caller).copied().unwrap_or(Table::new())
+        self.callers
+            .get(&caller)
+            .copied()
+            .unwrap_or(Table::new())
     }
 
     /// Sets the table of a caller.
@@ -83,7 +86,14 @@ impl World {
     }
 
     /// CONV
-    fn conv(&mut self, alloc: Global, caller: u32, number: u32, room: u32, input: &[u8]) -> Answer
+    fn conv(
+        &mut self,
+        alloc: Global,
+        caller: u32,
+        number: u32,
+        room: u32,
+        input: &[u8],
+    ) -> Answer
         requires { length input.now ≤ 1048567 }
         ensures acts { Acts (world_tables self.old caller) (Conv number room input.now)
             (record { next = world_tables self.new caller; code = answer_code result; body = answer_body result }) }
@@ -92,6 +102,19 @@ impl World {
     {
         match self.callers.get_mut(&caller) {
             Some(table) => table.conv(alloc, number, room, input),
+            None => Answer::Refused(Status::BadDescriptor),
+        }
+    }
+
+    /// RESET
+    fn reset(&mut self, caller: u32, number: u32, room: u32) -> Answer
+        ensures acts { Acts (world_tables self.old caller) (Reset number room)
+            (record { next = world_tables self.new caller; code = answer_code result; body = answer_body result }) }
+        ensures others { world_tables self.new ≡ with_table (world_tables self.old) caller (world_tables self.new caller) }
+        ensures fits { AnswerFits result }
+    {
+        match self.callers.get_mut(&caller) {
+            Some(table) => table.reset(number, room),
             None => Answer::Refused(Status::BadDescriptor),
         }
     }
@@ -125,6 +148,7 @@ impl World {
                 room,
                 input,
             } => self.conv(alloc, caller, number, room, input),
+            Op::Reset { number, room } => self.reset(caller, number, room),
             Op::Close(number) => {
                 let answer = self.close(caller, number);
                 self.forget_empty(caller);

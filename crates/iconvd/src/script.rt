@@ -88,6 +88,18 @@ fn ask_conv(
     Ok(())
 }
 
+fn ask_reset(out: &mut Vec<u8>, from: Sender, words: &[&[u8]]) -> Result<(), LineFault> {
+    let [number, room] = words else {
+        return Err(LineFault::NotACommand);
+    };
+    let ask = Ask::Reset {
+        number: number_of(number)?,
+        room: number_of(room)?,
+    };
+    write_request(out, from.caller, from.tag, &ask)?;
+    Ok(())
+}
+
 fn ask_close(out: &mut Vec<u8>, from: Sender, words: &[&[u8]]) -> Result<(), LineFault> {
     let [number] = words else {
         return Err(LineFault::NotACommand);
@@ -131,6 +143,7 @@ fn ask_line(alloc: Global, out: &mut Vec<u8>, line: &[u8]) -> Result<(), LineFau
     match *command {
         b"open" => ask_open(out, from, arguments),
         b"conv" => ask_conv(alloc, out, from, arguments),
+        b"reset" => ask_reset(out, from, arguments),
         b"close" => ask_close(out, from, arguments),
         b"raw" => ask_raw(alloc, out, from, arguments),
         _ => Err(LineFault::NotACommand),

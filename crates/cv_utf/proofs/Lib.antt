@@ -1,0 +1,16 @@
+pub mod Utf8Items
+pub mod Given
+pub mod Utf16Scalars
+pub mod Utf16Big
+pub mod Utf16Little
+pub mod First
+pub mod Utf16First
+pub mod InOrder
+pub mod Utf16Writes
+pub mod Utf32Scalars
+pub mod Utf32Big
+pub mod Utf32Little
+pub mod Utf32First
+pub mod Utf32Writes
+pub mod ReadBacks
+pub mod Utf8ReadBack

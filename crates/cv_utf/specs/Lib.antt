@@ -1,0 +1,11 @@
+-- The encoding forms of Unicode.
+pub mod BeginsLaws
+pub mod Utf8
+pub mod Utf8Laws
+pub mod Orders
+pub mod OrdersLaws
+pub mod Utf16
+pub mod Utf16Laws
+pub mod Utf32
+pub mod Utf32Laws
+pub mod ReadBack

@@ -1,0 +1,16 @@
+//! The encoding forms of Unicode: UTF-8, UTF-16 and UTF-32.
+#![tactic(auto)]
+
+mod character;
+pub mod laws;
+mod order;
+#[cfg(test)]
+mod tests;
+mod utf16;
+mod utf32;
+mod utf8;
+
+pub use order::Order;
+pub use utf8::Utf8;
+pub use utf16::Utf16;
+pub use utf32::Utf32;

@@ -1,6 +1,6 @@
 -- Cuts of a text.
-use Rattle.std.proofs.Common.{◌≡◌, ℕ, ◌<◌, ◌≤◌, List, [], ◌∷◌, ◌++◌, length, drop, refl, sym, ◌∙◌, ap, arith, add-zero, suc, zero, inl, inr}
-use Rattle.cv_base.specs.Items.{Taken, ItemRelation, Begins, Stands, NoneStands, CanGrow}
+use Rattle.std.proofs.Common.{◌≡◌, ℕ, ◌<◌, ◌≤◌, List, [], ◌∷◌, ◌++◌, length, drop, refl, sym, ◌∙◌, ap, arith, add-zero}
+use Rattle.cv_base.specs.Items.{Taken, ItemRelation, Begins, NoneStands}
 use Rattle.cv_base.specs.Codecs.{Writing, IsReadable}
 use Rattle.cv_base.specs.declared.state.ReadState.{ReadState}
 use Rattle.cv_base.specs.declared.state.WriteState.{WriteState}
@@ -11,7 +11,6 @@ use Rattle.cv_pivot.specs.declared.outcome.Stop.TheVariants as stop
 use Rattle.cv_pivot.proofs.Chained.{used_bytes-append, read_state-append, output_of-append, IsChain-append, Longer, longer, same_used, same_chain}
 use Rattle.cv_base.proofs.Front.{Begins-drop, item_stays, none_stays}
 use Rattle.std.proofs.lemmas.List.{drop-drop}
-use Rattle.std.proofs.lemmas.Bool.{cases_lt}
 
 IsChain-more : (reads : ItemRelation) (s : ReadState) (text more : List ℕ) (chain : List Taken) → Begins text more → IsChain reads s text chain → IsChain reads s more chain
 IsChain-more reads s text more [] b p = tt

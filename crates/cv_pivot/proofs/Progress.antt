@@ -58,7 +58,7 @@ written-count writes t None = omega arith
 written-count writes t (Some c) = put_or-count t (writes t question) (writes t c)
 
 -- what stands behind the output, after a write behind it
-out_more : (b w before : List ℕ) (at : ℕ) → at ≡ length b → take at (b ++ drop at before) ++ w ++ drop (at + length w) (b ++ drop at before) ≡ (b ++ w) ++ drop (at + length w) before
+pub out_more : (b w before : List ℕ) (at : ℕ) → at ≡ length b → take at (b ++ drop at before) ++ w ++ drop (at + length w) (b ++ drop at before) ≡ (b ++ w) ++ drop (at + length w) before
 out_more b w before at e =
     let front : take at (b ++ drop at before) ≡ b = ap (λ k. take k (b ++ drop at before)) e ∙ take-append_seam b (drop at before) in
     let back : drop (at + length w) (b ++ drop at before) ≡ drop (at + length w) before = ap (λ k. drop (k + length w) (b ++ drop at before)) e ∙ drop-append-add b (drop at before) (length w) ∙ drop-drop (length w) at before in

@@ -1,24 +1,17 @@
 -- A run of ASCII is a chain.
-use Rattle.std.proofs.Common.{◌≡◌, ℕ, ◌+◌, ◌*◌, ◌<◌, ◌≤◌, List, [], ◌∷◌, ◌++◌, length, take, drop, get_or, refl, sym, ◌∙◌, ap, arith, Some, zero, suc, length-take, length-append}
+use Rattle.std.proofs.Common.{◌≡◌, ℕ, ◌+◌, ◌*◌, ◌<◌, ◌≤◌, List, [], ◌∷◌, ◌++◌, length, take, drop, refl, sym, ◌∙◌, ap, arith, Some, length-append}
+use Rattle.std.proofs.lemmas.Nat.{mul-le}
 use Rattle.cv_base.specs.Items.{Taken, taken, ItemRelation, Begins}
 use Rattle.cv_base.specs.Codecs.{Writing}
 use Rattle.cv_base.specs.Ascii.{unit_of, unit_size, ReadsAscii, WritesAscii}
 use Rattle.cv_base.specs.declared.ascii_form.AsciiForm.{AsciiForm}
-use Rattle.cv_base.specs.declared.ascii_form.AsciiForm.TheVariants.{Byte, TwoBig, TwoLittle, FourBig, FourLittle}
 use Rattle.cv_base.specs.declared.state.ReadState.{ReadState}
 use Rattle.cv_base.specs.declared.state.WriteState.{WriteState}
-use Rattle.cv_base.proofs.Front.{Begins-take}
 use Rattle.cv_pivot.specs.declared.outcome.States.{States}
 use Rattle.cv_pivot.specs.Chains.{IsChain, used_bytes, read_state, Output, output, output_of}
-use Rattle.cv_pivot.specs.Steps.{AreAscii, units_of, TakesSome}
-
--- a unit has its form's size
-length-unit_of : (form : AsciiForm) (c : ℕ) → length (unit_of form c) ≡ unit_size form
-length-unit_of Byte c = refl
-length-unit_of TwoBig c = refl
-length-unit_of TwoLittle c = refl
-length-unit_of FourBig c = refl
-length-unit_of FourLittle c = refl
+use Rattle.cv_pivot.specs.AsciiRuns.{AreAscii, units_of, IsAsciiRun, characters_in}
+use Rattle.cv_pivot.specs.Steps.{TakesSome}
+use Rattle.cv_pivot.proofs.AsciiRuns.{length-unit_of, some_bytes, length-run, run_is_ascii, run_begins}
 
 -- the items of a run
 ascii_items : ReadState → AsciiForm → List ℕ → List Taken
@@ -58,16 +51,6 @@ unfolding ascii_items
 ascii_output writes s t form target w [] p = refl
 ascii_output writes s t form target w (c ∷ characters) p = rw (w c p.0) (rw (ascii_output writes s t form target w characters p.1) refl)
 
--- a byte is its own unit
-pub units_of-Byte : (characters : List ℕ) → units_of Byte characters ≡ characters
-units_of-Byte [] = refl
-units_of-Byte (c ∷ characters) = ap (λ (x : List ℕ). c ∷ x) (units_of-Byte characters)
-
-pub ascii_from : (n : ℕ) (text : List ℕ) → n ≤ length text → ((k : ℕ) → k < n → get_or text k 0 < 128) → AreAscii (take n text)
-ascii_from zero text h p = tt
-ascii_from (suc n) [] h p = tt
-ascii_from (suc n) (t ∷ text) h p = (p 0 (omega arith), ascii_from n text (omega arith) (λ k l. p (suc k) (omega arith)))
-
 -- characters that stand in one form, and were put in another, are a chain
 pub run_takes : (reads : ItemRelation) (writes : Writing) (from : States) (rest before : List ℕ) (at : ℕ) (form target : AsciiForm) (characters : List ℕ) (after : List ℕ) → ReadsAscii reads from.reading form → WritesAscii writes from.writing target → AreAscii characters
     → Begins (units_of form characters) rest → 0 < length (units_of form characters) → at + length (units_of target characters) ≤ length before
@@ -89,11 +72,14 @@ run_takes reads writes from rest before at form target characters after r w asci
       out = put ∙ ap (λ (x : Output). take at before ++ x.bytes ++ drop (at + length (units_of target characters)) before) (sym o);
     }
 
--- bytes that were copied
-pub copy_takes : (reads : ItemRelation) (writes : Writing) (from : States) (rest before : List ℕ) (at n : ℕ) (after : List ℕ) → ReadsAscii reads from.reading Byte → WritesAscii writes from.writing Byte → 0 < n → n ≤ length rest → at + n ≤ length before → AreAscii (take n rest) → after ≡ take at before ++ take n rest ++ drop (at + n) before → TakesSome reads writes from rest before at n n 0 from after
-copy_takes reads writes from rest before at n after r w some within fits ascii copied =
-    let bytes = take n rest in
-    let u : units_of Byte bytes ≡ bytes = units_of-Byte bytes in
-    let m : length bytes ≡ n = simp length-take (omega arith) in
-    let l : length (units_of Byte bytes) ≡ n = ap length u ∙ m in
-    rw l at (run_takes reads writes from rest before at Byte Byte bytes after r w ascii (rw u (Begins-take n rest)) (omega (arith, l)) (omega (arith, l)) (copied ∙ rw (u, m) refl))
+-- a run of units, and its characters that were put in another form
+pub units_take : (reads : ItemRelation) (writes : Writing) (from : States) (rest before : List ℕ) (at n : ℕ) (form target : AsciiForm) (after : List ℕ) → ReadsAscii reads from.reading form → WritesAscii writes from.writing target
+    → 0 < n → unit_size form * n ≤ length rest → at + unit_size target * n ≤ length before → IsAsciiRun form rest n
+    → after ≡ take at before ++ units_of target (characters_in form rest n) ++ drop (at + unit_size target * n) before
+    → TakesSome reads writes from rest before at (unit_size form * n) (unit_size target * n) 0 from after
+units_take reads writes from rest before at n form target after r w some within fits ascii put =
+    let characters = characters_in form rest n in
+    let a : length (units_of form characters) ≡ unit_size form * n = length-run form form rest n in
+    let b : length (units_of target characters) ≡ unit_size target * n = length-run form target rest n in
+    let more : 1 * 1 ≤ unit_size form * n = mul-le 1 1 (unit_size form) n (some_bytes form) some in
+    rw (a, b) at (run_takes reads writes from rest before at form target characters after r w (run_is_ascii form rest n ascii) (run_begins form rest n within ascii) (omega arith) (omega arith) (put ∙ rw b refl))

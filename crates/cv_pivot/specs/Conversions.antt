@@ -1,5 +1,5 @@
 -- The longest conversion: of all chains whose written bytes fit, the longest (POSIX iconv()).
-use Rattle.std.specs.Prelude.{◌≡◌, ℕ, ◌+◌, ◌≤◌, ◌<◌, List, ◌++◌, take, drop, length}
+use Rattle.std.specs.Prelude.{◌≡◌, ℕ, ◌+◌, ◌≤◌, List, ◌++◌, drop, length}
 use Rattle.cv_base.specs.Items.{Taken, ItemRelation, Stands, IsNext}
 use Rattle.cv_base.specs.Codecs.{Writing}
 use Rattle.cv_base.specs.declared.state.ReadState.{ReadState}
@@ -7,7 +7,7 @@ use Rattle.cv_base.specs.declared.state.ReadState.TheVariants as read
 use Rattle.cv_base.specs.declared.state.WriteState.{WriteState}
 use Rattle.cv_base.specs.declared.state.WriteState.TheVariants as write
 use Rattle.cv_base.specs.declared.item.Item.TheVariants as item
-use Rattle.cv_pivot.specs.Chains.{Output, IsChain, used_bytes, read_state, written, output_of}
+use Rattle.cv_pivot.specs.Chains.{IsChain, used_bytes, read_state, output_of}
 use Rattle.cv_pivot.specs.declared.outcome.Stop.{Stop}
 use Rattle.cv_pivot.specs.declared.outcome.Stop.TheVariants.{Done, TooBig, Ill, Incomplete}
 use Rattle.cv_pivot.specs.declared.outcome.Outcome.{Outcome}

@@ -4,4 +4,6 @@ pub mod Converted
 pub mod Cuts
 pub mod Encodings
 pub mod EncodingLaws
+pub mod AsciiRuns
 pub mod Steps
+pub mod ReadBack

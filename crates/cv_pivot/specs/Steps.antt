@@ -1,10 +1,7 @@
 -- What the steps of a conversion do: helpers of its proof, which no public contract cites.
-use Rattle.std.specs.Prelude.{◌≡◌, ℕ, ◌+◌, ◌≤◌, ◌<◌, List, [], ◌∷◌, ◌++◌, take, drop, length}
-use Rattle.std.specs.List.{flat_map}
+use Rattle.std.specs.Prelude.{◌≡◌, ℕ, ◌+◌, ◌≤◌, ◌<◌, List, ◌++◌, take, drop, length}
 use Rattle.cv_base.specs.Items.{Taken, ItemRelation, Stands, IsNext}
 use Rattle.cv_base.specs.Codecs.{Writing}
-use Rattle.cv_base.specs.Ascii.{unit_of}
-use Rattle.cv_base.specs.declared.ascii_form.AsciiForm.{AsciiForm}
 use Rattle.cv_base.specs.declared.item.Item.TheVariants as item
 use Rattle.cv_pivot.specs.Chains.{Output, IsChain, used_bytes, read_state, written, output_of}
 use Rattle.cv_pivot.specs.declared.outcome.Stop.{Stop}
@@ -14,15 +11,6 @@ use Rattle.cv_pivot.specs.declared.step.Step.TheVariants.{Took, Stopped}
 use Rattle.cv_pivot.specs.declared.step.Placed.{Placed}
 use Rattle.cv_pivot.specs.declared.step.Placed.TheVariants.{Wrote, NoRoom}
 use Rattle.cv_pivot.specs.declared.outcome.States.{States}
-
--- each byte is below 128
-abbrev pub AreAscii : List ℕ → Type 0
-AreAscii [] = Unit {0}
-AreAscii (b ∷ bytes) = (b < 128) × AreAscii bytes
-
--- characters, each as its unit
-abbrev pub units_of : AsciiForm → List ℕ → List ℕ
-units_of form characters = flat_map (unit_of form) characters
 
 -- What one step of a conversion does at a place of the output.
 pub record TakesOne (reads : ItemRelation) (writes : Writing) (from : States) (rest before : List ℕ) (at used wrote count : ℕ) (to : States) (after : List ℕ) : Type 0 where

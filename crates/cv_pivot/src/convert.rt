@@ -1,18 +1,17 @@
 //! The conversion loop.
-ghost use Rattle.std.specs.Prelude.{◌≡◌, ◌≤◌, ◌+◌, length, IsTrue};
+ghost use Rattle.std.specs.Prelude.{◌≡◌, ◌≤◌, ◌+◌, length, IfSome};
 ghost use Rattle.cv_base.specs.Ascii.{ReadsAscii, WritesAscii};
-ghost use Rattle.cv_base.specs.declared.ascii_form.AsciiForm.{AsciiForm};
 ghost use Rattle.cv_pivot.specs.Chains.{put_or, substituted, output};
 ghost use Rattle.cv_pivot.specs.Conversions.{Converts};
 ghost use Rattle.cv_pivot.specs.Steps.{Places, TakesOrStops, StridesOrStops};
 
-use crate::ascii::ascii_run;
+use crate::ascii::{ascii_run, unit_bytes, write_run};
 use crate::outcome::{Outcome, States, Stop};
 use crate::step::{Placed, Step};
 use cv_base::{AsciiForm, Codec, Item, Put, Scalar, WriteState};
 
 /// Writes a character at a place, or `?` where the target lacks it.
-#[inline]
+#[inline(always)]
 fn place<T: Codec>(to: &T, state: WriteState, c: Scalar, out: &mut [u8], at: usize) -> Placed
     requires { at ≤ length out.old }
     ensures { Places (put_or (substituted state (T.writes to.now state 63)) (T.writes to.now state c)) out.old at result out.new }
@@ -25,7 +24,8 @@ fn place<T: Codec>(to: &T, state: WriteState, c: Scalar, out: &mut [u8], at: usi
 }
 
 /// Writes `?` at a place.
-#[inline]
+#[cold]
+#[inline(never)]
 fn place_substitute<T: Codec>(to: &T, state: WriteState, out: &mut [u8], at: usize) -> Placed
     requires { at ≤ length out.old }
     ensures { Places (substituted state (T.writes to.now state 63)) out.old at result out.new }
@@ -39,7 +39,7 @@ fn place_substitute<T: Codec>(to: &T, state: WriteState, out: &mut [u8], at: usi
 }
 
 /// Takes the item that stands next, if there is one and its bytes fit behind the first `at` bytes of the output.
-#[inline]
+#[inline(always)]
 fn one_step<F: Codec, T: Codec>(
     from: &F,
     to: &T,
@@ -82,23 +82,22 @@ fn one_step<F: Codec, T: Codec>(
     }
 }
 
-/// Whether each byte below 128 is copied.
-#[inline]
-fn copies_ascii<F: Codec, T: Codec>(from: &F, to: &T, states: &States) -> bool
-    ensures reads { IsTrue result → ReadsAscii (F.reads from.now) states.now.reading AsciiForm.Byte }
-    ensures writes { IsTrue result → WritesAscii (T.writes to.now) states.now.writing AsciiForm.Byte }
+/// The forms in which ASCII stands for itself on both sides, if it does.
+#[inline(always)]
+fn ascii_forms<F: Codec, T: Codec>(
+    from: &F,
+    to: &T,
+    states: &States,
+) -> Option<(AsciiForm, AsciiForm)>
+    ensures { IfSome result (λ forms. ReadsAscii (F.reads from.now) states.now.reading forms.0 × WritesAscii (T.writes to.now) states.now.writing forms.1) }
 {
-    let Some(AsciiForm::Byte) = from.reads_ascii(states.reading) else {
-        return false;
-    };
-    let Some(AsciiForm::Byte) = to.writes_ascii(states.writing) else {
-        return false;
-    };
-    true
+    let form = from.reads_ascii(states.reading)?;
+    let target = to.writes_ascii(states.writing)?;
+    Some((form, target))
 }
 
 /// Takes the items of a run of ASCII at once, or else the item that stands next.
-#[inline]
+#[inline(always)]
 #[tactic(auto, using(crate::proofs::Progress::some_of_one))]
 fn step<F: Codec, T: Codec>(
     from: &F,
@@ -111,13 +110,13 @@ fn step<F: Codec, T: Codec>(
     requires { at ≤ length out.old }
     ensures { StridesOrStops (F.reads from.now) (T.writes to.now) states.old rest.now out.old at result states.new out.new }
 {
-    if copies_ascii(from, to, states) {
-        let n = ascii_run(rest, out.len() - at);
+    if let Some((form, target)) = ascii_forms(from, to, states) {
+        let n = ascii_run(form, rest, (out.len() - at) / unit_bytes(target));
         if n > 0 {
-            out[at..at + n].copy_from_slice(&rest[..n]);
+            write_run(form, target, rest, n, out, at);
             return Step::Took {
-                used: n,
-                wrote: n,
+                used: unit_bytes(form) * n,
+                wrote: unit_bytes(target) * n,
                 count: 0,
             };
         }
@@ -127,6 +126,7 @@ fn step<F: Codec, T: Codec>(
 }
 
 /// Converts the longest run of items whose bytes fit.
+#[inline(always)]
 pub(crate) fn run<F: Codec, T: Codec>(
     from: &F,
     to: &T,
@@ -140,8 +140,9 @@ pub(crate) fn run<F: Codec, T: Codec>(
     let mut used = 0;
     let mut at = 0;
     let mut count = 0;
+    let mut now = *states;
     loop {
-        match step(from, to, states, &input[used..], out, at) {
+        match step(from, to, &mut now, &input[used..], out, at) {
             Step::Took {
                 used: more,
                 wrote,
@@ -152,6 +153,7 @@ pub(crate) fn run<F: Codec, T: Codec>(
                 count += lacking;
             }
             Step::Stopped(stop) => {
+                *states = now;
                 return Outcome {
                     left: input.len() - used,
                     room_left: out.len() - at,

@@ -7,6 +7,7 @@ use cv_base::{
     Ascii, AsciiForm, Codec, Item, Latin1, Piece, Put, ReadState, Scalar, WriteState, same_name,
 };
 use cv_utf::{Order, Utf8, Utf16, Utf32};
+use cv_utf7::Utf7;
 
 /// An encoding.
 #[derive(Clone, Copy, Debug, PartialEq, Eq)]
@@ -21,6 +22,8 @@ pub enum Encoding {
     Utf16(Order),
     /// UTF-32 in an order of bytes.
     Utf32(Order),
+    /// UTF-7.
+    Utf7,
 }
 
 /// The built-in encoding of a name, in any case of its ASCII letters.
@@ -46,6 +49,8 @@ pub fn builtin(name: &[u8]) -> Option<Encoding>
         Encoding::Utf32(Order::Be)
     } else if same_name(name, b"UTF-32LE") {
         Encoding::Utf32(Order::Le)
+    } else if same_name(name, b"UTF-7") {
+        Encoding::Utf7
     } else {
         return None;
     };
@@ -70,6 +75,7 @@ impl Codec for Encoding {
             Encoding::Utf8 => Utf8.item(state, input),
             Encoding::Utf16(order) => Utf16(*order).item(state, input),
             Encoding::Utf32(order) => Utf32(*order).item(state, input),
+            Encoding::Utf7 => Utf7.item(state, input),
         }
     }
 
@@ -80,6 +86,7 @@ impl Codec for Encoding {
             Encoding::Utf8 => Utf8.put(state, c),
             Encoding::Utf16(order) => Utf16(*order).put(state, c),
             Encoding::Utf32(order) => Utf32(*order).put(state, c),
+            Encoding::Utf7 => Utf7.put(state, c),
         }
     }
 
@@ -90,6 +97,7 @@ impl Codec for Encoding {
             Encoding::Utf8 => Utf8.put_at(state, c, out, at),
             Encoding::Utf16(order) => Utf16(*order).put_at(state, c, out, at),
             Encoding::Utf32(order) => Utf32(*order).put_at(state, c, out, at),
+            Encoding::Utf7 => Utf7.put_at(state, c, out, at),
         }
     }
 
@@ -100,6 +108,7 @@ impl Codec for Encoding {
             Encoding::Utf8 => Utf8.close(state),
             Encoding::Utf16(order) => Utf16(*order).close(state),
             Encoding::Utf32(order) => Utf32(*order).close(state),
+            Encoding::Utf7 => Utf7.close(state),
         }
     }
 
@@ -110,6 +119,7 @@ impl Codec for Encoding {
             Encoding::Utf8 => Utf8.most_bytes(),
             Encoding::Utf16(order) => Utf16(*order).most_bytes(),
             Encoding::Utf32(order) => Utf32(*order).most_bytes(),
+            Encoding::Utf7 => Utf7.most_bytes(),
         }
     }
 
@@ -120,6 +130,7 @@ impl Codec for Encoding {
             Encoding::Utf8 => Utf8.reads_ascii(state),
             Encoding::Utf16(order) => Utf16(*order).reads_ascii(state),
             Encoding::Utf32(order) => Utf32(*order).reads_ascii(state),
+            Encoding::Utf7 => Utf7.reads_ascii(state),
         }
     }
 
@@ -130,6 +141,7 @@ impl Codec for Encoding {
             Encoding::Utf8 => Utf8.writes_ascii(state),
             Encoding::Utf16(order) => Utf16(*order).writes_ascii(state),
             Encoding::Utf32(order) => Utf32(*order).writes_ascii(state),
+            Encoding::Utf7 => Utf7.writes_ascii(state),
         }
     }
 

@@ -2,7 +2,9 @@
 #![tactic(auto)]
 
 mod alone;
+mod pending;
 mod short;
+mod spelling;
 mod text;
 
 use cv_pivot::builtin;
@@ -10,7 +12,7 @@ use std::io;
 use std::process::ExitCode;
 
 /// The encodings that are built in.
-const ENCODINGS: [&str; 9] = [
+const ENCODINGS: [&str; 10] = [
     "US-ASCII",
     "ISO-8859-1",
     "UTF-8",
@@ -20,6 +22,7 @@ const ENCODINGS: [&str; 9] = [
     "UTF-32",
     "UTF-32BE",
     "UTF-32LE",
+    "UTF-7",
 ];
 
 fn encodings<R: Print + AllocGlobal>(rt: &R) -> io::Result<()> {
@@ -29,15 +32,24 @@ fn encodings<R: Print + AllocGlobal>(rt: &R) -> io::Result<()> {
             println!(rt; "{name}: no such encoding")?;
             continue;
         };
-        let alone = alone::read_back(&encoding);
+        let alone = alone::read_back(rt.alloc(), &encoding)?;
         let joined = text::read_back(rt.alloc(), encoding, &source)?;
         println!(rt; "{name}: {alone} read back alone, {joined} in one text")?;
     }
     Ok(())
 }
 
+fn fronts<R: Print + AllocGlobal>(rt: &R) -> io::Result<()> {
+    let Some(encoding) = builtin(b"UTF-7") else {
+        return println!(rt; "UTF-7: no such encoding");
+    };
+    let count = pending::read_back(rt.alloc(), &encoding)?;
+    println!(rt; "UTF-7: {count} read back behind 21 fronts")
+}
+
 fn main(rt: HostRuntime) -> io::Result<ExitCode> {
     encodings(&rt)?;
+    fronts(&rt)?;
     let short = short::as_the_table_says();
     println!(rt; "UTF-8: {short} inputs of one or two bytes are as the table says")?;
     Ok(ExitCode::SUCCESS)

@@ -55,7 +55,9 @@ fn found(input: &[u8]) -> Front {
 
 /// How many of the inputs are as the table says.
 pub fn as_the_table_says() -> usize {
-    let ones = (0..=255u8).filter(|a| found(&[*a]) == expected(&[*a])).count();
+    let ones = (0..=255u8)
+        .filter(|a| found(&[*a]) == expected(&[*a]))
+        .count();
     let mut twos: usize = 0;
     for a in 0..=255u8 {
         for b in 0..=255u8 {

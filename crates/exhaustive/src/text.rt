@@ -15,7 +15,7 @@ pub fn every_scalar(alloc: Global) -> Result<Vec<u8>, AllocError> {
     Ok(text)
 }
 
-/// The whole text converted, in calls of a size that cuts characters anyhow.
+/// The whole text converted, in calls of a size that cuts characters anyhow, and closed.
 fn converted(
     alloc: Global,
     to: Encoding,
@@ -36,6 +36,9 @@ fn converted(
             break;
         }
         rest = rest.get(used..).unwrap_or(&[]);
+    }
+    if let Ok(closing) = conversion.reset(room.len()) {
+        output.extend_from_slice(closing.as_slice())?;
     }
     Ok(output)
 }

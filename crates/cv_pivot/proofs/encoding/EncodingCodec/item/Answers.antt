@@ -14,3 +14,6 @@ returns-in-Utf16 c = rw c.in-Utf16.is c.item-in-Utf16.ensures
 
 pub returns-in-Utf32 : goal.returns-in-Utf32
 returns-in-Utf32 c = rw c.in-Utf32.is c.item-in-Utf32.ensures
+
+pub returns-in-Utf7 : goal.returns-in-Utf7
+returns-in-Utf7 c = rw c.in-Utf7.is c.item-in-Utf7.ensures

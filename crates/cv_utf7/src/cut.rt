@@ -1,0 +1,136 @@
+//! Bits cut into digits.
+ghost use Rattle.std.specs.Prelude.{◌≡◌, [], ◌∷◌, ◌⊎◌, ◌++◌, ◌*◌, ◌/◌, ◌%◌, ◌^◌, ◌<◌, ◌≤◌};
+
+use crate::sets::digit_for;
+use cv_base::{Bits, Scalar};
+
+/// The digits of a character behind pending bits: how many there are, the number that they spell, and the bits over.
+#[derive(Clone, Copy)]
+pub(crate) struct Cut {
+    pub(crate) n: usize,
+    pub(crate) value: u64,
+    pub(crate) next: Bits,
+}
+
+impl Cut {
+    ghost use Rattle.cv_base.specs.declared.state.WriteState.{WriteState};
+    ghost use Rattle.cv_base.specs.declared.state.WriteState.TheVariants as write;
+    ghost use Rattle.cv_utf7.specs.Sets.{digit_of};
+    ghost use Rattle.cv_utf7.specs.BitLists.{bits, bits_of, character_bits, digits};
+    ghost use Rattle.cv_utf7.specs.Utf7.{written_bits};
+
+    /// The digits of a character behind pending bits.
+    #[inline]
+    pub(crate) fn of(pending: Bits, c: Scalar) -> Cut
+        ensures same { written_bits (bits_of pending ++ character_bits c) ≡ (digits (bits (6 * result.n) result.value), write.Shifted result.next) }
+        ensures count { (result.n ≡ 2) ⊎ (result.n ≡ 3) ⊎ (result.n ≡ 5) ⊎ (result.n ≡ 6) }
+        ensures first { pending.count ≡ 0 → (result.n ≡ 2) ⊎ (result.n ≡ 5) }
+    {
+        let value = c.value();
+        if value < 0x1_0000 {
+            Cut::of_unit(pending, value)
+        } else {
+            Cut::of_pair(pending, value)
+        }
+    }
+
+    /// The digits of a character that is one code unit.
+    #[inline]
+    #[tactic(auto, using(crate::proofs::Cuts::units))]
+    fn of_unit(pending: Bits, value: u32) -> Cut
+        requires { value < 0x10000 }
+        ensures same { written_bits (bits_of pending ++ character_bits value) ≡ (digits (bits (6 * result.n) result.value), write.Shifted result.next) }
+        ensures count { (result.n ≡ 2) ⊎ (result.n ≡ 3) }
+        ensures first { pending.count ≡ 0 → result.n ≡ 2 }
+    {
+        let all = pending.value as u64 * 0x1_0000 + value as u64;
+        if pending.count == 0 {
+            return Cut {
+                n: 2,
+                value: all / 16,
+                next: Bits {
+                    count: 4,
+                    value: (all % 16) as u8,
+                },
+            };
+        }
+        if pending.count == 2 {
+            return Cut {
+                n: 3,
+                value: all,
+                next: Bits { count: 0, value: 0 },
+            };
+        }
+        Cut {
+            n: 3,
+            value: all / 4,
+            next: Bits {
+                count: 2,
+                value: (all % 4) as u8,
+            },
+        }
+    }
+
+    /// The digits of a character that is two code units.
+    #[tactic(auto, using(crate::proofs::Cuts::pairs))]
+    fn of_pair(pending: Bits, value: u32) -> Cut
+        requires large { 0x10000 ≤ value }
+        requires in_range { value < 0x110000 }
+        ensures same { written_bits (bits_of pending ++ character_bits value) ≡ (digits (bits (6 * result.n) result.value), write.Shifted result.next) }
+        ensures count { (result.n ≡ 5) ⊎ (result.n ≡ 6) }
+        ensures first { pending.count ≡ 0 → result.n ≡ 5 }
+    {
+        let high = 0xD800 + (value - 0x1_0000) / 1024;
+        let low = 0xDC00 + (value - 0x1_0000) % 1024;
+        let units = high as u64 * 0x1_0000 + low as u64;
+        let all = pending.value as u64 * 0x1_0000_0000 + units;
+        if pending.count == 0 {
+            return Cut {
+                n: 5,
+                value: all / 4,
+                next: Bits {
+                    count: 2,
+                    value: (all % 4) as u8,
+                },
+            };
+        }
+        if pending.count == 2 {
+            return Cut {
+                n: 5,
+                value: all / 16,
+                next: Bits {
+                    count: 4,
+                    value: (all % 16) as u8,
+                },
+            };
+        }
+        Cut {
+            n: 6,
+            value: all,
+            next: Bits { count: 0, value: 0 },
+        }
+    }
+
+    /// One of the digits, counted from the last.
+    #[inline]
+    pub(crate) fn digit(self, place: u32) -> u8
+        requires { place ≤ 5 }
+        ensures { result ≡ digit_of (self.value / 2 ^ (6 * place) % 64) }
+    {
+        digit_for(((self.value >> (6 * place)) % 64) as u32)
+    }
+
+    /// The last five digits.
+    #[inline]
+    pub(crate) fn last_five(self) -> [u8; 5]
+        ensures { result ≡ digit_of (self.value / 16777216 % 64) ∷ digit_of (self.value / 262144 % 64) ∷ digit_of (self.value / 4096 % 64) ∷ digit_of (self.value / 64 % 64) ∷ digit_of (self.value / 1 % 64) ∷ [] }
+    {
+        [
+            self.digit(4),
+            self.digit(3),
+            self.digit(2),
+            self.digit(1),
+            self.digit(0),
+        ]
+    }
+}

@@ -1,0 +1,74 @@
+//! The sets of characters of RFC 2152.
+ghost use Rattle.std.specs.Prelude.{◌≡◌, ◌<◌, true, false, MatchOption};
+ghost use Rattle.cv_utf7.specs.Sets.{is_digit, value_of, digit_of, may_be_direct, is_direct};
+
+// The digits in the order of their values.
+static DIGITS: [u8; 64] = *b"ABCDEFGHIJKLMNOPQRSTUVWXYZabcdefghijklmnopqrstuvwxyz0123456789+/";
+
+// The value of each byte that is a digit, and 64 for the others.
+#[rattlefmt::skip]
+static VALUES: [u8; 256] = [
+    64, 64, 64, 64, 64, 64, 64, 64, 64, 64, 64, 64, 64, 64, 64, 64,
+    64, 64, 64, 64, 64, 64, 64, 64, 64, 64, 64, 64, 64, 64, 64, 64,
+    64, 64, 64, 64, 64, 64, 64, 64, 64, 64, 64, 62, 64, 64, 64, 63,
+    52, 53, 54, 55, 56, 57, 58, 59, 60, 61, 64, 64, 64, 64, 64, 64,
+    64,  0,  1,  2,  3,  4,  5,  6,  7,  8,  9, 10, 11, 12, 13, 14,
+    15, 16, 17, 18, 19, 20, 21, 22, 23, 24, 25, 64, 64, 64, 64, 64,
+    64, 26, 27, 28, 29, 30, 31, 32, 33, 34, 35, 36, 37, 38, 39, 40,
+    41, 42, 43, 44, 45, 46, 47, 48, 49, 50, 51, 64, 64, 64, 64, 64,
+    64, 64, 64, 64, 64, 64, 64, 64, 64, 64, 64, 64, 64, 64, 64, 64,
+    64, 64, 64, 64, 64, 64, 64, 64, 64, 64, 64, 64, 64, 64, 64, 64,
+    64, 64, 64, 64, 64, 64, 64, 64, 64, 64, 64, 64, 64, 64, 64, 64,
+    64, 64, 64, 64, 64, 64, 64, 64, 64, 64, 64, 64, 64, 64, 64, 64,
+    64, 64, 64, 64, 64, 64, 64, 64, 64, 64, 64, 64, 64, 64, 64, 64,
+    64, 64, 64, 64, 64, 64, 64, 64, 64, 64, 64, 64, 64, 64, 64, 64,
+    64, 64, 64, 64, 64, 64, 64, 64, 64, 64, 64, 64, 64, 64, 64, 64,
+    64, 64, 64, 64, 64, 64, 64, 64, 64, 64, 64, 64, 64, 64, 64, 64,
+];
+
+// For each ASCII character: 1 where it may be direct, 3 where it is written so too.
+#[rattlefmt::skip]
+static DIRECT: [u8; 128] = [
+    0, 0, 0, 0, 0, 0, 0, 0, 0, 3, 3, 0, 0, 3, 0, 0,
+    0, 0, 0, 0, 0, 0, 0, 0, 0, 0, 0, 0, 0, 0, 0, 0,
+    3, 1, 1, 1, 1, 1, 1, 3, 3, 3, 1, 0, 3, 3, 3, 3,
+    3, 3, 3, 3, 3, 3, 3, 3, 3, 3, 3, 1, 1, 1, 1, 3,
+    1, 3, 3, 3, 3, 3, 3, 3, 3, 3, 3, 3, 3, 3, 3, 3,
+    3, 3, 3, 3, 3, 3, 3, 3, 3, 3, 3, 1, 0, 1, 1, 1,
+    1, 3, 3, 3, 3, 3, 3, 3, 3, 3, 3, 3, 3, 3, 3, 3,
+    3, 3, 3, 3, 3, 3, 3, 3, 3, 3, 3, 1, 1, 1, 0, 0,
+];
+
+/// The value of a digit.
+#[inline]
+pub(crate) fn digit(b: u8) -> Option<u32>
+    ensures { MatchOption result (is_digit b ≡ false) (λ v. (is_digit b ≡ true) × (v ≡ value_of b)) }
+{
+    let value = VALUES[b as usize];
+    if value < 64 { Some(value as u32) } else { None }
+}
+
+/// The digit of a value.
+#[inline]
+pub(crate) fn digit_for(value: u32) -> u8
+    requires { value < 64 }
+    ensures { result ≡ digit_of value }
+{
+    DIGITS[value as usize]
+}
+
+/// Whether the byte may stand for itself in a text that is read.
+#[inline]
+pub(crate) fn may_stand(b: u8) -> bool
+    ensures { result ≡ may_be_direct b }
+{
+    b < 128 && DIRECT[b as usize] != 0
+}
+
+/// Whether the character is written as itself.
+#[inline]
+pub(crate) fn stands(c: u32) -> bool
+    ensures { result ≡ is_direct c }
+{
+    c < 128 && DIRECT[c as usize] == 3
+}

@@ -1,0 +1,110 @@
+//! Code units in strings of digits.
+ghost use Rattle.std.specs.Prelude.{◌≡◌, ℕ, ◌+◌, ◌*◌, ◌-◌, ◌^◌, ◌<◌, ◌≤◌, MatchOption, false, length, get_or};
+
+use crate::sets::digit;
+use cv_base::Bits;
+
+/// A UTF-16 code unit, how many digits hold it, and the bits over.
+#[derive(Clone, Copy)]
+pub(crate) struct Unit {
+    pub(crate) value: u32,
+    pub(crate) n: usize,
+    pub(crate) over: Bits,
+}
+
+/// The digits at the front of a text that are too few for a code unit: how many there are, and the bits so far with the pending ones.
+#[derive(Clone, Copy)]
+pub(crate) struct Front {
+    pub(crate) n: usize,
+    pub(crate) count: u32,
+    pub(crate) value: u32,
+}
+
+impl Unit {
+    ghost use Rattle.cv_utf7.specs.Steps.{IsUnit, NoUnit};
+
+    /// The code unit at the front of a text, if there are digits enough.
+    #[inline]
+    #[tactic(auto, using(crate::proofs::Found::units))]
+    pub(crate) fn next(pending: Bits, input: &[u8]) -> Option<Unit>
+        ensures { MatchOption result (NoUnit pending input.now) (λ u. IsUnit pending input.now u) }
+    {
+        if input.len() < 2 {
+            return None;
+        }
+        let first = digit(input[0])?;
+        let second = digit(input[1])?;
+        let twelve = first * 64 + second;
+        if pending.count == 4 {
+            return Some(Unit {
+                value: pending.value as u32 * 4096 + twelve,
+                n: 2,
+                over: Bits { count: 0, value: 0 },
+            });
+        }
+        if input.len() < 3 {
+            return None;
+        }
+        let eighteen = twelve * 64 + digit(input[2])?;
+        if pending.count == 2 {
+            return Some(Unit {
+                value: pending.value as u32 * 16384 + eighteen / 16,
+                n: 3,
+                over: Bits {
+                    count: 4,
+                    value: (eighteen % 16) as u8,
+                },
+            });
+        }
+        Some(Unit {
+            value: eighteen / 4,
+            n: 3,
+            over: Bits {
+                count: 2,
+                value: (eighteen % 4) as u8,
+            },
+        })
+    }
+}
+
+impl Front {
+    ghost use Rattle.cv_utf7.specs.Steps.{NoUnit, IsFront};
+    ghost use Rattle.cv_utf7.specs.Sets.{is_digit};
+
+    /// The digits at the front of a text.
+    #[tactic(auto, using(crate::proofs::Found::fronts))]
+    pub(crate) fn of(pending: Bits, input: &[u8]) -> Front
+        requires { NoUnit pending input.now }
+        ensures front { IsFront pending input.now result.n result.count result.value }
+        ensures stop { result.n < length input.now → is_digit (get_or input.now result.n 0) ≡ false }
+    {
+        let mut count = pending.count as u32;
+        let mut value = pending.value as u32;
+        for (n, b) in input.iter().enumerate() {
+            let Some(digit) = digit(*b) else {
+                return Front { n, count, value };
+            };
+            count += 6;
+            value = value * 64 + digit;
+        }
+        Front {
+            n: input.len(),
+            count,
+            value,
+        }
+    }
+
+    /// The least code unit that begins with these bits, and the number above the greatest.
+    #[tactic(auto, using(crate::proofs::Found::ranges))]
+    pub(crate) fn range(self) -> (u32, u32)
+        requires few { self.count < 16 }
+        requires small { self.value < 2 ^ self.count }
+        ensures from { result.0 ≡ self.value * 2 ^ (16 - self.count) }
+        ensures to { result.1 ≡ self.value * 2 ^ (16 - self.count) + 2 ^ (16 - self.count) }
+        ensures bound { result.1 ≤ 65536 }
+    {
+        let width = 1u32 << (16 - self.count);
+        let from = self.value * width;
+        (from, from + width)
+    }
+}

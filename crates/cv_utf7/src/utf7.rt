@@ -1,0 +1,127 @@
+//! UTF-7.
+ghost use Rattle.std.specs.Prelude.{◌≡◌, ◌≤◌, length, Some};
+ghost use Rattle.cv_base.specs.Places.{PutsAt};
+ghost use Rattle.cv_utf7.specs.Utf7.{utf7_reads, utf7_writes, utf7_closes, writes_at_start};
+ghost use Rattle.cv_utf7.specs.Utf7Laws.{utf7_readable, utf7_substitutable};
+
+use crate::cut::Cut;
+use crate::reading::{NONE, item_at_start, item_in_shift};
+use crate::sets::stands;
+use crate::writing::{closing, first_piece, piece_of, put_closed, put_digits, put_first};
+use cv_base::place::{write_one, write_two};
+use cv_base::{Codec, Item, Piece, Put, ReadState, Scalar, WriteState};
+
+/// UTF-7. What it writes has no optional direct character.
+#[derive(Clone, Copy, Debug, PartialEq, Eq)]
+pub struct Utf7;
+
+/// A character outside a shifted sequence, and the state after it.
+#[tactic(auto, using(crate::proofs::Writes::starts))]
+fn spell_at_start(c: Scalar) -> (Piece, WriteState)
+    ensures { result ≡ writes_at_start c }
+{
+    let value = c.value();
+    if stands(value) {
+        return (Piece::one(value as u8), WriteState::Start);
+    }
+    if value == b'+' as u32 {
+        return (Piece::two(b'+', b'-'), WriteState::Start);
+    }
+    let cut = Cut::of(NONE, c);
+    (first_piece(cut), WriteState::Shifted(cut.next))
+}
+
+/// Writes a character outside a shifted sequence.
+#[inline]
+#[tactic(auto, using(crate::proofs::Writes::starts))]
+fn put_at_start(c: Scalar, out: &mut [u8], at: usize) -> Put
+    requires { at ≤ length out.old }
+    ensures { PutsAt (Some (writes_at_start c)) out.old at result out.new }
+{
+    let value = c.value();
+    let room = out.len() - at;
+    let next = WriteState::Start;
+    if stands(value) {
+        if room < 1 {
+            return Put::NoRoom;
+        }
+        write_one(out, at, value as u8);
+        return Put::Wrote { n: 1, next };
+    }
+    if value == b'+' as u32 {
+        if room < 2 {
+            return Put::NoRoom;
+        }
+        write_two(out, at, b'+', b'-');
+        return Put::Wrote { n: 2, next };
+    }
+    put_first(Cut::of(NONE, c), out, at)
+}
+
+impl Codec for Utf7 {
+    ghost is_valid = { λ _. Unit {0} };
+
+    ghost reads = { λ _. utf7_reads };
+
+    ghost writes = { λ _. utf7_writes };
+
+    ghost closes = { λ _. utf7_closes };
+
+    fn assert_valid(&self) {}
+
+    #[inline]
+    #[tactic(auto, using(crate::proofs::StartItems::states))]
+    fn item(&self, state: ReadState, input: &[u8]) -> Item {
+        match state {
+            ReadState::Shifted(pending) => item_in_shift(pending, input),
+            ReadState::Start => item_at_start(input),
+            ReadState::Big => item_at_start(input),
+            ReadState::Little => item_at_start(input),
+        }
+    }
+
+    #[tactic(auto, using(crate::proofs::Writes::writes))]
+    fn put(&self, state: WriteState, c: Scalar) -> Option<(Piece, WriteState)> {
+        let value = c.value();
+        let WriteState::Shifted(pending) = state else {
+            return Some(spell_at_start(c));
+        };
+        if stands(value) {
+            let mut piece = closing(pending);
+            piece.push(value as u8);
+            return Some((piece, WriteState::Start));
+        }
+        let cut = Cut::of(pending, c);
+        Some((piece_of(cut), WriteState::Shifted(cut.next)))
+    }
+
+    #[inline]
+    #[tactic(auto, using(crate::proofs::Writes::writes))]
+    fn put_at(&self, state: WriteState, c: Scalar, out: &mut [u8], at: usize) -> Put {
+        let value = c.value();
+        let WriteState::Shifted(pending) = state else {
+            return put_at_start(c, out, at);
+        };
+        if stands(value) {
+            return put_closed(pending, value as u8, out, at);
+        }
+        put_digits(Cut::of(pending, c), out, at)
+    }
+
+    fn close(&self, state: WriteState) -> Piece {
+        match state {
+            WriteState::Shifted(pending) => closing(pending),
+            WriteState::Start => Piece::new(),
+            WriteState::Marked => Piece::new(),
+        }
+    }
+
+    #[tactic(auto, using(crate::proofs::Writes::most))]
+    fn most_bytes(&self) -> usize {
+        6
+    }
+
+    ghost readable = { λ _ _. utf7_readable };
+
+    ghost substitutable = { λ _ _. utf7_substitutable };
+}

@@ -1,0 +1,188 @@
+//! The bytes of characters.
+ghost use Rattle.std.specs.Prelude.{◌≡◌, ◌⊎◌, [], ◌∷◌, ◌++◌, ◌+◌, ◌*◌, ◌≤◌, length, take, drop, Some};
+ghost use Rattle.cv_base.specs.Places.{PutsAt};
+ghost use Rattle.cv_base.specs.declared.state.WriteState.{WriteState};
+ghost use Rattle.cv_utf7.specs.Sets.{digit_of};
+ghost use Rattle.cv_utf7.specs.BitLists.{bits, digits};
+ghost use Rattle.cv_utf7.specs.Utf7.{plus, utf7_closes};
+
+use crate::cut::Cut;
+use crate::sets::digit_for;
+use cv_base::place::{write_three, write_two};
+use cv_base::{Bits, Piece, Put, WriteState};
+
+/// Five bytes.
+fn five(bytes: [u8; 5]) -> Piece
+    ensures { result ≡ bytes }
+{
+    let [a, b, c, d, e] = bytes;
+    let mut piece = Piece::four(a, b, c, d);
+    piece.push(e);
+    piece
+}
+
+/// Six bytes.
+fn six(bytes: [u8; 6]) -> Piece
+    ensures { result ≡ bytes }
+{
+    let [a, b, c, d, e, f] = bytes;
+    let mut piece = five([a, b, c, d, e]);
+    piece.push(f);
+    piece
+}
+
+/// The digits of a character.
+#[tactic(auto, using(crate::proofs::Cuts::spelled))]
+pub(crate) fn piece_of(cut: Cut) -> Piece
+    requires { (cut.n ≡ 2) ⊎ (cut.n ≡ 3) ⊎ (cut.n ≡ 5) ⊎ (cut.n ≡ 6) }
+    ensures { result ≡ digits (bits (6 * cut.n) cut.value) }
+{
+    if cut.n == 2 {
+        return Piece::two(cut.digit(1), cut.digit(0));
+    }
+    if cut.n == 3 {
+        return Piece::three(cut.digit(2), cut.digit(1), cut.digit(0));
+    }
+    let [b, c, d, e, f] = cut.last_five();
+    if cut.n == 5 {
+        return five([b, c, d, e, f]);
+    }
+    six([cut.digit(5), b, c, d, e, f])
+}
+
+/// `+` and the digits of the first character of a shifted sequence.
+#[tactic(auto, using(crate::proofs::Cuts::spelled))]
+pub(crate) fn first_piece(cut: Cut) -> Piece
+    requires { (cut.n ≡ 2) ⊎ (cut.n ≡ 5) }
+    ensures { result ≡ plus ∷ digits (bits (6 * cut.n) cut.value) }
+{
+    if cut.n == 2 {
+        return Piece::three(b'+', cut.digit(1), cut.digit(0));
+    }
+    let [b, c, d, e, f] = cut.last_five();
+    six([b'+', b, c, d, e, f])
+}
+
+/// What closes a shifted sequence.
+#[inline]
+#[tactic(auto, using(crate::proofs::Cuts::closings))]
+pub(crate) fn closing(pending: Bits) -> Piece
+    ensures { result ≡ utf7_closes (WriteState.Shifted pending) }
+{
+    if pending.count == 0 {
+        return Piece::one(b'-');
+    }
+    Piece::two(last_digit(pending), b'-')
+}
+
+/// The digit of pending bits, followed by zero bits.
+#[inline]
+#[tactic(auto, using(crate::proofs::Cuts::last_lt))]
+fn last_digit(pending: Bits) -> u8
+    ensures two { pending.count ≡ 2 → result ≡ digit_of (pending.value * 16) }
+    ensures four { pending.count ≡ 4 → result ≡ digit_of (pending.value * 4) }
+{
+    if pending.count == 2 {
+        return digit_for(pending.value as u32 * 16);
+    }
+    digit_for(pending.value as u32 * 4)
+}
+
+/// Writes five bytes.
+#[inline]
+fn write_five(out: &mut [u8], at: usize, bytes: [u8; 5])
+    requires { at + 5 ≤ length out.old }
+    ensures { out.new ≡ take at out.old ++ bytes ++ drop (at + 5) out.old }
+{
+    out[at..at + 5].copy_from_slice(&bytes);
+}
+
+/// Writes six bytes.
+#[inline]
+fn write_six(out: &mut [u8], at: usize, bytes: [u8; 6])
+    requires { at + 6 ≤ length out.old }
+    ensures { out.new ≡ take at out.old ++ bytes ++ drop (at + 6) out.old }
+{
+    out[at..at + 6].copy_from_slice(&bytes);
+}
+
+/// Writes the digits of a character.
+#[inline]
+#[tactic(auto, using(crate::proofs::Cuts::spelled))]
+pub(crate) fn put_digits(cut: Cut, out: &mut [u8], at: usize) -> Put
+    requires place { at ≤ length out.old }
+    requires count { (cut.n ≡ 2) ⊎ (cut.n ≡ 3) ⊎ (cut.n ≡ 5) ⊎ (cut.n ≡ 6) }
+    ensures { PutsAt (Some (digits (bits (6 * cut.n) cut.value), WriteState.Shifted cut.next)) out.old at result out.new }
+{
+    if out.len() - at < cut.n {
+        return Put::NoRoom;
+    }
+    let wrote = Put::Wrote {
+        n: cut.n,
+        next: WriteState::Shifted(cut.next),
+    };
+    if cut.n == 2 {
+        write_two(out, at, cut.digit(1), cut.digit(0));
+        return wrote;
+    }
+    if cut.n == 3 {
+        write_three(out, at, cut.digit(2), cut.digit(1), cut.digit(0));
+        return wrote;
+    }
+    let [b, c, d, e, f] = cut.last_five();
+    if cut.n == 5 {
+        write_five(out, at, [b, c, d, e, f]);
+        return wrote;
+    }
+    write_six(out, at, [cut.digit(5), b, c, d, e, f]);
+    wrote
+}
+
+/// Writes `+` and the digits of the first character of a shifted sequence.
+#[inline]
+#[tactic(auto, using(crate::proofs::Cuts::spelled))]
+pub(crate) fn put_first(cut: Cut, out: &mut [u8], at: usize) -> Put
+    requires place { at ≤ length out.old }
+    requires count { (cut.n ≡ 2) ⊎ (cut.n ≡ 5) }
+    ensures { PutsAt (Some (plus ∷ digits (bits (6 * cut.n) cut.value), WriteState.Shifted cut.next)) out.old at result out.new }
+{
+    let n = cut.n + 1;
+    if out.len() - at < n {
+        return Put::NoRoom;
+    }
+    let wrote = Put::Wrote {
+        n,
+        next: WriteState::Shifted(cut.next),
+    };
+    if cut.n == 2 {
+        write_three(out, at, b'+', cut.digit(1), cut.digit(0));
+        return wrote;
+    }
+    let [b, c, d, e, f] = cut.last_five();
+    write_six(out, at, [b'+', b, c, d, e, f]);
+    wrote
+}
+
+/// Writes a direct character behind what closes the shifted sequence.
+#[inline]
+#[tactic(auto, using(crate::proofs::Cuts::closings))]
+pub(crate) fn put_closed(pending: Bits, byte: u8, out: &mut [u8], at: usize) -> Put
+    requires { at ≤ length out.old }
+    ensures { PutsAt (Some (utf7_closes (WriteState.Shifted pending) ++ byte ∷ [], WriteState.Start)) out.old at result out.new }
+{
+    let room = out.len() - at;
+    let next = WriteState::Start;
+    if pending.count == 0 {
+        if room < 2 {
+            return Put::NoRoom;
+        }
+        write_two(out, at, b'-', byte);
+        return Put::Wrote { n: 2, next };
+    }
+    let digit = last_digit(pending);
+    if room < 3 {
+        return Put::NoRoom;
+    }
+    write_three(out, at, digit, b'-', byte);
+    Put::Wrote { n: 3, next }
+}

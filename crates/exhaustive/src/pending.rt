@@ -1,0 +1,42 @@
+//! Each scalar value behind characters that leave each of the states in which a shifted sequence can be, in UTF-7.
+ghost use Rattle.std.specs.Prelude.{◌<◌, ◌≤◌};
+
+use crate::spelling::{is_read_as, write_text};
+use cv_base::Scalar;
+use cv_pivot::Encoding;
+use std::alloc::{AllocError, Global};
+
+/// Characters of one code unit each, which leave a shifted sequence in the state that `k` counts: the pending bits are the last of
+/// the last of them, four behind one character, two behind two, none behind three.
+fn front(k: u32) -> (usize, u32)
+    ensures length { result.0 ≤ 3 }
+    ensures last { k < 21 → result.1 < 16 }
+{
+    match k {
+        0..16 => (1, k),
+        16..20 => (2, k - 16),
+        _ => (3, 0),
+    }
+}
+
+/// How many of the scalar values are read back behind each of the 21 fronts.
+pub fn read_back(alloc: Global, encoding: &Encoding) -> Result<usize, AllocError> {
+    let mut text = Vec::new(alloc);
+    let mut count: usize = 0;
+    for k in 0..21 {
+        let (length, last) = front(k);
+        let Some(unit) = Scalar::new(0x3040 + last) else {
+            continue;
+        };
+        let mut characters = [unit; 4];
+        for c in (0..0x11_0000).filter_map(Scalar::new) {
+            characters[length] = c;
+            let whole = characters.get(..length + 1).unwrap_or(&[]);
+            write_text(encoding, whole, &mut text)?;
+            if is_read_as(encoding, &text, whole) {
+                count = count.saturating_add(1);
+            }
+        }
+    }
+    Ok(count)
+}

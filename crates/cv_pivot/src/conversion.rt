@@ -6,8 +6,8 @@ ghost use Rattle.cv_pivot.specs.Encodings.{encoding_reads, encoding_writes, enco
 use crate::convert::run;
 use crate::encoding::Encoding;
 use crate::fixed::{
-    Fixed, FixedAscii, FixedLatin1, FixedUtf7, FixedUtf8, FixedUtf16Be, FixedUtf16Le, FixedUtf16Marked,
-    FixedUtf32Be, FixedUtf32Le, FixedUtf32Marked,
+    Fixed, FixedAscii, FixedLatin1, FixedUtf7, FixedUtf8, FixedUtf16Be, FixedUtf16Le,
+    FixedUtf16Marked, FixedUtf32Be, FixedUtf32Le, FixedUtf32Marked,
 };
 use crate::outcome::{Outcome, States, TooBig};
 use cv_base::{Codec, Piece, ReadState, WriteState};

@@ -1,5 +1,5 @@
 -- One request, answered by a turn of its caller's table.
-use Rattle.std.proofs.Common.{◌≡◌, ℕ, List, [], Option, Some, refl, sym, subst, inr, ap}
+use Rattle.std.proofs.Common.{◌≡◌, ℕ, List, [], Some, refl, sym, subst, inr, ap}
 use Rattle.cv_pivot.specs.Encodings.{builtin_of}
 use Rattle.cv_pivot.specs.declared.encoding.Encoding.{Encoding}
 use Rattle.cv_frame.specs.Message.{Message, FitsFrame}

@@ -8,7 +8,10 @@ use cv_frame::{read_conv, read_number, read_open, read_reset};
 #[derive(Clone, Copy, Debug)]
 pub enum Op<'a> {
     /// A descriptor that converts to one encoding from another (POSIX `iconv_open()`), by their names.
-    Open { to: &'a [u8], from: &'a [u8] },
+    Open {
+        to: &'a [u8],
+        from: &'a [u8],
+    },
     /// As much of the input converted as fits in `room` bytes (POSIX `iconv()`).
     Conv {
         number: u32,
@@ -16,7 +19,10 @@ pub enum Op<'a> {
         input: &'a [u8],
     },
     /// Both states at their start, and what closes the target's shift in `room` bytes (POSIX `iconv()` without input).
-    Reset { number: u32, room: u32 },
+    Reset {
+        number: u32,
+        room: u32,
+    },
     /// The descriptor given back (POSIX `iconv_close()`).
     Close(u32),
     /// Nothing: the op is none of these, or the body isn't of its form.

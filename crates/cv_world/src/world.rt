@@ -36,10 +36,7 @@ impl World {
     fn table(&self, caller: u32) -> Table
         ensures { result ≡ world_tables self.now caller }
     {
-        self.callers
-            .get(&caller)
-            .copied()
-            .unwrap_or(Table::new())
+        self.callers.get(&caller).copied().unwrap_or(Table::new())
     }
 
     /// Sets the table of a caller.
@@ -86,14 +83,7 @@ impl World {
     }
 
     /// CONV
-    fn conv(
-        &mut self,
-        alloc: Global,
-        caller: u32,
-        number: u32,
-        room: u32,
-        input: &[u8],
-    ) -> Answer
+    fn conv(&mut self, alloc: Global, caller: u32, number: u32, room: u32, input: &[u8]) -> Answer
         requires { length input.now ≤ 1048567 }
         ensures acts { Acts (world_tables self.old caller) (Conv number room input.now)
             (record { next = world_tables self.new caller; code = answer_code result; body = answer_body result }) }

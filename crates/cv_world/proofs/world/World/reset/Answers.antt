@@ -1,4 +1,4 @@
-use Rattle.std.proofs.Common.{rules, arith, ap, Option}
+use Rattle.std.proofs.Common.{rules, ap, Option}
 use Rattle.std.specs.Prelude.{unwrap_or}
 use Rattle.cv_world.specs.Tables.{empty_table}
 use Rattle.cv_world.specs.declared.table.Table.{Table}

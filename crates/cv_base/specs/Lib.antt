@@ -6,3 +6,6 @@ pub mod SingleBytes
 pub mod SingleByteLaws
 pub mod Places
 pub mod Names
+pub mod Chains
+pub mod Blocks
+pub mod Spelled

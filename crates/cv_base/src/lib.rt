@@ -3,6 +3,7 @@
 
 mod ascii;
 mod ascii_form;
+mod block;
 mod codec;
 mod item;
 mod latin1;
@@ -12,10 +13,12 @@ mod names;
 mod piece;
 pub mod place;
 mod scalar;
+mod spelling;
 mod state;
 
 pub use ascii::Ascii;
 pub use ascii_form::AsciiForm;
+pub use block::{ReadBlock, WrittenBlock};
 pub use codec::Codec;
 pub use item::Item;
 pub use latin1::Latin1;
@@ -24,6 +27,7 @@ pub use names::same_name;
 pub use piece::Piece;
 pub use place::Put;
 pub use scalar::Scalar;
+pub use spelling::{MANY, Spelled, Spelling};
 pub use state::{Bits, ReadState, WriteState};
 
 #[cfg(test)]

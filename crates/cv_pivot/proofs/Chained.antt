@@ -4,7 +4,7 @@ use Rattle.cv_base.specs.Items.{Taken, ItemRelation, Stands}
 use Rattle.cv_base.specs.Codecs.{Writing, IsReadable}
 use Rattle.cv_base.specs.declared.state.ReadState.{ReadState}
 use Rattle.cv_base.specs.declared.state.WriteState.{WriteState}
-use Rattle.cv_pivot.specs.Chains.{IsChain, used_bytes, read_state, Output, output, written, followed, output_of}
+use Rattle.cv_base.specs.Chains.{IsChain, used_bytes, read_state, Output, output, written, followed, output_of}
 use Rattle.cv_pivot.specs.Conversions.{IsLongest}
 use Rattle.cv_base.proofs.Front.{same_item, stands_within}
 use Rattle.std.proofs.lemmas.List.{drop-drop}

@@ -4,7 +4,7 @@ use Rattle.cv_base.specs.Items.{Taken, ItemRelation, Begins, NoneStands}
 use Rattle.cv_base.specs.Codecs.{Writing, IsReadable}
 use Rattle.cv_base.specs.declared.state.ReadState.{ReadState}
 use Rattle.cv_base.specs.declared.state.WriteState.{WriteState}
-use Rattle.cv_pivot.specs.Chains.{IsChain, used_bytes, read_state, Output, output_of}
+use Rattle.cv_base.specs.Chains.{IsChain, used_bytes, read_state, Output, output_of}
 use Rattle.cv_pivot.specs.Conversions.{StopsAt}
 use Rattle.cv_pivot.specs.Cuts.{Call, IsFeed, IsFed, used_by, written_by, read_by, EndsIll, IsChained, DoesNotDependOnCuts}
 use Rattle.cv_pivot.specs.declared.outcome.Stop.TheVariants as stop

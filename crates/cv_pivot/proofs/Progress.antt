@@ -10,7 +10,7 @@ use Rattle.cv_base.specs.declared.state.WriteState.{WriteState}
 use Rattle.cv_pivot.specs.declared.outcome.States.{States}
 use Rattle.cv_pivot.specs.declared.outcome.Stop.{Stop}
 use Rattle.cv_pivot.specs.declared.outcome.Stop.TheVariants as stop
-use Rattle.cv_pivot.specs.Chains.{IsChain, used_bytes, read_state, Output, output, written, put_or, substituted, followed, output_of}
+use Rattle.cv_base.specs.Chains.{IsChain, used_bytes, read_state, Output, output, written, put_or, substituted, followed, output_of}
 use Rattle.cv_pivot.specs.Conversions.{StopsAt, Converts}
 use Rattle.cv_pivot.specs.Steps.{TakesOne, TakesSome, StepStops}
 use Rattle.cv_base.proofs.Front.{same_item, stands_within}

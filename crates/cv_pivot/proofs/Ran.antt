@@ -8,7 +8,7 @@ use Rattle.cv_base.specs.declared.ascii_form.AsciiForm.{AsciiForm}
 use Rattle.cv_base.specs.declared.state.ReadState.{ReadState}
 use Rattle.cv_base.specs.declared.state.WriteState.{WriteState}
 use Rattle.cv_pivot.specs.declared.outcome.States.{States}
-use Rattle.cv_pivot.specs.Chains.{IsChain, used_bytes, read_state, Output, output, output_of}
+use Rattle.cv_base.specs.Chains.{IsChain, used_bytes, read_state, Output, output, output_of}
 use Rattle.cv_pivot.specs.AsciiRuns.{AreAscii, units_of, IsAsciiRun, characters_in}
 use Rattle.cv_pivot.specs.Steps.{TakesSome}
 use Rattle.cv_pivot.proofs.AsciiRuns.{length-unit_of, some_bytes, length-run, run_is_ascii, run_begins}

@@ -20,7 +20,7 @@ use Rattle.cv_utf.specs.Utf16.{utf16}
 use Rattle.cv_utf.specs.Utf32.{utf32}
 use Rattle.cv_utf.proofs.ReadBacks.{one_item, same_written, form_reads_back}
 use Rattle.cv_utf.proofs.Utf8ReadBack.{utf8_reads_back}
-use Rattle.cv_pivot.specs.Chains.{IsChain, used_bytes}
+use Rattle.cv_base.specs.Chains.{IsChain, used_bytes}
 use Rattle.cv_pivot.specs.declared.encoding.Encoding.{Encoding}
 use Rattle.cv_pivot.specs.declared.encoding.Encoding.TheVariants.{Ascii, Latin1, Utf8, Utf16, Utf32, Utf7}
 use Rattle.cv_pivot.specs.Encodings.{encoding_reads, encoding_writes, encoding_closes}

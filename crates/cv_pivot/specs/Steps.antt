@@ -3,7 +3,7 @@ use Rattle.std.specs.Prelude.{◌≡◌, ℕ, ◌+◌, ◌≤◌, ◌<◌, List,
 use Rattle.cv_base.specs.Items.{Taken, ItemRelation, Stands, IsNext}
 use Rattle.cv_base.specs.Codecs.{Writing}
 use Rattle.cv_base.specs.declared.item.Item.TheVariants as item
-use Rattle.cv_pivot.specs.Chains.{Output, IsChain, used_bytes, read_state, written, output_of}
+use Rattle.cv_base.specs.Chains.{Output, IsChain, used_bytes, read_state, written, output_of}
 use Rattle.cv_pivot.specs.declared.outcome.Stop.{Stop}
 use Rattle.cv_pivot.specs.declared.outcome.Stop.TheVariants.{Done, TooBig, Ill, Incomplete}
 use Rattle.cv_pivot.specs.declared.step.Step.{Step}

@@ -1,7 +1,7 @@
 //! The conversion loop.
 ghost use Rattle.std.specs.Prelude.{◌≡◌, ◌≤◌, ◌+◌, length, IfSome};
 ghost use Rattle.cv_base.specs.Ascii.{ReadsAscii, WritesAscii};
-ghost use Rattle.cv_pivot.specs.Chains.{put_or, substituted, output};
+ghost use Rattle.cv_base.specs.Chains.{put_or, substituted, output};
 ghost use Rattle.cv_pivot.specs.Conversions.{Converts};
 ghost use Rattle.cv_pivot.specs.Steps.{Places, TakesOrStops, StridesOrStops};
 

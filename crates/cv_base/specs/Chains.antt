@@ -1,5 +1,5 @@
 -- Chains of items, and what is written for them (POSIX iconv()).
-use Rattle.std.specs.Prelude.{ℕ, ◌+◌, List, [], ◌∷◌, ◌++◌, drop, Option, Some, None}
+use Rattle.std.specs.Prelude.{ℕ, ◌+◌, List, [], ◌∷◌, ◌++◌, drop, Option, Some, None, option_to_list}
 use Rattle.cv_base.specs.Scalars.{question}
 use Rattle.cv_base.specs.Items.{Taken, ItemRelation, Stands}
 use Rattle.cv_base.specs.Codecs.{Writing}
@@ -20,6 +20,11 @@ used_bytes (item ∷ items) = item.used + used_bytes items
 abbrev pub read_state : ReadState → List Taken → ReadState
 read_state s [] = s
 read_state s (item ∷ items) = read_state item.next items
+
+-- the characters that a chain gives
+abbrev pub characters_of : List Taken → List ℕ
+characters_of [] = []
+characters_of (item ∷ items) = option_to_list item.gives ++ characters_of items
 
 -- What is written: the bytes, how many characters `?` stands for, and the writing state after it.
 pub record Output : Type 0 where
@@ -54,3 +59,9 @@ abbrev pub output_of : Writing → WriteState → List Taken → Output
 output_of writes t [] = output [] 0 t
 output_of writes t (item ∷ items) =
     let first : Output = written writes t item.gives in followed first (output_of writes first.next items)
+
+-- for characters
+abbrev pub output_for : Writing → WriteState → List ℕ → Output
+output_for writes t [] = output [] 0 t
+output_for writes t (c ∷ characters) =
+    let first : Output = written writes t (Some c) in followed first (output_for writes first.next characters)

@@ -1,0 +1,48 @@
+-- Spellings: encodings, or states of them, in which each character has its bytes whatever stands around it.
+use Rattle.std.specs.Prelude.{◌≡◌, ℕ, ◌+◌, ◌≤◌, List, [], ◌∷◌, ◌++◌, take, drop, length, Some}
+use Rattle.std.specs.List.{flat_map}
+use Rattle.cv_base.specs.Scalars.{IsScalar}
+use Rattle.cv_base.specs.Items.{taken, ItemRelation, Begins}
+use Rattle.cv_base.specs.Codecs.{Writing}
+use Rattle.cv_base.specs.declared.spelling.Spelled.{Spelled}
+use Rattle.cv_base.specs.declared.state.ReadState.{ReadState}
+use Rattle.cv_base.specs.declared.state.WriteState.{WriteState}
+
+-- the bytes of each character
+abbrev pub BytesOf : Type 0
+BytesOf = ℕ → List ℕ
+
+abbrev pub AreScalars : List ℕ → Type 0
+AreScalars [] = Unit {0}
+AreScalars (c ∷ characters) = IsScalar c × AreScalars characters
+
+-- In this state the bytes of each character read as it, and the state stays.
+abbrev pub ReadsSpelled : ItemRelation → ReadState → BytesOf → Type 0
+ReadsSpelled reads s bytes_of = (c : ℕ) → IsScalar c → reads s (bytes_of c) (taken (length (bytes_of c)) (Some c) s)
+
+-- In this state each character is written as its bytes, and the state stays.
+abbrev pub WritesSpelled : Writing → WriteState → BytesOf → Type 0
+WritesSpelled writes t bytes_of = (c : ℕ) → writes t c ≡ Some (bytes_of c, t)
+
+-- The bytes of a character stand at a place of a text.
+abbrev pub IsSpelledAt : BytesOf → List ℕ → ℕ → ℕ → ℕ → Type 0
+IsSpelledAt bytes_of text at c n = IsScalar c × Begins (bytes_of c) (drop at text) × (n ≡ length (bytes_of c))
+
+-- Characters whose bytes stand at a place of a text were put into a buffer behind its first n; what is behind them may be anything.
+pub record IsReadSpelled (bytes_of : BytesOf) (text : List ℕ) (at : ℕ) (before : List ℕ) (n : ℕ) (run : Spelled) (after : List ℕ) : Type 0 where
+  pub characters : List ℕ
+  pub scalars : AreScalars characters
+  pub begins : Begins (flat_map bytes_of characters) (drop at text)
+  pub uses : run.used ≡ length (flat_map bytes_of characters)
+  pub counts : run.n ≡ length characters
+  pub stand : take (n + run.n) after ≡ take n before ++ characters
+  pub fits : n + run.n ≤ length before
+  pub size : length after ≡ length before
+
+-- The bytes of some characters behind the first n were put at a place; what is behind them may be anything.
+pub record IsWrittenSpelled (bytes_of : BytesOf) (characters : List ℕ) (n : ℕ) (before : List ℕ) (at : ℕ) (run : Spelled) (after : List ℕ) : Type 0 where
+  pub within : n + run.n ≤ length characters
+  pub uses : run.used ≡ length (flat_map bytes_of (take run.n (drop n characters)))
+  pub fits : at + run.used ≤ length before
+  pub stand : take (at + run.used) after ≡ take at before ++ flat_map bytes_of (take run.n (drop n characters))
+  pub size : length after ≡ length before

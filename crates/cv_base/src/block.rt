@@ -1,0 +1,24 @@
+//! Blocks of characters.
+use crate::state::{ReadState, WriteState};
+
+/// A block of characters that was read.
+#[derive(Clone, Copy, Debug, PartialEq, Eq)]
+pub struct ReadBlock {
+    /// How many characters it has.
+    pub n: usize,
+    /// How many bytes of the text its items use.
+    pub used: usize,
+    /// The state behind them.
+    pub next: ReadState,
+}
+
+/// A block of characters that was written.
+#[derive(Clone, Copy, Debug, PartialEq, Eq)]
+pub struct WrittenBlock {
+    /// How many bytes it has.
+    pub wrote: usize,
+    /// For how many characters `?` was written.
+    pub count: usize,
+    /// The state behind it.
+    pub next: WriteState,
+}

@@ -37,6 +37,12 @@ Begins-take zero text = tt
 Begins-take (suc n) [] = tt
 Begins-take (suc n) (t ∷ text) = (refl, Begins-take n text)
 
+-- what begins a text, and then what begins the rest
+pub Begins-join : (a b text : List ℕ) → Begins a text → Begins b (drop (length a) text) → Begins (a ++ b) text
+Begins-join [] b text p q = q
+Begins-join (x ∷ a) b [] p q = absurd p
+Begins-join (x ∷ a) b (t ∷ text) p q = (p.0, Begins-join a b text p.1 q)
+
 pub Begins-append : (a b : List ℕ) → Begins a (a ++ b)
 Begins-append [] b = tt
 Begins-append (x ∷ a) b = (refl, Begins-append a b)

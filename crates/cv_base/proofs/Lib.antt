@@ -1,3 +1,4 @@
 pub mod SingleByteItems
 pub mod Front
 pub mod NameTests
+pub mod SpelledRuns

@@ -12,9 +12,11 @@ mod memory;
 mod names;
 mod piece;
 pub mod place;
+mod reading;
 mod scalar;
 mod spelling;
 mod state;
+mod writing;
 
 pub use ascii::Ascii;
 pub use ascii_form::AsciiForm;
@@ -26,9 +28,11 @@ pub use memory::Memory;
 pub use names::same_name;
 pub use piece::Piece;
 pub use place::Put;
+pub use reading::read_spelled;
 pub use scalar::Scalar;
 pub use spelling::{MANY, Spelled, Spelling};
 pub use state::{Bits, ReadState, WriteState};
+pub use writing::write_spelled;
 
 #[cfg(test)]
 mod tests;

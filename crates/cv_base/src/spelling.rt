@@ -20,8 +20,6 @@ pub struct Spelled {
 pub trait Spelling {
     ghost bytes_of: { BytesOf };
 
-    ghost short: { (c : ℕ) → length (bytes_of c) ≤ 4 };
-
     /// The character whose bytes stand at a place, and how many they are. `None` says nothing.
     fn read_at(input: &[u8], at: usize) -> Option<(Scalar, usize)>
         requires { at ≤ length input.now }
@@ -45,4 +43,7 @@ pub trait Spelling {
         requires within { n + 16 ≤ length characters.now }
         requires room { at + 64 ≤ length out.old }
         ensures { IsWrittenSpelled bytes_of characters.now n out.old at result out.new };
+
+    /// A character has at most four bytes.
+    ghost short: { (c : ℕ) → length (bytes_of c) ≤ 4 };
 }

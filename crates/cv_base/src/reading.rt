@@ -1,0 +1,70 @@
+//! Reading by blocks.
+ghost use Rattle.std.specs.Prelude.{◌≤◌, ◌+◌, length};
+ghost use Rattle.cv_base.specs.Spelled.{IsReadSpelled};
+
+use crate::scalar::Scalar;
+use crate::spelling::{MANY, Spelled, Spelling};
+
+/// How many characters are read one by one before it is tried again to read many at once.
+const FEW: usize = 4;
+
+/// Reads up to `most` characters one by one into a buffer, behind its first `n`.
+#[inline(always)]
+fn read_few<S: Spelling>(
+    input: &[u8],
+    at: usize,
+    buffer: &mut [Scalar],
+    n: usize,
+    most: usize,
+) -> Spelled
+    requires within { at ≤ length input.now }
+    requires room { n + most ≤ length buffer.old }
+    ensures { IsReadSpelled S.bytes_of input.now at buffer.old n result buffer.new }
+{
+    let mut more = 0;
+    let mut used = 0;
+    while more < most {
+        let Some((c, size)) = S::read_at(input, at + used) else {
+            break;
+        };
+        buffer[n + more] = c;
+        more += 1;
+        used += size;
+    }
+    Spelled { n: more, used }
+}
+
+/// Reads some characters into a buffer, behind its first `n`: many at once and one behind them, or else a few one by one.
+#[inline(always)]
+fn read_some<S: Spelling>(input: &[u8], at: usize, buffer: &mut [Scalar], n: usize) -> Spelled
+    requires within { at ≤ length input.now }
+    requires room { n ≤ length buffer.old }
+    ensures { IsReadSpelled S.bytes_of input.now at buffer.old n result buffer.new }
+{
+    let room = buffer.len() - n;
+    if room >= MANY {
+        let many = S::read_many(input, at, buffer, n);
+        if many.n > 0 {
+            return many;
+        }
+    }
+    read_few::<S>(input, at, buffer, n, room.min(FEW))
+}
+
+/// Reads the characters at the front of a text into the front of a buffer.
+#[inline(always)]
+pub fn read_spelled<S: Spelling>(input: &[u8], buffer: &mut [Scalar]) -> Spelled
+    ensures { IsReadSpelled S.bytes_of input.now 0 buffer.old 0 result buffer.new }
+{
+    let mut n = 0;
+    let mut used = 0;
+    while n < buffer.len() {
+        let some = read_some::<S>(input, used, buffer, n);
+        if some.n == 0 {
+            break;
+        }
+        n += some.n;
+        used += some.used;
+    }
+    Spelled { n, used }
+}

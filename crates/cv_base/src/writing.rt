@@ -1,0 +1,81 @@
+//! Writing by blocks.
+ghost use Rattle.std.specs.Prelude.{◌≡◌, ◌≤◌, ◌<◌, ◌+◌, ◌-◌, ◌*◌, ◌++◌, length, take, drop};
+ghost use Rattle.std.specs.List.{flat_map};
+ghost use Rattle.cv_base.specs.Spelled.{IsWrittenSpelled};
+
+use crate::scalar::Scalar;
+use crate::spelling::{MANY, Spelled, Spelling};
+
+/// Writes characters one by one, from the `n`th on.
+#[inline(always)]
+fn write_few<S: Spelling>(
+    characters: &[Scalar],
+    n: usize,
+    few: usize,
+    out: &mut [u8],
+    at: usize,
+) -> usize
+    requires within { n + few ≤ length characters.now }
+    requires room { at + 4 * few ≤ length out.old }
+    ensures { IsWrittenSpelled S.bytes_of characters.now n out.old at (record { n = few; used = result }) out.new }
+{
+    let mut used = 0;
+    for k in 0..few {
+        used += S::write_at(characters[n + k], out, at + used);
+    }
+    used
+}
+
+/// Writes some characters from the `n`th on: many at once, or else many one by one.
+#[inline(always)]
+fn write_some<S: Spelling>(characters: &[Scalar], n: usize, out: &mut [u8], at: usize) -> Spelled
+    requires within { n ≤ length characters.now }
+    requires room { at + 4 * (length characters.now - n) ≤ length out.old }
+    ensures some { n < length characters.now → 0 < result.n }
+    ensures bytes { IsWrittenSpelled S.bytes_of characters.now n out.old at result out.new }
+{
+    let left = characters.len() - n;
+    if left >= MANY {
+        let many = S::write_many(characters, n, out, at);
+        if many.n > 0 {
+            return many;
+        }
+    }
+    let few = left.min(MANY);
+    Spelled {
+        n: few,
+        used: write_few::<S>(characters, n, few, out, at),
+    }
+}
+
+/// Writes characters at the front of a slice, and answers how many bytes they have.
+#[inline(always)]
+fn write_front<S: Spelling>(characters: &[Scalar], out: &mut [u8]) -> usize
+    requires { 4 * length characters.now ≤ length out.old }
+    ensures few { result ≤ 4 * length characters.now }
+    ensures bytes { IsWrittenSpelled S.bytes_of characters.now 0 out.old 0 (record { n = length characters.now; used = result }) out.new }
+{
+    let mut n = 0;
+    let mut used = 0;
+    while n < characters.len() {
+        let some = write_some::<S>(characters, n, out, used);
+        n += some.n;
+        used += some.used;
+    }
+    used
+}
+
+/// Writes characters at a place of a slice, and answers how many bytes they have. Bytes of the slice around them stay.
+#[inline(always)]
+pub fn write_spelled<S: Spelling>(characters: &[Scalar], out: &mut [u8], at: usize) -> usize
+    requires few { length characters.now ≤ 64 }
+    requires room { at + 4 * length characters.now ≤ length out.old }
+    ensures bytes { result ≡ length (flat_map S.bytes_of characters.now) }
+    ensures fits { at + result ≤ length out.old }
+    ensures out { out.new ≡ take at out.old ++ flat_map S.bytes_of characters.now ++ drop (at + result) out.old }
+{
+    let mut front = [0u8; 256];
+    let used = write_front::<S>(characters, &mut front);
+    out[at..at + used].copy_from_slice(&front[..used]);
+    used
+}

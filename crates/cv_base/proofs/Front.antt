@@ -43,6 +43,17 @@ Begins-join [] b text p q = q
 Begins-join (x ∷ a) b [] p q = absurd p
 Begins-join (x ∷ a) b (t ∷ text) p q = (p.0, Begins-join a b text p.1 q)
 
+-- the front of what begins a text, and what follows it
+pub Begins-front : (a b text : List ℕ) → Begins (a ++ b) text → Begins a text
+Begins-front [] b text p = tt
+Begins-front (x ∷ a) b [] p = absurd p
+Begins-front (x ∷ a) b (t ∷ text) p = (p.0, Begins-front a b text p.1)
+
+pub Begins-back : (a b text : List ℕ) → Begins (a ++ b) text → Begins b (drop (length a) text)
+Begins-back [] b text p = p
+Begins-back (x ∷ a) b [] p = absurd p
+Begins-back (x ∷ a) b (t ∷ text) p = Begins-back a b text p.1
+
 pub Begins-append : (a b : List ℕ) → Begins a (a ++ b)
 Begins-append [] b = tt
 Begins-append (x ∷ a) b = (refl, Begins-append a b)

@@ -1,4 +1,6 @@
 //! Blocks of characters.
+ghost use Rattle.std.specs.Prelude.{◌≡◌};
+
 use crate::state::{ReadState, WriteState};
 
 /// A block of characters that was read.
@@ -21,4 +23,17 @@ pub struct WrittenBlock {
     pub count: usize,
     /// The state behind it.
     pub next: WriteState,
+}
+
+impl ReadBlock {
+    /// Nothing was read.
+    pub fn nothing(state: ReadState) -> ReadBlock
+        ensures { result ≡ record { n = 0; used = 0; next = state } }
+    {
+        ReadBlock {
+            n: 0,
+            used: 0,
+            next: state,
+        }
+    }
 }

@@ -5,10 +5,14 @@ ghost use Rattle.cv_base.specs.SingleBytes.{byte_reads, byte_writes};
 ghost use Rattle.cv_base.specs.SingleByteLaws.{byte_readable};
 
 use crate::ascii_form::AsciiForm;
+use crate::block::{ReadBlock, WrittenBlock};
+use crate::block_codec::BlockCodec;
+use crate::bytes::{read_bytes, write_bytes};
 use crate::codec::Codec;
 use crate::item::Item;
 use crate::piece::Piece;
 use crate::place::{Put, write_one};
+use crate::placing::write_each;
 use crate::scalar::Scalar;
 use crate::state::{ReadState, WriteState};
 
@@ -88,4 +92,27 @@ impl Codec for Latin1 {
     ghost readable = { λ _ _. byte_readable 256 };
 
     ghost substitutable = { λ _ _ _. Prim.search rules };
+}
+
+impl BlockCodec for Latin1 {
+    #[tactic(auto, using(crate::proofs::BlockLaws::nothing_read))]
+    fn read_block(&self, state: ReadState, input: &[u8], buffer: &mut [Scalar]) -> ReadBlock {
+        match state {
+            ReadState::Start => read_bytes(256, input, buffer),
+            _ => ReadBlock::nothing(state),
+        }
+    }
+
+    fn write_block(
+        &self,
+        state: WriteState,
+        characters: &[Scalar],
+        out: &mut [u8],
+        at: usize,
+    ) -> WrittenBlock {
+        match state {
+            WriteState::Start => write_bytes(256, characters, out, at),
+            _ => write_each(self, state, characters, out, at),
+        }
+    }
 }

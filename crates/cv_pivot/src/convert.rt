@@ -1,42 +1,13 @@
 //! The conversion loop.
 ghost use Rattle.std.specs.Prelude.{◌≡◌, ◌≤◌, ◌+◌, length, IfSome};
 ghost use Rattle.cv_base.specs.Ascii.{ReadsAscii, WritesAscii};
-ghost use Rattle.cv_base.specs.Chains.{put_or, substituted, output};
 ghost use Rattle.cv_pivot.specs.Conversions.{Converts};
-ghost use Rattle.cv_pivot.specs.Steps.{Places, TakesOrStops, StridesOrStops};
+ghost use Rattle.cv_pivot.specs.Steps.{TakesOrStops, StridesOrStops};
 
 use crate::ascii::{ascii_run, unit_bytes, write_run};
 use crate::outcome::{Outcome, States, Stop};
-use crate::step::{Placed, Step};
-use cv_base::{AsciiForm, Codec, Item, Put, Scalar, WriteState};
-
-/// Writes a character at a place, or `?` where the target lacks it.
-#[inline(always)]
-fn place<T: Codec>(to: &T, state: WriteState, c: Scalar, out: &mut [u8], at: usize) -> Placed
-    requires { at ≤ length out.old }
-    ensures { Places (put_or (substituted state (T.writes to.now state 63)) (T.writes to.now state c)) out.old at result out.new }
-{
-    match to.put_at(state, c, out, at) {
-        Put::Wrote { n, next } => Placed::Wrote { n, count: 0, next },
-        Put::NoRoom => Placed::NoRoom,
-        Put::Lacks => place_substitute(to, state, out, at),
-    }
-}
-
-/// Writes `?` at a place.
-#[cold]
-#[inline(never)]
-fn place_substitute<T: Codec>(to: &T, state: WriteState, out: &mut [u8], at: usize) -> Placed
-    requires { at ≤ length out.old }
-    ensures { Places (substituted state (T.writes to.now state 63)) out.old at result out.new }
-{
-    to.assert_valid();
-    match to.put_at(state, Scalar::substitute(), out, at) {
-        Put::Wrote { n, next } => Placed::Wrote { n, count: 1, next },
-        Put::NoRoom => Placed::NoRoom,
-        Put::Lacks => unreachable!(),
-    }
-}
+use crate::step::Step;
+use cv_base::{AsciiForm, Codec, Item, Placed, put_or_substitute};
 
 /// Takes the item that stands next, if there is one and its bytes fit behind the first `at` bytes of the output.
 #[inline(always)]
@@ -52,7 +23,7 @@ fn one_step<F: Codec, T: Codec>(
     ensures { TakesOrStops (F.reads from.now) (T.writes to.now) states.old rest.now out.old at result states.new out.new }
 {
     match from.item(states.reading, rest) {
-        Item::Char { c, n, next } => match place(to, states.writing, c, out, at) {
+        Item::Char { c, n, next } => match put_or_substitute(to, states.writing, c, out, at) {
             Placed::Wrote {
                 n: wrote,
                 count,

@@ -1,0 +1,100 @@
+-- Characters that are written one by one.
+use Rattle.std.specs.Prelude.{IfSome}
+use Rattle.std.proofs.Common.{◌≡◌, ℕ, ◌+◌, ◌-◌, ◌*◌, ◌<◌, ◌≤◌, List, [], ◌∷◌, ◌++◌, length, take, drop, refl, sym, ◌∙◌, ap, arith, length-append, length-drop, length-take, append-nil, append_assoc, add-zero, get_or, Option, Some, None, take-append-drop}
+use Rattle.std.proofs.Math.Seq.{drop-cons, take-add, take-append_seam, drop-append-add}
+use Rattle.std.proofs.lemmas.List.{drop-drop, take_all}
+use Rattle.cv_base.specs.Scalars.{question}
+use Rattle.cv_base.specs.Codecs.{Writing, WritesAtMost}
+use Rattle.cv_base.specs.Chains.{Output, output, written, put_or, substituted, followed, output_for}
+use Rattle.cv_base.specs.Blocks.{IsWrittenBlock}
+use Rattle.cv_base.specs.declared.state.WriteState.{WriteState}
+use Rattle.cv_base.proofs.ChainLaws.{output_for-append, output_for-one}
+
+-- `?` stands for at most one character
+pub put_or-count : (t : WriteState) (a b : Option (List ℕ × WriteState)) → (put_or (substituted t a) b).count ≤ 1
+put_or-count t a (Some (x, y)) = omega arith
+put_or-count t (Some (x, y)) None = omega arith
+put_or-count t None None = omega arith
+
+pub written-count : (writes : Writing) (t : WriteState) (c : ℕ) → (written writes t (Some c)).count ≤ 1
+written-count writes t c = put_or-count t (writes t question) (writes t c)
+
+put_or-most : (most : ℕ) (t : WriteState) (a b : Option (List ℕ × WriteState)) → IfSome a (λ p. length p.0 ≤ most) → IfSome b (λ p. length p.0 ≤ most) → length (put_or (substituted t a) b).bytes ≤ most
+put_or-most most t a (Some (x, y)) p q = q
+put_or-most most t (Some (x, y)) None p q = p
+put_or-most most t None None p q = omega arith
+
+-- what is written for a character has no more bytes than any
+pub written-most : (most : ℕ) (writes : Writing) → WritesAtMost most writes → (t : WriteState) (c : ℕ) → length (written writes t (Some c)).bytes ≤ most
+written-most most writes m t c = put_or-most most t (writes t question) (writes t c) (m t question) (m t c)
+
+-- what stands behind the output, after a write behind it
+pub out_more : (b w before : List ℕ) (at : ℕ) → at ≡ length b → take at (b ++ drop at before) ++ w ++ drop (at + length w) (b ++ drop at before) ≡ (b ++ w) ++ drop (at + length w) before
+out_more b w before at e =
+    let front : take at (b ++ drop at before) ≡ b = ap (λ k. take k (b ++ drop at before)) e ∙ take-append_seam b (drop at before) in
+    let back : drop (at + length w) (b ++ drop at before) ≡ drop (at + length w) before = ap (λ k. drop (k + length w) (b ++ drop at before)) e ∙ drop-append-add b (drop at before) (length w) ∙ drop-drop (length w) at before in
+    cc
+
+-- The first characters are written behind a place.
+pub record WrittenSoFar (writes : Writing) (t : WriteState) (characters before : List ℕ) (at k end count : ℕ) (now : WriteState) (out : List ℕ) : Type 0 where
+  pub wrote : end ≡ at + length (output_for writes t (take k characters)).bytes
+  pub counts : count ≡ (output_for writes t (take k characters)).count
+  pub few : count ≤ k
+  pub next : now ≡ (output_for writes t (take k characters)).next
+  pub short : end ≤ at + 8 * k
+  pub fits : end ≤ length before
+  pub holds : out ≡ (take at before ++ (output_for writes t (take k characters)).bytes) ++ drop end before
+  pub size : length out ≡ length before
+
+pub none_written : (writes : Writing) (t : WriteState) (characters before : List ℕ) (at : ℕ) → at ≤ length before → WrittenSoFar writes t characters before at 0 at 0 t before
+none_written writes t characters before at h = record {
+  wrote = omega arith;
+  counts = refl;
+  few = omega arith;
+  next = refl;
+  short = omega arith;
+  fits = h;
+  holds = rw append-nil (sym (take-append-drop at before));
+  size = refl;
+}
+
+-- one more
+pub one_more_written : (most : ℕ) (writes : Writing) (t : WriteState) (characters before : List ℕ) (at k end count : ℕ) (now : WriteState) (out : List ℕ) → WrittenSoFar writes t characters before at k end count now out
+    → most ≤ 8 → WritesAtMost most writes → k < length characters → (n m : ℕ) (next : WriteState) (after : List ℕ) → (c : ℕ) → c ≡ get_or characters k c
+    → n ≡ length (written writes now (Some c)).bytes → m ≡ (written writes now (Some c)).count → next ≡ (written writes now (Some c)).next → end + n ≤ length out → after ≡ take end out ++ (written writes now (Some c)).bytes ++ drop (end + n) out
+    → WrittenSoFar writes t characters before at (k + 1) (end + n) (count + m) next after
+one_more_written most writes t characters before at k end count now out p small m_most h n m next after c is e f g room put =
+    let o = output_for writes t (take k characters) in
+    let w = written writes now (Some c) in
+    let one : take (k + 1) characters ≡ take k characters ++ c ∷ [] = take-add k 1 characters ∙ ap (λ (x : List ℕ). take k characters ++ x) (ap (λ (x : List ℕ). take 1 x) (drop-cons characters k c h) ∙ ap (λ (d : ℕ). d ∷ []) (sym is)) in
+    let all : output_for writes t (take (k + 1) characters) ≡ followed o w = ap (output_for writes t) one ∙ output_for-append writes t (take k characters) (c ∷ []) ∙ ap (followed o) (output_for-one writes o.next c ∙ ap (λ (u : WriteState). written writes u (Some c)) (sym p.next)) in
+    let front : List ℕ = take at before ++ o.bytes in
+    let long : end ≡ length front = omega (arith, p.wrote, length-append (take at before) o.bytes, length-take at before, p.fits) in
+    let behind : take end out ++ w.bytes ++ drop (end + n) out ≡ (front ++ w.bytes) ++ drop (end + n) before = rw p.holds (rw e (out_more front w.bytes before end long)) in
+    let same : (front ++ w.bytes) ++ drop (end + n) before ≡ (take at before ++ (o.bytes ++ w.bytes)) ++ drop (end + n) before = ap (λ (x : List ℕ). x ++ drop (end + n) before) (append_assoc (take at before) o.bytes w.bytes) in
+    record {
+      wrote = rw all (omega (arith, length-append o.bytes w.bytes, p.wrote, e));
+      counts = rw all (omega (arith, p.counts, f));
+      few = omega (arith, p.few, f, put_or-count now (writes now question) (writes now c));
+      next = g ∙ sym (ap (λ (x : Output). x.next) all);
+      short = omega (arith, p.short, e, written-most most writes m_most now c);
+      fits = omega (arith, room, p.size);
+      holds = rw all (put ∙ behind ∙ same);
+      size = ap length put ∙ simp (length-append, length-take, length-drop) (omega (arith, e, room, p.size));
+    }
+
+-- all are written
+pub all_written : (writes : Writing) (t : WriteState) (characters before : List ℕ) (at k end count : ℕ) (now : WriteState) (out : List ℕ) → WrittenSoFar writes t characters before at k end count now out → length characters ≤ k
+    → IsWrittenBlock writes t characters before at (record { wrote = end - at; count = count; next = now }) out
+all_written writes t characters before at k end count now out p h =
+    let all : take k characters ≡ characters = take_all k characters h in
+    let o = output_for writes t characters in
+    let q : end ≡ at + length o.bytes = rw all at p.wrote in
+    let e : at + (end - at) ≡ end = omega (arith, q) in
+    record {
+      wrote = omega (arith, q);
+      counts = rw all at p.counts;
+      next = rw all at p.next;
+      fits = omega (arith, p.fits, q);
+      out = rw e (rw all at p.holds);
+    }

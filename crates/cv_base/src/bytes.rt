@@ -1,0 +1,98 @@
+//! Blocks of the encodings in which each character is the byte of its number.
+ghost use Rattle.std.specs.Prelude.{◌≡◌, ◌≤◌, ◌<◌, ◌+◌, [], ◌∷◌, ℕ, length, take, slice_index, Some};
+ghost use Rattle.cv_base.specs.Chains.{output, written};
+ghost use Rattle.cv_base.specs.Blocks.{IsReadBlock, IsWrittenBlock};
+ghost use Rattle.cv_base.specs.SingleBytes.{byte_reads, byte_writes};
+ghost use Rattle.cv_base.specs.declared.state.ReadState.{ReadState};
+ghost use Rattle.cv_base.specs.declared.state.WriteState.{WriteState};
+
+use crate::block::{ReadBlock, WrittenBlock};
+use crate::scalar::Scalar;
+use crate::state::{ReadState, WriteState};
+
+/// Puts the first bytes of a text into a buffer as the characters of their numbers. No byte is tested, so that the loop is done by blocks.
+#[inline(always)]
+fn widen(input: &[u8], n: usize, buffer: &mut [Scalar])
+    requires text { n ≤ length input.now }
+    requires room { n ≤ length buffer.old }
+    ensures front { take n buffer.new ≡ take n input.now }
+    ensures size { length buffer.new ≡ length buffer.old }
+{
+    for k in 0..n {
+        buffer[k] = Scalar::known(input[k] as u32);
+    }
+}
+
+/// How many of the first `most` bytes of a text are below a limit, up to one that isn't.
+#[inline(always)]
+fn below(limit: u32, input: &[u8], most: usize) -> usize
+    requires { most ≤ length input.now }
+    ensures within { result ≤ most }
+    ensures below { (k : ℕ) → k < result → slice_index input.now k < limit }
+{
+    if limit >= 256 {
+        return most;
+    }
+    let mut n = 0;
+    while n < most && (input[n] as u32) < limit {
+        n += 1;
+    }
+    n
+}
+
+/// Reads the bytes below a limit.
+#[inline(always)]
+pub(crate) fn read_bytes(limit: u32, input: &[u8], buffer: &mut [Scalar]) -> ReadBlock
+    ensures block { IsReadBlock (byte_reads limit) ReadState.Start input.now result buffer.new }
+    ensures size { length buffer.new ≡ length buffer.old }
+{
+    let most = input.len().min(buffer.len());
+    let n = below(limit, input, most);
+    widen(input, n, buffer);
+    ReadBlock {
+        n,
+        used: n,
+        next: ReadState::Start,
+    }
+}
+
+/// The byte of a character below a limit, or else `?`, and for how many characters it is `?`.
+#[inline(always)]
+fn byte_of(limit: u32, c: Scalar) -> (u8, usize)
+    requires from { 63 < limit }
+    requires to { limit ≤ 256 }
+    ensures { written (byte_writes limit) WriteState.Start (Some c) ≡ output (result.0 ∷ []) result.1 WriteState.Start }
+{
+    let value = c.value();
+    if value < limit {
+        (value as u8, 0)
+    } else {
+        (b'?', 1)
+    }
+}
+
+/// Writes characters below a limit, and `?` for others. Bytes of the slice around them stay.
+#[inline(always)]
+pub(crate) fn write_bytes(
+    limit: u32,
+    characters: &[Scalar],
+    out: &mut [u8],
+    at: usize,
+) -> WrittenBlock
+    requires room { at + length characters.now ≤ length out.old }
+    requires from { 63 < limit }
+    requires to { limit ≤ 256 }
+    ensures { IsWrittenBlock (byte_writes limit) WriteState.Start characters.now out.old at result out.new }
+{
+    let mut count = 0;
+    for k in 0..characters.len() {
+        let (byte, lacking) = byte_of(limit, characters[k]);
+        out[at + k] = byte;
+        count += lacking;
+    }
+    WrittenBlock {
+        wrote: characters.len(),
+        count,
+        next: WriteState::Start,
+    }
+}

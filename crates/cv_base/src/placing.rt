@@ -1,0 +1,90 @@
+//! Writing a character, or `?` in its place.
+ghost use Rattle.std.specs.Prelude.{◌≡◌, ◌≤◌, ◌+◌, ◌*◌, length};
+ghost use Rattle.cv_base.specs.Chains.{put_or, substituted};
+ghost use Rattle.cv_base.specs.Blocks.{Places, IsWrittenBlock};
+
+use crate::block::WrittenBlock;
+use crate::codec::Codec;
+use crate::place::Put;
+use crate::scalar::Scalar;
+use crate::state::WriteState;
+
+/// What came of writing what an item gives at a place.
+#[derive(Clone, Copy, Debug, PartialEq, Eq)]
+pub enum Placed {
+    /// So many bytes, and 1 where `?` was written for another character.
+    Wrote {
+        n: usize,
+        count: usize,
+        next: WriteState,
+    },
+    /// There was no room for them.
+    NoRoom,
+}
+
+/// Writes a character at a place, or `?` where the target lacks it.
+#[inline(always)]
+pub fn put_or_substitute<T: Codec>(
+    to: &T,
+    state: WriteState,
+    c: Scalar,
+    out: &mut [u8],
+    at: usize,
+) -> Placed
+    requires { at ≤ length out.old }
+    ensures { Places (put_or (substituted state (T.writes to.now state 63)) (T.writes to.now state c)) out.old at result out.new }
+{
+    match to.put_at(state, c, out, at) {
+        Put::Wrote { n, next } => Placed::Wrote { n, count: 0, next },
+        Put::NoRoom => Placed::NoRoom,
+        Put::Lacks => put_substitute(to, state, out, at),
+    }
+}
+
+/// Writes `?` at a place.
+#[cold]
+#[inline(never)]
+fn put_substitute<T: Codec>(to: &T, state: WriteState, out: &mut [u8], at: usize) -> Placed
+    requires { at ≤ length out.old }
+    ensures { Places (substituted state (T.writes to.now state 63)) out.old at result out.new }
+{
+    to.assert_valid();
+    match to.put_at(state, Scalar::substitute(), out, at) {
+        Put::Wrote { n, next } => Placed::Wrote { n, count: 1, next },
+        Put::NoRoom => Placed::NoRoom,
+        Put::Lacks => unreachable!(),
+    }
+}
+
+/// Writes characters at a place one by one, or `?` for each that the encoding lacks. Bytes of the slice around them stay.
+#[inline]
+pub fn write_each<C: Codec>(
+    codec: &C,
+    state: WriteState,
+    characters: &[Scalar],
+    out: &mut [u8],
+    at: usize,
+) -> WrittenBlock
+    requires { at + 8 * length characters.now ≤ length out.old }
+    ensures { IsWrittenBlock (C.writes codec.now) state characters.now out.old at result out.new }
+{
+    let _most = codec.most_bytes();
+    let mut end = at;
+    let mut lacking = 0;
+    let mut now = state;
+    for k in 0..characters.len() {
+        match put_or_substitute(codec, now, characters[k], out, end) {
+            Placed::Wrote { n, count, next } => {
+                end += n;
+                lacking += count;
+                now = next;
+            }
+            Placed::NoRoom => unreachable!(),
+        }
+    }
+    WrittenBlock {
+        wrote: end - at,
+        count: lacking,
+        next: now,
+    }
+}

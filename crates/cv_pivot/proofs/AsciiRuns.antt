@@ -5,11 +5,12 @@ use Rattle.std.proofs.Math.Seq.{drop-cons}
 use Rattle.std.proofs.lemmas.Bool.{cases_lt}
 use Rattle.std.proofs.lemmas.Grind.{flat_map-append}
 use Rattle.cv_base.specs.Items.{Begins}
+use Rattle.cv_base.proofs.Front.{Begins-join}
 use Rattle.cv_base.specs.Ascii.{unit_of, unit_size}
 use Rattle.cv_base.specs.declared.ascii_form.AsciiForm.{AsciiForm}
 use Rattle.cv_base.specs.declared.ascii_form.AsciiForm.TheVariants.{Byte, TwoBig, TwoLittle, FourBig, FourLittle}
 use Rattle.cv_pivot.specs.AsciiRuns.{AreAscii, units_of, offset, IsAsciiAt, IsAsciiRun, characters_in}
-use Rattle.cv_pivot.proofs.Progress.{out_more}
+use Rattle.cv_base.proofs.WrittenEach.{out_more}
 
 -- a unit has its form's size
 pub length-unit_of : (form : AsciiForm) (c : ℕ) → length (unit_of form c) ≡ unit_size form
@@ -37,12 +38,6 @@ length-run form target text (suc n) =
     let c = get_or text (unit_size form * n + offset form) 0 in
     let more = ap length (units_of-more target (characters_in form text n) c) in
     omega (arith, more, length-append (units_of target (characters_in form text n)) (unit_of target c), length-unit_of target c, length-run form target text n, mul-suc (unit_size target) n)
-
--- what begins a text, and then what begins the rest
-Begins-join : (a b text : List ℕ) → Begins a text → Begins b (drop (length a) text) → Begins (a ++ b) text
-Begins-join [] b text p q = q
-Begins-join (x ∷ a) b [] p q = absurd p
-Begins-join (x ∷ a) b (t ∷ text) p q = (p.0, Begins-join a b text p.1 q)
 
 -- a byte that stands at a place, and what stands behind it
 Begins-at : (text bytes : List ℕ) (at b : ℕ) → at < length text → get_or text at 0 ≡ b → Begins bytes (drop (suc at) text) → Begins (b ∷ bytes) (drop at text)

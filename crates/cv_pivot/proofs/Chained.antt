@@ -9,30 +9,6 @@ use Rattle.cv_pivot.specs.Conversions.{IsLongest}
 use Rattle.cv_base.proofs.Front.{same_item, stands_within}
 use Rattle.std.proofs.lemmas.List.{drop-drop}
 
-pub used_bytes-append : (a b : List Taken) → used_bytes (a ++ b) ≡ used_bytes a + used_bytes b
-used_bytes-append [] b = sym (zero-add (used_bytes b))
-used_bytes-append (i ∷ a) b = ap (λ n. i.used + n) (used_bytes-append a b) ∙ sym (add_assoc i.used (used_bytes a) (used_bytes b))
-
-pub read_state-append : (s : ReadState) (a b : List Taken) → read_state s (a ++ b) ≡ read_state (read_state s a) b
-read_state-append s [] b = refl
-read_state-append s (i ∷ a) b = read_state-append i.next a b
-
-followed_assoc : (x y z : Output) → followed (followed x y) z ≡ followed x (followed y z)
-followed_assoc x y z = ap (λ (p : List ℕ × ℕ). output p.0 p.1 z.next) (let e : ◌≡◌ {A = List ℕ × ℕ} ((x.bytes ++ y.bytes) ++ z.bytes, (x.count + y.count) + z.count) (x.bytes ++ (y.bytes ++ z.bytes), x.count + (y.count + z.count)) = (cc (append_assoc x.bytes y.bytes z.bytes, add_assoc x.count y.count z.count)) in e)
-
-pub output_of-append : (writes : Writing) (t : WriteState) (a b : List Taken) → output_of writes t (a ++ b) ≡ followed (output_of writes t a) (output_of writes (output_of writes t a).next b)
-output_of-append writes t [] b = ap (λ n. output (output_of writes t b).bytes n (output_of writes t b).next) (sym (zero-add (output_of writes t b).count))
-output_of-append writes t (i ∷ a) b =
-    let w = written writes t i.gives in
-    ap (followed w) (output_of-append writes w.next a b)
-    ∙ sym (followed_assoc w (output_of writes w.next a) (output_of writes (output_of writes w.next a).next b))
-
--- a chain goes on by a chain
-pub IsChain-append : (reads : ItemRelation) (s : ReadState) (text : List ℕ) (a b : List Taken) → IsChain reads s text a → IsChain reads (read_state s a) (drop (used_bytes a) text) b → IsChain reads s text (a ++ b)
-IsChain-append reads s text [] b p q = q
-IsChain-append reads s text (i ∷ a) b p q =
-    (p.0, IsChain-append reads i.next (drop i.used text) a b p.1 (subst (λ (x : List ℕ). IsChain reads (read_state i.next a) x b) (sym (drop-drop (used_bytes a) i.used text)) q))
-
 -- what a longer chain has behind a shorter one
 pub record Longer (reads : ItemRelation) (s : ReadState) (text : List ℕ) (a b : List Taken) : Type 0 where
   pub item : Taken

@@ -14,7 +14,9 @@ use Rattle.cv_base.specs.Chains.{IsChain, used_bytes, read_state, Output, output
 use Rattle.cv_pivot.specs.Conversions.{StopsAt, Converts}
 use Rattle.cv_pivot.specs.Steps.{TakesOne, TakesSome, StepStops}
 use Rattle.cv_base.proofs.Front.{same_item, stands_within}
-use Rattle.cv_pivot.proofs.Chained.{used_bytes-append, read_state-append, output_of-append, IsChain-append, Longer, longer}
+use Rattle.cv_base.proofs.WrittenEach.{out_more, put_or-count}
+use Rattle.cv_base.proofs.ChainLaws.{used_bytes-append, read_state-append, output_of-append, IsChain-append}
+use Rattle.cv_pivot.proofs.Chained.{Longer, longer}
 
 -- A chain is taken, and its output stands at the front.
 pub record SoFar (reads : ItemRelation) (writes : Writing) (from : States) (text before : List ℕ) (used at count : ℕ) (now : States) (out : List ℕ) : Type 0 where
@@ -48,21 +50,9 @@ nothing_yet reads writes from text before = record {
 }
 
 -- `?` stands for at most one character
-put_or-count : (t : WriteState) (a b : Option (List ℕ × WriteState)) → (put_or (substituted t a) b).count ≤ 1
-put_or-count t a (Some (x, y)) = omega arith
-put_or-count t (Some (x, y)) None = omega arith
-put_or-count t None None = omega arith
-
 written-count : (writes : Writing) (t : WriteState) (g : Option ℕ) → (written writes t g).count ≤ 1
 written-count writes t None = omega arith
 written-count writes t (Some c) = put_or-count t (writes t question) (writes t c)
-
--- what stands behind the output, after a write behind it
-pub out_more : (b w before : List ℕ) (at : ℕ) → at ≡ length b → take at (b ++ drop at before) ++ w ++ drop (at + length w) (b ++ drop at before) ≡ (b ++ w) ++ drop (at + length w) before
-out_more b w before at e =
-    let front : take at (b ++ drop at before) ≡ b = ap (λ k. take k (b ++ drop at before)) e ∙ take-append_seam b (drop at before) in
-    let back : drop (at + length w) (b ++ drop at before) ≡ drop (at + length w) before = ap (λ k. drop (k + length w) (b ++ drop at before)) e ∙ drop-append-add b (drop at before) (length w) ∙ drop-drop (length w) at before in
-    cc
 
 output_of-one : (writes : Writing) (t : WriteState) (item : Taken) → output_of writes t (item ∷ []) ≡ written writes t item.gives
 output_of-one writes t item =

@@ -10,7 +10,8 @@ use Rattle.cv_base.specs.declared.state.ReadState.TheVariants as read
 use Rattle.cv_base.specs.declared.state.WriteState.{WriteState}
 use Rattle.cv_base.specs.declared.state.WriteState.TheVariants as write
 use Rattle.cv_base.proofs.Front.{stands_within, item_stays, Begins-append}
-use Rattle.cv_utf.specs.ReadBack.{AreItems, characters_of, state_after, IsReadAs, ReadsBack, BothAt}
+use Rattle.cv_utf.specs.ReadBack.{AreItems, state_after, IsReadAs, ReadsBack, BothAt}
+use Rattle.cv_base.proofs.ChainLaws.{characters_of-append}
 use Rattle.cv_utf.specs.Orders.{reads_in, writes_in}
 use Rattle.cv_utf.specs.Utf8.{utf8_reads, utf8_writes}
 use Rattle.cv_utf7.specs.Utf7.{utf7_reads, utf7_writes, utf7_closes}
@@ -20,7 +21,7 @@ use Rattle.cv_utf.specs.Utf16.{utf16}
 use Rattle.cv_utf.specs.Utf32.{utf32}
 use Rattle.cv_utf.proofs.ReadBacks.{one_item, same_written, form_reads_back}
 use Rattle.cv_utf.proofs.Utf8ReadBack.{utf8_reads_back}
-use Rattle.cv_base.specs.Chains.{IsChain, used_bytes}
+use Rattle.cv_base.specs.Chains.{characters_of, IsChain, used_bytes}
 use Rattle.cv_pivot.specs.declared.encoding.Encoding.{Encoding}
 use Rattle.cv_pivot.specs.declared.encoding.Encoding.TheVariants.{Ascii, Latin1, Utf8, Utf16, Utf32, Utf7}
 use Rattle.cv_pivot.specs.Encodings.{encoding_reads, encoding_writes, encoding_closes}
@@ -36,10 +37,6 @@ pub record IsReadFrom (reads : ItemRelation) (s : ReadState) (bytes characters :
 -- From states that go together, what closes is read as no character.
 abbrev pub ClosesBack : ItemRelation → (WriteState → List ℕ) → (WriteState → ReadState → Type 0) → Type 0
 ClosesBack reads closes GoTogether = (t : WriteState) (s : ReadState) → GoTogether t s → IsReadFrom reads s (closes t) []
-
-characters_of-append : (a b : List Taken) → characters_of (a ++ b) ≡ characters_of a ++ characters_of b
-characters_of-append [] b = refl
-characters_of-append (i ∷ a) b = ap (λ (x : List ℕ). option_to_list i.gives ++ x) (characters_of-append a b) ∙ sym (append_assoc (option_to_list i.gives) (characters_of a) (characters_of b))
 
 -- items go on by the items of what stands behind them
 AreItems-append : (reads : ItemRelation) → IsReadable reads → (s : ReadState) (front behind : List ℕ) (a b : List Taken) → AreItems reads s front a → AreItems reads (state_after s a) behind b → AreItems reads s (front ++ behind) (a ++ b)

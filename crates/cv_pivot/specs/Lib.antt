@@ -1,4 +1,3 @@
-pub mod Chains
 pub mod Conversions
 pub mod Converted
 pub mod Cuts

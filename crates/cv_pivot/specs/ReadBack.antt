@@ -6,7 +6,7 @@ use Rattle.cv_base.specs.Codecs.{Writing}
 use Rattle.cv_base.specs.declared.state.ReadState.TheVariants as read
 use Rattle.cv_base.specs.declared.state.WriteState.{WriteState}
 use Rattle.cv_base.specs.declared.state.WriteState.TheVariants as write
-use Rattle.cv_utf.specs.ReadBack.{characters_of}
+use Rattle.cv_base.specs.Chains.{characters_of}
 use Rattle.cv_base.specs.Chains.{IsChain, used_bytes}
 
 -- Characters of the repertoire are written as these bytes, one after the other, and the writing state after them is `end`.

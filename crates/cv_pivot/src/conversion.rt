@@ -5,13 +5,8 @@ ghost use Rattle.cv_pivot.specs.Encodings.{encoding_reads, encoding_writes, enco
 
 use crate::convert::run;
 use crate::encoding::Encoding;
-use crate::fixed::{
-    Fixed, FixedAscii, FixedLatin1, FixedUtf7, FixedUtf8, FixedUtf16Be, FixedUtf16Le,
-    FixedUtf16Marked, FixedUtf32Be, FixedUtf32Le, FixedUtf32Marked,
-};
 use crate::outcome::{Outcome, States, TooBig};
 use cv_base::{Codec, Piece, ReadState, WriteState};
-use cv_utf::Order;
 
 /// A conversion from one encoding to another, between two calls.
 #[derive(Clone, Copy, Debug, PartialEq, Eq)]
@@ -19,55 +14,6 @@ pub struct Conversion {
     pub to: Encoding,
     pub from: Encoding,
     pub states: States,
-}
-
-/// Converts from a codec to another.
-fn run_pair<F: Fixed, T: Fixed>(states: &mut States, input: &[u8], out: &mut [u8]) -> Outcome
-    ensures { Converts (F.Coding.reads F.codec) (T.Coding.writes T.codec) states.old input.now out.old result states.new out.new }
-{
-    run(&F::codec(), &T::codec(), states, input, out)
-}
-
-/// Converts from a codec to one of the encodings.
-fn run_to<F: Fixed>(to: &Encoding, states: &mut States, input: &[u8], out: &mut [u8]) -> Outcome
-    ensures { Converts (F.Coding.reads F.codec) (encoding_writes to.now) states.old input.now out.old result states.new out.new }
-{
-    match to {
-        Encoding::Ascii => run_pair::<F, FixedAscii>(states, input, out),
-        Encoding::Latin1 => run_pair::<F, FixedLatin1>(states, input, out),
-        Encoding::Utf8 => run_pair::<F, FixedUtf8>(states, input, out),
-        Encoding::Utf16(Order::Be) => run_pair::<F, FixedUtf16Be>(states, input, out),
-        Encoding::Utf16(Order::Le) => run_pair::<F, FixedUtf16Le>(states, input, out),
-        Encoding::Utf16(Order::Marked) => run_pair::<F, FixedUtf16Marked>(states, input, out),
-        Encoding::Utf32(Order::Be) => run_pair::<F, FixedUtf32Be>(states, input, out),
-        Encoding::Utf32(Order::Le) => run_pair::<F, FixedUtf32Le>(states, input, out),
-        Encoding::Utf32(Order::Marked) => run_pair::<F, FixedUtf32Marked>(states, input, out),
-        Encoding::Utf7 => run_pair::<F, FixedUtf7>(states, input, out),
-    }
-}
-
-/// Converts from one of the encodings to another.
-fn run_from(
-    from: &Encoding,
-    to: &Encoding,
-    states: &mut States,
-    input: &[u8],
-    out: &mut [u8],
-) -> Outcome
-    ensures { Converts (encoding_reads from.now) (encoding_writes to.now) states.old input.now out.old result states.new out.new }
-{
-    match from {
-        Encoding::Ascii => run_to::<FixedAscii>(to, states, input, out),
-        Encoding::Latin1 => run_to::<FixedLatin1>(to, states, input, out),
-        Encoding::Utf8 => run_to::<FixedUtf8>(to, states, input, out),
-        Encoding::Utf16(Order::Be) => run_to::<FixedUtf16Be>(to, states, input, out),
-        Encoding::Utf16(Order::Le) => run_to::<FixedUtf16Le>(to, states, input, out),
-        Encoding::Utf16(Order::Marked) => run_to::<FixedUtf16Marked>(to, states, input, out),
-        Encoding::Utf32(Order::Be) => run_to::<FixedUtf32Be>(to, states, input, out),
-        Encoding::Utf32(Order::Le) => run_to::<FixedUtf32Le>(to, states, input, out),
-        Encoding::Utf32(Order::Marked) => run_to::<FixedUtf32Marked>(to, states, input, out),
-        Encoding::Utf7 => run_to::<FixedUtf7>(to, states, input, out),
-    }
 }
 
 impl Conversion {
@@ -95,7 +41,7 @@ impl Conversion {
         ensures few { (result.left ≤ length input.now) × (result.count ≤ length input.now) × (result.room_left ≤ length out.old) }
         ensures size { length out.new ≡ length out.old }
     {
-        run_from(&self.from, &self.to, &mut self.states, input, out)
+        run(&self.from, &self.to, &mut self.states, input, out)
     }
 
     /// Goes back to the start. With room 0 it gives both states up and writes nothing; with room above 0 it answers the bytes

@@ -1,5 +1,5 @@
 //! The conversion loop.
-ghost use Rattle.std.specs.Prelude.{◌≡◌, ◌≤◌, ◌+◌, length, IfSome};
+ghost use Rattle.std.specs.Prelude.{◌≡◌, ◌≤◌, ◌+◌, length, IfSome, MatchOption};
 ghost use Rattle.cv_base.specs.Ascii.{ReadsAscii, WritesAscii};
 ghost use Rattle.cv_pivot.specs.Conversions.{Converts};
 ghost use Rattle.cv_pivot.specs.Steps.{TakesOrStops, StridesOrStops};
@@ -7,7 +7,13 @@ ghost use Rattle.cv_pivot.specs.Steps.{TakesOrStops, StridesOrStops};
 use crate::ascii::{ascii_run, unit_bytes, write_run};
 use crate::outcome::{Outcome, States, Stop};
 use crate::step::Step;
-use cv_base::{AsciiForm, Codec, Item, Placed, put_or_substitute};
+use cv_base::{AsciiForm, BlockCodec, Codec, Item, Placed, Scalar, put_or_substitute};
+
+/// How many characters a block has at most.
+const BLOCK: usize = 64;
+
+/// How many bytes a character has at most in any encoding.
+const MOST_BYTES: usize = 8;
 
 /// Takes the item that stands next, if there is one and its bytes fit behind the first `at` bytes of the output.
 #[inline(always)]
@@ -67,10 +73,41 @@ fn ascii_forms<F: Codec, T: Codec>(
     Some((form, target))
 }
 
-/// Takes the items of a run of ASCII at once, or else the item that stands next.
+/// Takes a block of characters, if the source reads one.
+#[inline]
+fn block<F: BlockCodec, T: BlockCodec>(
+    from: &F,
+    to: &T,
+    states: &mut States,
+    rest: &[u8],
+    out: &mut [u8],
+    at: usize,
+) -> Option<Step>
+    requires { at ≤ length out.old }
+    ensures { MatchOption result ((states.new ≡ states.old) × (out.new ≡ out.old)) (λ step. StridesOrStops (F.reads from.now) (T.writes to.now) states.old rest.now out.old at step states.new out.new) }
+{
+    let limit = BLOCK.min((out.len() - at) / MOST_BYTES);
+    let mut buffer = [Scalar::substitute(); BLOCK];
+    let read = from.read_block(states.reading, rest, &mut buffer[..limit]);
+    if read.used == 0 {
+        return None;
+    }
+    let written = to.write_block(states.writing, &buffer[..read.n], out, at);
+    *states = States {
+        reading: read.next,
+        writing: written.next,
+    };
+    Some(Step::Took {
+        used: read.used,
+        wrote: written.wrote,
+        count: written.count,
+    })
+}
+
+/// Takes the items of a run of ASCII at once, or a block of characters, or else the item that stands next.
 #[inline(always)]
 #[tactic(auto, using(crate::proofs::Progress::some_of_one))]
-fn step<F: Codec, T: Codec>(
+fn step<F: BlockCodec, T: BlockCodec>(
     from: &F,
     to: &T,
     states: &mut States,
@@ -92,13 +129,16 @@ fn step<F: Codec, T: Codec>(
             };
         }
     }
+    if let Some(took) = block(from, to, states, rest, out, at) {
+        return took;
+    }
     from.assert_valid();
     one_step(from, to, states, rest, out, at)
 }
 
 /// Converts the longest run of items whose bytes fit.
 #[inline(always)]
-pub(crate) fn run<F: Codec, T: Codec>(
+pub(crate) fn run<F: BlockCodec, T: BlockCodec>(
     from: &F,
     to: &T,
     states: &mut States,

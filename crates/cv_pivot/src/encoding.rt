@@ -4,7 +4,8 @@ ghost use Rattle.cv_pivot.specs.Encodings.{builtin_of, encoding_reads, encoding_
 ghost use Rattle.cv_pivot.specs.EncodingLaws.{encoding_readable, encoding_substitutable};
 
 use cv_base::{
-    Ascii, AsciiForm, Codec, Item, Latin1, Piece, Put, ReadState, Scalar, WriteState, same_name,
+    Ascii, AsciiForm, BlockCodec, Codec, Item, Latin1, Piece, Put, ReadBlock, ReadState, Scalar,
+    WriteState, WrittenBlock, same_name,
 };
 use cv_utf::{Order, Utf8, Utf16, Utf32};
 use cv_utf7::Utf7;
@@ -148,4 +149,34 @@ impl Codec for Encoding {
     ghost readable = { λ encoding _. encoding_readable encoding };
 
     ghost substitutable = { λ encoding _. encoding_substitutable encoding };
+}
+
+impl BlockCodec for Encoding {
+    fn read_block(&self, state: ReadState, input: &[u8], buffer: &mut [Scalar]) -> ReadBlock {
+        match self {
+            Encoding::Ascii => Ascii.read_block(state, input, buffer),
+            Encoding::Latin1 => Latin1.read_block(state, input, buffer),
+            Encoding::Utf8 => Utf8.read_block(state, input, buffer),
+            Encoding::Utf16(order) => Utf16(*order).read_block(state, input, buffer),
+            Encoding::Utf32(order) => Utf32(*order).read_block(state, input, buffer),
+            Encoding::Utf7 => Utf7.read_block(state, input, buffer),
+        }
+    }
+
+    fn write_block(
+        &self,
+        state: WriteState,
+        characters: &[Scalar],
+        out: &mut [u8],
+        at: usize,
+    ) -> WrittenBlock {
+        match self {
+            Encoding::Ascii => Ascii.write_block(state, characters, out, at),
+            Encoding::Latin1 => Latin1.write_block(state, characters, out, at),
+            Encoding::Utf8 => Utf8.write_block(state, characters, out, at),
+            Encoding::Utf16(order) => Utf16(*order).write_block(state, characters, out, at),
+            Encoding::Utf32(order) => Utf32(*order).write_block(state, characters, out, at),
+            Encoding::Utf7 => Utf7.write_block(state, characters, out, at),
+        }
+    }
 }

@@ -3,6 +3,7 @@ use Rattle.std.specs.Prelude.{◌≡◌, ℕ, List, [], ◌∷◌, ◌++◌, dro
 use Rattle.cv_base.specs.Scalars.{IsScalar}
 use Rattle.cv_base.specs.Items.{Taken, ItemRelation, Stands}
 use Rattle.cv_base.specs.Codecs.{Writing}
+use Rattle.cv_base.specs.Chains.{characters_of}
 use Rattle.cv_base.specs.declared.state.ReadState.{ReadState}
 use Rattle.cv_base.specs.declared.state.ReadState.TheVariants as read
 use Rattle.cv_base.specs.declared.state.WriteState.{WriteState}
@@ -12,11 +13,6 @@ use Rattle.cv_base.specs.declared.state.WriteState.TheVariants as write
 abbrev pub AreItems : ItemRelation → ReadState → List ℕ → List Taken → Type 0
 AreItems reads s bytes [] = bytes ≡ []
 AreItems reads s bytes (item ∷ items) = Stands reads s bytes item × AreItems reads item.next (drop item.used bytes) items
-
--- the characters that items give
-abbrev pub characters_of : List Taken → List ℕ
-characters_of [] = []
-characters_of (item ∷ items) = option_to_list item.gives ++ characters_of items
 
 -- the reading state after items
 abbrev pub state_after : ReadState → List Taken → ReadState

@@ -1,6 +1,7 @@
 //! The encoding forms of Unicode: UTF-8, UTF-16 and UTF-32.
 #![tactic(auto)]
 
+mod blocks;
 mod character;
 pub mod laws;
 mod order;

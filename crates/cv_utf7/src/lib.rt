@@ -1,6 +1,7 @@
 //! UTF-7 (RFC 2152).
 #![tactic(auto)]
 
+mod blocks;
 mod cut;
 pub mod laws;
 mod reading;

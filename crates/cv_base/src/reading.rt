@@ -34,7 +34,8 @@ fn read_few<S: Spelling>(
     Spelled { n: more, used }
 }
 
-/// Reads some characters into a buffer, behind its first `n`: many at once and one behind them, or else a few one by one.
+/// Reads some characters into a buffer, behind its first `n`: many at once, and where they are fewer than many, one behind them; or
+/// else a few one by one.
 #[inline(always)]
 fn read_some<S: Spelling>(input: &[u8], at: usize, buffer: &mut [Scalar], n: usize) -> Spelled
     requires within { at ≤ length input.now }
@@ -42,13 +43,19 @@ fn read_some<S: Spelling>(input: &[u8], at: usize, buffer: &mut [Scalar], n: usi
     ensures { IsReadSpelled S.bytes_of input.now at buffer.old n result buffer.new }
 {
     let room = buffer.len() - n;
-    if room >= MANY {
-        let many = S::read_many(input, at, buffer, n);
-        if many.n > 0 {
-            return many;
-        }
+    if room < MANY {
+        return read_few::<S>(input, at, buffer, n, room.min(FEW));
     }
-    read_few::<S>(input, at, buffer, n, room.min(FEW))
+    let many = S::read_many(input, at, buffer, n);
+    if many.n == MANY {
+        return many;
+    }
+    let most = if many.n == 0 { FEW } else { 1 };
+    let few = read_few::<S>(input, at + many.used, buffer, n + many.n, most);
+    Spelled {
+        n: many.n + few.n,
+        used: many.used + few.used,
+    }
 }
 
 /// Reads the characters at the front of a text into the front of a buffer.

@@ -29,7 +29,8 @@ pub trait Spelling {
     fn read_many(input: &[u8], at: usize, buffer: &mut [Scalar], n: usize) -> Spelled
         requires within { at ≤ length input.now }
         requires room { n + 16 ≤ length buffer.old }
-        ensures { IsReadSpelled bytes_of input.now at buffer.old n result buffer.new };
+        ensures many { result.n ≤ 16 }
+        ensures read { IsReadSpelled bytes_of input.now at buffer.old n result buffer.new };
 
     /// Writes a character at a place, and answers how many bytes it has. What is behind them may be anything.
     fn write_at(c: Scalar, out: &mut [u8], at: usize) -> usize

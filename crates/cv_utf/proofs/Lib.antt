@@ -12,5 +12,8 @@ pub mod Utf32Big
 pub mod Utf32Little
 pub mod Utf32First
 pub mod Utf32Writes
+pub mod WideRuns
+pub mod WidePairs
+pub mod Spelt
 pub mod ReadBacks
 pub mod Utf8ReadBack

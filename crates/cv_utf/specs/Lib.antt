@@ -8,4 +8,6 @@ pub mod Utf16
 pub mod Utf16Laws
 pub mod Utf32
 pub mod Utf32Laws
+pub mod Wide
+pub mod WideLaws
 pub mod ReadBack

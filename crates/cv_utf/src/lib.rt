@@ -10,6 +10,9 @@ mod tests;
 mod utf16;
 mod utf32;
 mod utf8;
+mod wide;
+mod wide16;
+mod wide32;
 
 pub use order::Order;
 pub use utf8::Utf8;

@@ -35,7 +35,7 @@ fn is_low(high_byte: u8) -> bool
 
 /// The scalar of a high and a low surrogate.
 #[inline]
-fn joined(high: u32, low: u32) -> u32
+pub(crate) fn joined(high: u32, low: u32) -> u32
     requires high_from { 0xd800 ≤ high }
     requires high_to { high < 0xdc00 }
     requires low_from { 0xdc00 ≤ low }
@@ -47,7 +47,7 @@ fn joined(high: u32, low: u32) -> u32
 
 /// The high surrogate of a scalar from 10000 (hexadecimal) on.
 #[inline]
-fn high_of(value: u32) -> u32
+pub(crate) fn high_of(value: u32) -> u32
     requires from { 0x10000 ≤ value }
     requires to { value < 0x110000 }
     ensures value { result ≡ high_unit value }
@@ -58,7 +58,7 @@ fn high_of(value: u32) -> u32
 
 /// The low surrogate of a scalar from 10000 (hexadecimal) on.
 #[inline]
-fn low_of(value: u32) -> u32
+pub(crate) fn low_of(value: u32) -> u32
     requires { 0x10000 ≤ value }
     ensures value { result ≡ low_unit value }
     ensures few { result < 0xe000 }

@@ -1,0 +1,181 @@
+//! UTF-16 as a spelling, in each order of bytes.
+ghost use Rattle.cv_utf.specs.Utf16.{utf16};
+ghost use Rattle.cv_utf.specs.WideLaws.{big_16_few, little_16_few};
+
+use crate::utf16::{high_of, joined, low_of};
+use crate::wide::{WideUnit, read_units, write_units};
+use cv_base::place::{write_four, write_two};
+use cv_base::{Scalar, Spelled, Spelling};
+
+/// UTF-16 with the high byte of each unit first.
+pub(crate) struct Big16;
+
+impl WideUnit for Big16 {
+    ghost bytes_of = { utf16.big };
+
+    ghost unit_size = { 2 };
+
+    #[inline(always)]
+    fn size() -> usize {
+        2
+    }
+
+    #[inline(always)]
+    fn number(bytes: &[u8], at: usize) -> u32 {
+        // It is read with the low byte first and turned, so that LLVM reads the two bytes at once.
+        u16::from_le_bytes([bytes[at], bytes[at + 1]]).swap_bytes() as u32
+    }
+
+    #[inline(always)]
+    fn is_single(c: Scalar) -> bool {
+        c.value() < 0x1_0000
+    }
+
+    #[inline(always)]
+    fn write(out: &mut [u8], at: usize, c: Scalar) {
+        let value = c.value();
+        write_two(out, at, (value / 256) as u8, (value % 256) as u8);
+    }
+}
+
+impl Spelling for Big16 {
+    ghost bytes_of = { utf16.big };
+
+    ghost short = { big_16_few };
+
+    #[inline(always)]
+    fn read_at(input: &[u8], at: usize) -> Option<(Scalar, usize)> {
+        let left = input.len() - at;
+        if left < 2 {
+            return None;
+        }
+        let first = Big16::number(input, at);
+        if first < 0xd800 || first >= 0xe000 {
+            return Some((Scalar::known(first), 2));
+        }
+        if first >= 0xdc00 || left < 4 {
+            return None;
+        }
+        let second = Big16::number(input, at + 2);
+        if second < 0xdc00 || second >= 0xe000 {
+            return None;
+        }
+        Some((Scalar::known(joined(first, second)), 4))
+    }
+
+    #[inline(always)]
+    fn read_many(input: &[u8], at: usize, buffer: &mut [Scalar], n: usize) -> Spelled {
+        read_units::<Big16>(input, at, buffer, n)
+    }
+
+    #[inline(always)]
+    fn write_at(c: Scalar, out: &mut [u8], at: usize) -> usize {
+        let value = c.value();
+        if value < 0x1_0000 {
+            write_two(out, at, (value / 256) as u8, (value % 256) as u8);
+            return 2;
+        }
+        let high = high_of(value);
+        let low = low_of(value);
+        write_four(
+            out,
+            at,
+            (high / 256) as u8,
+            (high % 256) as u8,
+            (low / 256) as u8,
+            (low % 256) as u8,
+        );
+        4
+    }
+
+    #[inline(always)]
+    fn write_many(characters: &[Scalar], n: usize, out: &mut [u8], at: usize) -> Spelled {
+        write_units::<Big16>(characters, n, out, at)
+    }
+}
+
+/// UTF-16 with the low byte of each unit first.
+pub(crate) struct Little16;
+
+impl WideUnit for Little16 {
+    ghost bytes_of = { utf16.little };
+
+    ghost unit_size = { 2 };
+
+    #[inline(always)]
+    fn size() -> usize {
+        2
+    }
+
+    #[inline(always)]
+    fn number(bytes: &[u8], at: usize) -> u32 {
+        u16::from_le_bytes([bytes[at], bytes[at + 1]]) as u32
+    }
+
+    #[inline(always)]
+    fn is_single(c: Scalar) -> bool {
+        c.value() < 0x1_0000
+    }
+
+    #[inline(always)]
+    fn write(out: &mut [u8], at: usize, c: Scalar) {
+        let value = c.value();
+        write_two(out, at, (value % 256) as u8, (value / 256) as u8);
+    }
+}
+
+impl Spelling for Little16 {
+    ghost bytes_of = { utf16.little };
+
+    ghost short = { little_16_few };
+
+    #[inline(always)]
+    fn read_at(input: &[u8], at: usize) -> Option<(Scalar, usize)> {
+        let left = input.len() - at;
+        if left < 2 {
+            return None;
+        }
+        let first = Little16::number(input, at);
+        if first < 0xd800 || first >= 0xe000 {
+            return Some((Scalar::known(first), 2));
+        }
+        if first >= 0xdc00 || left < 4 {
+            return None;
+        }
+        let second = Little16::number(input, at + 2);
+        if second < 0xdc00 || second >= 0xe000 {
+            return None;
+        }
+        Some((Scalar::known(joined(first, second)), 4))
+    }
+
+    #[inline(always)]
+    fn read_many(input: &[u8], at: usize, buffer: &mut [Scalar], n: usize) -> Spelled {
+        read_units::<Little16>(input, at, buffer, n)
+    }
+
+    #[inline(always)]
+    fn write_at(c: Scalar, out: &mut [u8], at: usize) -> usize {
+        let value = c.value();
+        if value < 0x1_0000 {
+            write_two(out, at, (value % 256) as u8, (value / 256) as u8);
+            return 2;
+        }
+        let high = high_of(value);
+        let low = low_of(value);
+        write_four(
+            out,
+            at,
+            (high % 256) as u8,
+            (high / 256) as u8,
+            (low % 256) as u8,
+            (low / 256) as u8,
+        );
+        4
+    }
+
+    #[inline(always)]
+    fn write_many(characters: &[Scalar], n: usize, out: &mut [u8], at: usize) -> Spelled {
+        write_units::<Little16>(characters, n, out, at)
+    }
+}

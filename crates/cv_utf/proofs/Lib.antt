@@ -14,3 +14,4 @@ pub mod Utf32First
 pub mod Utf32Writes
 pub mod ReadBacks
 pub mod Utf8ReadBack
+pub mod Utf8Spelled

@@ -9,3 +9,4 @@ pub mod Utf16Laws
 pub mod Utf32
 pub mod Utf32Laws
 pub mod ReadBack
+pub mod Utf8Spelled

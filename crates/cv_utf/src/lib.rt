@@ -9,6 +9,7 @@ mod tests;
 mod utf16;
 mod utf32;
 mod utf8;
+mod utf8_spelling;
 
 pub use order::Order;
 pub use utf8::Utf8;

@@ -16,8 +16,24 @@ use Rattle.cv_base.specs.declared.spelling.Spelled.{Spelled}
 use Rattle.cv_base.specs.declared.state.ReadState.TheVariants as read
 use Rattle.cv_base.specs.declared.state.WriteState.TheVariants as write
 use Rattle.cv_utf.specs.Utf8.{table, IsOfOne, utf8_reads, utf8_bytes, utf8_writes}
+use Rattle.cv_utf.specs.BeginsLaws.{Begins-refl}
 use Rattle.cv_utf.specs.ReadBack.{AreItems, characters_of}
 use Rattle.cv_utf.proofs.Utf8ReadBack.{utf8_reads_back}
+
+-- the list that begins a text, and what is behind it
+split : (a text : List ℕ) → Begins a text → text ≡ a ++ drop (length a) text
+split [] text p = refl
+split (x ∷ a) [] p = absurd p
+split (x ∷ a) (t ∷ text) p = rw (p.0) (ap (λ (y : List ℕ). t ∷ y) (split a text p.1))
+
+-- What was put at a place begins with this, and what is behind it may be anything.
+pub front_stands : (out word spelling : List ℕ) (at n k : ℕ) → at ≤ length out → Begins spelling word → n ≡ length spelling → take (at + n) (put_mid at k out word) ≡ take at out ++ spelling
+front_stands out word spelling at n k h p e =
+    let rest : List ℕ = drop (length spelling) word in
+    let front : List ℕ = take at out ++ spelling in
+    let long : length front ≡ at + n = simp (length-append, length-take) (omega arith) in
+    let parts : put_mid at k out word ≡ front ++ (rest ++ post_of at k out) = ap (λ (w : List ℕ). take at out ++ (w ++ post_of at k out)) (split spelling word p) ∙ simp append_assoc in
+    rw parts (take_at front (rest ++ post_of at k out) (at + n) long)
 
 -- Each number is below 128.
 abbrev AreAscii : List ℕ → Type 0
@@ -56,36 +72,41 @@ part_spells_itself xs at k h p = spells_itself (take k (drop at xs)) (part_is_as
 joined : (front xs : List ℕ) (n k : ℕ) → length front ≡ n → k ≤ 16 → take (n + k) (front ++ take 16 xs) ≡ front ++ take k xs
 joined front xs n k e h = subst (λ (m : ℕ). take (m + k) (front ++ take 16 xs) ≡ front ++ take k xs) e (take-append-add front (take 16 xs) k ∙ ap (λ (y : List ℕ). front ++ y) (take-take k 16 xs h))
 
--- The front of sixteen bytes was read.
+length-put : (before block : List ℕ) (at m : ℕ) → at + m ≤ length before → length block ≡ m → length (put_mid at m before block) ≡ length before
+length-put before block at m h e = simp (length-append, length-take, length-drop) (omega arith)
+
+-- Sixteen bytes were put into a buffer, and their front was read.
 pub read_front : (text : List ℕ) (at : ℕ) (before after : List ℕ) (n k : ℕ) → at + 16 ≤ length text → k ≤ 16 → ((j : ℕ) → j < k → get_or text (at + j) 0 < 128) → n + 16 ≤ length before → length after ≡ length before
     → take (n + 16) after ≡ take n before ++ take 16 (drop at text) → IsReadSpelled utf8_bytes text at before n (as_many k) after
 read_front text at before after n k within most p room size put =
     let some : at + k ≤ length text = omega arith in
     let same = part_spells_itself text at k some p in
+    let long = length-part text at k some in
     let front : length (take n before) ≡ n = simp length-take (omega arith) in
     let fewer : n + k ≤ n + 16 = omega arith in
     record {
       characters = take k (drop at text);
       scalars = are_scalars (take k (drop at text)) (part_is_ascii text at k some p);
       begins = rw same (take_begins k (drop at text));
-      uses = sym (ap length same ∙ length-part text at k some);
-      counts = sym (length-part text at k some);
+      uses = sym (ap length same ∙ long);
+      counts = sym long;
       stand = sym (take-take (n + k) (n + 16) after fewer) ∙ rw put (joined (take n before) (drop at text) n k front most);
       fits = omega arith;
       size = size;
     }
 
 -- Sixteen characters were written.
-pub written_all : (characters : List ℕ) (n : ℕ) (before after : List ℕ) (at : ℕ) → n + 16 ≤ length characters → ((j : ℕ) → j < 16 → get_or characters (n + j) 0 < 128) → at + 64 ≤ length before → length after ≡ length before
-    → take (at + 16) after ≡ take at before ++ take 16 (drop n characters) → IsWrittenSpelled utf8_bytes characters n before at (as_many 16) after
-written_all characters n before after at within p room size put =
+pub written_all : (characters : List ℕ) (n : ℕ) (before block : List ℕ) (at m : ℕ) → n + 16 ≤ length characters → ((j : ℕ) → j < 16 → get_or characters (n + j) 0 < 128) → at + 64 ≤ length before → m ≡ 16
+    → block ≡ take 16 (drop n characters) → IsWrittenSpelled utf8_bytes characters n before at (as_many 16) (put_mid at m before block)
+written_all characters n before block at m within p room e is =
     let same = part_spells_itself characters n 16 within p in
+    let long = length-part characters n 16 within in
     record {
       within = within;
-      uses = sym (ap length same ∙ length-part characters n 16 within);
+      uses = sym (ap length same ∙ long);
       fits = omega arith;
-      stand = rw same put;
-      size = size;
+      stand = rw same (front_stands before block (take 16 (drop n characters)) at 16 m (omega arith) (rw is (Begins-refl (take 16 (drop n characters)))) (sym long));
+      size = length-put before block at m (omega arith) (ap length is ∙ long ∙ sym e);
     }
 
 -- the bits of the bytes that are 128 at least, as vectors compute them
@@ -113,19 +134,6 @@ front_below bytes at room some =
     let marked : 0 < mask_l (map is_other xs) = omega arith in
     let first = ap (λ m. count_trailing_zeros 64 m) mask ∙ trailing_mask_l is_other 64 xs (omega arith) marked in
     (run_in_chunk_le is_other bytes at 16 _ 0 room first, λ k h. leb-false 128 (get_or bytes (at + k) 0) (run_in_chunk_fails is_other bytes at 16 _ 0 room first (at + k) (omega arith) (omega arith)))
-
-split : (a text : List ℕ) → Begins a text → text ≡ a ++ drop (length a) text
-split [] text p = refl
-split (x ∷ a) [] p = absurd p
-split (x ∷ a) (t ∷ text) p = rw (p.0) (ap (λ (y : List ℕ). t ∷ y) (split a text p.1))
-
-pub front_stands : (out word spelling : List ℕ) (at n k : ℕ) → at ≤ length out → Begins spelling word → n ≡ length spelling → take (at + n) (put_mid at k out word) ≡ take at out ++ spelling
-front_stands out word spelling at n k h p e =
-    let rest : List ℕ = drop (length spelling) word in
-    let front : List ℕ = take at out ++ spelling in
-    let long : length front ≡ at + n = simp (length-append, length-take) (omega arith) in
-    let parts : put_mid at k out word ≡ front ++ (rest ++ post_of at k out) = ap (λ (w : List ℕ). take at out ++ (w ++ post_of at k out)) (split spelling word p) ∙ simp append_assoc in
-    rw parts (take_at front (rest ++ post_of at k out) (at + n) long)
 
 same_bytes : (a text : List ℕ) → Begins a text → drop (length a) text ≡ [] → a ≡ text
 same_bytes [] text p e = cc

@@ -20,8 +20,11 @@ fn two_at(input: &[u8], at: usize) -> Option<(Scalar, usize)>
     ensures { IfSome result (λ read. IsSpelledAt utf8_bytes input.now at read.0 read.1) }
 {
     let first = input[at] as u32;
+    if first < 0xc2 || first > 0xdf {
+        return None;
+    }
     let second = input[at + 1] as u32;
-    if first < 0xc2 || first > 0xdf || second / 64 != 2 {
+    if second / 64 != 2 {
         return None;
     }
     let number = (first - 0xc0) * 64 + (second - 0x80);
@@ -132,7 +135,7 @@ fn ascii_front(input: &[u8], at: usize) -> usize
     }
 }
 
-/// Puts sixteen bytes into a buffer, each as the character of its number.
+/// Puts sixteen bytes into a buffer, each as the character of its number. All are read before one is put, so that they are put at once.
 #[inline(always)]
 fn put_bytes(input: &[u8], at: usize, buffer: &mut [Scalar], n: usize)
     requires within { at + 16 ≤ length input.now }
@@ -140,8 +143,9 @@ fn put_bytes(input: &[u8], at: usize, buffer: &mut [Scalar], n: usize)
     ensures stand { take (n + 16) buffer.new ≡ take n buffer.old ++ take 16 (drop at input.now) }
     ensures size { length buffer.new ≡ length buffer.old }
 {
+    let block = u8x16::from_slice(&input[at..]).to_array();
     for lane in 0..MANY {
-        buffer[n + lane] = Scalar::known(input[at + lane] as u32);
+        buffer[n + lane] = Scalar::known(block[lane] as u32);
     }
 }
 
@@ -189,18 +193,18 @@ fn are_ascii(characters: &[Scalar], n: usize) -> bool
     all
 }
 
-/// Writes sixteen characters of ASCII.
+/// Sixteen characters of ASCII, each as the byte of its number. It is a copy, so that no character is read after a byte was written.
 #[inline(always)]
-fn write_ascii(characters: &[Scalar], n: usize, out: &mut [u8], at: usize)
+fn narrowed(characters: &[Scalar], n: usize) -> [u8; MANY]
     requires within { n + 16 ≤ length characters.now }
-    requires room { at + 16 ≤ length out.old }
     requires ascii { (k : ℕ) → k < 16 → get_or characters.now (n + k) 0 < 128 }
-    ensures stand { take (at + 16) out.new ≡ take at out.old ++ take 16 (drop n characters.now) }
-    ensures size { length out.new ≡ length out.old }
+    ensures { result ≡ take 16 (drop n characters.now) }
 {
+    let mut block = [0; MANY];
     for lane in 0..MANY {
-        out[at + lane] = characters[n + lane].value() as u8;
+        block[lane] = characters[n + lane].value() as u8;
     }
+    block
 }
 
 impl Spelling for Utf8Spelling {
@@ -245,7 +249,7 @@ impl Spelling for Utf8Spelling {
         if !are_ascii(characters, n) {
             return Spelled { n: 0, used: 0 };
         }
-        write_ascii(characters, n, out, at);
+        out[at..at + MANY].copy_from_slice(&narrowed(characters, n));
         Spelled {
             n: MANY,
             used: MANY,

@@ -215,10 +215,11 @@ impl Spelling for Utf8Spelling {
     #[inline(always)]
     fn read_at(input: &[u8], at: usize) -> Option<(Scalar, usize)> {
         if input.len() - at >= 4 {
-            inner_at(input, at)
-        } else {
-            last_at(input, at)
+            return inner_at(input, at);
         }
+        // Whether there is one is tested here, and so not again where four bytes were left.
+        let read = last_at(input, at)?;
+        Some(read)
     }
 
     #[inline(always)]

@@ -6,8 +6,9 @@ use Rattle.cv_base.specs.Items.{Taken, taken, ItemRelation, Begins}
 use Rattle.cv_base.specs.Codecs.{Writing}
 use Rattle.cv_base.specs.Chains.{IsChain, used_bytes, read_state, characters_of, Output, output, output_for}
 use Rattle.cv_base.specs.Blocks.{IsReadBlock, IsWrittenBlock}
-use Rattle.cv_base.specs.Spelled.{BytesOf, AreScalars, ReadsSpelled, WritesSpelled, IsReadSpelled}
-use Rattle.cv_base.specs.declared.spelling.Spelled.{Spelled}
+use Rattle.cv_base.specs.Spelled.{BytesOf, AreScalars, ReadsSpelled, WritesSpelled, IsReadSpelled, IsSpelledRead, IsSpelledWritten}
+use Rattle.cv_base.specs.declared.block.ReadBlock.{ReadBlock}
+use Rattle.cv_base.specs.declared.block.WrittenBlock.{WrittenBlock}
 use Rattle.cv_base.specs.declared.state.ReadState.{ReadState}
 use Rattle.cv_base.specs.declared.state.WriteState.{WriteState}
 use Rattle.cv_base.specs.SingleBytes.{byte_reads}
@@ -59,26 +60,29 @@ read_block_of reads s bytes_of text characters buffer n used p q e f h = record 
   next = sym (state_for s bytes_of characters);
 }
 
-pub spelled_read : (reads : ItemRelation) (s : ReadState) (bytes_of : BytesOf) → ReadsSpelled reads s bytes_of → (text before : List ℕ) (run : Spelled) (after : List ℕ) → IsReadSpelled bytes_of text 0 before 0 run after
-    → IsReadBlock reads s text (record { n = run.n; used = run.used; next = s }) after
-spelled_read reads s bytes_of r text before run after p =
-    read_block_of reads s bytes_of text p.characters after run.n run.used (scalars_read reads s bytes_of r p.characters p.scalars) p.begins p.uses (ap (λ i. take i after) (sym (zero-add run.n)) ∙ p.stand) (omega (arith, p.fits, p.size))
+-- a block that was read in a spelling
+pub spelled_read : (reads : ItemRelation) (s : ReadState) (bytes_of : BytesOf) → ReadsSpelled reads s bytes_of → (text before : List ℕ) (block : ReadBlock) (after : List ℕ) → IsSpelledRead bytes_of s text before block after → IsReadBlock reads s text block after
+spelled_read reads s bytes_of r text before block after p =
+    let run = p.0 in
+    let stand : take block.n after ≡ run.characters = ap (λ i. take i after) (sym (zero-add block.n)) ∙ run.stand in
+    let it = read_block_of reads s bytes_of text run.characters after block.n block.used (scalars_read reads s bytes_of r run.characters run.scalars) run.begins run.uses stand (omega (arith, run.fits, run.size)) in
+    record { chain = it.chain; is_chain = it.is_chain; within = it.within; gives = it.gives; uses = it.uses; next = p.1 ∙ it.next }
 
 -- what is written for characters that are spelled
 output_spelled : (writes : Writing) (t : WriteState) (bytes_of : BytesOf) → WritesSpelled writes t bytes_of → (characters : List ℕ) → output_for writes t characters ≡ output (flat_map bytes_of characters) 0 t
 output_spelled writes t bytes_of w [] = refl
 output_spelled writes t bytes_of w (c ∷ characters) = rw (w c) (rw (output_spelled writes t bytes_of w characters) refl)
 
-pub spelled_written : (writes : Writing) (t : WriteState) (bytes_of : BytesOf) → WritesSpelled writes t bytes_of → (characters before : List ℕ) (at wrote : ℕ) (after : List ℕ) → wrote ≡ length (flat_map bytes_of characters) → at + wrote ≤ length before
-    → after ≡ take at before ++ flat_map bytes_of characters ++ drop (at + wrote) before → IsWrittenBlock writes t characters before at (record { wrote = wrote; count = 0; next = t }) after
-spelled_written writes t bytes_of w characters before at wrote after e h f =
+-- a block that was written in a spelling
+pub spelled_written : (writes : Writing) (t : WriteState) (bytes_of : BytesOf) → WritesSpelled writes t bytes_of → (characters before : List ℕ) (at : ℕ) (block : WrittenBlock) (after : List ℕ) → IsSpelledWritten bytes_of t characters before at block after → IsWrittenBlock writes t characters before at block after
+spelled_written writes t bytes_of w characters before at block after p =
     let o = output_spelled writes t bytes_of w characters in
     record {
-      wrote = e ∙ sym (ap (λ (x : Output). length x.bytes) o);
-      counts = sym (ap (λ (x : Output). x.count) o);
-      next = sym (ap (λ (x : Output). x.next) o);
-      fits = h;
-      out = f ∙ ap (λ (x : Output). take at before ++ x.bytes ++ drop (at + wrote) before) (sym o);
+      wrote = p.0 ∙ sym (ap (λ (x : Output). length x.bytes) o);
+      counts = p.1 ∙ sym (ap (λ (x : Output). x.count) o);
+      next = p.2 ∙ sym (ap (λ (x : Output). x.next) o);
+      fits = p.3;
+      out = p.4 ∙ ap (λ (x : Output). take at before ++ x.bytes ++ drop (at + block.wrote) before) (sym o);
     }
 
 -- no item was read

@@ -4,6 +4,8 @@ use Rattle.std.specs.List.{flat_map}
 use Rattle.cv_base.specs.Scalars.{IsScalar}
 use Rattle.cv_base.specs.Items.{taken, ItemRelation, Begins}
 use Rattle.cv_base.specs.Codecs.{Writing}
+use Rattle.cv_base.specs.declared.block.ReadBlock.{ReadBlock}
+use Rattle.cv_base.specs.declared.block.WrittenBlock.{WrittenBlock}
 use Rattle.cv_base.specs.declared.spelling.Spelled.{Spelled}
 use Rattle.cv_base.specs.declared.state.ReadState.{ReadState}
 use Rattle.cv_base.specs.declared.state.WriteState.{WriteState}
@@ -46,3 +48,13 @@ pub record IsWrittenSpelled (bytes_of : BytesOf) (characters : List ℕ) (n : �
   pub fits : at + run.used ≤ length before
   pub stand : take (at + run.used) after ≡ take at before ++ flat_map bytes_of (take run.n (drop n characters))
   pub size : length after ≡ length before
+
+-- A block of characters that are spelled was read in a state that it keeps.
+abbrev pub IsSpelledRead : BytesOf → ReadState → List ℕ → List ℕ → ReadBlock → List ℕ → Type 0
+IsSpelledRead bytes_of s text before block after = IsReadSpelled bytes_of text 0 before 0 (record { n = block.n; used = block.used }) after × (block.next ≡ s)
+
+-- A block of characters was spelled at a place in a state that it keeps.
+abbrev pub IsSpelledWritten : BytesOf → WriteState → List ℕ → List ℕ → ℕ → WrittenBlock → List ℕ → Type 0
+IsSpelledWritten bytes_of t characters before at block after =
+    (block.wrote ≡ length (flat_map bytes_of characters)) × (block.count ≡ 0) × (block.next ≡ t) × (at + block.wrote ≤ length before)
+    × (after ≡ take at before ++ flat_map bytes_of characters ++ drop (at + block.wrote) before)

@@ -1,9 +1,11 @@
 //! Reading by blocks.
-ghost use Rattle.std.specs.Prelude.{◌≤◌, ◌+◌, length};
-ghost use Rattle.cv_base.specs.Spelled.{IsReadSpelled};
+ghost use Rattle.std.specs.Prelude.{◌≡◌, ◌≤◌, ◌+◌, length};
+ghost use Rattle.cv_base.specs.Spelled.{IsReadSpelled, IsSpelledRead};
 
+use crate::block::ReadBlock;
 use crate::scalar::Scalar;
 use crate::spelling::{MANY, Spelled, Spelling};
+use crate::state::ReadState;
 
 /// How many characters are read one by one before it is tried again to read many at once.
 const FEW: usize = 4;
@@ -60,7 +62,7 @@ fn read_some<S: Spelling>(input: &[u8], at: usize, buffer: &mut [Scalar], n: usi
 
 /// Reads the characters at the front of a text into the front of a buffer.
 #[inline(always)]
-pub fn read_spelled<S: Spelling>(input: &[u8], buffer: &mut [Scalar]) -> Spelled
+fn read_front<S: Spelling>(input: &[u8], buffer: &mut [Scalar]) -> Spelled
     ensures { IsReadSpelled S.bytes_of input.now 0 buffer.old 0 result buffer.new }
 {
     let mut n = 0;
@@ -74,4 +76,18 @@ pub fn read_spelled<S: Spelling>(input: &[u8], buffer: &mut [Scalar]) -> Spelled
         used += some.used;
     }
     Spelled { n, used }
+}
+
+/// Reads a block of characters in a spelling that the state keeps.
+#[inline(never)]
+pub fn read_spelled<S: Spelling>(state: ReadState, input: &[u8], buffer: &mut [Scalar]) -> ReadBlock
+    ensures block { IsSpelledRead S.bytes_of state input.now buffer.old result buffer.new }
+    ensures size { length buffer.new ≡ length buffer.old }
+{
+    let front = read_front::<S>(input, buffer);
+    ReadBlock {
+        n: front.n,
+        used: front.used,
+        next: state,
+    }
 }

@@ -1,10 +1,12 @@
 //! Writing by blocks.
 ghost use Rattle.std.specs.Prelude.{◌≡◌, ◌≤◌, ◌<◌, ◌+◌, ◌-◌, ◌*◌, ◌++◌, length, take, drop};
 ghost use Rattle.std.specs.List.{flat_map};
-ghost use Rattle.cv_base.specs.Spelled.{IsWrittenSpelled};
+ghost use Rattle.cv_base.specs.Spelled.{IsWrittenSpelled, IsSpelledWritten};
 
+use crate::block::WrittenBlock;
 use crate::scalar::Scalar;
 use crate::spelling::{MANY, Spelled, Spelling};
+use crate::state::WriteState;
 
 /// Writes characters one by one, from the `n`th on.
 #[inline(always)]
@@ -65,17 +67,24 @@ fn write_front<S: Spelling>(characters: &[Scalar], out: &mut [u8]) -> usize
     used
 }
 
-/// Writes characters at a place of a slice, and answers how many bytes they have. Bytes of the slice around them stay.
-#[inline(always)]
-pub fn write_spelled<S: Spelling>(characters: &[Scalar], out: &mut [u8], at: usize) -> usize
+/// Writes a block of at most 64 characters in a spelling that the state keeps. Bytes of the slice around it stay.
+#[inline(never)]
+pub fn write_spelled<S: Spelling>(
+    state: WriteState,
+    characters: &[Scalar],
+    out: &mut [u8],
+    at: usize,
+) -> WrittenBlock
     requires few { length characters.now ≤ 64 }
     requires room { at + 4 * length characters.now ≤ length out.old }
-    ensures bytes { result ≡ length (flat_map S.bytes_of characters.now) }
-    ensures fits { at + result ≤ length out.old }
-    ensures out { out.new ≡ take at out.old ++ flat_map S.bytes_of characters.now ++ drop (at + result) out.old }
+    ensures { IsSpelledWritten S.bytes_of state characters.now out.old at result out.new }
 {
     let mut front = [0u8; 256];
-    let used = write_front::<S>(characters, &mut front);
-    out[at..at + used].copy_from_slice(&front[..used]);
-    used
+    let wrote = write_front::<S>(characters, &mut front);
+    out[at..at + wrote].copy_from_slice(&front[..wrote]);
+    WrittenBlock {
+        wrote,
+        count: 0,
+        next: state,
+    }
 }

@@ -17,3 +17,4 @@ pub mod WidePairs
 pub mod Spelt
 pub mod ReadBacks
 pub mod Utf8ReadBack
+pub mod Utf8Spelled

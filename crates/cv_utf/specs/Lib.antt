@@ -11,3 +11,4 @@ pub mod Utf32Laws
 pub mod Wide
 pub mod WideLaws
 pub mod ReadBack
+pub mod Utf8Spelled

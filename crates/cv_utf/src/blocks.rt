@@ -1,16 +1,27 @@
 //! The encoding forms by blocks.
 
+use crate::order::Order;
 use crate::utf8::Utf8;
+use crate::utf8_spelling::Utf8Spelling;
 use crate::utf16::Utf16;
 use crate::utf32::Utf32;
-use cv_base::{BlockCodec, ReadBlock, ReadState, Scalar, WriteState, WrittenBlock, write_each};
+use crate::wide16::{Big16, Little16};
+use crate::wide32::{Big32, Little32};
+use cv_base::{
+    BlockCodec, ReadBlock, ReadState, Scalar, WriteState, WrittenBlock, read_spelled, write_each,
+    write_spelled,
+};
 
 impl BlockCodec for Utf8 {
-    #[tactic(auto, using(cv_base::proofs::BlockLaws::nothing_read))]
+    #[tactic(auto, using(cv_base::proofs::BlockLaws::nothing_read, cv_base::proofs::BlockLaws::spelled_read, crate::proofs::Utf8Spelled::utf8_reads_spelled))]
     fn read_block(&self, state: ReadState, input: &[u8], buffer: &mut [Scalar]) -> ReadBlock {
-        ReadBlock::nothing(state)
+        match state {
+            ReadState::Start => read_spelled::<Utf8Spelling>(state, input, buffer),
+            _ => ReadBlock::nothing(state),
+        }
     }
 
+    #[tactic(auto, using(cv_base::proofs::BlockLaws::spelled_written, crate::proofs::Utf8Spelled::utf8_writes_spelled))]
     fn write_block(
         &self,
         state: WriteState,
@@ -18,16 +29,26 @@ impl BlockCodec for Utf8 {
         out: &mut [u8],
         at: usize,
     ) -> WrittenBlock {
-        write_each(self, state, characters, out, at)
+        match state {
+            WriteState::Start => write_spelled::<Utf8Spelling>(state, characters, out, at),
+            _ => write_each(self, state, characters, out, at),
+        }
     }
 }
 
 impl BlockCodec for Utf16 {
-    #[tactic(auto, using(cv_base::proofs::BlockLaws::nothing_read))]
+    #[tactic(auto, using(cv_base::proofs::BlockLaws::nothing_read, cv_base::proofs::BlockLaws::spelled_read, crate::proofs::Spelt::utf16_reads_be, crate::proofs::Spelt::utf16_reads_le, crate::proofs::Spelt::utf16_reads_big, crate::proofs::Spelt::utf16_reads_little))]
     fn read_block(&self, state: ReadState, input: &[u8], buffer: &mut [Scalar]) -> ReadBlock {
-        ReadBlock::nothing(state)
+        match (self.0, state) {
+            (Order::Be, ReadState::Start) => read_spelled::<Big16>(state, input, buffer),
+            (Order::Le, ReadState::Start) => read_spelled::<Little16>(state, input, buffer),
+            (Order::Marked, ReadState::Big) => read_spelled::<Big16>(state, input, buffer),
+            (Order::Marked, ReadState::Little) => read_spelled::<Little16>(state, input, buffer),
+            _ => ReadBlock::nothing(state),
+        }
     }
 
+    #[tactic(auto, using(cv_base::proofs::BlockLaws::spelled_written, crate::proofs::Spelt::utf16_writes_be, crate::proofs::Spelt::utf16_writes_le, crate::proofs::Spelt::utf16_writes_marked))]
     fn write_block(
         &self,
         state: WriteState,
@@ -35,16 +56,30 @@ impl BlockCodec for Utf16 {
         out: &mut [u8],
         at: usize,
     ) -> WrittenBlock {
-        write_each(self, state, characters, out, at)
+        match (self.0, state) {
+            (Order::Be, WriteState::Start) => write_spelled::<Big16>(state, characters, out, at),
+            (Order::Le, WriteState::Start) => write_spelled::<Little16>(state, characters, out, at),
+            (Order::Marked, WriteState::Marked) => {
+                write_spelled::<Big16>(state, characters, out, at)
+            }
+            _ => write_each(self, state, characters, out, at),
+        }
     }
 }
 
 impl BlockCodec for Utf32 {
-    #[tactic(auto, using(cv_base::proofs::BlockLaws::nothing_read))]
+    #[tactic(auto, using(cv_base::proofs::BlockLaws::nothing_read, cv_base::proofs::BlockLaws::spelled_read, crate::proofs::Spelt::utf32_reads_be, crate::proofs::Spelt::utf32_reads_le, crate::proofs::Spelt::utf32_reads_big, crate::proofs::Spelt::utf32_reads_little))]
     fn read_block(&self, state: ReadState, input: &[u8], buffer: &mut [Scalar]) -> ReadBlock {
-        ReadBlock::nothing(state)
+        match (self.0, state) {
+            (Order::Be, ReadState::Start) => read_spelled::<Big32>(state, input, buffer),
+            (Order::Le, ReadState::Start) => read_spelled::<Little32>(state, input, buffer),
+            (Order::Marked, ReadState::Big) => read_spelled::<Big32>(state, input, buffer),
+            (Order::Marked, ReadState::Little) => read_spelled::<Little32>(state, input, buffer),
+            _ => ReadBlock::nothing(state),
+        }
     }
 
+    #[tactic(auto, using(cv_base::proofs::BlockLaws::spelled_written, crate::proofs::Spelt::utf32_writes_be, crate::proofs::Spelt::utf32_writes_le, crate::proofs::Spelt::utf32_writes_marked))]
     fn write_block(
         &self,
         state: WriteState,
@@ -52,6 +87,13 @@ impl BlockCodec for Utf32 {
         out: &mut [u8],
         at: usize,
     ) -> WrittenBlock {
-        write_each(self, state, characters, out, at)
+        match (self.0, state) {
+            (Order::Be, WriteState::Start) => write_spelled::<Big32>(state, characters, out, at),
+            (Order::Le, WriteState::Start) => write_spelled::<Little32>(state, characters, out, at),
+            (Order::Marked, WriteState::Marked) => {
+                write_spelled::<Big32>(state, characters, out, at)
+            }
+            _ => write_each(self, state, characters, out, at),
+        }
     }
 }

@@ -1,6 +1,6 @@
 use Rattle.std.proofs.Common.{arith, refl}
 use Rattle.cv_base.proofs.SpelledRuns.{read_within, read_more}
-use Rattle.cv_base.proofs.reading.read_spelled.Goals as goal
+use Rattle.cv_base.proofs.reading.read_front.Goals as goal
 
 pub read_some-some-requires-clause-within : goal.read_some-some-requires-clause-within
 read_some-some-requires-clause-within g c = omega (arith, read_within _ _ 0 _ 0 _ _ c.loop-n.invariant (omega arith))

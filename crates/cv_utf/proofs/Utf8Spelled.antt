@@ -1,0 +1,165 @@
+-- The spelling of UTF-8: ASCII, sixteen bytes that are tested at once, a word that is written, and the codec.
+use Rattle.std.proofs.Common.{◌≡◌, ℕ, ◌+◌, ◌%◌, ◌^◌, ◌<◌, ◌≤◌, Bool, cond, List, [], ◌∷◌, ◌++◌, length, take, drop, get_or, map, refl, sym, ◌∙◌, ap, subst, arith, zero, suc, Some, w8, length-append, length-take, length-drop, get_or-take, get_or-drop, append_assoc}
+use Rattle.std.specs.Prelude.{replicate, option_to_list}
+use Rattle.std.specs.List.{flat_map}
+use Rattle.std.specs.Int.Count.{count_trailing_zeros}
+use Rattle.std.specs.Simd.Lanes.{mask_l, top, zip2}
+use Rattle.std.proofs.Math.Dec.{leb}
+use Rattle.std.proofs.Math.Seq.{take-append-add}
+use Rattle.std.proofs.lemmas.Bool.{lt-ltb, leb-false}
+use Rattle.std.proofs.lemmas.List.{take_at, take-take, length-map}
+use Rattle.std.proofs.lemmas.Simd.{tops_compared, zip2_splat_left, mask_l-mod, none_from_empty_mask, trailing_mask_l, run_in_chunk_le, run_in_chunk_fails, length-chunk}
+use borrow.Rule.Slice.PartMut.{put_mid, post_of}
+use Rattle.cv_base.specs.Items.{Taken, taken, Begins}
+use Rattle.cv_base.specs.Spelled.{AreScalars, IsReadSpelled, IsWrittenSpelled, ReadsSpelled, WritesSpelled}
+use Rattle.cv_base.specs.declared.spelling.Spelled.{Spelled}
+use Rattle.cv_base.specs.declared.state.ReadState.TheVariants as read
+use Rattle.cv_base.specs.declared.state.WriteState.TheVariants as write
+use Rattle.cv_utf.specs.Utf8.{table, IsOfOne, utf8_reads, utf8_bytes, utf8_writes}
+use Rattle.cv_utf.specs.BeginsLaws.{Begins-refl}
+use Rattle.cv_utf.specs.ReadBack.{AreItems, characters_of}
+use Rattle.cv_utf.proofs.Utf8ReadBack.{utf8_reads_back}
+
+-- the list that begins a text, and what is behind it
+split : (a text : List ℕ) → Begins a text → text ≡ a ++ drop (length a) text
+split [] text p = refl
+split (x ∷ a) [] p = absurd p
+split (x ∷ a) (t ∷ text) p = rw (p.0) (ap (λ (y : List ℕ). t ∷ y) (split a text p.1))
+
+-- What was put at a place begins with this, and what is behind it may be anything.
+pub front_stands : (out word spelling : List ℕ) (at n k : ℕ) → at ≤ length out → Begins spelling word → n ≡ length spelling → take (at + n) (put_mid at k out word) ≡ take at out ++ spelling
+front_stands out word spelling at n k h p e =
+    let rest : List ℕ = drop (length spelling) word in
+    let front : List ℕ = take at out ++ spelling in
+    let long : length front ≡ at + n = simp (length-append, length-take) (omega arith) in
+    let parts : put_mid at k out word ≡ front ++ (rest ++ post_of at k out) = ap (λ (w : List ℕ). take at out ++ (w ++ post_of at k out)) (split spelling word p) ∙ simp append_assoc in
+    rw parts (take_at front (rest ++ post_of at k out) (at + n) long)
+
+-- Each number is below 128.
+abbrev AreAscii : List ℕ → Type 0
+AreAscii xs = (k : ℕ) → k < length xs → get_or xs k 0 < 128
+
+-- as many bytes as characters
+abbrev pub as_many : ℕ → Spelled
+as_many k = record { n = k; used = k }
+
+spells_itself : (xs : List ℕ) → AreAscii xs → flat_map utf8_bytes xs ≡ xs
+spells_itself [] p = refl
+spells_itself (c ∷ xs) p = rw (lt-ltb c 0x80 (p 0 (omega arith))) (ap (λ (x : List ℕ). c ∷ x) (spells_itself xs (λ k h. p (suc k) (omega arith))))
+
+are_scalars : (xs : List ℕ) → AreAscii xs → AreScalars xs
+are_scalars [] p = tt
+are_scalars (c ∷ xs) p =
+    let h : c < 128 = p 0 (omega arith) in
+    ((omega arith, λ l. omega arith), are_scalars xs (λ k l. p (suc k) (omega arith)))
+
+take_begins : (k : ℕ) (xs : List ℕ) → Begins (take k xs) xs
+take_begins zero xs = tt
+take_begins (suc k) [] = tt
+take_begins (suc k) (x ∷ xs) = (refl, take_begins k xs)
+
+length-part : (xs : List ℕ) (at k : ℕ) → at + k ≤ length xs → length (take k (drop at xs)) ≡ k
+length-part xs at k h = simp (length-take, length-drop) (omega arith)
+
+part_is_ascii : (xs : List ℕ) (at k : ℕ) → at + k ≤ length xs → ((j : ℕ) → j < k → get_or xs (at + j) 0 < 128) → AreAscii (take k (drop at xs))
+part_is_ascii xs at k h p j l =
+    let m : j < k = omega (arith, length-part xs at k h) in
+    rw (get_or-take, get_or-drop) (p j m)
+
+part_spells_itself : (xs : List ℕ) (at k : ℕ) → at + k ≤ length xs → ((j : ℕ) → j < k → get_or xs (at + j) 0 < 128) → flat_map utf8_bytes (take k (drop at xs)) ≡ take k (drop at xs)
+part_spells_itself xs at k h p = spells_itself (take k (drop at xs)) (part_is_ascii xs at k h p)
+
+joined : (front xs : List ℕ) (n k : ℕ) → length front ≡ n → k ≤ 16 → take (n + k) (front ++ take 16 xs) ≡ front ++ take k xs
+joined front xs n k e h = subst (λ (m : ℕ). take (m + k) (front ++ take 16 xs) ≡ front ++ take k xs) e (take-append-add front (take 16 xs) k ∙ ap (λ (y : List ℕ). front ++ y) (take-take k 16 xs h))
+
+length-put : (before block : List ℕ) (at m : ℕ) → at + m ≤ length before → length block ≡ m → length (put_mid at m before block) ≡ length before
+length-put before block at m h e = simp (length-append, length-take, length-drop) (omega arith)
+
+-- Sixteen bytes were put into a buffer, and their front was read.
+pub read_front : (text : List ℕ) (at : ℕ) (before after : List ℕ) (n k : ℕ) → at + 16 ≤ length text → k ≤ 16 → ((j : ℕ) → j < k → get_or text (at + j) 0 < 128) → n + 16 ≤ length before → length after ≡ length before
+    → take (n + 16) after ≡ take n before ++ take 16 (drop at text) → IsReadSpelled utf8_bytes text at before n (as_many k) after
+read_front text at before after n k within most p room size put =
+    let some : at + k ≤ length text = omega arith in
+    let same = part_spells_itself text at k some p in
+    let long = length-part text at k some in
+    let front : length (take n before) ≡ n = simp length-take (omega arith) in
+    let fewer : n + k ≤ n + 16 = omega arith in
+    record {
+      characters = take k (drop at text);
+      scalars = are_scalars (take k (drop at text)) (part_is_ascii text at k some p);
+      begins = rw same (take_begins k (drop at text));
+      uses = sym (ap length same ∙ long);
+      counts = sym long;
+      stand = sym (take-take (n + k) (n + 16) after fewer) ∙ rw put (joined (take n before) (drop at text) n k front most);
+      fits = omega arith;
+      size = size;
+    }
+
+-- Sixteen characters were written.
+pub written_all : (characters : List ℕ) (n : ℕ) (before block : List ℕ) (at m : ℕ) → n + 16 ≤ length characters → ((j : ℕ) → j < 16 → get_or characters (n + j) 0 < 128) → at + 64 ≤ length before → m ≡ 16
+    → block ≡ take 16 (drop n characters) → IsWrittenSpelled utf8_bytes characters n before at (as_many 16) (put_mid at m before block)
+written_all characters n before block at m within p room e is =
+    let same = part_spells_itself characters n 16 within p in
+    let long = length-part characters n 16 within in
+    record {
+      within = within;
+      uses = sym (ap length same ∙ long);
+      fits = omega arith;
+      stand = rw same (front_stands before block (take 16 (drop n characters)) at 16 m (omega arith) (rw is (Begins-refl (take 16 (drop n characters)))) (sym long));
+      size = length-put before block at m (omega arith) (ap length is ∙ long ∙ sym e);
+    }
+
+-- the bits of the bytes that are 128 at least, as vectors compute them
+abbrev pub others : List ℕ → ℕ
+others xs = mask_l (map (top 7) (zip2 (λ a b. cond (leb a b) 255 0) (replicate 16 128) xs)) % 2 ^ 64
+
+abbrev is_other : ℕ → Bool
+is_other x = leb 128 x
+
+others_mask : (xs : List ℕ) → length xs ≡ 16 → others xs ≡ mask_l (map is_other xs)
+others_mask xs long = ap (λ ms. mask_l ms % 2 ^ 64) (tops_compared w8 leb (replicate 16 128) xs ∙ zip2_splat_left leb 128 16 xs long) ∙ mask_l-mod (map is_other xs) 64 (simp length-map (omega arith))
+
+-- No byte is marked.
+pub all_below : (bytes : List ℕ) (at : ℕ) → at + 16 ≤ length bytes → others (take 16 (drop at bytes)) ≡ 0 → (k : ℕ) → k < 16 → get_or bytes (at + k) 0 < 128
+all_below bytes at room e k h =
+    let mask = others_mask (take 16 (drop at bytes)) (length-chunk at 16 bytes room) in
+    leb-false 128 (get_or bytes (at + k) 0) (none_from_empty_mask is_other bytes at 16 0 room (sym mask ∙ e) (at + k) (omega arith) (omega arith))
+
+-- The lowest mark is the first byte that is 128 at least.
+pub front_below : (bytes : List ℕ) (at : ℕ) → at + 16 ≤ length bytes → 0 < others (take 16 (drop at bytes)) → (count_trailing_zeros 64 (others (take 16 (drop at bytes))) ≤ 16) × ((k : ℕ) → k < count_trailing_zeros 64 (others (take 16 (drop at bytes))) → get_or bytes (at + k) 0 < 128)
+front_below bytes at room some =
+    let xs : List ℕ = take 16 (drop at bytes) in
+    let long : length xs ≡ 16 = length-chunk at 16 bytes room in
+    let mask = others_mask xs long in
+    let marked : 0 < mask_l (map is_other xs) = omega arith in
+    let first = ap (λ m. count_trailing_zeros 64 m) mask ∙ trailing_mask_l is_other 64 xs (omega arith) marked in
+    (run_in_chunk_le is_other bytes at 16 _ 0 room first, λ k h. leb-false 128 (get_or bytes (at + k) 0) (run_in_chunk_fails is_other bytes at 16 _ 0 room first (at + k) (omega arith) (omega arith)))
+
+same_bytes : (a text : List ℕ) → Begins a text → drop (length a) text ≡ [] → a ≡ text
+same_bytes [] text p e = cc
+same_bytes (x ∷ a) [] p e = absurd p
+same_bytes (x ∷ a) (t ∷ text) p e = rw (p.0) (ap (λ (y : List ℕ). t ∷ y) (same_bytes a text p.1 e))
+
+-- bytes that read as one character are one item
+one_item : (bytes : List ℕ) (c : ℕ) (items : List Taken) → AreItems utf8_reads read.Start bytes items → characters_of items ≡ c ∷ [] → IsOfOne table bytes c
+one_item bytes c [] p e = cc
+one_item bytes c (item ∷ []) p e =
+    let is = p.0.is_item.2 in
+    let gives : characters_of (taken (length p.0.bytes) (Some p.0.is_item.0) read.Start ∷ []) ≡ c ∷ [] = subst (λ (i : Taken). characters_of (i ∷ []) ≡ c ∷ []) is e in
+    let all : drop (length p.0.bytes) bytes ≡ [] = subst (λ (i : Taken). drop i.used bytes ≡ []) is p.1 in
+    let same : p.0.is_item.0 ≡ c = cc in
+    subst (λ (w : List ℕ). IsOfOne table w c) (same_bytes p.0.bytes bytes p.0.front all) (subst (λ (n : ℕ). IsOfOne table p.0.bytes n) same p.0.is_item.1)
+one_item bytes c (item ∷ other ∷ items) p e =
+    let first = p.0.is_item in
+    let second = p.1.0.is_item in
+    let one : characters_of (taken (length p.0.bytes) (Some first.0) read.Start ∷ other ∷ items) ≡ c ∷ [] = subst (λ (i : Taken). characters_of (i ∷ other ∷ items) ≡ c ∷ []) first.2 e in
+    let two : first.0 ∷ second.0 ∷ characters_of items ≡ c ∷ [] = subst (λ (i : Taken). first.0 ∷ (option_to_list i.gives ++ characters_of items) ≡ c ∷ []) second.2 one in
+    cc
+
+pub utf8_reads_spelled : ReadsSpelled utf8_reads read.Start utf8_bytes
+utf8_reads_spelled c scalar =
+    let back = utf8_reads_back write.Start read.Start c (utf8_bytes c) write.Start refl scalar refl in
+    (c, one_item (utf8_bytes c) c back.items back.are_items back.gives, refl)
+
+pub utf8_writes_spelled : WritesSpelled utf8_writes write.Start utf8_bytes
+utf8_writes_spelled c = refl

@@ -150,17 +150,17 @@ fn put_bytes(input: &[u8], at: usize, buffer: &mut [Scalar], n: usize)
 }
 
 /// The spelling of a character, as a number whose lowest byte is the first. What is behind the spelling may be anything.
+/// The bits of four bytes are spread once, and a shorter spelling has the last of them; which it is takes no branch.
 #[inline(always)]
 fn word(value: u32) -> u32
     requires { IsScalar value }
     ensures { Begins (utf8_bytes value) (to_le_bytes w32 result) }
 {
-    let last = 0x80 + value % 64;
-    let middle = 0x80 + value / 64 % 64;
-    let second = 0x80 + value / 4096 % 64;
-    let two = (0xc0 + value / 64) + last * 0x100;
-    let three = (0xe0 + value / 4096) + middle * 0x100 + last * 0x1_0000;
-    let four = (0xf0 + value / 262144) + second * 0x100 + middle * 0x1_0000 + last * 0x100_0000;
+    let low = (value / 64 % 64) * 0x1_0000 + (value % 64) * 0x100_0000;
+    let bits = value / 262144 + (value / 4096 % 64) * 0x100 + low;
+    let two = bits / 0x1_0000 + 0x80c0;
+    let three = bits / 0x100 + 0x80_80e0;
+    let four = bits + 0x8080_80f0;
     if value < 0x80 {
         value
     } else if value < 0x800 {
@@ -217,7 +217,7 @@ impl Spelling for Utf8Spelling {
         if input.len() - at >= 4 {
             return inner_at(input, at);
         }
-        // Whether there is one is tested here, and so not again where four bytes were left.
+        // `?` tests it here, so that it is not tested again where four bytes were left.
         let read = last_at(input, at)?;
         Some(read)
     }

@@ -17,7 +17,8 @@ use Rattle.cv_base.specs.declared.state.ReadState.TheVariants as read
 use Rattle.cv_base.specs.declared.state.WriteState.TheVariants as write
 use Rattle.cv_utf.specs.Utf8.{table, IsOfOne, utf8_reads, utf8_bytes, utf8_writes}
 use Rattle.cv_utf.specs.BeginsLaws.{Begins-refl}
-use Rattle.cv_utf.specs.ReadBack.{AreItems, characters_of}
+use Rattle.cv_base.specs.Chains.{characters_of}
+use Rattle.cv_utf.specs.ReadBack.{AreItems}
 use Rattle.cv_utf.proofs.Utf8ReadBack.{utf8_reads_back}
 
 -- the list that begins a text, and what is behind it

@@ -13,7 +13,7 @@ use cv_base::{
 };
 
 impl BlockCodec for Utf8 {
-    #[tactic(auto, using(cv_base::proofs::BlockLaws::nothing_read, cv_base::proofs::BlockLaws::spelled_read, crate::proofs::Utf8Spelled::utf8_reads_spelled))]
+    #[tactic(auto, using(cv_base::proofs::BlockLaws::nothing_read))]
     fn read_block(&self, state: ReadState, input: &[u8], buffer: &mut [Scalar]) -> ReadBlock {
         match state {
             ReadState::Start => read_spelled::<Utf8Spelling>(state, input, buffer),
@@ -21,7 +21,6 @@ impl BlockCodec for Utf8 {
         }
     }
 
-    #[tactic(auto, using(cv_base::proofs::BlockLaws::spelled_written, crate::proofs::Utf8Spelled::utf8_writes_spelled))]
     fn write_block(
         &self,
         state: WriteState,
@@ -37,7 +36,7 @@ impl BlockCodec for Utf8 {
 }
 
 impl BlockCodec for Utf16 {
-    #[tactic(auto, using(cv_base::proofs::BlockLaws::nothing_read, cv_base::proofs::BlockLaws::spelled_read, crate::proofs::Spelt::utf16_reads_be, crate::proofs::Spelt::utf16_reads_le, crate::proofs::Spelt::utf16_reads_big, crate::proofs::Spelt::utf16_reads_little))]
+    #[tactic(auto, using(cv_base::proofs::BlockLaws::nothing_read))]
     fn read_block(&self, state: ReadState, input: &[u8], buffer: &mut [Scalar]) -> ReadBlock {
         match (self.0, state) {
             (Order::Be, ReadState::Start) => read_spelled::<Big16>(state, input, buffer),
@@ -48,7 +47,6 @@ impl BlockCodec for Utf16 {
         }
     }
 
-    #[tactic(auto, using(cv_base::proofs::BlockLaws::spelled_written, crate::proofs::Spelt::utf16_writes_be, crate::proofs::Spelt::utf16_writes_le, crate::proofs::Spelt::utf16_writes_marked))]
     fn write_block(
         &self,
         state: WriteState,
@@ -68,7 +66,7 @@ impl BlockCodec for Utf16 {
 }
 
 impl BlockCodec for Utf32 {
-    #[tactic(auto, using(cv_base::proofs::BlockLaws::nothing_read, cv_base::proofs::BlockLaws::spelled_read, crate::proofs::Spelt::utf32_reads_be, crate::proofs::Spelt::utf32_reads_le, crate::proofs::Spelt::utf32_reads_big, crate::proofs::Spelt::utf32_reads_little))]
+    #[tactic(auto, using(cv_base::proofs::BlockLaws::nothing_read))]
     fn read_block(&self, state: ReadState, input: &[u8], buffer: &mut [Scalar]) -> ReadBlock {
         match (self.0, state) {
             (Order::Be, ReadState::Start) => read_spelled::<Big32>(state, input, buffer),
@@ -79,7 +77,6 @@ impl BlockCodec for Utf32 {
         }
     }
 
-    #[tactic(auto, using(cv_base::proofs::BlockLaws::spelled_written, crate::proofs::Spelt::utf32_writes_be, crate::proofs::Spelt::utf32_writes_le, crate::proofs::Spelt::utf32_writes_marked))]
     fn write_block(
         &self,
         state: WriteState,

@@ -93,7 +93,8 @@ pub(crate) fn read_units<U: WideUnit>(
 ) -> Spelled
     requires within { at ≤ length input.now }
     requires room { n + 16 ≤ length buffer.old }
-    ensures { IsReadSpelled U.bytes_of input.now at buffer.old n result buffer.new }
+    ensures many { result.n ≤ 16 }
+    ensures read { IsReadSpelled U.bytes_of input.now at buffer.old n result buffer.new }
 {
     let used = U::size() * MANY;
     let rest = &input[at..];

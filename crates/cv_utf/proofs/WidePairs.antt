@@ -16,8 +16,7 @@ pair_stands unit two text at high low c p q high_from high_to low_from low_to jo
     let is_low : low_unit c ≡ low = omega arith in
     let e : units unit c ≡ unit high ++ unit low = two_units unit c (omega arith) ∙ (let f : unit (high_unit c) ++ unit (low_unit c) ≡ unit high ++ unit low = cc (is_high, is_low) in f) in
     let first : Begins (unit high) (drop at text) = rw (one_unit unit high (omega arith)) at p.begins in
-    let second : Begins (unit low) (drop (at + 2) text) = rw (one_unit unit low (omega arith)) at q.begins in
-    (
+    let second : Begins (unit low) (drop (at + 2) text) = rw (one_unit unit low (omega arith)) at q.begins in (
       (omega arith, λ h. omega arith),
       rw e (Begins-join (unit high) (unit low) (drop at text) first (rw (two high, drop-drop) second)),
       rw e (omega (arith, two high, two low, length-append (unit high) (unit low))),

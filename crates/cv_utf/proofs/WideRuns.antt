@@ -1,14 +1,13 @@
 -- Characters of one unit each, one after the other, as they are read and written.
-use Rattle.std.proofs.Common.{◌≡◌, ℕ, ◌+◌, ◌-◌, ◌*◌, ◌<◌, ◌≤◌, List, [], ◌∷◌, ◌++◌, length, take, drop, get_or, refl, sym, ◌∙◌, ap, arith, zero, suc, length-append, length-take, length-drop, append_assoc, append-nil, add-one}
+use Rattle.std.proofs.Common.{◌≡◌, ℕ, ◌+◌, ◌-◌, ◌*◌, ◌<◌, ◌≤◌, List, [], ◌∷◌, ◌++◌, length, take, drop, get_or, sym, ◌∙◌, ap, arith, zero, suc, length-append, length-take, length-drop, append_assoc, append-nil}
 use Rattle.std.proofs.Math.Nat.{mul-suc, mul-zero}
 use Rattle.std.proofs.Math.Seq.{take-suc}
-use Rattle.std.proofs.lemmas.List.{take_all, take_at, take_more, take_rest, get_or-drop}
+use Rattle.std.proofs.lemmas.List.{take_all, take_at, take_more, take_rest}
 use Rattle.std.proofs.lemmas.List.Concat.{flat_map-append}
 use Rattle.std.specs.List.{flat_map}
-use Rattle.cv_base.specs.Scalars.{IsScalar}
 use Rattle.cv_base.specs.Items.{Begins}
 use Rattle.cv_base.specs.Spelled.{BytesOf, AreScalars, IsReadSpelled, IsWrittenSpelled}
-use Rattle.cv_utf.specs.Wide.{IsUnitAt, AreUnits, AreScalarsBelow, AreSingle}
+use Rattle.cv_utf.specs.Wide.{AreUnits, AreScalarsBelow, AreSingle}
 
 -- one character more
 pub flat_map-more : (bytes_of : BytesOf) (characters : List ℕ) (c : ℕ) → flat_map bytes_of (characters ++ c ∷ []) ≡ flat_map bytes_of characters ++ bytes_of c

@@ -109,7 +109,7 @@ pub(crate) fn read_units<U: WideUnit>(
     Spelled { n: MANY, used }
 }
 
-/// The numbers of many characters, from the `n`th on.
+/// The numbers of many characters, from the `n`th on. They are read before any is written, so that the writing is done by blocks.
 #[inline(always)]
 fn values_of(characters: &[Scalar], n: usize) -> [u32; MANY]
     requires { n + 16 ≤ length characters.now }

@@ -1,14 +1,13 @@
 -- Characters of one unit each, one after the other, as they are read and written.
-use Rattle.std.proofs.Common.{◌≡◌, ℕ, ◌+◌, ◌-◌, ◌*◌, ◌<◌, ◌≤◌, List, [], ◌∷◌, ◌++◌, length, take, drop, get_or, refl, sym, ◌∙◌, ap, arith, zero, suc, length-append, length-take, length-drop, append_assoc, append-nil, add-one}
+use Rattle.std.proofs.Common.{◌≡◌, ℕ, ◌+◌, ◌-◌, ◌*◌, ◌<◌, ◌≤◌, List, [], ◌∷◌, ◌++◌, length, take, drop, get_or, sym, ◌∙◌, ap, arith, zero, suc, length-append, length-take, length-drop, append_assoc, append-nil}
 use Rattle.std.proofs.Math.Nat.{mul-suc, mul-zero}
 use Rattle.std.proofs.Math.Seq.{take-suc}
-use Rattle.std.proofs.lemmas.List.{take_all, take_at, take_more, take_rest, get_or-drop}
+use Rattle.std.proofs.lemmas.List.{take_all, take_at, take_more, take_rest}
 use Rattle.std.proofs.lemmas.List.Concat.{flat_map-append}
 use Rattle.std.specs.List.{flat_map}
-use Rattle.cv_base.specs.Scalars.{IsScalar}
 use Rattle.cv_base.specs.Items.{Begins}
 use Rattle.cv_base.specs.Spelled.{BytesOf, AreScalars, IsReadSpelled, IsWrittenSpelled}
-use Rattle.cv_utf.specs.Wide.{IsUnitAt, AreUnits, AreScalarsBelow}
+use Rattle.cv_utf.specs.Wide.{AreUnits, AreScalarsBelow, AreSingle}
 
 -- one character more
 pub flat_map-more : (bytes_of : BytesOf) (characters : List ℕ) (c : ℕ) → flat_map bytes_of (characters ++ c ∷ []) ≡ flat_map bytes_of characters ++ bytes_of c
@@ -60,20 +59,28 @@ all_read bytes_of size text at before n used numbers after long units scalars ro
     }
 
 -- one unit more is written
-pub more_written : (bytes_of : BytesOf) (characters : List ℕ) (n : ℕ) (before : List ℕ) (at k used used_more size place c : ℕ) (now after : List ℕ) → IsWrittenSpelled bytes_of characters n before at (record { n = k; used = used }) now
-    → place ≡ at + used → c ≡ get_or characters (n + k) 0 → n + k < length characters → length (bytes_of c) ≡ size → place + size ≤ length now → after ≡ take place now ++ bytes_of c ++ drop (place + size) now
-    → used_more ≡ used + size → IsWrittenSpelled bytes_of characters n before at (record { n = k + 1; used = used_more }) after
-more_written bytes_of characters n before at k used used_more size place c now after p e is h single room wrote more_is =
-    let few : k < length (drop n characters) = omega (arith, length-drop n characters) in
-    let same : c ≡ get_or (drop n characters) k 0 = is ∙ sym (get_or-drop n characters k 0) in
-    let more : take (k + 1) (drop n characters) ≡ take k (drop n characters) ++ c ∷ [] = rw same (take_more (drop n characters) k 0 few) in
-    let bytes : flat_map bytes_of (take (k + 1) (drop n characters)) ≡ flat_map bytes_of (take k (drop n characters)) ++ bytes_of c = ap (flat_map bytes_of) more ∙ flat_map-more bytes_of (take k (drop n characters)) c in
-    let front : length (take place now) ≡ place = omega (arith, length-take place now) in
-    let stand : take (place + size) after ≡ take place now ++ bytes_of c = rw wrote (take_at (take place now ++ bytes_of c) (drop (place + size) now) (place + size) (omega (arith, length-append (take place now) (bytes_of c)))) in
+pub more_stand : (bytes_of : BytesOf) (values before : List ℕ) (at size k place place_more c : ℕ) (now after : List ℕ) → take place now ≡ take at before ++ flat_map bytes_of (take k values) → c ≡ get_or values k 0 → k < length values → length (bytes_of c) ≡ size
+    → place_more ≡ place + size → place_more ≤ length now → after ≡ take place now ++ bytes_of c ++ drop (place + size) now → take place_more after ≡ take at before ++ flat_map bytes_of (take (k + 1) values)
+more_stand bytes_of values before at size k place place_more c now after p is h single e room wrote =
+    let more : flat_map bytes_of (take (k + 1) values) ≡ flat_map bytes_of (take k values) ++ bytes_of c = ap (flat_map bytes_of) (rw is (take_more values k 0 h)) ∙ flat_map-more bytes_of (take k values) c in
+    let front : length (take place now ++ bytes_of c) ≡ place_more = omega (arith, length-append (take place now) (bytes_of c), length-take place now) in
+    let stand : take place_more after ≡ take place now ++ bytes_of c = rw wrote (take_at (take place now ++ bytes_of c) (drop (place + size) now) place_more front) in
+    stand ∙ ap (λ (x : List ℕ). x ++ bytes_of c) p ∙ append_assoc (take at before) (flat_map bytes_of (take k values)) (bytes_of c) ∙ ap (λ (x : List ℕ). take at before ++ x) (sym more)
+
+length-single : (bytes_of : BytesOf) (size : ℕ) (values : List ℕ) → AreSingle bytes_of size values (length values) → length (flat_map bytes_of values) ≡ size * length values
+length-single bytes_of size [] single = sym (mul-zero size)
+length-single bytes_of size (c ∷ values) single = omega (arith, length-append (bytes_of c) (flat_map bytes_of values), single 0 (omega arith), length-single bytes_of size values (λ k l. single (suc k) (omega arith)), mul-suc size (length values))
+
+-- many units are written
+pub all_written : (bytes_of : BytesOf) (size : ℕ) (characters : List ℕ) (n : ℕ) (before : List ℕ) (at used : ℕ) (values after : List ℕ) → n + 16 ≤ length characters → values ≡ take 16 (drop n characters) → AreSingle bytes_of size values 16 → used ≡ size * 16 → at + used ≤ length before
+    → take (at + size * 16) after ≡ take at before ++ flat_map bytes_of values → length after ≡ length before → IsWrittenSpelled bytes_of characters n before at (record { n = 16; used = used }) after
+all_written bytes_of size characters n before at used values after within is single uses fits stand same =
+    let long : length values ≡ 16 = ap length is ∙ simp (length-take, length-drop) (omega arith) in
+    let e : length (flat_map bytes_of values) ≡ size * 16 = length-single bytes_of size values (rw long single) ∙ ap (λ m. size * m) long in
     record {
-      within = omega arith;
-      uses = rw bytes (omega (arith, length-append (flat_map bytes_of (take k (drop n characters))) (bytes_of c), p.uses));
-      fits = omega (arith, p.size);
-      stand = ap (λ m. take m after) (let q : at + used_more ≡ place + size = omega arith in q) ∙ stand ∙ ap (λ (x : List ℕ). x ++ bytes_of c) (ap (λ m. take m now) e ∙ p.stand) ∙ append_assoc (take at before) _ (bytes_of c) ∙ ap (λ (x : List ℕ). take at before ++ x) (sym bytes);
-      size = rw wrote (simp (length-append, length-take, length-drop) (omega (arith, p.size)));
+      within = within;
+      uses = uses ∙ sym e ∙ ap (λ x. length (flat_map bytes_of x)) is;
+      fits = fits;
+      stand = ap (λ m. take (at + m) after) uses ∙ stand ∙ ap (λ x. take at before ++ flat_map bytes_of x) is;
+      size = same;
     }

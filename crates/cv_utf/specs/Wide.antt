@@ -1,5 +1,5 @@
 -- Characters of one unit each, in UTF-16 and UTF-32.
-use Rattle.std.specs.Prelude.{◌≡◌, ℕ, ◌+◌, ◌*◌, ◌<◌, List, length, drop, get_or}
+use Rattle.std.specs.Prelude.{◌≡◌, ℕ, ◌*◌, ◌<◌, List, length, drop, get_or}
 use Rattle.cv_base.specs.Scalars.{IsScalar}
 use Rattle.cv_base.specs.Items.{Begins}
 use Rattle.cv_base.specs.Spelled.{BytesOf}
@@ -17,6 +17,6 @@ AreUnits bytes_of size text numbers n = (k : ℕ) → k < n → IsUnitAt bytes_o
 abbrev pub AreScalarsBelow : List ℕ → ℕ → Type 0
 AreScalarsBelow numbers n = (k : ℕ) → k < n → IsScalar (get_or numbers k 0)
 
--- So many characters from the n-th on are one unit each.
-abbrev pub AreSingle : BytesOf → ℕ → List ℕ → ℕ → ℕ → Type 0
-AreSingle bytes_of size characters n count = (k : ℕ) → k < count → length (bytes_of (get_or characters (n + k) 0)) ≡ size
+-- The numbers below a place are one unit each.
+abbrev pub AreSingle : BytesOf → ℕ → List ℕ → ℕ → Type 0
+AreSingle bytes_of size numbers n = (k : ℕ) → k < n → length (bytes_of (get_or numbers k 0)) ≡ size

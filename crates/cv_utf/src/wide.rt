@@ -1,5 +1,6 @@
 //! Characters of one unit each in UTF-16 and UTF-32, many at once.
 ghost use Rattle.std.specs.Prelude.{◌≡◌, ℕ, ◌+◌, ◌*◌, ◌<◌, ◌≤◌, ◌++◌, IsTrue, length, take, drop};
+ghost use Rattle.std.specs.List.{flat_map};
 ghost use Rattle.cv_base.specs.Scalars.{IsScalar};
 ghost use Rattle.cv_base.specs.Spelled.{BytesOf, IsReadSpelled, IsWrittenSpelled};
 ghost use Rattle.cv_utf.specs.Wide.{IsUnitAt, AreUnits, AreScalarsBelow, AreSingle};
@@ -22,15 +23,15 @@ pub(crate) trait WideUnit {
         requires { at + unit_size ≤ length bytes.now }
         ensures { IsUnitAt bytes_of unit_size bytes.now at result };
 
-    /// Whether a character is one unit.
-    fn is_single(c: Scalar) -> bool
-        ensures { IsTrue result → length (bytes_of c) ≡ unit_size };
+    /// Whether a number is one unit.
+    fn is_single(value: u32) -> bool
+        ensures { IsTrue result → length (bytes_of value) ≡ unit_size };
 
-    /// Writes a character of one unit here.
-    fn write(out: &mut [u8], at: usize, c: Scalar)
-        requires single { length (bytes_of c) ≡ unit_size }
+    /// Writes a number of one unit here.
+    fn write(out: &mut [u8], at: usize, value: u32)
+        requires single { length (bytes_of value) ≡ unit_size }
         requires room { at + unit_size ≤ length out.old }
-        ensures { out.new ≡ take at out.old ++ bytes_of c ++ drop (at + unit_size) out.old };
+        ensures { out.new ≡ take at out.old ++ bytes_of value ++ drop (at + unit_size) out.old };
 }
 
 /// Whether a number is that of a character. Both sides are tested, so that a loop over it is done by blocks.
@@ -109,30 +110,43 @@ pub(crate) fn read_units<U: WideUnit>(
     Spelled { n: MANY, used }
 }
 
+/// The numbers of many characters, from the `n`th on. They are read before any is written, so that the writing is done by blocks.
+#[inline(always)]
+fn values_of(characters: &[Scalar], n: usize) -> [u32; MANY]
+    requires { n + 16 ≤ length characters.now }
+    ensures { result ≡ take 16 (drop n characters.now) }
+{
+    let mut values = [0; MANY];
+    for k in 0..MANY {
+        values[k] = characters[n + k].value();
+    }
+    values
+}
+
 /// Whether many characters are one unit each. Each is tested, so that the loop is done by blocks.
 #[inline(always)]
-fn are_single<U: WideUnit>(characters: &[Scalar], n: usize) -> bool
-    requires { n + 16 ≤ length characters.now }
-    ensures { IsTrue result → AreSingle U.bytes_of U.unit_size characters.now n 16 }
+fn are_single<U: WideUnit>(values: &[u32; MANY]) -> bool
+    ensures { IsTrue result → AreSingle U.bytes_of U.unit_size values.now 16 }
 {
     let mut all = true;
     for k in 0..MANY {
-        all &= U::is_single(characters[n + k]);
+        all &= U::is_single(values[k]);
     }
     all
 }
 
 /// Writes many characters of one unit each. None is tested, so that the loop is done by blocks.
 #[inline(always)]
-fn put_units<U: WideUnit>(characters: &[Scalar], n: usize, out: &mut [u8], at: usize)
-    requires within { n + 16 ≤ length characters.now }
-    requires single { AreSingle U.bytes_of U.unit_size characters.now n 16 }
+fn put_units<U: WideUnit>(values: &[u32; MANY], out: &mut [u8], at: usize)
+    requires long { length values.now ≡ 16 }
+    requires single { AreSingle U.bytes_of U.unit_size values.now 16 }
     requires room { at + U.unit_size * 16 ≤ length out.old }
-    ensures { IsWrittenSpelled U.bytes_of characters.now n out.old at (record { n = 16; used = U.unit_size * 16 }) out.new }
+    ensures stand { take (at + U.unit_size * 16) out.new ≡ take at out.old ++ flat_map U.bytes_of values.now }
+    ensures size { length out.new ≡ length out.old }
 {
     let mut place = at;
     for k in 0..MANY {
-        U::write(out, place, characters[n + k]);
+        U::write(out, place, values[k]);
         place += U::size();
     }
 }
@@ -150,9 +164,10 @@ pub(crate) fn write_units<U: WideUnit>(
     ensures { IsWrittenSpelled U.bytes_of characters.now n out.old at result out.new }
 {
     let used = U::size() * MANY;
-    if !are_single::<U>(characters, n) {
+    let values = values_of(characters, n);
+    if !are_single::<U>(&values) {
         return Spelled { n: 0, used: 0 };
     }
-    put_units::<U>(characters, n, out, at);
+    put_units::<U>(&values, out, at);
     Spelled { n: MANY, used }
 }

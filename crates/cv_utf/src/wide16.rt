@@ -27,13 +27,12 @@ impl WideUnit for Big16 {
     }
 
     #[inline(always)]
-    fn is_single(c: Scalar) -> bool {
-        c.value() < 0x1_0000
+    fn is_single(value: u32) -> bool {
+        value < 0x1_0000
     }
 
     #[inline(always)]
-    fn write(out: &mut [u8], at: usize, c: Scalar) {
-        let value = c.value();
+    fn write(out: &mut [u8], at: usize, value: u32) {
         write_two(out, at, (value / 256) as u8, (value % 256) as u8);
     }
 }
@@ -113,13 +112,12 @@ impl WideUnit for Little16 {
     }
 
     #[inline(always)]
-    fn is_single(c: Scalar) -> bool {
-        c.value() < 0x1_0000
+    fn is_single(value: u32) -> bool {
+        value < 0x1_0000
     }
 
     #[inline(always)]
-    fn write(out: &mut [u8], at: usize, c: Scalar) {
-        let value = c.value();
+    fn write(out: &mut [u8], at: usize, value: u32) {
         write_two(out, at, (value % 256) as u8, (value / 256) as u8);
     }
 }

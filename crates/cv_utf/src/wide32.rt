@@ -26,13 +26,12 @@ impl WideUnit for Big32 {
     }
 
     #[inline(always)]
-    fn is_single(_c: Scalar) -> bool {
+    fn is_single(_value: u32) -> bool {
         true
     }
 
     #[inline(always)]
-    fn write(out: &mut [u8], at: usize, c: Scalar) {
-        let value = c.value();
+    fn write(out: &mut [u8], at: usize, value: u32) {
         write_four(
             out,
             at,
@@ -65,7 +64,7 @@ impl Spelling for Big32 {
 
     #[inline(always)]
     fn write_at(c: Scalar, out: &mut [u8], at: usize) -> usize {
-        Big32::write(out, at, c);
+        Big32::write(out, at, c.value());
         4
     }
 
@@ -94,13 +93,12 @@ impl WideUnit for Little32 {
     }
 
     #[inline(always)]
-    fn is_single(_c: Scalar) -> bool {
+    fn is_single(_value: u32) -> bool {
         true
     }
 
     #[inline(always)]
-    fn write(out: &mut [u8], at: usize, c: Scalar) {
-        let value = c.value();
+    fn write(out: &mut [u8], at: usize, value: u32) {
         write_four(
             out,
             at,
@@ -133,7 +131,7 @@ impl Spelling for Little32 {
 
     #[inline(always)]
     fn write_at(c: Scalar, out: &mut [u8], at: usize) -> usize {
-        Little32::write(out, at, c);
+        Little32::write(out, at, c.value());
         4
     }
 

@@ -1,4 +1,4 @@
-use Rattle.std.proofs.Common.{ℕ, ◌≡◌, ◌<◌, ◌*◌, length}
+use Rattle.std.proofs.Common.{◌≡◌, ◌*◌, length}
 use Rattle.cv_utf.specs.Wide.{AreUnits}
 use Rattle.cv_utf.proofs.wide.numbers_of.Given as goal
 

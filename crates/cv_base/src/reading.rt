@@ -7,10 +7,7 @@ use crate::scalar::Scalar;
 use crate::spelling::{MANY, Spelled, Spelling};
 use crate::state::ReadState;
 
-/// How many characters are read one by one before it is tried again to read many at once.
-const FEW: usize = 4;
-
-/// Reads up to `most` characters one by one into a buffer, behind its first `n`.
+/// Reads up to `most` characters one by one into a buffer, behind its first `n`, up to one behind which many may stand.
 #[inline(always)]
 fn read_few<S: Spelling>(
     input: &[u8],
@@ -32,12 +29,15 @@ fn read_few<S: Spelling>(
         buffer[n + more] = c;
         more += 1;
         used += size;
+        if size == S::MANY_SIZE {
+            break;
+        }
     }
     Spelled { n: more, used }
 }
 
-/// Reads some characters into a buffer, behind its first `n`: many at once, and where they are fewer than many, one behind them; or
-/// else a few one by one.
+/// Reads some characters into a buffer, behind its first `n`: many at once, and where they are fewer than many, a few behind
+/// them.
 #[inline(always)]
 fn read_some<S: Spelling>(input: &[u8], at: usize, buffer: &mut [Scalar], n: usize) -> Spelled
     requires within { at ≤ length input.now }
@@ -46,14 +46,13 @@ fn read_some<S: Spelling>(input: &[u8], at: usize, buffer: &mut [Scalar], n: usi
 {
     let room = buffer.len() - n;
     if room < MANY {
-        return read_few::<S>(input, at, buffer, n, room.min(FEW));
+        return read_few::<S>(input, at, buffer, n, room);
     }
     let many = S::read_many(input, at, buffer, n);
     if many.n == MANY {
         return many;
     }
-    let most = if many.n == 0 { FEW } else { 1 };
-    let few = read_few::<S>(input, at + many.used, buffer, n + many.n, most);
+    let few = read_few::<S>(input, at + many.used, buffer, n + many.n, room - many.n);
     Spelled {
         n: many.n + few.n,
         used: many.used + few.used,

@@ -20,6 +20,9 @@ pub struct Spelled {
 pub trait Spelling {
     ghost bytes_of: { BytesOf };
 
+    /// How many bytes the characters have of which many are read at once. It decides speed alone.
+    const MANY_SIZE: usize;
+
     /// The character whose bytes stand at a place, and how many they are. `None` says nothing.
     fn read_at(input: &[u8], at: usize) -> Option<(Scalar, usize)>
         requires { at ≤ length input.now }
@@ -43,7 +46,8 @@ pub trait Spelling {
     fn write_many(characters: &[Scalar], n: usize, out: &mut [u8], at: usize) -> Spelled
         requires within { n + 16 ≤ length characters.now }
         requires room { at + 64 ≤ length out.old }
-        ensures { IsWrittenSpelled bytes_of characters.now n out.old at result out.new };
+        ensures many { result.n ≤ 16 }
+        ensures written { IsWrittenSpelled bytes_of characters.now n out.old at result out.new };
 
     /// A character has at most four bytes.
     ghost short: { (c : ℕ) → length (bytes_of c) ≤ 4 };

@@ -28,7 +28,18 @@ fn write_few<S: Spelling>(
     used
 }
 
-/// Writes some characters from the `n`th on: many at once, or else many one by one.
+/// How many characters are written one by one behind so many that were written at once.
+#[inline(always)]
+fn behind(many: usize) -> usize
+    requires { many < 16 }
+    ensures some { 0 < result }
+    ensures within { many + result ≤ 16 }
+{
+    if many == 0 { MANY } else { 1 }
+}
+
+/// Writes some characters from the `n`th on: many at once, and where they are fewer than many, the one behind them; or else many
+/// one by one.
 #[inline(always)]
 fn write_some<S: Spelling>(characters: &[Scalar], n: usize, out: &mut [u8], at: usize) -> Spelled
     requires within { n ≤ length characters.now }
@@ -37,16 +48,19 @@ fn write_some<S: Spelling>(characters: &[Scalar], n: usize, out: &mut [u8], at: 
     ensures bytes { IsWrittenSpelled S.bytes_of characters.now n out.old at result out.new }
 {
     let left = characters.len() - n;
-    if left >= MANY {
-        let many = S::write_many(characters, n, out, at);
-        if many.n > 0 {
-            return many;
-        }
+    if left < MANY {
+        let used = write_few::<S>(characters, n, left, out, at);
+        return Spelled { n: left, used };
     }
-    let few = left.min(MANY);
+    let many = S::write_many(characters, n, out, at);
+    if many.n == MANY {
+        return many;
+    }
+    let few = behind(many.n);
+    let used = write_few::<S>(characters, n + many.n, few, out, at + many.used);
     Spelled {
-        n: few,
-        used: write_few::<S>(characters, n, few, out, at),
+        n: many.n + few,
+        used: many.used + used,
     }
 }
 

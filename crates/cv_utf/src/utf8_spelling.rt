@@ -210,6 +210,8 @@ fn narrowed(characters: &[Scalar], n: usize) -> [u8; MANY]
 impl Spelling for Utf8Spelling {
     ghost bytes_of = { utf8_bytes };
 
+    const MANY_SIZE: usize = 1;
+
     ghost short = { utf8_short };
 
     #[inline(always)]

@@ -161,7 +161,8 @@ pub(crate) fn write_units<U: WideUnit>(
 ) -> Spelled
     requires within { n + 16 ≤ length characters.now }
     requires room { at + 64 ≤ length out.old }
-    ensures { IsWrittenSpelled U.bytes_of characters.now n out.old at result out.new }
+    ensures many { result.n ≤ 16 }
+    ensures written { IsWrittenSpelled U.bytes_of characters.now n out.old at result out.new }
 {
     let used = U::size() * MANY;
     let values = values_of(characters, n);

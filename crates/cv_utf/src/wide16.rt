@@ -40,6 +40,8 @@ impl WideUnit for Big16 {
 impl Spelling for Big16 {
     ghost bytes_of = { utf16.big };
 
+    const MANY_SIZE: usize = 2;
+
     ghost short = { big_16_few };
 
     #[inline(always)]
@@ -124,6 +126,8 @@ impl WideUnit for Little16 {
 
 impl Spelling for Little16 {
     ghost bytes_of = { utf16.little };
+
+    const MANY_SIZE: usize = 2;
 
     ghost short = { little_16_few };
 

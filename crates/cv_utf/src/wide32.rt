@@ -46,6 +46,8 @@ impl WideUnit for Big32 {
 impl Spelling for Big32 {
     ghost bytes_of = { utf32.big };
 
+    const MANY_SIZE: usize = 4;
+
     ghost short = { big_32_few };
 
     #[inline(always)]
@@ -112,6 +114,8 @@ impl WideUnit for Little32 {
 
 impl Spelling for Little32 {
     ghost bytes_of = { utf32.little };
+
+    const MANY_SIZE: usize = 4;
 
     ghost short = { little_32_few };
 

@@ -5,4 +5,4 @@ use Rattle.cv_utf.proofs.utf8_spelling.Utf8SpellingSpelling.write_many.Goals as 
 pub returns : goal.returns
 returns c =
     let are_ascii = c.are_ascii.ensures c.if-not-are_ascii.false in
-    written_all c.args.characters.now c.args.n c.args.out.now _ c.args.at _ c.requires.within are_ascii c.requires.room (omega arith) (c.copy_from_slice.ensures.after ∙ c.narrowed.ensures)
+    record { many = omega arith; written = written_all c.args.characters.now c.args.n c.args.out.now _ c.args.at _ c.requires.within are_ascii c.requires.room (omega arith) (c.copy_from_slice.ensures.after ∙ c.narrowed.ensures) }

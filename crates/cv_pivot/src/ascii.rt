@@ -89,17 +89,17 @@ fn unit_run<U: AsciiUnit>(rest: &[u8], most: usize) -> usize
     n
 }
 
-/// Whether the first and the fourth unit are ASCII, so that it is worth while to look for a run.
+/// Whether a block of units at the front is ASCII, so that a run is worth while.
 #[inline(always)]
 fn may_run<U: AsciiUnit>(rest: &[u8]) -> bool {
-    rest.len() >= U::size() * 4 && U::is_ascii(rest, 0) && U::is_ascii(rest, U::size() * 3)
+    rest.len() >= U::size() * BLOCK && are_ascii::<U>(rest, 0, BLOCK)
 }
 
 /// Whether it is worth while to look for a run of units of this form.
 #[inline(always)]
 fn form_may_run(form: AsciiForm, rest: &[u8]) -> bool {
     match form {
-        AsciiForm::Byte => may_run::<Single>(rest),
+        AsciiForm::Byte => rest.len() >= BLOCK && block_is_ascii(rest, 0),
         AsciiForm::TwoBig => may_run::<BigPair>(rest),
         AsciiForm::TwoLittle => may_run::<LittlePair>(rest),
         AsciiForm::FourBig => may_run::<BigFour>(rest),

@@ -118,6 +118,9 @@ fn step<F: BlockCodec, T: BlockCodec>(
     requires { at ≤ length out.old }
     ensures { StridesOrStops (F.reads from.now) (T.writes to.now) states.old rest.now out.old at result states.new out.new }
 {
+    if rest.is_empty() {
+        return Step::Stopped(Stop::Done);
+    }
     if let Some((form, target)) = ascii_forms(from, to, states) {
         let n = ascii_run(form, rest, (out.len() - at) / unit_bytes(target));
         if n > 0 {

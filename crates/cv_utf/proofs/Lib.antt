@@ -18,3 +18,4 @@ pub mod Spelt
 pub mod ReadBacks
 pub mod Utf8ReadBack
 pub mod Utf8Spelled
+pub mod WordRuns

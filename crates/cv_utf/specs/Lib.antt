@@ -9,6 +9,7 @@ pub mod Utf16Laws
 pub mod Utf32
 pub mod Utf32Laws
 pub mod Wide
+pub mod Words
 pub mod WideLaws
 pub mod ReadBack
 pub mod Utf8Spelled

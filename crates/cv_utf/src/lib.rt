@@ -14,6 +14,7 @@ mod utf8_spelling;
 mod wide;
 mod wide16;
 mod wide32;
+mod words;
 
 pub use order::Order;
 pub use utf8::Utf8;

@@ -112,9 +112,10 @@ pub(crate) fn read_units<U: WideUnit>(
 
 /// The numbers of many characters, from the `n`th on. They are read before any is written, so that the writing is done by blocks.
 #[inline(always)]
-fn values_of(characters: &[Scalar], n: usize) -> [u32; MANY]
+pub(crate) fn values_of(characters: &[Scalar], n: usize) -> [u32; MANY]
     requires { n + 16 ≤ length characters.now }
-    ensures { result ≡ take 16 (drop n characters.now) }
+    ensures values { result ≡ take 16 (drop n characters.now) }
+    ensures scalars { AreScalarsBelow result 16 }
 {
     let mut values = [0; MANY];
     for k in 0..MANY {

@@ -1,5 +1,5 @@
 -- The law *read back*: what is written of a character is read as that character.
-use Rattle.std.specs.Prelude.{◌≡◌, ℕ, List, [], ◌∷◌, ◌++◌, drop, Some, option_to_list}
+use Rattle.std.specs.Prelude.{◌≡◌, ℕ, List, [], ◌∷◌, drop, Some}
 use Rattle.cv_base.specs.Scalars.{IsScalar}
 use Rattle.cv_base.specs.Items.{Taken, ItemRelation, Stands}
 use Rattle.cv_base.specs.Codecs.{Writing}

@@ -1,11 +1,64 @@
 //! UTF-16 as a spelling, in each order of bytes.
-ghost use Rattle.cv_utf.specs.Utf16.{utf16};
+ghost use Rattle.std.specs.Prelude.{◌≡◌, ◌<◌, ◌≤◌, length};
+ghost use Rattle.cv_base.specs.Items.{Begins};
+ghost use Rattle.cv_utf.specs.Utf16.{utf16, high_unit, low_unit};
 ghost use Rattle.cv_utf.specs.WideLaws.{big_16_few, little_16_few};
 
-use crate::utf16::{high_of, joined, low_of};
+use crate::utf16::joined;
 use crate::wide::{WideUnit, read_units, write_units};
-use cv_base::place::{write_four, write_two};
+use cv_base::place::write_two;
 use cv_base::{Scalar, Spelled, Spelling};
+
+/// The first unit of a character. Which it is takes no branch.
+#[inline(always)]
+fn first_of(value: u32) -> u32
+    requires { value < 0x110000 }
+    ensures one { value < 0x10000 → result ≡ value }
+    ensures high { 0x10000 ≤ value → result ≡ high_unit value }
+    ensures few { result < 0x10000 }
+{
+    if value < 0x1_0000 {
+        value
+    } else {
+        0xd7c0 + value / 0x400
+    }
+}
+
+/// The second unit of a character, if it has two.
+#[inline(always)]
+fn second_of(value: u32) -> u32
+    ensures low { 0x10000 ≤ value → result ≡ low_unit value }
+    ensures few { result < 0x10000 }
+{
+    0xdc00 + value % 0x400
+}
+
+/// How many bytes a character has.
+#[inline(always)]
+fn size_of(value: u32) -> usize
+    ensures big { result ≡ length (utf16.big value) }
+    ensures little { result ≡ length (utf16.little value) }
+{
+    2 + 2 * (value >= 0x1_0000) as usize
+}
+
+/// The bytes of a character, the high one of each unit first. What is behind those of a single unit may be anything.
+#[inline(always)]
+fn big_bytes(value: u32) -> [u8; 4]
+    requires { value < 0x110000 }
+    ensures { Begins (utf16.big value) result }
+{
+    (first_of(value) * 0x1_0000 + second_of(value)).to_be_bytes()
+}
+
+/// The bytes of a character, the low one of each unit first. What is behind those of a single unit may be anything.
+#[inline(always)]
+fn little_bytes(value: u32) -> [u8; 4]
+    requires { value < 0x110000 }
+    ensures { Begins (utf16.little value) result }
+{
+    (first_of(value) + second_of(value) * 0x1_0000).to_le_bytes()
+}
 
 /// UTF-16 with the high byte of each unit first.
 pub(crate) struct Big16;
@@ -72,21 +125,8 @@ impl Spelling for Big16 {
     #[inline(always)]
     fn write_at(c: Scalar, out: &mut [u8], at: usize) -> usize {
         let value = c.value();
-        if value < 0x1_0000 {
-            write_two(out, at, (value / 256) as u8, (value % 256) as u8);
-            return 2;
-        }
-        let high = high_of(value);
-        let low = low_of(value);
-        write_four(
-            out,
-            at,
-            (high / 256) as u8,
-            (high % 256) as u8,
-            (low / 256) as u8,
-            (low % 256) as u8,
-        );
-        4
+        out[at..at + 4].copy_from_slice(&big_bytes(value));
+        size_of(value)
     }
 
     #[inline(always)]
@@ -159,21 +199,8 @@ impl Spelling for Little16 {
     #[inline(always)]
     fn write_at(c: Scalar, out: &mut [u8], at: usize) -> usize {
         let value = c.value();
-        if value < 0x1_0000 {
-            write_two(out, at, (value % 256) as u8, (value / 256) as u8);
-            return 2;
-        }
-        let high = high_of(value);
-        let low = low_of(value);
-        write_four(
-            out,
-            at,
-            (high % 256) as u8,
-            (high / 256) as u8,
-            (low % 256) as u8,
-            (low / 256) as u8,
-        );
-        4
+        out[at..at + 4].copy_from_slice(&little_bytes(value));
+        size_of(value)
     }
 
     #[inline(always)]

@@ -7,6 +7,7 @@ ghost use Rattle.cv_base.specs.Spelled.{IsSpelledAt};
 ghost use Rattle.cv_utf.specs.Utf8.{utf8_bytes};
 ghost use Rattle.cv_utf.specs.Utf8Spelled.{utf8_short};
 
+use crate::words::{Word, write_words};
 use cv_base::{MANY, Scalar, Spelled, Spelling};
 use std::simd::prelude::*;
 
@@ -207,6 +208,20 @@ fn narrowed(characters: &[Scalar], n: usize) -> [u8; MANY]
     block
 }
 
+impl Word for Utf8Spelling {
+    ghost bytes_of = { utf8_bytes };
+
+    #[inline(always)]
+    fn word(value: u32) -> u32 {
+        word(value)
+    }
+
+    #[inline(always)]
+    fn size(value: u32) -> u32 {
+        1 + (value >= 0x80) as u32 + (value >= 0x800) as u32 + (value >= 0x1_0000) as u32
+    }
+}
+
 impl Spelling for Utf8Spelling {
     ghost bytes_of = { utf8_bytes };
 
@@ -250,7 +265,7 @@ impl Spelling for Utf8Spelling {
     #[inline(always)]
     fn write_many(characters: &[Scalar], n: usize, out: &mut [u8], at: usize) -> Spelled {
         if !are_ascii(characters, n) {
-            return Spelled { n: 0, used: 0 };
+            return write_words::<Utf8Spelling>(characters, n, out, at);
         }
         out[at..at + MANY].copy_from_slice(&narrowed(characters, n));
         Spelled {

@@ -6,6 +6,7 @@ ghost use Rattle.cv_utf.specs.WideLaws.{big_16_few, little_16_few};
 
 use crate::utf16::joined;
 use crate::wide::{WideUnit, read_units, write_units};
+use crate::words::{Word, write_words};
 use cv_base::place::write_two;
 use cv_base::{Scalar, Spelled, Spelling};
 
@@ -90,6 +91,25 @@ impl WideUnit for Big16 {
     }
 }
 
+impl Word for Big16 {
+    ghost bytes_of = { utf16.big };
+
+    #[inline(always)]
+    fn word(value: u32) -> u32 {
+        let first = first_of(value);
+        let second = second_of(value);
+        (first / 256)
+            + (first % 256) * 0x100
+            + (second / 256) * 0x1_0000
+            + (second % 256) * 0x100_0000
+    }
+
+    #[inline(always)]
+    fn size(value: u32) -> u32 {
+        2 + 2 * (value >= 0x1_0000) as u32
+    }
+}
+
 impl Spelling for Big16 {
     ghost bytes_of = { utf16.big };
 
@@ -131,7 +151,11 @@ impl Spelling for Big16 {
 
     #[inline(always)]
     fn write_many(characters: &[Scalar], n: usize, out: &mut [u8], at: usize) -> Spelled {
-        write_units::<Big16>(characters, n, out, at)
+        let units = write_units::<Big16>(characters, n, out, at);
+        if units.n > 0 {
+            return units;
+        }
+        write_words::<Big16>(characters, n, out, at)
     }
 }
 
@@ -161,6 +185,20 @@ impl WideUnit for Little16 {
     #[inline(always)]
     fn write(out: &mut [u8], at: usize, value: u32) {
         write_two(out, at, (value % 256) as u8, (value / 256) as u8);
+    }
+}
+
+impl Word for Little16 {
+    ghost bytes_of = { utf16.little };
+
+    #[inline(always)]
+    fn word(value: u32) -> u32 {
+        first_of(value) + second_of(value) * 0x1_0000
+    }
+
+    #[inline(always)]
+    fn size(value: u32) -> u32 {
+        2 + 2 * (value >= 0x1_0000) as u32
     }
 }
 
@@ -205,6 +243,10 @@ impl Spelling for Little16 {
 
     #[inline(always)]
     fn write_many(characters: &[Scalar], n: usize, out: &mut [u8], at: usize) -> Spelled {
-        write_units::<Little16>(characters, n, out, at)
+        let units = write_units::<Little16>(characters, n, out, at);
+        if units.n > 0 {
+            return units;
+        }
+        write_words::<Little16>(characters, n, out, at)
     }
 }

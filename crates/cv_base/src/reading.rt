@@ -52,7 +52,8 @@ fn read_some<S: Spelling>(input: &[u8], at: usize, buffer: &mut [Scalar], n: usi
     if many.n == MANY {
         return many;
     }
-    let few = read_few::<S>(input, at + many.used, buffer, n + many.n, room - many.n);
+    let most = (room - many.n).min(MANY);
+    let few = read_few::<S>(input, at + many.used, buffer, n + many.n, most);
     Spelled {
         n: many.n + few.n,
         used: many.used + few.used,

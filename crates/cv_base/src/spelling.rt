@@ -20,7 +20,7 @@ pub struct Spelled {
 pub trait Spelling {
     ghost bytes_of: { BytesOf };
 
-    /// How many bytes the characters have of which many are read at once. It decides speed alone.
+    /// How many bytes a character has behind which many may stand that are read at once, or 0. It decides speed alone.
     const MANY_SIZE: usize;
 
     /// The character whose bytes stand at a place, and how many they are. `None` says nothing.

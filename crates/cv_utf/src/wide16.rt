@@ -113,7 +113,7 @@ impl Word for Big16 {
 impl Spelling for Big16 {
     ghost bytes_of = { utf16.big };
 
-    const MANY_SIZE: usize = 2;
+    const MANY_SIZE: usize = 0;
 
     ghost short = { big_16_few };
 
@@ -205,7 +205,7 @@ impl Word for Little16 {
 impl Spelling for Little16 {
     ghost bytes_of = { utf16.little };
 
-    const MANY_SIZE: usize = 2;
+    const MANY_SIZE: usize = 0;
 
     ghost short = { little_16_few };
 

@@ -17,4 +17,5 @@ pub mod WidePairs
 pub mod Spelt
 pub mod ReadBacks
 pub mod Utf8ReadBack
+pub mod Utf8Lanes
 pub mod Utf8Spelled

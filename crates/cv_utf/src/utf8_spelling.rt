@@ -3,7 +3,7 @@ ghost use Rattle.std.specs.Prelude.{◌≡◌, ◌+◌, ◌≤◌, ◌<◌, ℕ,
 ghost use Rattle.std.specs.Int.{to_le_bytes, w32};
 ghost use Rattle.cv_base.specs.Scalars.{IsScalar};
 ghost use Rattle.cv_base.specs.Items.{Begins};
-ghost use Rattle.cv_base.specs.Spelled.{IsSpelledAt};
+ghost use Rattle.cv_base.specs.Spelled.{IsSpelledAt, IsWrittenSpelled};
 ghost use Rattle.cv_utf.specs.Utf8.{utf8_bytes};
 ghost use Rattle.cv_utf.specs.Utf8Spelled.{utf8_short};
 
@@ -193,7 +193,71 @@ fn are_ascii(characters: &[Scalar], n: usize) -> bool
     all
 }
 
-/// Sixteen characters of ASCII, each as the byte of its number. It is a copy, so that no character is read after a byte was written.
+/// The numbers of sixteen characters. They are a copy, so that no character is read after a byte was written.
+#[inline(always)]
+fn numbers(characters: &[Scalar], n: usize) -> u32x16
+    requires { n + 16 ≤ length characters.now }
+    ensures copy { result ≡ take 16 (drop n characters.now) }
+    ensures scalars { (k : ℕ) → k < 16 → IsScalar (get_or result k 0) }
+{
+    let mut block = [0; MANY];
+    for lane in 0..MANY {
+        block[lane] = characters[n + lane].value();
+    }
+    u32x16::from_array(block)
+}
+
+/// The spellings of sixteen characters, each as `word` has it.
+#[inline(always)]
+fn words(values: u32x16) -> u32x16
+    requires { (k : ℕ) → k < 16 → IsScalar (get_or values k 0) }
+    ensures { (k : ℕ) → k < 16 → Begins (utf8_bytes (get_or values k 0)) (to_le_bytes w32 (get_or result k 0)) }
+{
+    let sixty_four = u32x16::splat(64);
+    let last = values % sixty_four * u32x16::splat(0x100_0000);
+    let third = values / sixty_four % sixty_four * u32x16::splat(0x1_0000);
+    let second = values / u32x16::splat(4096) % sixty_four * u32x16::splat(0x100);
+    let bits = values / u32x16::splat(262144) + second + third + last;
+    let two = bits / u32x16::splat(0x1_0000) + u32x16::splat(0x80c0);
+    let three = bits / u32x16::splat(0x100) + u32x16::splat(0x80_80e0);
+    let four = bits + u32x16::splat(0x8080_80f0);
+    let up_to_two = values.simd_lt(u32x16::splat(0x80)).select(values, two);
+    let up_to_three = values.simd_lt(u32x16::splat(0x800)).select(up_to_two, three);
+    values.simd_lt(u32x16::splat(0x1_0000)).select(up_to_three, four)
+}
+
+/// How many bytes each of sixteen characters has.
+#[inline(always)]
+fn sizes(values: u32x16) -> u32x16
+    ensures { (k : ℕ) → k < 16 → get_or result k 0 ≡ length (utf8_bytes (get_or values k 0)) }
+{
+    let one = u32x16::splat(1);
+    let none = u32x16::splat(0);
+    let second = values.simd_ge(u32x16::splat(0x80)).select(one, none);
+    let third = values.simd_ge(u32x16::splat(0x800)).select(one, none);
+    let fourth = values.simd_ge(u32x16::splat(0x1_0000)).select(one, none);
+    one + second + third + fourth
+}
+
+/// Writes sixteen characters, and answers how many bytes they have.
+#[inline(always)]
+fn put_words(characters: &[Scalar], n: usize, out: &mut [u8], at: usize) -> usize
+    requires within { n + 16 ≤ length characters.now }
+    requires room { at + 64 ≤ length out.old }
+    ensures { IsWrittenSpelled utf8_bytes characters.now n out.old at (record { n = 16; used = result }) out.new }
+{
+    let values = numbers(characters, n);
+    let words = words(values).to_array();
+    let sizes = sizes(values).to_array();
+    let mut used = 0;
+    for lane in 0..MANY {
+        out[at + used..at + used + 4].copy_from_slice(&words[lane].to_le_bytes());
+        used += sizes[lane] as usize;
+    }
+    used
+}
+
+/// The bytes of sixteen characters of ASCII.
 #[inline(always)]
 fn narrowed(characters: &[Scalar], n: usize) -> [u8; MANY]
     requires within { n + 16 ≤ length characters.now }
@@ -250,7 +314,8 @@ impl Spelling for Utf8Spelling {
     #[inline(always)]
     fn write_many(characters: &[Scalar], n: usize, out: &mut [u8], at: usize) -> Spelled {
         if !are_ascii(characters, n) {
-            return Spelled { n: 0, used: 0 };
+            let used = put_words(characters, n, out, at);
+            return Spelled { n: MANY, used };
         }
         out[at..at + MANY].copy_from_slice(&narrowed(characters, n));
         Spelled {

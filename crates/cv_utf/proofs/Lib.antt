@@ -17,5 +17,6 @@ pub mod WidePairs
 pub mod Spelt
 pub mod ReadBacks
 pub mod Utf8ReadBack
+pub mod Utf8Lanes
 pub mod Utf8Spelled
 pub mod WordRuns

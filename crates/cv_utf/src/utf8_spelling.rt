@@ -7,7 +7,7 @@ ghost use Rattle.cv_base.specs.Spelled.{IsSpelledAt};
 ghost use Rattle.cv_utf.specs.Utf8.{utf8_bytes};
 ghost use Rattle.cv_utf.specs.Utf8Spelled.{utf8_short};
 
-use crate::words::{Word, write_words};
+use crate::words::{Words, write_words};
 use cv_base::{MANY, Scalar, Spelled, Spelling};
 use std::simd::prelude::*;
 
@@ -194,7 +194,43 @@ fn are_ascii(characters: &[Scalar], n: usize) -> bool
     all
 }
 
-/// Sixteen characters of ASCII, each as the byte of its number. It is a copy, so that no character is read after a byte was written.
+/// The spellings of sixteen characters, each as `word` has it.
+#[inline(always)]
+fn words(values: u32x16) -> u32x16
+    requires { (k : ℕ) → k < 16 → IsScalar (get_or values k 0) }
+    ensures { (k : ℕ) → k < 16 → Begins (utf8_bytes (get_or values k 0)) (to_le_bytes w32 (get_or result k 0)) }
+{
+    let sixty_four = u32x16::splat(64);
+    let last = values % sixty_four * u32x16::splat(0x100_0000);
+    let third = values / sixty_four % sixty_four * u32x16::splat(0x1_0000);
+    let second = values / u32x16::splat(4096) % sixty_four * u32x16::splat(0x100);
+    let bits = values / u32x16::splat(262144) + second + third + last;
+    let two = bits / u32x16::splat(0x1_0000) + u32x16::splat(0x80c0);
+    let three = bits / u32x16::splat(0x100) + u32x16::splat(0x80_80e0);
+    let four = bits + u32x16::splat(0x8080_80f0);
+    let up_to_two = values.simd_lt(u32x16::splat(0x80)).select(values, two);
+    let up_to_three = values
+        .simd_lt(u32x16::splat(0x800))
+        .select(up_to_two, three);
+    values
+        .simd_lt(u32x16::splat(0x1_0000))
+        .select(up_to_three, four)
+}
+
+/// How many bytes each of sixteen characters has.
+#[inline(always)]
+fn sizes(values: u32x16) -> u32x16
+    ensures { (k : ℕ) → k < 16 → get_or result k 0 ≡ length (utf8_bytes (get_or values k 0)) }
+{
+    let one = u32x16::splat(1);
+    let none = u32x16::splat(0);
+    let second = values.simd_ge(u32x16::splat(0x80)).select(one, none);
+    let third = values.simd_ge(u32x16::splat(0x800)).select(one, none);
+    let fourth = values.simd_ge(u32x16::splat(0x1_0000)).select(one, none);
+    one + second + third + fourth
+}
+
+/// The bytes of sixteen characters of ASCII.
 #[inline(always)]
 fn narrowed(characters: &[Scalar], n: usize) -> [u8; MANY]
     requires within { n + 16 ≤ length characters.now }
@@ -208,18 +244,20 @@ fn narrowed(characters: &[Scalar], n: usize) -> [u8; MANY]
     block
 }
 
-impl Word for Utf8Spelling {
+impl Words for Utf8Spelling {
     ghost bytes_of = { utf8_bytes };
 
     #[inline(always)]
-    fn word(value: u32) -> u32 {
-        word(value)
+    fn words(values: &[u32; MANY]) -> [u32; MANY] {
+        words(u32x16::from_array(*values)).to_array()
     }
 
     #[inline(always)]
-    fn size(value: u32) -> u32 {
-        1 + (value >= 0x80) as u32 + (value >= 0x800) as u32 + (value >= 0x1_0000) as u32
+    fn sizes(values: &[u32; MANY]) -> [u32; MANY] {
+        sizes(u32x16::from_array(*values)).to_array()
     }
+
+    ghost short = { utf8_short };
 }
 
 impl Spelling for Utf8Spelling {

@@ -6,9 +6,9 @@ ghost use Rattle.cv_utf.specs.WideLaws.{big_16_few, little_16_few};
 
 use crate::utf16::joined;
 use crate::wide::{WideUnit, read_units, write_units};
-use crate::words::{Word, write_words};
+use crate::words::{Word, Words, sizes_of, words_of, write_words};
 use cv_base::place::write_two;
-use cv_base::{Scalar, Spelled, Spelling};
+use cv_base::{MANY, Scalar, Spelled, Spelling};
 
 /// The first unit of a character. Which it is takes no branch.
 #[inline(always)]
@@ -110,6 +110,22 @@ impl Word for Big16 {
     }
 }
 
+impl Words for Big16 {
+    ghost bytes_of = { utf16.big };
+
+    #[inline(always)]
+    fn words(values: &[u32; MANY]) -> [u32; MANY] {
+        words_of::<Big16>(values)
+    }
+
+    #[inline(always)]
+    fn sizes(values: &[u32; MANY]) -> [u32; MANY] {
+        sizes_of::<Big16>(values)
+    }
+
+    ghost short = { big_16_few };
+}
+
 impl Spelling for Big16 {
     ghost bytes_of = { utf16.big };
 
@@ -200,6 +216,22 @@ impl Word for Little16 {
     fn size(value: u32) -> u32 {
         2 + 2 * (value >= 0x1_0000) as u32
     }
+}
+
+impl Words for Little16 {
+    ghost bytes_of = { utf16.little };
+
+    #[inline(always)]
+    fn words(values: &[u32; MANY]) -> [u32; MANY] {
+        words_of::<Little16>(values)
+    }
+
+    #[inline(always)]
+    fn sizes(values: &[u32; MANY]) -> [u32; MANY] {
+        sizes_of::<Little16>(values)
+    }
+
+    ghost short = { little_16_few };
 }
 
 impl Spelling for Little16 {

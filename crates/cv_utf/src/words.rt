@@ -1,5 +1,5 @@
 //! Characters whose bytes are the front of a word, many at once, whatever their sizes.
-ghost use Rattle.std.specs.Prelude.{◌≡◌, ◌+◌, ◌≤◌, ◌++◌, length, take};
+ghost use Rattle.std.specs.Prelude.{◌≡◌, ℕ, ◌+◌, ◌≤◌, ◌++◌, length, take};
 ghost use Rattle.std.specs.Int.{to_le_bytes, w32};
 ghost use Rattle.std.specs.List.{flat_map};
 ghost use Rattle.cv_base.specs.Scalars.{IsScalar};
@@ -11,7 +11,28 @@ ghost use Rattle.cv_utf.specs.Words.{AreWords, AreSizes};
 use crate::wide::values_of;
 use cv_base::{MANY, Scalar, Spelled};
 
-/// A spelling of at most four bytes that is computed without a branch.
+/// A spelling of at most four bytes whose words are computed many at once.
+pub(crate) trait Words {
+    ghost bytes_of: { BytesOf };
+
+    /// The bytes of each character, as a number whose lowest byte is the first. What is behind them may be anything.
+    fn words(values: &[u32; MANY]) -> [u32; MANY]
+        requires long { length values.now ≡ 16 }
+        requires scalars { AreScalarsBelow values.now 16 }
+        ensures long { length result ≡ 16 }
+        ensures words { AreWords bytes_of values.now result 16 };
+
+    /// How many bytes each character has.
+    fn sizes(values: &[u32; MANY]) -> [u32; MANY]
+        requires { length values.now ≡ 16 }
+        ensures long { length result ≡ 16 }
+        ensures sizes { AreSizes bytes_of values.now result 16 };
+
+    /// A character has at most four bytes.
+    ghost short: { (c : ℕ) → length (bytes_of c) ≤ 4 };
+}
+
+/// A spelling whose word is computed without a branch.
 pub(crate) trait Word {
     ghost bytes_of: { BytesOf };
 
@@ -22,13 +43,12 @@ pub(crate) trait Word {
 
     /// How many bytes a character has.
     fn size(value: u32) -> u32
-        ensures is { result ≡ length (bytes_of value) }
-        ensures few { result ≤ 4 };
+        ensures { result ≡ length (bytes_of value) };
 }
 
 /// The words of many characters. None is tested, so that the loop is done by blocks.
 #[inline(always)]
-fn words_of<W: Word>(values: &[u32; MANY]) -> [u32; MANY]
+pub(crate) fn words_of<W: Word>(values: &[u32; MANY]) -> [u32; MANY]
     requires long { length values.now ≡ 16 }
     requires scalars { AreScalarsBelow values.now 16 }
     ensures long { length result ≡ 16 }
@@ -43,7 +63,7 @@ fn words_of<W: Word>(values: &[u32; MANY]) -> [u32; MANY]
 
 /// The sizes of many characters. None is tested, so that the loop is done by blocks.
 #[inline(always)]
-fn sizes_of<W: Word>(values: &[u32; MANY]) -> [u32; MANY]
+pub(crate) fn sizes_of<W: Word>(values: &[u32; MANY]) -> [u32; MANY]
     requires { length values.now ≡ 16 }
     ensures long { length result ≡ 16 }
     ensures sizes { AreSizes W.bytes_of values.now result 16 }
@@ -58,7 +78,7 @@ fn sizes_of<W: Word>(values: &[u32; MANY]) -> [u32; MANY]
 /// Writes words one behind the other, each by its size, and answers how many bytes they have together. What is behind them may be
 /// anything.
 #[inline(always)]
-fn put_words<W: Word>(
+fn put_words<W: Words>(
     values: &[u32; MANY],
     words: &[u32; MANY],
     sizes: &[u32; MANY],
@@ -87,7 +107,7 @@ fn put_words<W: Word>(
 
 /// Writes many characters.
 #[inline(always)]
-pub(crate) fn write_words<W: Word>(
+pub(crate) fn write_words<W: Words>(
     characters: &[Scalar],
     n: usize,
     out: &mut [u8],
@@ -99,8 +119,8 @@ pub(crate) fn write_words<W: Word>(
     ensures written { IsWrittenSpelled W.bytes_of characters.now n out.old at result out.new }
 {
     let values = values_of(characters, n);
-    let words = words_of::<W>(&values);
-    let sizes = sizes_of::<W>(&values);
+    let words = W::words(&values);
+    let sizes = W::sizes(&values);
     let used = put_words::<W>(&values, &words, &sizes, out, at);
     Spelled { n: MANY, used }
 }

@@ -5,6 +5,6 @@ use Rattle.cv_utf.proofs.words.put_words.Given as goal
 abbrev pub invariant-loop-k : goal.invariant-loop-k
 invariant-loop-k g l = record {
   few : l.used ≤ 4 * l.k;
-  bytes : l.used ≡ length (flat_map g.W.Word.bytes_of (take l.k l.values));
-  stand : take (l.at + l.used) l.out ≡ take l.at l.fn.out ++ flat_map g.W.Word.bytes_of (take l.k l.values);
+  bytes : l.used ≡ length (flat_map g.W.Words.bytes_of (take l.k l.values));
+  stand : take (l.at + l.used) l.out ≡ take l.at l.fn.out ++ flat_map g.W.Words.bytes_of (take l.k l.values);
 }

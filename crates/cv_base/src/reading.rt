@@ -36,8 +36,7 @@ fn read_few<S: Spelling>(
     Spelled { n: more, used }
 }
 
-/// Reads some characters into a buffer, behind its first `n`: many at once, and where they are fewer than many, a few behind
-/// them.
+/// Reads some characters into a buffer, behind its first `n`: many at once, or else a few one by one.
 #[inline(always)]
 fn read_some<S: Spelling>(input: &[u8], at: usize, buffer: &mut [Scalar], n: usize) -> Spelled
     requires within { at ≤ length input.now }
@@ -49,11 +48,10 @@ fn read_some<S: Spelling>(input: &[u8], at: usize, buffer: &mut [Scalar], n: usi
         return read_few::<S>(input, at, buffer, n, room);
     }
     let many = S::read_many(input, at, buffer, n);
-    if many.n == MANY {
+    if many.n > 0 {
         return many;
     }
-    let most = (room - many.n).min(MANY);
-    let few = read_few::<S>(input, at + many.used, buffer, n + many.n, most);
+    let few = read_few::<S>(input, at + many.used, buffer, n + many.n, MANY - many.n);
     Spelled {
         n: many.n + few.n,
         used: many.used + few.used,

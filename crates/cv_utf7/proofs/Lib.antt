@@ -1,3 +1,5 @@
+pub mod BlockReading
+pub mod Chains
 pub mod Cuts
 pub mod Digits
 pub mod Found

@@ -1,3 +1,4 @@
+pub mod BlockSteps
 pub mod Sets
 pub mod BitLists
 pub mod BitNumbers

@@ -1,6 +1,7 @@
 //! UTF-7 (RFC 2152).
 #![tactic(auto)]
 
+mod block_reading;
 mod cut;
 pub mod laws;
 mod reading;

@@ -1,3 +1,4 @@
+pub mod Lanes
 pub mod BlockReading
 pub mod Chains
 pub mod Cuts

@@ -1,10 +1,15 @@
 -- What the steps of reading and writing blocks do: helpers of their proofs, which no public contract cites.
-use Rattle.std.specs.Prelude.{◌≡◌, ℕ, ◌+◌, ◌-◌, ◌≤◌, List, ◌++◌, take, drop, length}
+use Rattle.std.specs.Prelude.{◌≡◌, ℕ, ◌+◌, ◌<◌, ◌≤◌, true, false, List, ◌++◌, take, drop, length, get_or}
 use Rattle.cv_base.specs.Items.{Taken}
 use Rattle.cv_base.specs.Chains.{IsChain, used_bytes, read_state, characters_of, output_for}
+use Rattle.cv_base.specs.declared.block.ReadBlock.{ReadBlock}
+use Rattle.cv_base.specs.declared.state.Bits.{Bits}
 use Rattle.cv_base.specs.declared.state.ReadState.{ReadState}
 use Rattle.cv_base.specs.declared.state.WriteState.{WriteState}
-use Rattle.cv_utf7.specs.Utf7.{utf7_reads, utf7_writes}
+use Rattle.cv_utf7.specs.Sets.{may_be_direct, is_digit}
+use Rattle.cv_utf7.specs.Steps.{IsUnit}
+use Rattle.cv_utf7.specs.Utf7.{plus, utf7_reads, utf7_writes}
+use Rattle.cv_utf7.specs.declared.units.Unit.{Unit}
 
 -- Items of a text from a place on were read: their characters stand in the buffer behind its first n.
 pub record ReadsOn (text : List ℕ) (s : ReadState) (used n : ℕ) (before : List ℕ) (t : ReadState) (end m : ℕ) (after : List ℕ) : Type 0 where
@@ -16,3 +21,23 @@ pub record ReadsOn (text : List ℕ) (s : ReadState) (used n : ℕ) (before : Li
   pub gives : take m after ≡ take n before ++ characters_of chain
   pub fits : m ≤ length after
   pub size : length after ≡ length before
+
+-- The block goes on by items that were read.
+abbrev pub Continues : List ℕ → ReadBlock → List ℕ → ReadBlock → List ℕ → Type 0
+Continues text from before to after = ReadsOn text from.next from.used from.n before to.next to.used to.n after
+
+-- A byte ends a shifted sequence in which no bits are left.
+abbrev pub Ends : ℕ → Type 0
+Ends b = (may_be_direct b ≡ true) × (is_digit b ≡ false)
+
+-- A shifted sequence of one character stands at a place of a text, and a byte that ends it: `+`, three digits, and the byte.
+pub record IsLone (text : List ℕ) (at c : ℕ) : Type 0 where
+  pub none : Bits
+  pub unit : Unit
+  pub nothing : none.count ≡ 0
+  pub begins : get_or text at 0 ≡ plus
+  pub is_unit : IsUnit none (drop (at + 1) text) unit
+  pub is : unit.value ≡ c
+  pub scalar : (0xD800 ≤ unit.value) × (unit.value < 0xE000) → ⊥
+  pub zero : unit.over.value ≡ 0
+  pub ends : Ends (get_or text (at + 4) 0)

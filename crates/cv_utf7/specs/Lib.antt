@@ -1,3 +1,4 @@
+pub mod ByteSets
 pub mod BlockSteps
 pub mod Sets
 pub mod BitLists

@@ -2,6 +2,7 @@
 #![tactic(auto)]
 
 mod block_reading;
+mod byte_sets;
 mod cut;
 pub mod laws;
 mod reading;

@@ -51,8 +51,8 @@ pub(crate) fn item_at_start(input: &[u8]) -> Item
 }
 
 /// Whether the code unit is one of a pair.
-#[inline]
-fn is_surrogate(unit: u32) -> bool
+#[inline(always)]
+pub(crate) fn is_surrogate(unit: u32) -> bool
     ensures { IsTrue result ↔ ((0xD800 ≤ unit) × (unit < 0xE000)) }
 {
     unit >= 0xD800 && unit < 0xE000

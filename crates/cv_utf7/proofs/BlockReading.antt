@@ -1,9 +1,12 @@
 -- Reading goes on.
-use Rattle.std.proofs.Common.{◌≡◌, ℕ, ◌/◌, ◌%◌, ◌^◌, inl, inr, ◌+◌, ◌-◌, ◌<◌, ◌≤◌, List, [], ◌∷◌, ◌++◌, length, take, drop, set, refl, sym, ◌∙◌, ap, subst, arith, append_assoc, append-nil, add-zero, length-set, length-drop, length-take, get_or, get_or-drop, zero, suc, true, Some, None}
-use Rattle.std.proofs.lemmas.List.{drop-drop, take_all, take_more_set, take-set}
-use Rattle.std.proofs.lemmas.Nat.{pow-add}
-use Rattle.std.proofs.Math.Nat.{div-div-eq-div-mul}
-use Rattle.std.specs.Int.{bit_at}
+use Rattle.std.proofs.Common.{◌≡◌, ℕ, ◌/◌, ◌*◌, ◌%◌, ◌^◌, inl, inr, ◌+◌, ◌-◌, ◌<◌, ◌≤◌, List, [], ◌∷◌, ◌++◌, length, take, drop, set, refl, sym, ◌∙◌, ap, subst, arith, append_assoc, append-nil, add-zero, length-set, length-drop, length-take, get_or, get_or-drop, w64, zero, suc, true, Some, None}
+use Rattle.std.proofs.lemmas.List.{drop-drop, take-take, take-append-le, take_all, take_more_set, take-set}
+use Rattle.std.proofs.lemmas.Nat.{pow-add, pow_pos}
+use Rattle.std.proofs.Math.Seq.{take-append-add}
+use Rattle.std.proofs.Math.Nat.{div-div-eq-div-mul, div-le_self, div-lt_iff_lt-mul, pow-le-pow_right}
+use Rattle.std.specs.Int.{bit_at, trailing_zeros}
+use Rattle.std.proofs.lemmas.Nat.Bits.{bit_at-zero, bit_at_above, bit_at-trailing_zeros}
+use Rattle.std.proofs.lemmas.Bool.{cases_lt}
 use Rattle.cv_base.specs.Items.{Taken, taken, Begins, Stands}
 use Rattle.cv_base.specs.Chains.{IsChain, used_bytes, read_state, characters_of}
 use Rattle.cv_base.specs.Blocks.{IsReadBlock}
@@ -232,3 +235,42 @@ character_more text s used n before t end m now p l c k next q = reads_more text
 pub shift_more : (text : List ℕ) (s : ReadState) (used n : ℕ) (before : List ℕ) (t : ReadState) (end m : ℕ) (now : List ℕ) → ReadsOn text s used n before t end m now → (k : ℕ) (next : ReadState) → Stands utf7_reads t (take (length text - end) (drop end text)) (taken k None next)
     → ReadsOn text s used n before next (end + k) m now
 shift_more text s used n before t end m now p k next q = reads_more text s used n before t end m now p next (end + k) m now (reads_shift text t end m now k next p.within p.fits (rw rest_is at q))
+
+-- the lowest bit that is set lies within the window
+pub run_within : (stops place : ℕ) → place < 64 → stops < 2 ^ 64 → (stops / 2 ^ place ≡ 0 → ⊥) → place + trailing_zeros w64 (stops / 2 ^ place) ≤ 64
+run_within stops place h l z =
+    let whole : 64 - place + place ≡ 64 = omega arith in
+    let pow : 2 ^ (64 - place) * 2 ^ place ≡ 2 ^ 64 = sym (pow-add 2 (64 - place) place) ∙ ap (λ (k : ℕ). 2 ^ k) whole in
+    let below : stops / 2 ^ place < 2 ^ (64 - place) = (div-lt_iff_lt-mul (pow_pos place)).1 (omega (arith, pow)) in
+    let less : stops / 2 ^ place < 2 ^ 64 = omega (arith, below, pow-le-pow_right {n = 2} (omega arith) {i = 64 - place} {j = 64} (omega arith)) in
+    let t = bit_at-trailing_zeros w64 (stops / 2 ^ place) (omega arith) less in
+    elim (cases_lt (trailing_zeros w64 (stops / 2 ^ place)) (64 - place)) [
+      | inl k ↦ omega arith
+      | inr k ↦ (let e = bit_at_above (stops / 2 ^ place) (64 - place) (trailing_zeros w64 (stops / 2 ^ place)) below k in absurd (omega (arith, e, t.1)))
+    ]
+
+-- no bit below it is set
+pub run_clear : (stops place : ℕ) → place < 64 → stops < 2 ^ 64 → (stops / 2 ^ place ≡ 0 → ⊥) → (i : ℕ) → i < trailing_zeros w64 (stops / 2 ^ place) → bit_at stops (place + i) ≡ 0
+run_clear stops place h l z i k =
+    let less : stops / 2 ^ place < 2 ^ 64 = omega (arith, div-le_self stops (2 ^ place)) in
+    bit_on stops place i ((bit_at-trailing_zeros w64 (stops / 2 ^ place) (omega arith) less).2 i k)
+
+-- no bit is set
+pub run_all_clear : (stops place : ℕ) → stops / 2 ^ place ≡ 0 → (i : ℕ) → bit_at stops (place + i) ≡ 0
+run_all_clear stops place z i = bit_on stops place i (ap (λ (n : ℕ). bit_at n i) z ∙ bit_at-zero i)
+
+-- the front of what was put
+pub front_of_many : (n run : ℕ) (before after bytes : List ℕ) → n ≤ length before → 16 ≤ length bytes → run ≤ 16 → take (n + 16) after ≡ take n before ++ take 16 bytes → take (n + run) after ≡ take n before ++ take run bytes
+front_of_many n run before after bytes h l r e =
+    let long : length (take n before) ≡ n = simp length-take (omega arith) in
+    sym (take-take (n + run) (n + 16) after (omega arith)) ∙ ap (take (n + run)) e ∙ ap (λ (k : ℕ). take (k + run) (take n before ++ take 16 bytes)) (sym long) ∙ take-append-add (take n before) (take 16 bytes) run ∙ ap (λ (x : List ℕ). take n before ++ x) (take-take run 16 bytes r)
+
+-- a run of direct bytes of a window is read
+pub reads_run : (text : List ℕ) (base stops used n run : ℕ) (before after : List ℕ) → ((i : ℕ) → i < 64 → bit_at stops i ≡ 0 → may_be_direct (get_or text (base + i) 0) ≡ true) → base ≤ used → used + 16 ≤ length text → n + 16 ≤ length before → length after ≡ length before
+    → used - base + run ≤ 64 → ((i : ℕ) → i < run → bit_at stops (used - base + i) ≡ 0) → take (n + 16) after ≡ take n before ++ take 16 (drop used text)
+    → (m : ℕ) → m ≤ run → m ≤ 16 → ReadsOn text read.Start used n before read.Start (used + m) (n + m) after
+reads_run text base stops used n run before after window b h l size w clear put m k s =
+    reads_direct text used n m before after (omega arith) (omega arith) size (λ i p. (
+    let place : base + (used - base + i) ≡ used + i = omega arith in
+    subst (λ (j : ℕ). may_be_direct (get_or text j 0) ≡ true) place (window (used - base + i) (omega arith) (clear i (omega arith)))))
+    (front_of_many n m before after (drop used text) (omega arith) (omega (arith, length-drop used text)) s put)

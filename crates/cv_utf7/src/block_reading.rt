@@ -1,5 +1,6 @@
 //! Blocks of characters that are read.
-ghost use Rattle.std.specs.Prelude.{◌≡◌, ◌≤◌, ◌<◌, ◌+◌, ◌++◌, ◌↔◌, ℕ, IsTrue, MatchOption, IfSome, length, take, drop};
+ghost use Rattle.std.specs.Prelude.{◌≡◌, ◌≤◌, ◌<◌, ◌+◌, ◌++◌, ◌↔◌, ℕ, true, IsTrue, MatchOption, IfSome, length, take, drop, get_or};
+ghost use Rattle.cv_utf7.specs.Sets.{may_be_direct};
 ghost use Rattle.std.specs.Int.{bit_at};
 ghost use Rattle.cv_base.specs.Blocks.{IsReadBlock};
 ghost use Rattle.cv_utf7.specs.Utf7.{utf7_reads};
@@ -164,5 +165,173 @@ fn read_one(input: &[u8], buffer: &mut [Scalar], from: ReadBlock) -> Option<Read
             next,
         }),
         Item::Incomplete | Item::Ill | Item::End => None,
+    }
+}
+
+/// Reads the shifted sequence that begins here, or `+-`. It may read nothing.
+#[inline(never)]
+fn read_sequence(input: &[u8], used: usize, buffer: &mut [Scalar], n: usize) -> ReadBlock
+    requires within { used ≤ length input.now }
+    requires room { n < length buffer.old }
+    ensures more { ReadsOn input.now ReadState.Start used n buffer.old result.next result.used result.n buffer.new }
+    ensures on { used ≤ result.used }
+{
+    match item_at_start(&input[used..]) {
+        Item::Shift { n: bytes, next } => match next {
+            ReadState::Shifted(pending) => {
+                read_inside(pending, input, used + bytes, buffer, n)
+            }
+            _ => ReadBlock {
+                n,
+                used: used + bytes,
+                next,
+            },
+        },
+        Item::Char { c, n: bytes, next } => {
+            buffer[n] = c;
+            ReadBlock {
+                n: n + 1,
+                used: used + bytes,
+                next,
+            }
+        }
+        Item::Incomplete | Item::Ill | Item::End => ReadBlock {
+            n,
+            used,
+            next: ReadState::Start,
+        },
+    }
+}
+
+/// Reads a shifted sequence of one character, and the direct character that ends it if `-` does not.
+/// Answers how many characters they are: none if no such sequence stands here.
+#[inline(always)]
+fn read_lone(input: &[u8], used: usize, buffer: &mut [Scalar], n: usize) -> usize
+    requires within { used + 5 ≤ length input.now }
+    requires room { n + 2 ≤ length buffer.old }
+    ensures some { 0 < result → ReadsOn input.now ReadState.Start used n buffer.old ReadState.Start (used + 5) (n + result) buffer.new }
+    ensures none { result ≡ 0 → buffer.new ≡ buffer.old }
+{
+    let Some(c) = lone(input, used) else {
+        return 0;
+    };
+    let last = input[used + 4];
+    buffer[n] = c;
+    buffer[n + 1] = Scalar::known(last as u32);
+    if last == b'-' { 1 } else { 2 }
+}
+
+/// Reads the direct characters of a run, 16 at most, and answers how many they are.
+#[inline(always)]
+fn read_run(input: &[u8], base: usize, stops: u64, used: usize, buffer: &mut [Scalar], n: usize) -> usize
+    requires window { (i : ℕ) → i < 64 → bit_at stops i ≡ 0 → may_be_direct (get_or input.now (base + i) 0) ≡ true }
+    requires place { (base ≤ used) × (used < base + 64) }
+    requires within { used + 16 ≤ length input.now }
+    requires room { n + 16 ≤ length buffer.old }
+    ensures run { ReadsOn input.now ReadState.Start used n buffer.old ReadState.Start (used + result) (n + result) buffer.new }
+    ensures most { result ≤ 16 }
+{
+    let run = run_at(stops, used - base);
+    put_many(input, used, buffer, n);
+    run.min(MANY)
+}
+
+/// Reads direct characters, and sequences between them, from the first byte of a window to its last or to what stops it.
+#[inline(always)]
+fn read_window(input: &[u8], base: usize, buffer: &mut [Scalar], n: usize) -> ReadBlock
+    requires within { base + 85 ≤ length input.now }
+    requires room { n + 18 ≤ length buffer.old }
+    ensures more { ReadsOn input.now ReadState.Start base n buffer.old result.next result.used result.n buffer.new }
+    ensures on { base ≤ result.used }
+{
+    let stops = not_direct(input, base);
+    let mut used = base;
+    let mut count = n;
+    while used - base < WINDOW && buffer.len() - count >= MANY + 2 {
+        let run = read_run(input, base, stops, used, buffer, count);
+        used += run;
+        count += run;
+        if run == MANY {
+            continue;
+        }
+        let characters = read_lone(input, used, buffer, count);
+        if characters > 0 {
+            used += 5;
+            count += characters;
+            continue;
+        }
+        let block = read_sequence(input, used, buffer, count);
+        match block.next {
+            ReadState::Start if block.used > used => {
+                used = block.used;
+                count = block.n;
+            }
+            _ => return block,
+        }
+    }
+    ReadBlock {
+        n: count,
+        used,
+        next: ReadState::Start,
+    }
+}
+
+/// Reads outside a shifted sequence, as far as it goes.
+#[inline(always)]
+fn read_outside(input: &[u8], start: usize, buffer: &mut [Scalar], n: usize) -> ReadBlock
+    requires within { start ≤ length input.now }
+    requires room { n ≤ length buffer.old }
+    ensures { ReadsOn input.now ReadState.Start start n buffer.old result.next result.used result.n buffer.new }
+{
+    let mut used = start;
+    let mut count = n;
+    while input.len() - used >= REACH && buffer.len() - count >= MANY + 2 {
+        let block = read_window(input, used, buffer, count);
+        match block.next {
+            ReadState::Start if block.used > used => {
+                used = block.used;
+                count = block.n;
+            }
+            _ => return block,
+        }
+    }
+    let run = read_direct(input, used, buffer, count);
+    ReadBlock {
+        n: count + run,
+        used: used + run,
+        next: ReadState::Start,
+    }
+}
+
+/// Reads on from a block, as far as it goes at once.
+#[inline(always)]
+fn read_on(input: &[u8], buffer: &mut [Scalar], from: ReadBlock) -> ReadBlock
+    requires within { from.used ≤ length input.now }
+    requires room { from.n ≤ length buffer.old }
+    ensures { Continues input.now from buffer.old result buffer.new }
+{
+    match from.next {
+        ReadState::Start => read_outside(input, from.used, buffer, from.n),
+        ReadState::Shifted(pending) => read_inside(pending, input, from.used, buffer, from.n),
+        ReadState::Big | ReadState::Little => from,
+    }
+}
+
+/// Reads characters at the front of a text into the front of a buffer, as many as go at once.
+pub(crate) fn read_block(state: ReadState, input: &[u8], buffer: &mut [Scalar]) -> ReadBlock
+    ensures block { IsReadBlock utf7_reads state input.now result buffer.new }
+    ensures size { length buffer.new ≡ length buffer.old }
+{
+    let mut block = ReadBlock {
+        n: 0,
+        used: 0,
+        next: state,
+    };
+    loop {
+        let run = read_on(input, buffer, block);
+        match read_one(input, buffer, run) {
+            Some(next) => block = next,
+            None => return run,
+        }
     }
 }

@@ -1,6 +1,6 @@
 -- Reading goes on.
 use Rattle.std.proofs.Common.{◌≡◌, ℕ, ◌/◌, ◌*◌, ◌%◌, ◌^◌, inl, inr, ◌+◌, ◌-◌, ◌<◌, ◌≤◌, List, [], ◌∷◌, ◌++◌, length, take, drop, set, refl, sym, ◌∙◌, ap, subst, arith, append_assoc, append-nil, add-zero, length-set, length-drop, length-take, get_or, get_or-drop, w64, zero, suc, true, Some, None}
-use Rattle.std.proofs.lemmas.List.{drop-drop, take-take, take-append-le, take_all, take_more_set, take-set}
+use Rattle.std.proofs.lemmas.List.{drop-drop, take_more, take-take, take-append-le, take_all, take_more_set, take-set}
 use Rattle.std.proofs.lemmas.Nat.{pow-add, pow_pos}
 use Rattle.std.proofs.Math.Seq.{take-append-add}
 use Rattle.std.proofs.Math.Nat.{div-div-eq-div-mul, div-le_self, div-lt_iff_lt-mul, pow-le-pow_right}
@@ -260,17 +260,24 @@ pub run_all_clear : (stops place : ℕ) → stops / 2 ^ place ≡ 0 → (i : ℕ
 run_all_clear stops place z i = bit_on stops place i (ap (λ (n : ℕ). bit_at n i) z ∙ bit_at-zero i)
 
 -- the front of what was put
-pub front_of_many : (n run : ℕ) (before after bytes : List ℕ) → n ≤ length before → 16 ≤ length bytes → run ≤ 16 → take (n + 16) after ≡ take n before ++ take 16 bytes → take (n + run) after ≡ take n before ++ take run bytes
-front_of_many n run before after bytes h l r e =
+pub front_of_put : (n run most : ℕ) (before after bytes : List ℕ) → n ≤ length before → run ≤ most → take (n + most) after ≡ take n before ++ take most bytes → take (n + run) after ≡ take n before ++ take run bytes
+front_of_put n run most before after bytes h r e =
     let long : length (take n before) ≡ n = simp length-take (omega arith) in
-    sym (take-take (n + run) (n + 16) after (omega arith)) ∙ ap (take (n + run)) e ∙ ap (λ (k : ℕ). take (k + run) (take n before ++ take 16 bytes)) (sym long) ∙ take-append-add (take n before) (take 16 bytes) run ∙ ap (λ (x : List ℕ). take n before ++ x) (take-take run 16 bytes r)
+    sym (take-take (n + run) (n + most) after (omega arith)) ∙ ap (take (n + run)) e ∙ ap (λ (k : ℕ). take (k + run) (take n before ++ take most bytes)) (sym long) ∙ take-append-add (take n before) (take most bytes) run ∙ ap (λ (x : List ℕ). take n before ++ x) (take-take run most bytes r)
 
 -- a run of direct bytes of a window is read
-pub reads_run : (text : List ℕ) (base stops used n run : ℕ) (before after : List ℕ) → ((i : ℕ) → i < 64 → bit_at stops i ≡ 0 → may_be_direct (get_or text (base + i) 0) ≡ true) → base ≤ used → used + 16 ≤ length text → n + 16 ≤ length before → length after ≡ length before
-    → used - base + run ≤ 64 → ((i : ℕ) → i < run → bit_at stops (used - base + i) ≡ 0) → take (n + 16) after ≡ take n before ++ take 16 (drop used text)
-    → (m : ℕ) → m ≤ run → m ≤ 16 → ReadsOn text read.Start used n before read.Start (used + m) (n + m) after
-reads_run text base stops used n run before after window b h l size w clear put m k s =
+pub reads_run : (text : List ℕ) (base stops used n run most : ℕ) (before after : List ℕ) → ((i : ℕ) → i < 64 → bit_at stops i ≡ 0 → may_be_direct (get_or text (base + i) 0) ≡ true) → base ≤ used → used + 16 ≤ length text → most ≤ 16 → n + most ≤ length before → length after ≡ length before
+    → used - base + run ≤ 64 → ((i : ℕ) → i < run → bit_at stops (used - base + i) ≡ 0) → take (n + most) after ≡ take n before ++ take most (drop used text)
+    → (m : ℕ) → m ≤ run → m ≤ most → ReadsOn text read.Start used n before read.Start (used + m) (n + m) after
+reads_run text base stops used n run most before after window b h few l size w clear put m k s =
     reads_direct text used n m before after (omega arith) (omega arith) size (λ i p. (
     let place : base + (used - base + i) ≡ used + i = omega arith in
     subst (λ (j : ℕ). may_be_direct (get_or text j 0) ≡ true) place (window (used - base + i) (omega arith) (clear i (omega arith)))))
-    (front_of_many n m before after (drop used text) (omega arith) (omega (arith, length-drop used text)) s put)
+    (front_of_put n m most before after (drop used text) (omega arith) s put)
+
+-- one more of many is put
+pub put_more : (n i v : ℕ) (before now bytes : List ℕ) → n + i < length now → i < length bytes → v ≡ get_or bytes i 0 → take (n + i) now ≡ take n before ++ take i bytes → take (n + (i + 1)) (set now (n + i) v) ≡ take n before ++ take (i + 1) bytes
+put_more n i v before now bytes h l e p =
+    let place : n + (i + 1) ≡ n + i + 1 = omega arith in
+    ap (λ (k : ℕ). take k (set now (n + i) v)) place ∙ take_more_set now (n + i) v h ∙ ap (λ (x : List ℕ). x ++ v ∷ []) p ∙ append_assoc (take n before) (take i bytes) (v ∷ [])
+    ∙ ap (λ (x : List ℕ). take n before ++ x) (ap (λ (w : ℕ). take i bytes ++ w ∷ []) e ∙ sym (take_more bytes i 0 l))

@@ -12,12 +12,16 @@ use crate::sets::{digit, may_stand};
 use crate::units::Unit;
 use crate::utf7::Utf7;
 use cv_base::{Bits, Codec, Item, ReadBlock, ReadState, Scalar};
+use std::simd::prelude::*;
 
 /// How many bytes are held against the direct ones at once.
 const WINDOW: usize = 64;
 
 /// How many bytes are put into the buffer at once.
 const MANY: usize = 16;
+
+/// How many where there is no place for so many.
+const FEW: usize = 8;
 
 /// The bytes that a window needs: its own, those of a run that begins in it, and those of a sequence behind that.
 const REACH: usize = WINDOW + MANY + 5;
@@ -46,8 +50,22 @@ fn put_many(input: &[u8], at: usize, buffer: &mut [Scalar], n: usize)
     requires room { n + 16 ≤ length buffer.old }
     ensures { take (n + 16) buffer.new ≡ take n buffer.old ++ take 16 (drop at input.now) }
 {
+    let bytes = u8x16::from_slice(&input[at..]).to_array();
     for i in 0..MANY {
-        buffer[n + i] = Scalar::known(input[at + i] as u32);
+        buffer[n + i] = Scalar::known(bytes[i] as u32);
+    }
+}
+
+/// Puts 8 bytes into the buffer.
+#[inline(always)]
+fn put_few(input: &[u8], at: usize, buffer: &mut [Scalar], n: usize)
+    requires within { at + 8 ≤ length input.now }
+    requires room { n + 8 ≤ length buffer.old }
+    ensures { take (n + 8) buffer.new ≡ take n buffer.old ++ take 8 (drop at input.now) }
+{
+    let bytes = u8x8::from_slice(&input[at..]).to_array();
+    for i in 0..FEW {
+        buffer[n + i] = Scalar::known(bytes[i] as u32);
     }
 }
 
@@ -221,37 +239,61 @@ fn read_lone(input: &[u8], used: usize, buffer: &mut [Scalar], n: usize) -> usiz
     if last == b'-' { 1 } else { 2 }
 }
 
-/// Reads the direct characters of a run, 16 at most, and answers how many they are.
+/// Puts 16 bytes into the buffer, or 8 where there is no place for so many and two more. Answers how many they are.
 #[inline(always)]
-fn read_run(input: &[u8], base: usize, stops: u64, used: usize, buffer: &mut [Scalar], n: usize) -> usize
+fn put_some(input: &[u8], at: usize, buffer: &mut [Scalar], n: usize) -> usize
+    requires within { at + 16 ≤ length input.now }
+    requires room { n + 10 ≤ length buffer.old }
+    ensures stand { take (n + result) buffer.new ≡ take n buffer.old ++ take result (drop at input.now) }
+    ensures most { result ≤ 16 }
+    ensures some { 8 ≤ result }
+    ensures fits { n + result + 2 ≤ length buffer.old }
+{
+    if buffer.len() - n >= MANY + 2 {
+        put_many(input, at, buffer, n);
+        return MANY;
+    }
+    put_few(input, at, buffer, n);
+    FEW
+}
+
+/// Reads the direct characters of a run, as many as are put at once. Answers how many they are, and whether the run may go on.
+#[inline(always)]
+fn read_run(input: &[u8], base: usize, stops: u64, used: usize, buffer: &mut [Scalar], n: usize) -> (usize, bool)
     requires window { (i : ℕ) → i < 64 → bit_at stops i ≡ 0 → may_be_direct (get_or input.now (base + i) 0) ≡ true }
     requires place { (base ≤ used) × (used < base + 64) }
     requires within { used + 16 ≤ length input.now }
-    requires room { n + 16 ≤ length buffer.old }
-    ensures run { ReadsOn input.now ReadState.Start used n buffer.old ReadState.Start (used + result) (n + result) buffer.new }
-    ensures most { result ≤ 16 }
+    requires room { n + 10 ≤ length buffer.old }
+    ensures run { ReadsOn input.now ReadState.Start used n buffer.old ReadState.Start (used + result.0) (n + result.0) buffer.new }
+    ensures most { result.0 ≤ 16 }
+    ensures on { IsTrue result.1 → 0 < result.0 }
+    ensures fits { n + result.0 + 2 ≤ length buffer.old }
 {
     let run = run_at(stops, used - base);
-    put_many(input, used, buffer, n);
-    run.min(MANY)
+    let most = put_some(input, used, buffer, n);
+    if run >= most {
+        (most, true)
+    } else {
+        (run, false)
+    }
 }
 
 /// Reads direct characters, and sequences between them, from the first byte of a window to its last or to what stops it.
 #[inline(always)]
 fn read_window(input: &[u8], base: usize, buffer: &mut [Scalar], n: usize) -> ReadBlock
     requires within { base + 85 ≤ length input.now }
-    requires room { n + 18 ≤ length buffer.old }
+    requires room { n + 10 ≤ length buffer.old }
     ensures more { ReadsOn input.now ReadState.Start base n buffer.old result.next result.used result.n buffer.new }
     ensures on { base ≤ result.used }
 {
     let stops = not_direct(input, base);
     let mut used = base;
     let mut count = n;
-    while used - base < WINDOW && buffer.len() - count >= MANY + 2 {
-        let run = read_run(input, base, stops, used, buffer, count);
+    while used - base < WINDOW && buffer.len() - count >= FEW + 2 {
+        let (run, goes_on) = read_run(input, base, stops, used, buffer, count);
         used += run;
         count += run;
-        if run == MANY {
+        if goes_on {
             continue;
         }
         let characters = read_lone(input, used, buffer, count);
@@ -285,7 +327,7 @@ fn read_outside(input: &[u8], start: usize, buffer: &mut [Scalar], n: usize) -> 
 {
     let mut used = start;
     let mut count = n;
-    while input.len() - used >= REACH && buffer.len() - count >= MANY + 2 {
+    while input.len() - used >= REACH && buffer.len() - count >= FEW + 2 {
         let block = read_window(input, used, buffer, count);
         match block.next {
             ReadState::Start if block.used > used => {

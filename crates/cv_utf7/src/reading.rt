@@ -59,7 +59,7 @@ pub(crate) fn is_surrogate(unit: u32) -> bool
 }
 
 /// What stands next in a shifted sequence.
-#[inline]
+#[inline(always)]
 #[tactic(auto, using(crate::proofs::ShiftItems::shifts))]
 pub(crate) fn item_in_shift(pending: Bits, input: &[u8]) -> Item
     ensures { IsNext utf7_reads (ReadState.Shifted pending) input.now result }
@@ -83,6 +83,7 @@ pub(crate) fn item_in_shift(pending: Bits, input: &[u8]) -> Item
 }
 
 /// What stands next where a surrogate does: a pair, if it is a high one and a low one follows.
+#[inline(always)]
 #[tactic(auto, using(crate::proofs::ShiftItems::pairs))]
 fn item_of_surrogate(pending: Bits, input: &[u8], high: Unit) -> Item
     requires unit { IsUnit pending input.now high }

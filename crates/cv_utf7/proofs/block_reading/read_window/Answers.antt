@@ -2,8 +2,8 @@ use Rattle.std.proofs.Common.{arith}
 use Rattle.cv_utf7.proofs.BlockReading.{reads_more}
 use Rattle.cv_utf7.proofs.block_reading.read_window.Goals as goal
 
-pub loop-used-preserved-then-run-eq-MANY : goal.loop-used-preserved-then-run-eq-MANY
-loop-used-preserved-then-run-eq-MANY c = record {
+pub loop-used-preserved-then-goes_on : goal.loop-used-preserved-then-goes_on
+loop-used-preserved-then-goes_on c = record {
   read = reads_more _ _ _ _ _ _ _ _ _ c.loop-used.invariant.read _ _ _ _ c.read_run-run.ensures.run;
   on = omega arith;
 }

@@ -1,3 +1,4 @@
+pub mod BlockWriting
 pub mod Lanes
 pub mod BlockReading
 pub mod Chains

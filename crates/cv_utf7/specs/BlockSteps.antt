@@ -1,5 +1,5 @@
 -- What the steps of reading and writing blocks do: helpers of their proofs, which no public contract cites.
-use Rattle.std.specs.Prelude.{◌≡◌, ℕ, ◌+◌, ◌<◌, ◌≤◌, true, false, List, ◌++◌, take, drop, length, get_or}
+use Rattle.std.specs.Prelude.{◌≡◌, ℕ, ◌+◌, ◌-◌, ◌*◌, ◌<◌, ◌≤◌, true, false, List, ◌++◌, take, drop, length, get_or}
 use Rattle.cv_base.specs.Items.{Taken}
 use Rattle.cv_base.specs.Chains.{IsChain, used_bytes, read_state, characters_of, output_for}
 use Rattle.cv_base.specs.declared.block.ReadBlock.{ReadBlock}
@@ -41,3 +41,19 @@ pub record IsLone (text : List ℕ) (at c : ℕ) : Type 0 where
   pub scalar : (0xD800 ≤ unit.value) × (unit.value < 0xE000) → ⊥
   pub zero : unit.over.value ≡ 0
   pub ends : Ends (get_or text (at + 4) 0)
+
+-- The characters from a place on were written at a place, up to another. Behind their bytes, as many may have been overwritten as there are characters left.
+pub record WritesOn (characters : List ℕ) (t : WriteState) (k at : ℕ) (before : List ℕ) (u : WriteState) (m end : ℕ) (after : List ℕ) : Type 0 where
+  pub run : List ℕ
+  pub are : drop k characters ≡ run ++ drop m characters
+  pub counts : m ≡ k + length run
+  pub within : m ≤ length characters
+  pub count : (output_for utf7_writes t run).count ≡ 0
+  pub next : u ≡ (output_for utf7_writes t run).next
+  pub ends : end ≡ at + length (output_for utf7_writes t run).bytes
+  pub some : at + length run ≤ end
+  pub few : end ≤ at + 8 * length run
+  pub fits : end ≤ length before
+  pub stand : take end after ≡ take at before ++ (output_for utf7_writes t run).bytes
+  pub behind : drop (end + (length characters - m)) after ≡ drop (end + (length characters - m)) before
+  pub size : length after ≡ length before

@@ -1,0 +1,86 @@
+//! Blocks of characters that are written.
+ghost use Rattle.std.specs.Prelude.{◌≡◌, ◌≤◌, ◌<◌, ◌+◌, ◌-◌, ◌*◌, ◌++◌, ℕ, length, take, drop};
+ghost use Rattle.cv_base.specs.Blocks.{IsWrittenBlock};
+ghost use Rattle.cv_utf7.specs.Utf7.{utf7_writes};
+ghost use Rattle.cv_utf7.specs.BlockSteps.{WritesOn};
+
+use crate::sets::stands;
+use crate::utf7::Utf7;
+use cv_base::{Bits, Codec, Put, Scalar, WriteState, WrittenBlock};
+
+/// How far writing has come: how many characters were written, where their bytes end, and the state behind them.
+#[derive(Clone, Copy)]
+struct Reached {
+    n: usize,
+    end: usize,
+    next: WriteState,
+}
+
+/// Writes the next character.
+#[inline(always)]
+fn write_one(characters: &[Scalar], from: Reached, out: &mut [u8]) -> Reached
+    requires some { from.n < length characters.now }
+    requires room { from.end + 8 ≤ length out.old }
+    ensures one { WritesOn characters.now from.next from.n from.end out.old result.next result.n result.end out.new }
+    ensures counts { result.n ≡ from.n + 1 }
+{
+    match Utf7.put_at(from.next, characters[from.n], out, from.end) {
+        Put::Wrote { n, next } => Reached {
+            n: from.n + 1,
+            end: from.end + n,
+            next,
+        },
+        Put::NoRoom | Put::Lacks => unreachable!(),
+    }
+}
+
+/// Writes characters in a shifted sequence, up to the first that ends it.
+#[inline(always)]
+fn write_inside(pending: Bits, characters: &[Scalar], n: usize, out: &mut [u8], at: usize) -> Reached
+    requires some { n < length characters.now }
+    requires room { at + 8 * (length characters.now - n) ≤ length out.old }
+    ensures more { WritesOn characters.now (WriteState.Shifted pending) n at out.old result.next result.n result.end out.new }
+    ensures on { n < result.n }
+{
+    let mut bits = pending;
+    let mut count = n;
+    let mut end = at;
+    loop {
+        let from = Reached {
+            n: count,
+            end,
+            next: WriteState::Shifted(bits),
+        };
+        let reached = write_one(characters, from, out);
+        if reached.n == characters.len() {
+            return reached;
+        }
+        match reached.next {
+            WriteState::Shifted(over) => {
+                bits = over;
+                count = reached.n;
+                end = reached.end;
+            }
+            _ => return reached,
+        }
+    }
+}
+
+/// Writes the direct characters of a run, and answers how many they are.
+#[inline(always)]
+fn write_direct(characters: &[Scalar], n: usize, out: &mut [u8], at: usize) -> usize
+    requires within { n ≤ length characters.now }
+    requires room { at + 8 * (length characters.now - n) ≤ length out.old }
+    ensures { WritesOn characters.now WriteState.Start n at out.old WriteState.Start (n + result) (at + result) out.new }
+{
+    let mut run = 0;
+    while n + run < characters.len() {
+        let value = characters[n + run].value();
+        if !stands(value) {
+            break;
+        }
+        out[at + run] = value as u8;
+        run += 1;
+    }
+    run
+}

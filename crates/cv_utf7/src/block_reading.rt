@@ -71,7 +71,7 @@ fn put_few(input: &[u8], at: usize, buffer: &mut [Scalar], n: usize)
 
 /// How many bytes from a place of a window on are direct, as far as the window goes.
 #[inline(always)]
-fn run_at(stops: u64, place: usize) -> usize
+pub(crate) fn run_at(stops: u64, place: usize) -> usize
     requires { place < 64 }
     ensures within { place + result ≤ 64 }
     ensures clear { (i : ℕ) → i < result → bit_at stops (place + i) ≡ 0 }

@@ -2,6 +2,7 @@
 #![tactic(auto)]
 
 mod block_reading;
+mod block_writing;
 mod byte_sets;
 mod cut;
 pub mod laws;

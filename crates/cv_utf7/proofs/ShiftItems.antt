@@ -38,7 +38,7 @@ ill_from p x n one pair stop =
 unit_leads : (p : Bits) (x : List ℕ) (u : Unit) → IsUnit p x u → Leads p (take u.n x) u.value (bits_of u.over)
 unit_leads p x u h = record { are_digits = h.are_digits; same = h.same }
 
-unit_length : (p : Bits) (x : List ℕ) (u : Unit) → IsUnit p x u → p.count + 6 * u.n ≡ 16 + u.over.count
+pub unit_length : (p : Bits) (x : List ℕ) (u : Unit) → IsUnit p x u → p.count + 6 * u.n ≡ 16 + u.over.count
 unit_length p x u h = omega (arith, leads-length p (take u.n x) u.value (bits_of u.over) (unit_leads p x u h), length-take-le u.n x h.within, length-bits u.over.count u.over.value)
 
 -- where it stands each character begins with it
@@ -226,7 +226,7 @@ few_ill p x n count value h l d z = ill_from p x (omega arith)
     (λ w i m g. stop_leads p x n count value w (high_of m.c) (bits 16 (low_of m.c) ++ bits_of m.next) h l d m.leads g)
     (λ w i m g. z (stop_zero p x n count value w i h m g (omega (arith, stop_place p x n count value w i h l d m g))))
 
-end_item : (p : Bits) (x : List ℕ) (n count value : ℕ) (i : Taken) → IsFront p x n count value → n < length x → value ≡ 0 → EndsAt (n + 1) (get_or x n 0) i → Stands utf7_reads (read.Shifted p) x i
+pub end_item : (p : Bits) (x : List ℕ) (n count value : ℕ) (i : Taken) → IsFront p x n count value → n < length x → value ≡ 0 → EndsAt (n + 1) (get_or x n 0) i → Stands utf7_reads (read.Shifted p) x i
 end_item p x n count value i h l z e = record {
   bytes = take (n + 1) x;
   is_item = inr (record {

@@ -62,7 +62,7 @@ pub last_digit_long : (l : List Bool) → length (last_digit l) ≤ 1
 last_digit_long [] = omega arith
 last_digit_long (a ∷ l) = omega arith
 
-starts_most : (c : ℕ) → length (writes_at_start c).0 ≤ 6
+pub starts_most : (c : ℕ) → length (writes_at_start c).0 ≤ 6
 starts_most c = elim (cases_Bool (is_direct c)) [
   | inl e ↦ rw e (omega arith)
   | inr e ↦ rw e (elim (cases_Bool (c == plus)) [
@@ -71,7 +71,7 @@ starts_most c = elim (cases_Bool (is_direct c)) [
   ])
 ]
 
-shifts_most : (p : Bits) (c : ℕ) → length (writes_in_shift p c).0 ≤ 6
+pub shifts_most : (p : Bits) (c : ℕ) → length (writes_in_shift p c).0 ≤ 6
 shifts_most p c = elim (cases_Bool (is_direct c)) [
   | inl e ↦ rw (e, length-append) (rw length-append (omega (arith, last_digit_long (bits_of p))))
   | inr e ↦ rw e (digits_at_most 6 (bits_of p ++ character_bits c) (rw length-append (omega (arith, character_long c, length-bits p.count p.value, p.few))))

@@ -1,3 +1,5 @@
+pub mod ByteSets
+pub mod BlockSteps
 pub mod Sets
 pub mod BitLists
 pub mod BitNumbers

@@ -1,12 +1,13 @@
 //! UTF-7 by blocks.
 
+use crate::block_reading;
+use crate::block_writing;
 use crate::utf7::Utf7;
-use cv_base::{BlockCodec, ReadBlock, ReadState, Scalar, WriteState, WrittenBlock, write_each};
+use cv_base::{BlockCodec, ReadBlock, ReadState, Scalar, WriteState, WrittenBlock};
 
 impl BlockCodec for Utf7 {
-    #[tactic(auto, using(cv_base::proofs::BlockLaws::nothing_read))]
     fn read_block(&self, state: ReadState, input: &[u8], buffer: &mut [Scalar]) -> ReadBlock {
-        ReadBlock::nothing(state)
+        block_reading::read_block(state, input, buffer)
     }
 
     fn write_block(
@@ -16,6 +17,6 @@ impl BlockCodec for Utf7 {
         out: &mut [u8],
         at: usize,
     ) -> WrittenBlock {
-        write_each(self, state, characters, out, at)
+        block_writing::write_block(state, characters, out, at)
     }
 }

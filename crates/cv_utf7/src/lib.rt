@@ -1,7 +1,10 @@
 //! UTF-7 (RFC 2152).
 #![tactic(auto)]
 
+mod block_reading;
+mod block_writing;
 mod blocks;
+mod byte_sets;
 mod cut;
 pub mod laws;
 mod reading;

@@ -51,15 +51,15 @@ pub(crate) fn item_at_start(input: &[u8]) -> Item
 }
 
 /// Whether the code unit is one of a pair.
-#[inline]
-fn is_surrogate(unit: u32) -> bool
+#[inline(always)]
+pub(crate) fn is_surrogate(unit: u32) -> bool
     ensures { IsTrue result ↔ ((0xD800 ≤ unit) × (unit < 0xE000)) }
 {
     unit >= 0xD800 && unit < 0xE000
 }
 
 /// What stands next in a shifted sequence.
-#[inline]
+#[inline(always)]
 #[tactic(auto, using(crate::proofs::ShiftItems::shifts))]
 pub(crate) fn item_in_shift(pending: Bits, input: &[u8]) -> Item
     ensures { IsNext utf7_reads (ReadState.Shifted pending) input.now result }
@@ -83,6 +83,7 @@ pub(crate) fn item_in_shift(pending: Bits, input: &[u8]) -> Item
 }
 
 /// What stands next where a surrogate does: a pair, if it is a high one and a low one follows.
+#[inline(always)]
 #[tactic(auto, using(crate::proofs::ShiftItems::pairs))]
 fn item_of_surrogate(pending: Bits, input: &[u8], high: Unit) -> Item
     requires unit { IsUnit pending input.now high }

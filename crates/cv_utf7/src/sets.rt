@@ -40,7 +40,7 @@ static DIRECT: [u8; 128] = [
 ];
 
 /// The value of a digit.
-#[inline]
+#[inline(always)]
 pub(crate) fn digit(b: u8) -> Option<u32>
     ensures { MatchOption result (is_digit b ≡ false) (λ v. (is_digit b ≡ true) × (v ≡ value_of b)) }
 {
@@ -49,7 +49,7 @@ pub(crate) fn digit(b: u8) -> Option<u32>
 }
 
 /// The digit of a value.
-#[inline]
+#[inline(always)]
 pub(crate) fn digit_for(value: u32) -> u8
     requires { value < 64 }
     ensures { result ≡ digit_of value }
@@ -58,7 +58,7 @@ pub(crate) fn digit_for(value: u32) -> u8
 }
 
 /// Whether the byte may stand for itself in a text that is read.
-#[inline]
+#[inline(always)]
 pub(crate) fn may_stand(b: u8) -> bool
     ensures { result ≡ may_be_direct b }
 {
@@ -66,7 +66,7 @@ pub(crate) fn may_stand(b: u8) -> bool
 }
 
 /// Whether the character is written as itself.
-#[inline]
+#[inline(always)]
 pub(crate) fn stands(c: u32) -> bool
     ensures { result ≡ is_direct c }
 {

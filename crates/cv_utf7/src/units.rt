@@ -24,7 +24,7 @@ impl Unit {
     ghost use Rattle.cv_utf7.specs.Steps.{IsUnit, NoUnit};
 
     /// The code unit at the front of a text, if there are digits enough.
-    #[inline]
+    #[inline(always)]
     #[tactic(auto, using(crate::proofs::Found::units))]
     pub(crate) fn next(pending: Bits, input: &[u8]) -> Option<Unit>
         ensures { MatchOption result (NoUnit pending input.now) (λ u. IsUnit pending input.now u) }

@@ -20,3 +20,4 @@ pub mod Utf8ReadBack
 pub mod Utf8Lanes
 pub mod Utf8Spelled
 pub mod WordRuns
+pub mod Utf16Lanes

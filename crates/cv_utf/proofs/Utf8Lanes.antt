@@ -13,7 +13,7 @@ use Rattle.cv_utf.specs.Utf8.{utf8_bytes}
 abbrev spread : ℕ → ℕ
 spread v = (((v / 262144 + ((v / 4096 % 64) * 0x100) % 2 ^ 32) % 2 ^ 32 + ((v / 64 % 64) * 0x10000) % 2 ^ 32) % 2 ^ 32 + ((v % 64) * 0x1000000) % 2 ^ 32) % 2 ^ 32
 
-abbrev below : ℕ → ℕ → ℕ → ℕ → ℕ
+abbrev pub below : ℕ → ℕ → ℕ → ℕ → ℕ
 below k v a b = cond (top 31 (cond (ltb v k) 0xffffffff 0)) a b
 
 abbrev pub lane_word : ℕ → ℕ
@@ -23,19 +23,19 @@ pub word_begins : (v : ℕ) → IsScalar v → Begins (utf8_bytes v) (to_le_byte
 word_begins v s = grind arith
 
 -- the same of each lane
-abbrev div_all : ℕ → ℕ → List ℕ → List ℕ
+abbrev pub div_all : ℕ → ℕ → List ℕ → List ℕ
 div_all n k xs = zip2 (λ a b. a / b) xs (replicate n k)
 
-abbrev rem_all : ℕ → ℕ → List ℕ → List ℕ
+abbrev pub rem_all : ℕ → ℕ → List ℕ → List ℕ
 rem_all n k xs = zip2 (λ a b. a % b) xs (replicate n k)
 
-abbrev mul_all : ℕ → ℕ → List ℕ → List ℕ
+abbrev pub mul_all : ℕ → ℕ → List ℕ → List ℕ
 mul_all n k xs = zip2 (λ a b. (a * b) % 2 ^ 32) xs (replicate n k)
 
-abbrev sum_all : List ℕ → List ℕ → List ℕ
+abbrev pub sum_all : List ℕ → List ℕ → List ℕ
 sum_all xs ys = zip2 (λ a b. (a + b) % 2 ^ 32) xs ys
 
-abbrev below_all : ℕ → ℕ → List ℕ → List ℕ → List ℕ → List ℕ
+abbrev pub below_all : ℕ → ℕ → List ℕ → List ℕ → List ℕ → List ℕ
 below_all n k vs xs ys = sel_l (map (top 31) (zip2 (λ a b. cond (ltb a b) 0xffffffff 0) vs (replicate n k))) xs ys
 
 abbrev spread_all : ℕ → List ℕ → List ℕ
@@ -50,7 +50,7 @@ words_at (suc n) [] k e h = cc
 words_at (suc n) (v ∷ vs) zero e h = refl
 words_at (suc n) (v ∷ vs) (suc k) e h = words_at n vs k (omega arith) (omega arith)
 
-abbrev above : ℕ → ℕ → ℕ
+abbrev pub above : ℕ → ℕ → ℕ
 above k v = cond (top 31 (cond (leb k v) 0xffffffff 0)) 1 0
 
 abbrev pub lane_size : ℕ → ℕ
@@ -59,7 +59,7 @@ lane_size v = (((1 + above 0x80 v) % 2 ^ 32 + above 0x800 v) % 2 ^ 32 + above 0x
 pub size_is : (v : ℕ) → lane_size v ≡ length (utf8_bytes v)
 size_is v = grind arith
 
-abbrev above_all : ℕ → ℕ → List ℕ → List ℕ
+abbrev pub above_all : ℕ → ℕ → List ℕ → List ℕ
 above_all n k vs = sel_l (map (top 31) (zip2 (λ a b. cond (leb a b) 0xffffffff 0) (replicate n k) vs)) (replicate n 1) (replicate n 0)
 
 abbrev sizes_all : ℕ → List ℕ → List ℕ

@@ -2,13 +2,16 @@
 ghost use Rattle.std.specs.Prelude.{◌≡◌, ◌<◌, ◌≤◌, length};
 ghost use Rattle.cv_base.specs.Items.{Begins};
 ghost use Rattle.cv_utf.specs.Utf16.{utf16, high_unit, low_unit};
+ghost use Rattle.cv_utf.specs.Wide.{AreScalarsBelow};
+ghost use Rattle.cv_utf.specs.Words.{AreWords, AreSizes};
 ghost use Rattle.cv_utf.specs.WideLaws.{big_16_few, little_16_few};
 
 use crate::utf16::joined;
 use crate::wide::{WideUnit, read_units, write_units};
-use crate::words::{Word, Words, sizes_of, words_of, write_words};
+use crate::words::{Words, write_words};
 use cv_base::place::write_two;
 use cv_base::{MANY, Scalar, Spelled, Spelling};
+use std::simd::prelude::*;
 
 /// The first unit of a character. Which it is takes no branch.
 #[inline(always)]
@@ -61,6 +64,44 @@ fn little_bytes(value: u32) -> [u8; 4]
     (first_of(value) + second_of(value) * 0x1_0000).to_le_bytes()
 }
 
+/// The words of sixteen characters, the low byte of each unit first.
+#[inline(always)]
+fn little_words(values: u32x16) -> u32x16
+    requires { AreScalarsBelow values 16 }
+    ensures { AreWords utf16.little values result 16 }
+{
+    let high = values / u32x16::splat(0x400) + u32x16::splat(0xd7c0);
+    let first = values.simd_lt(u32x16::splat(0x1_0000)).select(values, high);
+    let second = values % u32x16::splat(0x400) + u32x16::splat(0xdc00);
+    first + second * u32x16::splat(0x1_0000)
+}
+
+/// The words of sixteen characters, the high byte of each unit first.
+#[inline(always)]
+fn big_words(values: u32x16) -> u32x16
+    requires { AreScalarsBelow values 16 }
+    ensures { AreWords utf16.big values result 16 }
+{
+    let high = values / u32x16::splat(0x400) + u32x16::splat(0xd7c0);
+    let first = values.simd_lt(u32x16::splat(0x1_0000)).select(values, high);
+    let second = values % u32x16::splat(0x400) + u32x16::splat(0xdc00);
+    let byte = u32x16::splat(0x100);
+    let front = first / byte + first % byte * byte;
+    front + (second / byte + second % byte * byte) * u32x16::splat(0x1_0000)
+}
+
+/// How many bytes each of sixteen characters has.
+#[inline(always)]
+fn sizes(values: u32x16) -> u32x16
+    ensures big { AreSizes utf16.big values result 16 }
+    ensures little { AreSizes utf16.little values result 16 }
+{
+    let more = values
+        .simd_lt(u32x16::splat(0x1_0000))
+        .select(u32x16::splat(0), u32x16::splat(2));
+    u32x16::splat(2) + more
+}
+
 /// UTF-16 with the high byte of each unit first.
 pub(crate) struct Big16;
 
@@ -91,36 +132,17 @@ impl WideUnit for Big16 {
     }
 }
 
-impl Word for Big16 {
-    ghost bytes_of = { utf16.big };
-
-    #[inline(always)]
-    fn word(value: u32) -> u32 {
-        let first = first_of(value);
-        let second = second_of(value);
-        (first / 256)
-            + (first % 256) * 0x100
-            + (second / 256) * 0x1_0000
-            + (second % 256) * 0x100_0000
-    }
-
-    #[inline(always)]
-    fn size(value: u32) -> u32 {
-        2 + 2 * (value >= 0x1_0000) as u32
-    }
-}
-
 impl Words for Big16 {
     ghost bytes_of = { utf16.big };
 
     #[inline(always)]
     fn words(values: &[u32; MANY]) -> [u32; MANY] {
-        words_of::<Big16>(values)
+        big_words(u32x16::from_array(*values)).to_array()
     }
 
     #[inline(always)]
     fn sizes(values: &[u32; MANY]) -> [u32; MANY] {
-        sizes_of::<Big16>(values)
+        sizes(u32x16::from_array(*values)).to_array()
     }
 
     ghost short = { big_16_few };
@@ -204,31 +226,17 @@ impl WideUnit for Little16 {
     }
 }
 
-impl Word for Little16 {
-    ghost bytes_of = { utf16.little };
-
-    #[inline(always)]
-    fn word(value: u32) -> u32 {
-        first_of(value) + second_of(value) * 0x1_0000
-    }
-
-    #[inline(always)]
-    fn size(value: u32) -> u32 {
-        2 + 2 * (value >= 0x1_0000) as u32
-    }
-}
-
 impl Words for Little16 {
     ghost bytes_of = { utf16.little };
 
     #[inline(always)]
     fn words(values: &[u32; MANY]) -> [u32; MANY] {
-        words_of::<Little16>(values)
+        little_words(u32x16::from_array(*values)).to_array()
     }
 
     #[inline(always)]
     fn sizes(values: &[u32; MANY]) -> [u32; MANY] {
-        sizes_of::<Little16>(values)
+        sizes(u32x16::from_array(*values)).to_array()
     }
 
     ghost short = { little_16_few };

@@ -32,49 +32,6 @@ pub(crate) trait Words {
     ghost short: { (c : ℕ) → length (bytes_of c) ≤ 4 };
 }
 
-/// A spelling whose word is computed without a branch.
-pub(crate) trait Word {
-    ghost bytes_of: { BytesOf };
-
-    /// The bytes of a character, as a number whose lowest byte is the first. What is behind them may be anything.
-    fn word(value: u32) -> u32
-        requires { IsScalar value }
-        ensures { Begins (bytes_of value) (to_le_bytes w32 result) };
-
-    /// How many bytes a character has.
-    fn size(value: u32) -> u32
-        ensures { result ≡ length (bytes_of value) };
-}
-
-/// The words of many characters. None is tested, so that the loop is done by blocks.
-#[inline(always)]
-pub(crate) fn words_of<W: Word>(values: &[u32; MANY]) -> [u32; MANY]
-    requires long { length values.now ≡ 16 }
-    requires scalars { AreScalarsBelow values.now 16 }
-    ensures long { length result ≡ 16 }
-    ensures words { AreWords W.bytes_of values.now result 16 }
-{
-    let mut words = [0; MANY];
-    for k in 0..MANY {
-        words[k] = W::word(values[k]);
-    }
-    words
-}
-
-/// The sizes of many characters. None is tested, so that the loop is done by blocks.
-#[inline(always)]
-pub(crate) fn sizes_of<W: Word>(values: &[u32; MANY]) -> [u32; MANY]
-    requires { length values.now ≡ 16 }
-    ensures long { length result ≡ 16 }
-    ensures sizes { AreSizes W.bytes_of values.now result 16 }
-{
-    let mut sizes = [0; MANY];
-    for k in 0..MANY {
-        sizes[k] = W::size(values[k]);
-    }
-    sizes
-}
-
 /// Writes words one behind the other, each by its size, and answers how many bytes they have together. What is behind them may be
 /// anything.
 #[inline(always)]

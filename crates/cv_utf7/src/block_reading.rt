@@ -187,7 +187,7 @@ fn read_one(input: &[u8], buffer: &mut [Scalar], from: ReadBlock) -> Option<Read
 }
 
 /// Reads the shifted sequence that begins here, or `+-`. It may read nothing.
-#[inline(never)]
+#[inline(always)]
 fn read_sequence(input: &[u8], used: usize, buffer: &mut [Scalar], n: usize) -> ReadBlock
     requires within { used ≤ length input.now }
     requires room { n < length buffer.old }

@@ -1,6 +1,6 @@
 -- Reading goes on.
 use Rattle.std.proofs.Common.{◌≡◌, ℕ, ◌/◌, ◌*◌, ◌%◌, ◌^◌, inl, inr, ◌+◌, ◌-◌, ◌<◌, ◌≤◌, List, [], ◌∷◌, ◌++◌, length, take, drop, set, refl, sym, ◌∙◌, ap, subst, arith, append_assoc, append-nil, add-zero, length-set, length-drop, length-take, get_or, get_or-drop, w64, zero, suc, true, Some, None}
-use Rattle.std.proofs.lemmas.List.{drop-drop, take_more, take-take, take-append-le, take_all, take_more_set, take-set}
+use Rattle.std.proofs.lemmas.List.{drop-drop, take_more, take-take, take_all, take_more_set, take-set}
 use Rattle.std.proofs.lemmas.Nat.{pow-add, pow_pos}
 use Rattle.std.proofs.Math.Seq.{take-append-add}
 use Rattle.std.proofs.Math.Nat.{div-div-eq-div-mul, div-le_self, div-lt_iff_lt-mul, pow-le-pow_right}
@@ -23,7 +23,7 @@ use Rattle.cv_utf7.proofs.ShiftItems.{unit_length, char_stands, end_item}
 use Rattle.cv_utf7.proofs.StartItems.{start_shift}
 use Rattle.cv_utf7.specs.Utf7Laws.{utf7_readable}
 use Rattle.cv_utf7.specs.BlockSteps.{ReadsOn, IsLone}
-use Rattle.cv_utf7.proofs.Chains.{used_bytes-append, read_state-append, characters_of-append, IsChain-append, used_bytes-within}
+use Rattle.cv_utf7.proofs.Chains.{used_bytes-append, read_state-append, characters_of-append, IsChain-append}
 
 -- nothing is read
 pub reads_none : (text : List ℕ) (s : ReadState) (used n : ℕ) (before : List ℕ) → used ≤ length text → n ≤ length before → ReadsOn text s used n before s used n before

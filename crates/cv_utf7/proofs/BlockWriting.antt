@@ -1,8 +1,7 @@
 -- Writing goes on.
-use Rattle.std.proofs.Common.{◌≡◌, ℕ, zero, suc, ◌+◌, ◌-◌, ◌*◌, ◌<◌, ◌≤◌, Bool, true, List, [], ◌∷◌, ◌++◌, length, take, drop, get_or, set, refl, sym, ◌∙◌, ap, subst, arith, append_assoc, append-nil, add-zero, length-append, length-take, length-drop, get_or-take, get_or-drop, Some, None, Option, inl, inr}
+use Rattle.std.proofs.Common.{◌≡◌, ℕ, zero, suc, ◌+◌, ◌-◌, ◌<◌, ◌≤◌, Bool, true, List, [], ◌∷◌, ◌++◌, length, take, drop, get_or, set, refl, sym, ◌∙◌, ap, subst, arith, append_assoc, append-nil, add-zero, length-append, length-take, length-drop, get_or-take, get_or-drop, Some, Option, inl, inr}
 use Rattle.std.proofs.lemmas.Bool.{cases_Bool, cases_lt, cases_eq, false≢true}
-use Rattle.std.proofs.lemmas.List.{drop-drop, drop_more, drop_all, take-append-drop, ext_get_or, get_or-set_same, get_or-set_other, set_split, take_at, drop_at, take-append-le}
-use Rattle.std.proofs.Math.Seq.{take-append_seam, drop-append-add}
+use Rattle.std.proofs.lemmas.List.{drop-drop, drop_more, drop_all, take-append-drop, ext_get_or, get_or-set_same, get_or-set_other, set_split, take_at, drop_at}
 use Rattle.std.specs.Prelude.{◌==◌, ◌⊎◌}
 use Rattle.cv_base.specs.Scalars.{question}
 use Rattle.cv_base.specs.Chains.{Output, output, written, put_or, substituted, followed, output_for}
@@ -18,7 +17,7 @@ use Rattle.cv_utf7.specs.Sets.{is_direct, is_set_d, is_blank}
 use Rattle.cv_utf7.specs.BitLists.{bits_of, character_bits, digits}
 use Rattle.cv_utf7.specs.BitLaws.{length-bits}
 use Rattle.cv_utf7.specs.UnitLaws.{one_unit, two_units, high_of, low_of}
-use Rattle.cv_utf7.specs.Utf7.{plus, utf7_closes, utf7_writes, writes_at_start, writes_in_shift}
+use Rattle.cv_utf7.specs.Utf7.{plus, utf7_writes, writes_at_start, writes_in_shift}
 use Rattle.cv_utf7.specs.BlockSteps.{WritesOn}
 use Rattle.std.specs.Int.{bit_at}
 use Rattle.cv_utf7.proofs.BlockReading.{front_of_put}
@@ -182,7 +181,7 @@ is_block characters t at before u end after block p w c n =
       next = n ∙ p.next ∙ sym (ap (λ (o : Output). o.next) same);
       fits = omega (arith, p.fits);
       out = sym (take-append-drop end after) ∙ ap (λ (x : List ℕ). x ++ drop end after) (p.stand ∙ ap (λ (o : Output). take at before ++ o.bytes) (sym same))
-      ∙ ap (λ (x : List ℕ). take at before ++ (output_for utf7_writes t characters).bytes ++ x) (ap (λ (i : ℕ). drop i after) (omega arith) ∙ p.behind ∙ ap (λ (i : ℕ). drop i before) place);
+          ∙ ap (λ (x : List ℕ). take at before ++ (output_for utf7_writes t characters).bytes ++ x) (ap (λ (i : ℕ). drop i after) (omega arith) ∙ p.behind ∙ ap (λ (i : ℕ). drop i before) place);
     }
 
 -- a character is put where there is room

@@ -20,6 +20,7 @@ use Rattle.cv_utf7.specs.UnitLaws.{Agree, Begins-agree, Begins-short, agree-at, 
 use Rattle.cv_utf7.specs.Utf7Laws.{IsStop, stop_of, leads-length, leads_stop}
 use Rattle.cv_utf7.specs.Steps.{IsUnit, IsFront, IsEnding}
 use Rattle.cv_utf7.specs.declared.units.Unit.{Unit}
+use Rattle.cv_utf7.proofs.Found.{front_none}
 use Rattle.cv_utf7.proofs.Digits.{digits-bits}
 
 -- an item of a shifted sequence is one of three
@@ -409,3 +410,12 @@ pub ruleset halves = (half_stop, half_above, half_below, half_short)
 pub ruleset fews = (few_ill, few_ends, few_low, few_below, few_above)
 
 pub ruleset ends = (direct_lt, minus_is_no_digit)
+
+-- no digit stands at the front
+pub stop_ill : (p : Bits) (x : List ℕ) → 0 < length x → is_digit (get_or x 0 0) ≡ false → (p.value ≡ 0 → ⊥) → IsNext utf7_reads (read.Shifted p) x item.Ill
+stop_ill p x some d z = few_ill p x 0 p.count p.value (front_none p x p.count p.value refl refl) some d z
+
+pub stop_ends : (p : Bits) (x : List ℕ) (r : Item) → 0 < length x → is_digit (get_or x 0 0) ≡ false → p.value ≡ 0 → IsEnding (get_or x 0 0) 1 r → IsNext utf7_reads (read.Shifted p) x r
+stop_ends p x r some d z e = few_ends p x 0 p.count p.value 1 r (front_none p x p.count p.value refl refl) some d z (omega arith) e
+
+pub ruleset stops = (stop_ill, stop_ends)

@@ -115,7 +115,13 @@ fn lone(input: &[u8], at: usize) -> Option<Scalar>
 
 /// Reads the characters of a shifted sequence, to its end.
 #[inline(always)]
-fn read_inside(pending: Bits, input: &[u8], used: usize, buffer: &mut [Scalar], n: usize) -> ReadBlock
+fn read_inside(
+    pending: Bits,
+    input: &[u8],
+    used: usize,
+    buffer: &mut [Scalar],
+    n: usize,
+) -> ReadBlock
     requires within { used ≤ length input.now }
     requires room { n ≤ length buffer.old }
     ensures { ReadsOn input.now (ReadState.Shifted pending) used n buffer.old result.next result.used result.n buffer.new }
@@ -187,7 +193,7 @@ fn read_one(input: &[u8], buffer: &mut [Scalar], from: ReadBlock) -> Option<Read
 }
 
 /// Reads the shifted sequence that begins here, or `+-`. It may read nothing.
-#[inline(never)]
+#[inline(always)]
 fn read_sequence(input: &[u8], used: usize, buffer: &mut [Scalar], n: usize) -> ReadBlock
     requires within { used ≤ length input.now }
     requires room { n < length buffer.old }
@@ -196,9 +202,7 @@ fn read_sequence(input: &[u8], used: usize, buffer: &mut [Scalar], n: usize) -> 
 {
     match item_at_start(&input[used..]) {
         Item::Shift { n: bytes, next } => match next {
-            ReadState::Shifted(pending) => {
-                read_inside(pending, input, used + bytes, buffer, n)
-            }
+            ReadState::Shifted(pending) => { read_inside(pending, input, used + bytes, buffer, n) }
             _ => ReadBlock {
                 n,
                 used: used + bytes,
@@ -259,7 +263,14 @@ fn put_some(input: &[u8], at: usize, buffer: &mut [Scalar], n: usize) -> usize
 
 /// Reads the direct characters of a run, as many as are put at once. Answers how many they are, and whether the run may go on.
 #[inline(always)]
-fn read_run(input: &[u8], base: usize, stops: u64, used: usize, buffer: &mut [Scalar], n: usize) -> (usize, bool)
+fn read_run(
+    input: &[u8],
+    base: usize,
+    stops: u64,
+    used: usize,
+    buffer: &mut [Scalar],
+    n: usize,
+) -> (usize, bool)
     requires window { (i : ℕ) → i < 64 → bit_at stops i ≡ 0 → may_be_direct (get_or input.now (base + i) 0) ≡ true }
     requires place { (base ≤ used) × (used < base + 64) }
     requires within { used + 16 ≤ length input.now }

@@ -50,7 +50,13 @@ fn write_one(characters: &[Scalar], from: Reached, out: &mut [u8]) -> Reached
 
 /// Writes characters in a shifted sequence, up to the first that ends it.
 #[inline(always)]
-fn write_inside(pending: Bits, characters: &[Scalar], n: usize, out: &mut [u8], at: usize) -> Reached
+fn write_inside(
+    pending: Bits,
+    characters: &[Scalar],
+    n: usize,
+    out: &mut [u8],
+    at: usize,
+) -> Reached
     requires some { n < length characters.now }
     requires room { at + 8 * (length characters.now - n) ≤ length out.old }
     ensures more { WritesOn characters.now (WriteState.Shifted pending) n at out.old result.next result.n result.end out.new }
@@ -263,9 +269,7 @@ fn write_on(characters: &[Scalar], from: Reached, out: &mut [u8]) -> Reached
 {
     match from.next {
         WriteState::Start => write_outside(characters, from.n, out, from.end),
-        WriteState::Shifted(pending) => {
-            write_inside(pending, characters, from.n, out, from.end)
-        }
+        WriteState::Shifted(pending) => { write_inside(pending, characters, from.n, out, from.end) }
         WriteState::Marked => write_one(characters, from, out),
     }
 }

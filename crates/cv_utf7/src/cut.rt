@@ -20,7 +20,7 @@ impl Cut {
     ghost use Rattle.cv_utf7.specs.Utf7.{written_bits};
 
     /// The digits of a character behind pending bits.
-    #[inline]
+    #[inline(always)]
     pub(crate) fn of(pending: Bits, c: Scalar) -> Cut
         ensures same { written_bits (bits_of pending ++ character_bits c) ≡ (digits (bits (6 * result.n) result.value), write.Shifted result.next) }
         ensures count { (result.n ≡ 2) ⊎ (result.n ≡ 3) ⊎ (result.n ≡ 5) ⊎ (result.n ≡ 6) }
@@ -35,7 +35,7 @@ impl Cut {
     }
 
     /// The digits of a character that is one code unit.
-    #[inline]
+    #[inline(always)]
     #[tactic(auto, using(crate::proofs::Cuts::units))]
     fn of_unit(pending: Bits, value: u32) -> Cut
         requires { value < 0x10000 }
@@ -72,6 +72,7 @@ impl Cut {
     }
 
     /// The digits of a character that is two code units.
+    #[inline(always)]
     #[tactic(auto, using(crate::proofs::Cuts::pairs))]
     fn of_pair(pending: Bits, value: u32) -> Cut
         requires large { 0x10000 ≤ value }
@@ -112,7 +113,7 @@ impl Cut {
     }
 
     /// One of the digits, counted from the last.
-    #[inline]
+    #[inline(always)]
     pub(crate) fn digit(self, place: u32) -> u8
         requires { place ≤ 5 }
         ensures { result ≡ digit_of (self.value / 2 ^ (6 * place) % 64) }
@@ -121,7 +122,7 @@ impl Cut {
     }
 
     /// The last five digits.
-    #[inline]
+    #[inline(always)]
     pub(crate) fn last_five(self) -> [u8; 5]
         ensures { result ≡ digit_of (self.value / 16777216 % 64) ∷ digit_of (self.value / 262144 % 64) ∷ digit_of (self.value / 4096 % 64) ∷ digit_of (self.value / 64 % 64) ∷ digit_of (self.value / 1 % 64) ∷ [] }
     {

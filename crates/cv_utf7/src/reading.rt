@@ -1,5 +1,6 @@
 //! What stands next in a text.
-ghost use Rattle.std.specs.Prelude.{◌≡◌, ◌↔◌, IsTrue, drop, ◌+◌, ◌<◌, ◌≤◌, length};
+ghost use Rattle.std.specs.Prelude.{◌≡◌, ◌↔◌, IsTrue, false, drop, ◌+◌, ◌<◌, ◌≤◌, length, get_or};
+ghost use Rattle.cv_utf7.specs.Sets.{is_digit};
 ghost use Rattle.cv_base.specs.Items.{IsNext};
 ghost use Rattle.cv_utf7.specs.Utf7.{utf7_reads};
 ghost use Rattle.cv_utf7.specs.Steps.{IsUnit, NoUnit, IsEnding};
@@ -68,7 +69,12 @@ pub(crate) fn item_in_shift(pending: Bits, input: &[u8]) -> Item
         return Item::End;
     }
     match Unit::next(pending, input) {
-        None => item_of_few(pending, input),
+        None => {
+            if digit(input[0]).is_none() {
+                return item_of_end(pending, input);
+            }
+            item_of_few(pending, input)
+        }
         Some(unit) => {
             if is_surrogate(unit.value) {
                 return item_of_surrogate(pending, input, unit);
@@ -80,6 +86,20 @@ pub(crate) fn item_in_shift(pending: Bits, input: &[u8]) -> Item
             }
         }
     }
+}
+
+/// What stands next where no digit does: the end of the sequence, if no bits are left.
+#[inline(always)]
+#[tactic(auto, using(crate::proofs::ShiftItems::stops))]
+fn item_of_end(pending: Bits, input: &[u8]) -> Item
+    requires some { 0 < length input.now }
+    requires none { is_digit (get_or input.now 0 0) ≡ false }
+    ensures { IsNext utf7_reads (ReadState.Shifted pending) input.now result }
+{
+    if pending.value != 0 {
+        return Item::Ill;
+    }
+    ending(input[0], 1)
 }
 
 /// What stands next where a surrogate does: a pair, if it is a high one and a low one follows.
@@ -158,6 +178,7 @@ fn item_of_few(pending: Bits, input: &[u8]) -> Item
 }
 
 /// What a byte ends, after bits that are zero.
+#[inline(always)]
 #[tactic(auto, using(crate::proofs::ShiftItems::ends))]
 fn ending(last: u8, used: usize) -> Item
     ensures { IsEnding last used result }

@@ -32,7 +32,7 @@ fn spell_at_start(c: Scalar) -> (Piece, WriteState)
 }
 
 /// Writes a character outside a shifted sequence.
-#[inline]
+#[inline(always)]
 #[tactic(auto, using(crate::proofs::Writes::starts))]
 fn put_at_start(c: Scalar, out: &mut [u8], at: usize) -> Put
     requires { at ≤ length out.old }
@@ -95,7 +95,7 @@ impl Codec for Utf7 {
         Some((piece_of(cut), WriteState::Shifted(cut.next)))
     }
 
-    #[inline]
+    #[inline(always)]
     #[tactic(auto, using(crate::proofs::Writes::writes))]
     fn put_at(&self, state: WriteState, c: Scalar, out: &mut [u8], at: usize) -> Put {
         let value = c.value();

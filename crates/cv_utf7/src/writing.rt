@@ -64,7 +64,7 @@ pub(crate) fn first_piece(cut: Cut) -> Piece
 }
 
 /// What closes a shifted sequence.
-#[inline]
+#[inline(always)]
 #[tactic(auto, using(crate::proofs::Cuts::closings))]
 pub(crate) fn closing(pending: Bits) -> Piece
     ensures { result ≡ utf7_closes (WriteState.Shifted pending) }
@@ -76,7 +76,7 @@ pub(crate) fn closing(pending: Bits) -> Piece
 }
 
 /// The digit of pending bits, followed by zero bits.
-#[inline]
+#[inline(always)]
 #[tactic(auto, using(crate::proofs::Cuts::last_lt))]
 fn last_digit(pending: Bits) -> u8
     ensures two { pending.count ≡ 2 → result ≡ digit_of (pending.value * 16) }
@@ -89,7 +89,7 @@ fn last_digit(pending: Bits) -> u8
 }
 
 /// Writes five bytes.
-#[inline]
+#[inline(always)]
 fn write_five(out: &mut [u8], at: usize, bytes: [u8; 5])
     requires { at + 5 ≤ length out.old }
     ensures { out.new ≡ take at out.old ++ bytes ++ drop (at + 5) out.old }
@@ -98,7 +98,7 @@ fn write_five(out: &mut [u8], at: usize, bytes: [u8; 5])
 }
 
 /// Writes six bytes.
-#[inline]
+#[inline(always)]
 fn write_six(out: &mut [u8], at: usize, bytes: [u8; 6])
     requires { at + 6 ≤ length out.old }
     ensures { out.new ≡ take at out.old ++ bytes ++ drop (at + 6) out.old }
@@ -107,7 +107,7 @@ fn write_six(out: &mut [u8], at: usize, bytes: [u8; 6])
 }
 
 /// Writes the digits of a character.
-#[inline]
+#[inline(always)]
 #[tactic(auto, using(crate::proofs::Cuts::spelled))]
 pub(crate) fn put_digits(cut: Cut, out: &mut [u8], at: usize) -> Put
     requires place { at ≤ length out.old }
@@ -139,7 +139,7 @@ pub(crate) fn put_digits(cut: Cut, out: &mut [u8], at: usize) -> Put
 }
 
 /// Writes `+` and the digits of the first character of a shifted sequence.
-#[inline]
+#[inline(always)]
 #[tactic(auto, using(crate::proofs::Cuts::spelled))]
 pub(crate) fn put_first(cut: Cut, out: &mut [u8], at: usize) -> Put
     requires place { at ≤ length out.old }
@@ -164,7 +164,7 @@ pub(crate) fn put_first(cut: Cut, out: &mut [u8], at: usize) -> Put
 }
 
 /// Writes a direct character behind what closes the shifted sequence.
-#[inline]
+#[inline(always)]
 #[tactic(auto, using(crate::proofs::Cuts::closings))]
 pub(crate) fn put_closed(pending: Bits, byte: u8, out: &mut [u8], at: usize) -> Put
     requires { at ≤ length out.old }

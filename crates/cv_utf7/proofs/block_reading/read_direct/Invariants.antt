@@ -1,4 +1,4 @@
-use Rattle.std.proofs.Common.{◌≡◌, ℕ, ◌+◌, ◌-◌, ◌<◌, ◌≤◌, ◌++◌, true, get_or, length, take, drop}
+use Rattle.std.proofs.Common.{◌≡◌, ℕ, ◌+◌, ◌-◌, ◌<◌, ◌≤◌, ◌++◌, true, get_or, take, drop}
 use Rattle.cv_utf7.specs.Sets.{may_be_direct}
 use Rattle.cv_utf7.proofs.block_reading.read_direct.Given as goal
 

@@ -1,4 +1,3 @@
-use Rattle.std.proofs.Common.{get_or}
 use Rattle.std.proofs.lemmas.List.{get_or_read}
 use Rattle.cv_utf7.proofs.BlockWriting.{always_put, writes_put}
 use Rattle.cv_utf7.proofs.block_writing.write_one.Goals as goal

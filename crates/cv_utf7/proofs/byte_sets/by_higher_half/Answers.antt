@@ -1,7 +1,4 @@
-use Rattle.std.proofs.Common.{◌/◌, refl, arith}
-use Rattle.std.proofs.lemmas.Simd.{zip2_splat}
-use Rattle.cv_utf7.specs.declared.byte_sets.TheConstants.{HALF_BITS}
-use Rattle.cv_utf7.proofs.Lanes.{down, high_ok, looked_up, higher_half}
+use Rattle.cv_utf7.proofs.Lanes.{high_ok, higher_half}
 use Rattle.cv_utf7.proofs.byte_sets.by_higher_half.Goals as goal
 
 pub swizzle : goal.swizzle

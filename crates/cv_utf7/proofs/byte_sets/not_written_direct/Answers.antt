@@ -1,4 +1,4 @@
-use Rattle.std.proofs.Common.{sym, ◌∙◌, arith}
+use Rattle.std.proofs.Common.{sym, ◌∙◌}
 use Rattle.cv_utf7.proofs.Lanes.{stands_in, lane_fits}
 use Rattle.cv_utf7.proofs.byte_sets.not_written_direct.Goals as goal
 

@@ -23,7 +23,7 @@ use Rattle.cv_utf7.proofs.ShiftItems.{unit_length, char_stands, end_item}
 use Rattle.cv_utf7.proofs.StartItems.{start_shift}
 use Rattle.cv_utf7.specs.Utf7Laws.{utf7_readable}
 use Rattle.cv_utf7.specs.BlockSteps.{ReadsOn, IsLone}
-use Rattle.cv_utf7.proofs.Chains.{used_bytes-append, read_state-append, characters_of-append, IsChain-append}
+use Rattle.cv_base.proofs.ChainLaws.{used_bytes-append, read_state-append, characters_of-append, IsChain-append}
 
 -- nothing is read
 pub reads_none : (text : List ℕ) (s : ReadState) (used n : ℕ) (before : List ℕ) → used ≤ length text → n ≤ length before → ReadsOn text s used n before s used n before

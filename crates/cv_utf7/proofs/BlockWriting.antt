@@ -21,7 +21,7 @@ use Rattle.cv_utf7.specs.Utf7.{plus, utf7_writes, writes_at_start, writes_in_shi
 use Rattle.cv_utf7.specs.BlockSteps.{WritesOn}
 use Rattle.std.specs.Int.{bit_at}
 use Rattle.cv_utf7.proofs.BlockReading.{front_of_put}
-use Rattle.cv_utf7.proofs.Chains.{output_for-append}
+use Rattle.cv_base.proofs.ChainLaws.{output_for-append}
 use Rattle.cv_utf7.proofs.Writes.{start_direct, starts_most, shifts_most}
 
 -- what is written for a character in a state

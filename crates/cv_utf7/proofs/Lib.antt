@@ -1,7 +1,6 @@
 pub mod BlockWriting
 pub mod Lanes
 pub mod BlockReading
-pub mod Chains
 pub mod Cuts
 pub mod Digits
 pub mod Found

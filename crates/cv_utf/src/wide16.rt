@@ -4,6 +4,7 @@ ghost use Rattle.cv_base.specs.Items.{Begins};
 ghost use Rattle.cv_utf.specs.Utf16.{utf16, high_unit, low_unit};
 ghost use Rattle.cv_utf.specs.WideLaws.{big_16_few, little_16_few};
 
+use crate::surrogates::read_joined;
 use crate::utf16::joined;
 use crate::wide::{WideUnit, read_units, write_units};
 use cv_base::place::write_two;
@@ -119,7 +120,11 @@ impl Spelling for Big16 {
 
     #[inline(always)]
     fn read_many(input: &[u8], at: usize, buffer: &mut [Scalar], n: usize) -> Spelled {
-        read_units::<Big16>(input, at, buffer, n)
+        let single = read_units::<Big16>(input, at, buffer, n);
+        if single.n > 0 {
+            return single;
+        }
+        read_joined::<Big16>(input, at, buffer, n)
     }
 
     #[inline(always)]
@@ -193,7 +198,11 @@ impl Spelling for Little16 {
 
     #[inline(always)]
     fn read_many(input: &[u8], at: usize, buffer: &mut [Scalar], n: usize) -> Spelled {
-        read_units::<Little16>(input, at, buffer, n)
+        let single = read_units::<Little16>(input, at, buffer, n);
+        if single.n > 0 {
+            return single;
+        }
+        read_joined::<Little16>(input, at, buffer, n)
     }
 
     #[inline(always)]

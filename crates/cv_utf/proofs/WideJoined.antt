@@ -143,26 +143,6 @@ joined_read bytes_of text at before n more numbers after first last is_low law l
       size = same;
     }
 
-nil : (xs : List ℕ) → length xs ≡ 0 → xs ≡ []
-nil [] e = refl
-nil (x ∷ xs) e = absurd (omega (arith, e))
-
--- what is read where nothing was
-pub read_after : (bytes_of : BytesOf) (text : List ℕ) (at : ℕ) (before : List ℕ) (n : ℕ) (none run : Spelled) (now after : List ℕ) → none.n ≡ 0 → IsReadSpelled bytes_of text at before n none now → IsReadSpelled bytes_of text at now n run after → IsReadSpelled bytes_of text at before n run after
-read_after bytes_of text at before n none run now after e p q =
-    let empty : p.characters ≡ [] = nil p.characters (sym p.counts ∙ e) in
-    let same : take n now ≡ take n before = ap (λ x. take x now) (let g : n ≡ n + none.n = omega (arith, e) in g) ∙ p.stand ∙ ap (λ x. take n before ++ x) empty ∙ append-nil (take n before) in
-    record {
-      characters = q.characters;
-      scalars = q.scalars;
-      begins = q.begins;
-      uses = q.uses;
-      counts = q.counts;
-      stand = q.stand ∙ ap (λ x. x ++ q.characters) same;
-      fits = rw p.size at q.fits;
-      size = q.size ∙ p.size;
-    }
-
 below : (unit : ℕ → List ℕ) → ((u : ℕ) → length (unit u) ≡ 2) → (text : List ℕ) (at u : ℕ) → IsUnitAt (units unit) 2 text at u → u < 0x10000
 below unit two text at u p = elim (cases_lt u 0x10000) [
   | inl l ↦ l

@@ -153,7 +153,8 @@ impl WideUnit for Little16 {
         2
     }
 
-    #[inline(always)]
+    // It is inlined late, so that LLVM reads the two bytes at once before it sees what of them is tested.
+    #[inline]
     fn number(bytes: &[u8], at: usize) -> u32 {
         u16::from_le_bytes([bytes[at], bytes[at + 1]]) as u32
     }

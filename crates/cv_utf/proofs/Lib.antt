@@ -14,6 +14,7 @@ pub mod Utf32First
 pub mod Utf32Writes
 pub mod WideRuns
 pub mod WidePairs
+pub mod WideJoined
 pub mod Spelt
 pub mod ReadBacks
 pub mod Utf8ReadBack

@@ -5,6 +5,7 @@ mod blocks;
 mod character;
 pub mod laws;
 mod order;
+mod surrogates;
 #[cfg(test)]
 mod tests;
 mod utf16;

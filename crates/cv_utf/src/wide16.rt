@@ -6,6 +6,7 @@ ghost use Rattle.cv_utf.specs.Wide.{AreScalarsBelow};
 ghost use Rattle.cv_utf.specs.Words.{AreWords, AreSizes};
 ghost use Rattle.cv_utf.specs.WideLaws.{big_16_few, little_16_few};
 
+use crate::surrogates::read_joined;
 use crate::utf16::joined;
 use crate::wide::{WideUnit, read_units, write_units};
 use crate::words::{Words, write_words};
@@ -177,7 +178,11 @@ impl Spelling for Big16 {
 
     #[inline(always)]
     fn read_many(input: &[u8], at: usize, buffer: &mut [Scalar], n: usize) -> Spelled {
-        read_units::<Big16>(input, at, buffer, n)
+        let single = read_units::<Big16>(input, at, buffer, n);
+        if single.n > 0 {
+            return single;
+        }
+        read_joined::<Big16>(input, at, buffer, n)
     }
 
     #[inline(always)]
@@ -210,7 +215,8 @@ impl WideUnit for Little16 {
         2
     }
 
-    #[inline(always)]
+    // It is inlined late, so that LLVM reads the two bytes at once before it sees what of them is tested.
+    #[inline]
     fn number(bytes: &[u8], at: usize) -> u32 {
         u16::from_le_bytes([bytes[at], bytes[at + 1]]) as u32
     }
@@ -271,7 +277,11 @@ impl Spelling for Little16 {
 
     #[inline(always)]
     fn read_many(input: &[u8], at: usize, buffer: &mut [Scalar], n: usize) -> Spelled {
-        read_units::<Little16>(input, at, buffer, n)
+        let single = read_units::<Little16>(input, at, buffer, n);
+        if single.n > 0 {
+            return single;
+        }
+        read_joined::<Little16>(input, at, buffer, n)
     }
 
     #[inline(always)]

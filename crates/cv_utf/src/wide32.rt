@@ -89,7 +89,8 @@ impl WideUnit for Little32 {
         4
     }
 
-    #[inline(always)]
+    // It is inlined late, so that LLVM reads the four bytes at once before it sees what of them is tested.
+    #[inline]
     fn number(bytes: &[u8], at: usize) -> u32 {
         u32::from_le_bytes([bytes[at], bytes[at + 1], bytes[at + 2], bytes[at + 3]])
     }

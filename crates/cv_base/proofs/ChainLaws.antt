@@ -2,7 +2,7 @@
 use Rattle.std.proofs.Common.{◌≡◌, ℕ, ◌+◌, List, [], ◌∷◌, ◌++◌, drop, refl, sym, ◌∙◌, ap, subst, append_assoc, append-nil, zero-add, add-zero, add_assoc, Option, Some, None}
 use Rattle.std.proofs.lemmas.List.{drop-drop}
 use Rattle.std.specs.Prelude.{option_to_list}
-use Rattle.cv_base.specs.Items.{Taken, ItemRelation, Stands}
+use Rattle.cv_base.specs.Items.{Taken, ItemRelation}
 use Rattle.cv_base.specs.Codecs.{Writing}
 use Rattle.cv_base.specs.Chains.{IsChain, used_bytes, read_state, characters_of, Output, output, written, followed, output_of, output_for}
 use Rattle.cv_base.specs.declared.state.ReadState.{ReadState}

@@ -1,12 +1,9 @@
 -- Characters that are spelled: more of them, one behind the other.
-use Rattle.std.proofs.Common.{◌≡◌, ℕ, ◌+◌, ◌-◌, ◌*◌, ◌<◌, ◌≤◌, List, [], ◌∷◌, ◌++◌, length, take, drop, refl, sym, ◌∙◌, ap, subst, arith, suc, length-append, length-drop, length-take, append_assoc, append-nil, add-zero, slice_set, get_or}
+use Rattle.std.proofs.Common.{◌≡◌, ℕ, ◌+◌, ◌*◌, ◌<◌, ◌≤◌, List, [], ◌∷◌, ◌++◌, length, take, drop, refl, sym, ◌∙◌, ap, arith, length-append, length-drop, length-take, append_assoc, append-nil, slice_set, get_or}
 use Rattle.std.proofs.Math.Seq.{drop-cons, take-add}
-use Rattle.std.proofs.Math.Nat.{mul-suc}
 use Rattle.std.specs.List.{flat_map}
 use Rattle.std.proofs.lemmas.List.{drop-drop, take_more_set, length-set}
 use Rattle.std.proofs.lemmas.Grind.{flat_map-append}
-use Rattle.cv_base.specs.Items.{Begins}
-use Rattle.cv_base.specs.Scalars.{IsScalar}
 use Rattle.cv_base.specs.Spelled.{BytesOf, AreScalars, IsSpelledAt, IsReadSpelled, IsWrittenSpelled}
 use Rattle.cv_base.specs.declared.spelling.Spelled.{Spelled}
 use Rattle.cv_base.proofs.Front.{Begins-length, Begins-join}
@@ -17,19 +14,6 @@ spelled n used = record { n = n; used = used }
 AreScalars-append : (a b : List ℕ) → AreScalars a → AreScalars b → AreScalars (a ++ b)
 AreScalars-append [] b p q = q
 AreScalars-append (c ∷ a) b p q = (p.0, AreScalars-append a b p.1 q)
-
--- none
-pub read_none : (bytes_of : BytesOf) (text : List ℕ) (at : ℕ) (before : List ℕ) (n : ℕ) → n ≤ length before → IsReadSpelled bytes_of text at before n (spelled 0 0) before
-read_none bytes_of text at before n h = record {
-  characters = [];
-  scalars = tt;
-  begins = tt;
-  uses = refl;
-  counts = refl;
-  stand = rw (add-zero, append-nil) refl;
-  fits = omega arith;
-  size = refl;
-}
 
 -- bytes that are read are there
 pub read_within : (bytes_of : BytesOf) (text : List ℕ) (at : ℕ) (before : List ℕ) (n : ℕ) (run : Spelled) (after : List ℕ) → IsReadSpelled bytes_of text at before n run after → at ≤ length text → at + run.used ≤ length text
@@ -74,16 +58,6 @@ read_one_more bytes_of text at before n m u mid c k p h q =
 pub short_all : (bytes_of : BytesOf) → ((c : ℕ) → length (bytes_of c) ≤ 4) → (characters : List ℕ) → length (flat_map bytes_of characters) ≤ 4 * length characters
 short_all bytes_of short [] = omega arith
 short_all bytes_of short (c ∷ characters) = omega (arith, length-append (bytes_of c) (flat_map bytes_of characters), short c, short_all bytes_of short characters)
-
--- none
-pub written_none : (bytes_of : BytesOf) (characters : List ℕ) (n : ℕ) (before : List ℕ) (at : ℕ) → n ≤ length characters → at ≤ length before → IsWrittenSpelled bytes_of characters n before at (spelled 0 0) before
-written_none bytes_of characters n before at h k = record {
-  within = omega arith;
-  uses = refl;
-  fits = omega arith;
-  stand = rw (add-zero, append-nil) refl;
-  size = refl;
-}
 
 -- no more than four bytes a character
 pub written_few : (bytes_of : BytesOf) → ((c : ℕ) → length (bytes_of c) ≤ 4) → (characters : List ℕ) (n : ℕ) (before : List ℕ) (at : ℕ) (run : Spelled) (after : List ℕ) → IsWrittenSpelled bytes_of characters n before at run after → run.used ≤ 4 * run.n

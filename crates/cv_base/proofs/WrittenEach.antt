@@ -1,11 +1,11 @@
 -- Characters that are written one by one.
 use Rattle.std.specs.Prelude.{IfSome}
-use Rattle.std.proofs.Common.{◌≡◌, ℕ, ◌+◌, ◌-◌, ◌*◌, ◌<◌, ◌≤◌, List, [], ◌∷◌, ◌++◌, length, take, drop, refl, sym, ◌∙◌, ap, arith, length-append, length-drop, length-take, append-nil, append_assoc, add-zero, get_or, Option, Some, None, take-append-drop}
+use Rattle.std.proofs.Common.{◌≡◌, ℕ, ◌+◌, ◌-◌, ◌*◌, ◌<◌, ◌≤◌, List, [], ◌∷◌, ◌++◌, length, take, drop, refl, sym, ◌∙◌, ap, arith, length-append, length-drop, length-take, append-nil, append_assoc, get_or, Option, Some, None, take-append-drop}
 use Rattle.std.proofs.Math.Seq.{drop-cons, take-add, take-append_seam, drop-append-add}
 use Rattle.std.proofs.lemmas.List.{drop-drop, take_all}
 use Rattle.cv_base.specs.Scalars.{question}
 use Rattle.cv_base.specs.Codecs.{Writing, WritesAtMost}
-use Rattle.cv_base.specs.Chains.{Output, output, written, put_or, substituted, followed, output_for}
+use Rattle.cv_base.specs.Chains.{Output, written, put_or, substituted, followed, output_for}
 use Rattle.cv_base.specs.Blocks.{IsWrittenBlock}
 use Rattle.cv_base.specs.declared.state.WriteState.{WriteState}
 use Rattle.cv_base.proofs.ChainLaws.{output_for-append, output_for-one}

@@ -1,8 +1,7 @@
 //! UTF-7 by blocks.
 
-use crate::block_reading;
-use crate::block_writing;
 use crate::utf7::Utf7;
+use crate::{block_reading, block_writing};
 use cv_base::{BlockCodec, ReadBlock, ReadState, Scalar, WriteState, WrittenBlock};
 
 impl BlockCodec for Utf7 {

@@ -1,4 +1,4 @@
-use Rattle.std.proofs.Common.{arith, refl, sym, ap, ◌≡◌, ◌∙◌, [], ◌∷◌, ◌++◌, List, ℕ, ◌+◌, suc, slice_set, take, drop, append_assoc, length, Some}
+use Rattle.std.proofs.Common.{arith, sym, ap, ◌≡◌, ◌∙◌, [], ◌∷◌, ◌++◌, ◌+◌, suc, slice_set, take, drop, append_assoc, length, Some}
 use Rattle.std.proofs.lemmas.List.{set_split}
 use Rattle.cv_base.specs.Chains.{Output, output, written}
 use Rattle.cv_base.specs.SingleBytes.{byte_writes}

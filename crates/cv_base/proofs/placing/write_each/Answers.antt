@@ -1,4 +1,4 @@
-use Rattle.std.proofs.Common.{arith, refl}
+use Rattle.std.proofs.Common.{arith}
 use Rattle.cv_base.proofs.WrittenEach.{none_written, one_more_written, all_written, written-most, written-count}
 use Rattle.cv_base.proofs.placing.write_each.Goals as goal
 

@@ -1,4 +1,4 @@
-use Rattle.std.proofs.Common.{◌-◌, ◌≤◌, ◌+◌, length}
+use Rattle.std.proofs.Common.{◌-◌, ◌≤◌}
 use Rattle.cv_base.specs.Spelled.{IsReadSpelled}
 use Rattle.cv_base.proofs.reading.read_few.Given as goal
 

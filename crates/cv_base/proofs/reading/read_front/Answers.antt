@@ -1,4 +1,4 @@
-use Rattle.std.proofs.Common.{arith, refl}
+use Rattle.std.proofs.Common.{arith}
 use Rattle.cv_base.proofs.SpelledRuns.{read_within, read_more}
 use Rattle.cv_base.proofs.reading.read_front.Goals as goal
 

@@ -8,7 +8,6 @@ use mir.Val.{bool_byte}
 use Rattle.cv_base.specs.Scalars.{IsScalar}
 use Rattle.cv_base.specs.Items.{Begins}
 use Rattle.cv_base.specs.Spelled.{BytesOf, AreScalars, IsReadSpelled}
-use Rattle.cv_base.specs.declared.spelling.Spelled.{Spelled}
 use Rattle.cv_utf.specs.Utf16.{big_unit, little_unit, high_unit, low_unit, units, utf16}
 use Rattle.cv_utf.specs.Utf16Laws.{one_unit, two_units}
 use Rattle.cv_utf.specs.Wide.{IsUnitAt, ArePaired, IsJoined, AreJoined, unless_low, without_low}
@@ -156,7 +155,7 @@ paired unit two one = record {
   pairs = λ text at high low p q is_high is_low. (
       let s = pair_stands unit two text at high low (0x10000 + (high % 0x400) * 0x400 + low % 0x400) p q (omega (arith, is_high)) (omega (arith, is_high)) (omega (arith, is_low)) (omega (arith, is_low)) (omega (arith, is_high, is_low)) in
       record { begins = s.1; single = sym s.2 }
-    );
+      );
 }
 
 big_one : (text : List ℕ) (u v : ℕ) → Begins (big_unit u) text → Begins (big_unit v) text → u ≡ v

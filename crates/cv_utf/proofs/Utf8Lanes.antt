@@ -1,8 +1,8 @@
 -- Sixteen characters that are spelled at once, as vectors compute it.
-use Rattle.std.proofs.Common.{◌≡◌, ℕ, ◌+◌, ◌*◌, ◌/◌, ◌%◌, ◌^◌, ◌<◌, ◌≤◌, Bool, cond, List, [], ◌∷◌, length, get_or, map, refl, ap, arith, zero, suc, lit<}
+use Rattle.std.proofs.Common.{◌≡◌, ℕ, ◌+◌, ◌*◌, ◌/◌, ◌%◌, ◌^◌, ◌<◌, cond, List, [], ◌∷◌, length, get_or, map, refl, arith, zero, suc}
 use Rattle.std.specs.Prelude.{replicate}
 use Rattle.std.specs.Int.{to_le_bytes, w32}
-use Rattle.std.specs.Simd.Lanes.{Each1, Each2, top, zip2, sel_l}
+use Rattle.std.specs.Simd.Lanes.{Each2, top, zip2, sel_l}
 use Rattle.std.proofs.Math.Dec.{ltb, leb}
 use Rattle.std.proofs.lemmas.Simd.{Each1-all, Each2-splat}
 use Rattle.cv_base.specs.Scalars.{IsScalar}

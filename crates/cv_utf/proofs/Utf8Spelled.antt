@@ -1,14 +1,14 @@
 -- The spelling of UTF-8: ASCII, sixteen bytes that are tested at once, a word that is written, and the codec.
-use Rattle.std.proofs.Common.{◌≡◌, ℕ, ◌+◌, ◌%◌, ◌^◌, ◌<◌, ◌≤◌, Bool, cond, List, [], ◌∷◌, ◌++◌, length, take, drop, get_or, map, refl, sym, ◌∙◌, ap, subst, arith, zero, suc, Some, w8, length-append, length-take, length-drop, get_or-take, get_or-drop, append_assoc}
+use Rattle.std.proofs.Common.{◌≡◌, ℕ, ◌+◌, ◌%◌, ◌^◌, ◌<◌, ◌≤◌, Bool, cond, eqb, not, lit≤, List, [], ◌∷◌, ◌++◌, length, take, drop, get_or, map, refl, sym, ◌∙◌, ap, subst, arith, zero, suc, Some, w8, length-append, length-take, length-drop, get_or-take, get_or-drop, append_assoc}
 use Rattle.std.specs.Prelude.{replicate, option_to_list}
-use Rattle.std.specs.List.{flat_map}
+use Rattle.std.specs.List.{flat_map, prefix_len}
 use Rattle.std.specs.Int.Count.{count_trailing_zeros}
 use Rattle.std.specs.Simd.Lanes.{mask_l, top, zip2}
 use Rattle.std.proofs.Math.Dec.{leb}
 use Rattle.std.proofs.Math.Seq.{take-append-add}
 use Rattle.std.proofs.lemmas.Bool.{lt-ltb, leb-false}
 use Rattle.std.proofs.lemmas.List.{take_at, take-take, length-map}
-use Rattle.std.proofs.lemmas.Simd.{tops_compared, zip2_splat_left, mask_l-mod, none_from_empty_mask, trailing_mask_l, run_in_chunk_le, run_in_chunk_fails, length-chunk}
+use Rattle.std.proofs.lemmas.Simd.{tops_compared, zip2_splat_left, mask_l-mod, run_in_chunk_le, run_in_chunk_fails, length-chunk, first_set_mask_l}
 use borrow.Rule.Slice.PartMut.{put_mid, post_of}
 use Rattle.cv_base.specs.Items.{Taken, taken, Begins}
 use Rattle.cv_base.specs.Spelled.{AreScalars, IsReadSpelled, IsWrittenSpelled, ReadsSpelled, WritesSpelled}
@@ -138,21 +138,13 @@ is_other x = leb 128 x
 others_mask : (xs : List ℕ) → length xs ≡ 16 → others xs ≡ mask_l (map is_other xs)
 others_mask xs long = ap (λ ms. mask_l ms % 2 ^ 64) (tops_compared w8 leb (replicate 16 128) xs ∙ zip2_splat_left leb 128 16 xs long) ∙ mask_l-mod (map is_other xs) 64 (simp length-map (omega arith))
 
--- No byte is marked.
-pub all_below : (bytes : List ℕ) (at : ℕ) → at + 16 ≤ length bytes → others (take 16 (drop at bytes)) ≡ 0 → (k : ℕ) → k < 16 → get_or bytes (at + k) 0 < 128
-all_below bytes at room e k h =
-    let mask = others_mask (take 16 (drop at bytes)) (length-chunk at 16 bytes room) in
-    leb-false 128 (get_or bytes (at + k) 0) (none_from_empty_mask is_other bytes at 16 0 room (sym mask ∙ e) (at + k) (omega arith) (omega arith))
-
 -- The lowest mark is the first byte that is 128 at least.
-pub front_below : (bytes : List ℕ) (at : ℕ) → at + 16 ≤ length bytes → 0 < others (take 16 (drop at bytes)) → (count_trailing_zeros 64 (others (take 16 (drop at bytes))) ≤ 16) × ((k : ℕ) → k < count_trailing_zeros 64 (others (take 16 (drop at bytes))) → get_or bytes (at + k) 0 < 128)
-front_below bytes at room some =
+pub ascii_before : (bytes : List ℕ) (at front : ℕ) → at + 16 ≤ length bytes → front ≡ cond (eqb (others (take 16 (drop at bytes))) 0) 16 (count_trailing_zeros 64 (others (take 16 (drop at bytes)))) → (front ≤ 16) × ((k : ℕ) → k < front → get_or bytes (at + k) 0 < 128)
+ascii_before bytes at front room e =
     let xs : List ℕ = take 16 (drop at bytes) in
     let long : length xs ≡ 16 = length-chunk at 16 bytes room in
-    let mask = others_mask xs long in
-    let marked : 0 < mask_l (map is_other xs) = omega arith in
-    let first = ap (λ m. count_trailing_zeros 64 m) mask ∙ trailing_mask_l is_other 64 xs (omega arith) marked in
-    (run_in_chunk_le is_other bytes at 16 _ 0 room first, λ k h. leb-false 128 (get_or bytes (at + k) 0) (run_in_chunk_fails is_other bytes at 16 _ 0 room first (at + k) (omega arith) (omega arith)))
+    let first : front ≡ prefix_len (λ x. not (is_other x)) xs = e ∙ ap (λ m. cond (eqb m 0) 16 (count_trailing_zeros 64 m)) (others_mask xs long) ∙ first_set_mask_l is_other xs 16 long (lit≤ tt) in
+    (run_in_chunk_le is_other bytes at 16 front 0 room first, λ k h. leb-false 128 (get_or bytes (at + k) 0) (run_in_chunk_fails is_other bytes at 16 front 0 room first (at + k) (omega arith) (omega arith)))
 
 same_bytes : (a text : List ℕ) → Begins a text → drop (length a) text ≡ [] → a ≡ text
 same_bytes [] text p e = cc

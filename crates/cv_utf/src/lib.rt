@@ -11,6 +11,7 @@ mod tests;
 mod utf16;
 mod utf32;
 mod utf8;
+mod utf8_reading;
 mod utf8_spelling;
 mod wide;
 mod wide16;

@@ -7,148 +7,13 @@ ghost use Rattle.cv_base.specs.Spelled.{IsSpelledAt};
 ghost use Rattle.cv_utf.specs.Utf8.{utf8_bytes};
 ghost use Rattle.cv_utf.specs.Utf8Spelled.{utf8_short};
 
+use crate::utf8_reading::{inner_at, last_at, read_many};
 use crate::words::{Words, write_words};
 use cv_base::{MANY, Scalar, Spelled, Spelling};
 use std::simd::prelude::*;
 
 /// The spelling of characters in UTF-8 (Unicode 3.9, Table 3-6).
 pub(crate) struct Utf8Spelling;
-
-/// The character of two bytes.
-#[inline(always)]
-fn two_at(input: &[u8], at: usize) -> Option<(Scalar, usize)>
-    requires within { at + 2 ≤ length input.now }
-    ensures { IfSome result (λ read. IsSpelledAt utf8_bytes input.now at read.0 read.1) }
-{
-    let first = input[at] as u32;
-    if first < 0xc2 || first > 0xdf {
-        return None;
-    }
-    let second = input[at + 1] as u32;
-    if second / 64 != 2 {
-        return None;
-    }
-    let number = (first - 0xc0) * 64 + (second - 0x80);
-    Some((Scalar::known(number), 2))
-}
-
-/// The character of three bytes, of which the first is E0 at least.
-#[inline(always)]
-fn three_at(input: &[u8], at: usize) -> Option<(Scalar, usize)>
-    requires within { at + 3 ≤ length input.now }
-    requires first { 0xe0 ≤ get_or input.now at 0 }
-    requires last { get_or input.now at 0 ≤ 0xef }
-    ensures { IfSome result (λ read. IsSpelledAt utf8_bytes input.now at read.0 read.1) }
-{
-    let first = input[at] as u32;
-    let second = input[at + 1] as u32;
-    let third = input[at + 2] as u32;
-    if (second / 64) * 4 + third / 64 != 10 {
-        return None;
-    }
-    let number = (first - 0xe0) * 4096 + (second - 0x80) * 64 + (third - 0x80);
-    if number < 0x800 || number / 0x800 == 27 {
-        return None;
-    }
-    Some((Scalar::known(number), 3))
-}
-
-/// The character of four bytes, of which the first is F0 at least.
-#[inline(always)]
-fn four_at(input: &[u8], at: usize) -> Option<(Scalar, usize)>
-    requires within { at + 4 ≤ length input.now }
-    requires first { 0xf0 ≤ get_or input.now at 0 }
-    ensures { IfSome result (λ read. IsSpelledAt utf8_bytes input.now at read.0 read.1) }
-{
-    let first = input[at] as u32;
-    let second = input[at + 1] as u32;
-    let third = input[at + 2] as u32;
-    let fourth = input[at + 3] as u32;
-    if (second / 64) * 16 + (third / 64) * 4 + fourth / 64 != 42 {
-        return None;
-    }
-    let tails = (second - 0x80) * 4096 + (third - 0x80) * 64 + (fourth - 0x80);
-    let number = (first - 0xf0) * 262144 + tails;
-    if number < 0x1_0000 || number >= 0x11_0000 {
-        return None;
-    }
-    Some((Scalar::known(number), 4))
-}
-
-/// The character that stands where four bytes are left at least.
-#[inline(always)]
-fn inner_at(input: &[u8], at: usize) -> Option<(Scalar, usize)>
-    requires { at + 4 ≤ length input.now }
-    ensures { IfSome result (λ read. IsSpelledAt utf8_bytes input.now at read.0 read.1) }
-{
-    let first = input[at];
-    if first < 0x80 {
-        return Some((Scalar::known(first as u32), 1));
-    }
-    if first < 0xe0 {
-        return two_at(input, at);
-    }
-    if first < 0xf0 {
-        return three_at(input, at);
-    }
-    four_at(input, at)
-}
-
-/// The character that stands among the last bytes.
-#[inline(never)]
-fn last_at(input: &[u8], at: usize) -> Option<(Scalar, usize)>
-    requires { at ≤ length input.now }
-    ensures { IfSome result (λ read. IsSpelledAt utf8_bytes input.now at read.0 read.1) }
-{
-    let left = input.len() - at;
-    if left == 0 {
-        return None;
-    }
-    let first = input[at];
-    if first < 0x80 {
-        return Some((Scalar::known(first as u32), 1));
-    }
-    if first < 0xe0 && left >= 2 {
-        return two_at(input, at);
-    }
-    if first >= 0xe0 && first < 0xf0 && left >= 3 {
-        return three_at(input, at);
-    }
-    if first >= 0xf0 && left >= 4 {
-        return four_at(input, at);
-    }
-    None
-}
-
-/// How many of sixteen bytes come before the first that is not ASCII.
-#[inline(always)]
-fn ascii_front(input: &[u8], at: usize) -> usize
-    requires { at + 16 ≤ length input.now }
-    ensures most { result ≤ 16 }
-    ensures ascii { (k : ℕ) → k < result → get_or input.now (at + k) 0 < 128 }
-{
-    let lanes = u8x16::from_slice(&input[at..]);
-    let others = lanes.simd_ge(u8x16::splat(128)).to_bitmask();
-    if others == 0 {
-        MANY
-    } else {
-        others.trailing_zeros() as usize
-    }
-}
-
-/// Puts sixteen bytes into a buffer, each as the character of its number. All are read before one is put, so that they are put at once.
-#[inline(always)]
-fn put_bytes(input: &[u8], at: usize, buffer: &mut [Scalar], n: usize)
-    requires within { at + 16 ≤ length input.now }
-    requires room { n + 16 ≤ length buffer.old }
-    ensures stand { take (n + 16) buffer.new ≡ take n buffer.old ++ take 16 (drop at input.now) }
-    ensures size { length buffer.new ≡ length buffer.old }
-{
-    let block = u8x16::from_slice(&input[at..]).to_array();
-    for lane in 0..MANY {
-        buffer[n + lane] = Scalar::known(block[lane] as u32);
-    }
-}
 
 /// The spelling of a character, as a number whose lowest byte is the first. What is behind the spelling may be anything.
 /// The bits of four bytes are spread once, and a shorter spelling has the last of them; which it is takes no branch.
@@ -279,18 +144,7 @@ impl Spelling for Utf8Spelling {
 
     #[inline(always)]
     fn read_many(input: &[u8], at: usize, buffer: &mut [Scalar], n: usize) -> Spelled {
-        if input.len() - at < MANY {
-            return Spelled { n: 0, used: 0 };
-        }
-        let front = ascii_front(input, at);
-        if front == 0 {
-            return Spelled { n: 0, used: 0 };
-        }
-        put_bytes(input, at, buffer, n);
-        Spelled {
-            n: front,
-            used: front,
-        }
+        read_many(input, at, buffer, n)
     }
 
     #[inline(always)]

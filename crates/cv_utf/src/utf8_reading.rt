@@ -238,6 +238,16 @@ fn read_pairs(input: &[u8], at: usize, buffer: &mut [Scalar], n: usize) -> Spell
     }
 }
 
+/// Whether two characters of two bytes may stand here, so that it is worth while to read eight.
+#[inline(always)]
+fn begins_pairs(input: &[u8], at: usize) -> bool
+    requires { at + 16 ≤ length input.now }
+{
+    let first = input[at] / 32;
+    let next = input[at + 2] / 32;
+    first == 6 && next == 6
+}
+
 /// Reads the characters of ASCII that stand next, and those of two bytes behind them. Which of sixteen bytes they are takes no branch.
 #[inline(always)]
 pub(crate) fn read_many(input: &[u8], at: usize, buffer: &mut [Scalar], n: usize) -> Spelled
@@ -251,7 +261,7 @@ pub(crate) fn read_many(input: &[u8], at: usize, buffer: &mut [Scalar], n: usize
     }
     let ascii = read_ascii(input, at, buffer, n);
     let place = at + ascii.used;
-    if ascii.n > PAIRS || input.len() - place < MANY {
+    if ascii.n > PAIRS || input.len() - place < MANY || !begins_pairs(input, place) {
         return ascii;
     }
     let pairs = read_pairs(input, place, buffer, n + ascii.n);

@@ -131,11 +131,11 @@ put_more form target text before at n end c now after fits e is p q =
     let units : front ++ unit_of target c ≡ take at before ++ units_of target (characters ++ c ∷ []) = append_assoc (take at before) (units_of target characters) (unit_of target c) ∙ ap (λ (x : List ℕ). take at before ++ x) (sym (units_of-more target characters c)) in
     wrote ∙ rw (units, places, is) refl
 
--- a run that was counted in the room's units fits in the room
-pub run_fits : (form : AsciiForm) (n room : ℕ) → n ≤ room / unit_size form → unit_size form * n ≤ room
-run_fits form n room h =
-    let m : unit_size form * n ≤ unit_size form * (room / unit_size form) = mul-le-mul_left (unit_size form) h in
-    omega (arith, m, mul-div-le room (unit_size form))
+-- a run of no more units than fit in the room fits
+pub run_fits : (form : AsciiForm) (n most room : ℕ) → n ≤ most → unit_size form * most ≤ room → unit_size form * n ≤ room
+run_fits form n most room h e =
+    let m : unit_size form * n ≤ unit_size form * most = mul-le-mul_left (unit_size form) h in
+    omega (arith, m, e)
 
 -- bytes of ASCII are a run
 pub bytes_run : (text : List ℕ) (n : ℕ) → ((k : ℕ) → k < n → get_or text k 0 < 128) → IsAsciiRun Byte text n

@@ -202,3 +202,15 @@ pub(crate) fn unit_bytes(form: AsciiForm) -> usize
         AsciiForm::FourBig | AsciiForm::FourLittle => 4,
     }
 }
+
+/// How many units of a form fit in a room.
+#[inline(always)]
+pub(crate) fn units_in(form: AsciiForm, room: usize) -> usize
+    ensures { unit_size form * result ≤ room }
+{
+    match form {
+        AsciiForm::Byte => room,
+        AsciiForm::TwoBig | AsciiForm::TwoLittle => room / 2,
+        AsciiForm::FourBig | AsciiForm::FourLittle => room / 4,
+    }
+}

@@ -4,7 +4,7 @@ ghost use Rattle.cv_base.specs.Ascii.{ReadsAscii, WritesAscii};
 ghost use Rattle.cv_pivot.specs.Conversions.{Converts};
 ghost use Rattle.cv_pivot.specs.Steps.{TakesOrStops, StridesOrStops};
 
-use crate::ascii::{ascii_run, unit_bytes, write_run};
+use crate::ascii::{ascii_run, unit_bytes, units_in, write_run};
 use crate::outcome::{Outcome, States, Stop};
 use crate::step::Step;
 use cv_base::{AsciiForm, BlockCodec, Codec, Item, Placed, Scalar, put_or_substitute};
@@ -122,7 +122,7 @@ fn step<F: BlockCodec, T: BlockCodec>(
         return Step::Stopped(Stop::Done);
     }
     if let Some((form, target)) = ascii_forms(from, to, states) {
-        let n = ascii_run(form, rest, (out.len() - at) / unit_bytes(target));
+        let n = ascii_run(form, rest, units_in(target, out.len() - at));
         if n > 0 {
             write_run(form, target, rest, n, out, at);
             return Step::Took {

@@ -1,5 +1,5 @@
 //! Reading UTF-8.
-ghost use Rattle.std.specs.Prelude.{◌≡◌, ◌+◌, ◌*◌, ◌≤◌, ◌<◌, ℕ, ◌++◌, IfSome, length, take, drop, get_or, cond, nat_eq};
+ghost use Rattle.std.specs.Prelude.{◌≡◌, ◌+◌, ◌*◌, ◌≤◌, ◌<◌, ℕ, ◌++◌, IfSome, length, take, drop, get_or, cond, nat_eq, IsTrue};
 ghost use Rattle.std.specs.Int.Count.{count_trailing_zeros};
 ghost use Rattle.cv_base.specs.Spelled.{IsReadSpelled, IsSpelledAt};
 ghost use Rattle.cv_utf.specs.Utf8.{utf8_bytes};
@@ -204,16 +204,16 @@ fn put_pairs(input: &[u8], at: usize, buffer: &mut [Scalar], n: usize)
     }
 }
 
-/// Reads the characters of ASCII at the front of sixteen bytes.
+/// Puts sixteen bytes into a buffer, of which the first are ASCII, and answers that they were read.
 #[inline(always)]
-fn read_ascii(input: &[u8], at: usize, buffer: &mut [Scalar], n: usize) -> Spelled
+fn read_ascii(input: &[u8], at: usize, front: usize, buffer: &mut [Scalar], n: usize) -> Spelled
     requires within { at + 16 ≤ length input.now }
     requires room { n + 16 ≤ length buffer.old }
-    ensures many { result.n ≤ 16 }
-    ensures same { result.used ≡ result.n }
+    requires most { front ≤ 16 }
+    requires ascii { (k : ℕ) → k < front → get_or input.now (at + k) 0 < 128 }
+    ensures is { result ≡ record { n = front; used = front } }
     ensures read { IsReadSpelled utf8_bytes input.now at buffer.old n result buffer.new }
 {
-    let front = ascii_front(input, at);
     put_bytes(input, at, buffer, n);
     Spelled {
         n: front,
@@ -238,7 +238,16 @@ fn read_pairs(input: &[u8], at: usize, buffer: &mut [Scalar], n: usize) -> Spell
     }
 }
 
-/// Reads the characters of ASCII that stand next, and those of two bytes behind them. Which of sixteen bytes they are takes no branch.
+/// Whether sixteen bytes are left at a place and the first may be that of a character of two bytes.
+#[inline(always)]
+fn pairs_may_stand(input: &[u8], at: usize) -> bool
+    requires { at ≤ length input.now }
+    ensures { IsTrue result → at + 16 ≤ length input.now }
+{
+    input.len() - at >= MANY && input[at] / 32 == 6
+}
+
+/// Reads the characters of ASCII that stand next, and those of two bytes behind them. How many they are takes no branch.
 #[inline(always)]
 pub(crate) fn read_many(input: &[u8], at: usize, buffer: &mut [Scalar], n: usize) -> Spelled
     requires within { at ≤ length input.now }
@@ -249,14 +258,17 @@ pub(crate) fn read_many(input: &[u8], at: usize, buffer: &mut [Scalar], n: usize
     if input.len() - at < MANY {
         return Spelled { n: 0, used: 0 };
     }
-    let ascii = read_ascii(input, at, buffer, n);
-    let place = at + ascii.used;
-    if ascii.n > PAIRS || input.len() - place < MANY {
-        return ascii;
+    let front = ascii_front(input, at);
+    if front <= PAIRS && pairs_may_stand(input, at + front) {
+        let ascii = read_ascii(input, at, front, buffer, n);
+        let pairs = read_pairs(input, at + front, buffer, n + front);
+        return Spelled {
+            n: ascii.n + pairs.n,
+            used: ascii.used + pairs.used,
+        };
     }
-    let pairs = read_pairs(input, place, buffer, n + ascii.n);
-    Spelled {
-        n: ascii.n + pairs.n,
-        used: ascii.used + pairs.used,
+    if front == 0 {
+        return Spelled { n: 0, used: 0 };
     }
+    read_ascii(input, at, front, buffer, n)
 }

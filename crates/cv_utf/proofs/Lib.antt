@@ -18,6 +18,6 @@ pub mod Spelt
 pub mod ReadBacks
 pub mod Utf8ReadBack
 pub mod Utf8Lanes
-pub mod Utf8Pairs
+pub mod Utf8Short
 pub mod Utf8Spelled
 pub mod WordRuns

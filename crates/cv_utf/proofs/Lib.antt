@@ -19,7 +19,7 @@ pub mod Spelt
 pub mod ReadBacks
 pub mod Utf8ReadBack
 pub mod Utf8Lanes
-pub mod Utf8Pairs
+pub mod Utf8Short
 pub mod Utf8Spelled
 pub mod WordRuns
 pub mod Utf16Lanes

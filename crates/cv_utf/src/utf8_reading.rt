@@ -1,15 +1,13 @@
 //! Reading UTF-8.
-ghost use Rattle.std.specs.Prelude.{◌≡◌, ◌+◌, ◌*◌, ◌≤◌, ◌<◌, ℕ, ◌++◌, IfSome, length, take, drop, get_or, cond, nat_eq};
+ghost use Rattle.std.specs.Prelude.{◌≡◌, ◌+◌, ◌≤◌, ◌<◌, ℕ, ◌++◌, IfSome, length, take, drop, get_or, cond, nat_eq, IsTrue, map, Bool, false};
 ghost use Rattle.std.specs.Int.Count.{count_trailing_zeros};
 ghost use Rattle.cv_base.specs.Spelled.{IsReadSpelled, IsSpelledAt};
 ghost use Rattle.cv_utf.specs.Utf8.{utf8_bytes};
-ghost use Rattle.cv_utf.specs.Utf8Pairs.{IsPairAt, pair_value};
+ghost use Rattle.std.specs.Simd.Lanes.{mask_l};
+ghost use Rattle.cv_utf.specs.Utf8Short.{is_among, is_behind, IsShortAt, short_value, left_over};
 
 use cv_base::{MANY, Scalar, Spelled};
 use std::simd::prelude::*;
-
-/// How many characters of two bytes are read at once.
-const PAIRS: usize = 8;
 
 /// The character of two bytes.
 #[inline(always)]
@@ -155,53 +153,86 @@ fn put_bytes(input: &[u8], at: usize, buffer: &mut [Scalar], n: usize)
     }
 }
 
-/// The least bytes of eight characters of two bytes.
-const LEAST: [u8; MANY] = [
-    0xc2, 0x80, 0xc2, 0x80, 0xc2, 0x80, 0xc2, 0x80, 0xc2, 0x80, 0xc2, 0x80, 0xc2, 0x80, 0xc2, 0x80,
-];
-
-/// How far above the least byte the greatest is.
-const SPREAD: [u8; MANY] = [
-    0x1d, 0x3f, 0x1d, 0x3f, 0x1d, 0x3f, 0x1d, 0x3f, 0x1d, 0x3f, 0x1d, 0x3f, 0x1d, 0x3f, 0x1d, 0x3f,
-];
-
-/// How many characters of two bytes stand in sixteen bytes, before the first byte that is none of theirs.
+/// Which of sixteen bytes are among the `many` from `least` on, as bits.
 #[inline(always)]
-fn pairs_front(input: &[u8], at: usize) -> usize
-    requires { at + 16 ≤ length input.now }
-    ensures most { result ≤ 8 }
-    ensures pairs { (k : ℕ) → k < result → IsPairAt input.now (at + 2 * k) }
+fn among(bytes: u8x16, least: u8, many: u8) -> u64
+    ensures { result ≡ mask_l (map (is_among least many) bytes) }
 {
-    let lanes = u8x16::from_slice(&input[at..]) - u8x16::from_array(LEAST);
-    let others = lanes.simd_gt(u8x16::from_array(SPREAD)).to_bitmask();
-    lowest(others) / 2
+    (bytes - u8x16::splat(least))
+        .simd_lt(u8x16::splat(many))
+        .to_bitmask()
 }
 
-/// The numbers of eight characters of two bytes. Where other bytes stand, they are some numbers below 2048.
+/// Whether sixteen bytes are those of characters of one and of two bytes. The last may be the first of two.
 #[inline(always)]
-fn pair_values(input: &[u8], at: usize) -> [u16; PAIRS]
-    requires { at + 16 ≤ length input.now }
-    ensures { (k : ℕ) → k < 8 → get_or result k 0 ≡ pair_value input.now (at + 2 * k) }
+fn are_short(input: &[u8], at: usize) -> bool
+    requires { at + 17 ≤ length input.now }
+    ensures { IsTrue result → (k : ℕ) → k < 16 → IsShortAt input.now (at + k) }
 {
-    let pairs = u16x8::from_le_bytes(u8x16::from_slice(&input[at..]));
-    let first = pairs % u16x8::splat(32) * u16x8::splat(64);
-    let second = pairs / u16x8::splat(256) % u16x8::splat(64);
-    (first + second).to_array()
+    let bytes = u8x16::from_slice(&input[at..]);
+    let behind = u8x16::from_slice(&input[at + 1..]);
+    let firsts = among(bytes, 0xc2, 0x1e);
+    let high = among(bytes, 0xc0, 0x40);
+    let seconds = among(behind, 0x80, 0x40);
+    firsts == high && firsts == seconds
 }
 
-/// Puts eight characters of two bytes into a buffer. Where other bytes stand, they are any characters.
+/// The numbers of the characters that begin at sixteen places, if they have one or two bytes.
 #[inline(always)]
-fn put_pairs(input: &[u8], at: usize, buffer: &mut [Scalar], n: usize)
-    requires within { at + 16 ≤ length input.now }
-    requires room { n + 8 ≤ length buffer.old }
-    ensures before { take n buffer.new ≡ take n buffer.old }
-    ensures lanes { (k : ℕ) → k < 8 → get_or buffer.new (n + k) 0 ≡ pair_value input.now (at + 2 * k) }
-    ensures size { length buffer.new ≡ length buffer.old }
+fn short_values(input: &[u8], at: usize) -> [u16; MANY]
+    requires { at + 17 ≤ length input.now }
+    ensures { (k : ℕ) → k < 16 → get_or result k 0 ≡ short_value input.now (at + k) }
 {
-    let values = pair_values(input, at);
-    for lane in 0..PAIRS {
-        buffer[n + lane] = Scalar::known(values[lane] as u32);
+    let bytes = u8x16::from_slice(&input[at..]).cast::<u16>();
+    let behind = u8x16::from_slice(&input[at + 1..]).cast::<u16>();
+    let of_first = bytes % u16x16::splat(32) * u16x16::splat(64);
+    let two = of_first + behind % u16x16::splat(64);
+    bytes
+        .simd_lt(u16x16::splat(0xc0))
+        .select(bytes, two)
+        .to_array()
+}
+
+/// For each of sixteen bytes how many characters begin there: none where it is one behind a first, and else one.
+#[inline(always)]
+fn beginnings(input: &[u8], at: usize) -> [u8; MANY]
+    requires { at + 16 ≤ length input.now }
+    ensures { (k : ℕ) → k < 16 → get_or result k 0 ≡ cond (is_behind (get_or input.now (at + k) 0)) 0 1 }
+{
+    let bytes = u8x16::from_slice(&input[at..]) - u8x16::splat(0x80);
+    bytes
+        .simd_lt(u8x16::splat(0x40))
+        .select(u8x16::splat(0), u8x16::splat(1))
+        .to_array()
+}
+
+/// Puts the characters of sixteen bytes into a buffer, and answers how many they are. At each byte a character is put,
+/// behind those that began before it, so that none of this takes a branch.
+#[inline(always)]
+fn put_short(input: &[u8], at: usize, buffer: &mut [Scalar], n: usize) -> usize
+    requires within { at + 17 ≤ length input.now }
+    requires room { n + 16 ≤ length buffer.old }
+    requires short { (k : ℕ) → k < 16 → IsShortAt input.now (at + k) }
+    requires begins { is_behind (get_or input.now at 0) ≡ false }
+    ensures many { result ≤ 16 }
+    ensures read { IsReadSpelled utf8_bytes input.now at buffer.old n (record { n = result; used = 16 + left_over input.now (at + 16) }) buffer.new }
+{
+    let values = short_values(input, at);
+    let beginnings = beginnings(input, at);
+    let mut more = 0;
+    for lane in 0..MANY {
+        buffer[n + more] = Scalar::known(values[lane] as u32);
+        more += beginnings[lane] as usize;
     }
+    more
+}
+
+/// Whether the byte is one behind a first.
+#[inline(always)]
+fn is_behind(byte: u8) -> bool
+    ensures { result ≡ is_behind byte }
+{
+    byte / 64 == 2
 }
 
 /// Reads the characters of ASCII at the front of sixteen bytes.
@@ -210,10 +241,12 @@ fn read_ascii(input: &[u8], at: usize, buffer: &mut [Scalar], n: usize) -> Spell
     requires within { at + 16 ≤ length input.now }
     requires room { n + 16 ≤ length buffer.old }
     ensures many { result.n ≤ 16 }
-    ensures same { result.used ≡ result.n }
     ensures read { IsReadSpelled utf8_bytes input.now at buffer.old n result buffer.new }
 {
     let front = ascii_front(input, at);
+    if front == 0 {
+        return Spelled { n: 0, used: 0 };
+    }
     put_bytes(input, at, buffer, n);
     Spelled {
         n: front,
@@ -221,34 +254,7 @@ fn read_ascii(input: &[u8], at: usize, buffer: &mut [Scalar], n: usize) -> Spell
     }
 }
 
-/// Reads the characters of two bytes at the front of sixteen bytes.
-#[inline(always)]
-fn read_pairs(input: &[u8], at: usize, buffer: &mut [Scalar], n: usize) -> Spelled
-    requires within { at + 16 ≤ length input.now }
-    requires room { n + 8 ≤ length buffer.old }
-    ensures many { result.n ≤ 8 }
-    ensures few { result.used ≤ 16 }
-    ensures read { IsReadSpelled utf8_bytes input.now at buffer.old n result buffer.new }
-{
-    let front = pairs_front(input, at);
-    put_pairs(input, at, buffer, n);
-    Spelled {
-        n: front,
-        used: 2 * front,
-    }
-}
-
-/// Whether two characters of two bytes may stand here, so that it is worth while to read eight.
-#[inline(always)]
-fn begins_pairs(input: &[u8], at: usize) -> bool
-    requires { at + 16 ≤ length input.now }
-{
-    let first = input[at] / 32;
-    let next = input[at + 2] / 32;
-    first == 6 && next == 6
-}
-
-/// Reads the characters of ASCII that stand next, and those of two bytes behind them. Which of sixteen bytes they are takes no branch.
+/// Reads the characters of sixteen bytes, if they have one or two bytes each, and else those of ASCII at the front.
 #[inline(always)]
 pub(crate) fn read_many(input: &[u8], at: usize, buffer: &mut [Scalar], n: usize) -> Spelled
     requires within { at ≤ length input.now }
@@ -256,17 +262,15 @@ pub(crate) fn read_many(input: &[u8], at: usize, buffer: &mut [Scalar], n: usize
     ensures many { result.n ≤ 16 }
     ensures read { IsReadSpelled utf8_bytes input.now at buffer.old n result buffer.new }
 {
-    if input.len() - at < MANY {
+    if input.len() - at < MANY + 1 {
         return Spelled { n: 0, used: 0 };
     }
-    let ascii = read_ascii(input, at, buffer, n);
-    let place = at + ascii.used;
-    if ascii.n > PAIRS || input.len() - place < MANY || !begins_pairs(input, place) {
-        return ascii;
+    if is_behind(input[at]) || !are_short(input, at) {
+        return read_ascii(input, at, buffer, n);
     }
-    let pairs = read_pairs(input, place, buffer, n + ascii.n);
+    let more = put_short(input, at, buffer, n);
     Spelled {
-        n: ascii.n + pairs.n,
-        used: ascii.used + pairs.used,
+        n: more,
+        used: MANY + is_behind(input[at + MANY]) as usize,
     }
 }

@@ -36,7 +36,7 @@ fn read_few<S: Spelling>(
     Spelled { n: more, used }
 }
 
-/// Reads some characters into a buffer, behind its first `n`: many at once, and where they are fewer than many, a few behind them.
+/// Reads some characters into a buffer, behind its first `n`: many at once, or else a few one by one.
 #[inline(always)]
 fn read_some<S: Spelling>(input: &[u8], at: usize, buffer: &mut [Scalar], n: usize) -> Spelled
     requires within { at ≤ length input.now }
@@ -48,7 +48,7 @@ fn read_some<S: Spelling>(input: &[u8], at: usize, buffer: &mut [Scalar], n: usi
         return read_few::<S>(input, at, buffer, n, room);
     }
     let many = S::read_many(input, at, buffer, n);
-    if many.n == MANY || many.n > 0 && S::MANY_SIZE == 0 {
+    if many.n > 0 {
         return many;
     }
     let few = read_few::<S>(input, at + many.used, buffer, n + many.n, MANY - many.n);

@@ -193,46 +193,39 @@ fn short_values(input: &[u8], at: usize) -> [u16; MANY]
         .to_array()
 }
 
-/// For each of sixteen bytes how many characters begin there: none where it is one behind a first, and else one.
-#[inline(always)]
-fn beginnings(input: &[u8], at: usize) -> [u8; MANY]
-    requires { at + 16 ≤ length input.now }
-    ensures { (k : ℕ) → k < 16 → get_or result k 0 ≡ cond (is_behind (get_or input.now (at + k) 0)) 0 1 }
-{
-    let bytes = u8x16::from_slice(&input[at..]) - u8x16::splat(0x80);
-    bytes
-        .simd_lt(u8x16::splat(0x40))
-        .select(u8x16::splat(0), u8x16::splat(1))
-        .to_array()
-}
-
-/// Puts the characters of sixteen bytes into a buffer, and answers how many they are. At each byte a character is put,
-/// behind those that began before it, so that none of this takes a branch.
-#[inline(always)]
-fn put_short(input: &[u8], at: usize, buffer: &mut [Scalar], n: usize) -> usize
-    requires within { at + 17 ≤ length input.now }
-    requires room { n + 16 ≤ length buffer.old }
-    requires short { (k : ℕ) → k < 16 → IsShortAt input.now (at + k) }
-    requires begins { is_behind (get_or input.now at 0) ≡ false }
-    ensures many { result ≤ 16 }
-    ensures read { IsReadSpelled utf8_bytes input.now at buffer.old n (record { n = result; used = 16 + left_over input.now (at + 16) }) buffer.new }
-{
-    let values = short_values(input, at);
-    let beginnings = beginnings(input, at);
-    let mut more = 0;
-    for lane in 0..MANY {
-        buffer[n + more] = Scalar::known(values[lane] as u32);
-        more += beginnings[lane] as usize;
-    }
-    more
-}
-
 /// Whether the byte is one behind a first.
 #[inline(always)]
 fn is_behind(byte: u8) -> bool
     ensures { result ≡ is_behind byte }
 {
     byte / 64 == 2
+}
+
+/// Puts the characters of sixteen bytes into a buffer, and answers how many they are. At each byte a character is put,
+/// behind those that began before it, so that none of this takes a branch. The values come by reference and from a call,
+/// so that each is read from memory; LLVM would take them out of vectors one by one.
+#[inline(never)]
+fn put_short(
+    input: &[u8],
+    at: usize,
+    values: &[u16; MANY],
+    buffer: &mut [Scalar],
+    n: usize,
+) -> usize
+    requires within { at + 17 ≤ length input.now }
+    requires room { n + 16 ≤ length buffer.old }
+    requires short { (k : ℕ) → k < 16 → IsShortAt input.now (at + k) }
+    requires begins { is_behind (get_or input.now at 0) ≡ false }
+    requires values { (k : ℕ) → k < 16 → get_or values.now k 0 ≡ short_value input.now (at + k) }
+    ensures many { result ≤ 16 }
+    ensures read { IsReadSpelled utf8_bytes input.now at buffer.old n (record { n = result; used = 16 + left_over input.now (at + 16) }) buffer.new }
+{
+    let mut more = 0;
+    for lane in 0..MANY {
+        buffer[n + more] = Scalar::known(values[lane] as u32);
+        more += !is_behind(input[at + lane]) as usize;
+    }
+    more
 }
 
 /// Reads the characters of ASCII at the front of sixteen bytes.
@@ -268,7 +261,8 @@ pub(crate) fn read_many(input: &[u8], at: usize, buffer: &mut [Scalar], n: usize
     if is_behind(input[at]) || !are_short(input, at) {
         return read_ascii(input, at, buffer, n);
     }
-    let more = put_short(input, at, buffer, n);
+    let values = short_values(input, at);
+    let more = put_short(input, at, &values, buffer, n);
     Spelled {
         n: more,
         used: MANY + is_behind(input[at + MANY]) as usize,

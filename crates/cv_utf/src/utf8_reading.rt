@@ -1,9 +1,9 @@
 //! Reading UTF-8.
-ghost use Rattle.std.specs.Prelude.{◌≡◌, ◌+◌, ◌≤◌, ◌<◌, ℕ, ◌++◌, IfSome, length, take, drop, get_or, cond, nat_eq, IsTrue, map, Bool, false};
+ghost use Rattle.std.specs.Prelude.{◌≡◌, ◌+◌, ◌≤◌, ◌<◌, ℕ, ◌++◌, IfSome, length, take, drop, get_or, cond, nat_eq, IsTrue, map, false};
 ghost use Rattle.std.specs.Int.Count.{count_trailing_zeros};
+ghost use Rattle.std.specs.Simd.Lanes.{mask_l};
 ghost use Rattle.cv_base.specs.Spelled.{IsReadSpelled, IsSpelledAt};
 ghost use Rattle.cv_utf.specs.Utf8.{utf8_bytes};
-ghost use Rattle.std.specs.Simd.Lanes.{mask_l};
 ghost use Rattle.cv_utf.specs.Utf8Short.{is_among, is_behind, IsShortAt, short_value, left_over};
 
 use cv_base::{MANY, Scalar, Spelled};
@@ -201,9 +201,9 @@ fn is_behind(byte: u8) -> bool
     byte / 64 == 2
 }
 
-/// Puts the characters of sixteen bytes into a buffer, and answers how many they are. At each byte a character is put,
-/// behind those that began before it, so that none of this takes a branch. The values come by reference and from a call,
-/// so that each is read from memory; LLVM would take them out of vectors one by one.
+/// Puts the characters of sixteen bytes into a buffer, and answers how many they are. At every byte the character that
+/// would begin there is put behind those that began before, and where none begins the next is put over it, so that none
+/// of this takes a branch. It is a call, so that the values are read from memory; LLVM would take each out of a vector.
 #[inline(never)]
 fn put_short(
     input: &[u8],
@@ -258,7 +258,12 @@ pub(crate) fn read_many(input: &[u8], at: usize, buffer: &mut [Scalar], n: usize
     if input.len() - at < MANY + 1 {
         return Spelled { n: 0, used: 0 };
     }
-    if is_behind(input[at]) || !are_short(input, at) {
+    // A character of three bytes or four is told by its first, which costs less.
+    let first = input[at];
+    if first >= 0xe0 || is_behind(first) {
+        return Spelled { n: 0, used: 0 };
+    }
+    if !are_short(input, at) {
         return read_ascii(input, at, buffer, n);
     }
     let values = short_values(input, at);

@@ -1,5 +1,5 @@
 -- Characters of one and of two bytes that are read at once, as vectors compute them.
-use Rattle.std.proofs.Common.{◌≡◌, ℕ, ◌+◌, ◌-◌, ◌*◌, ◌/◌, ◌%◌, ◌^◌, ◌<◌, ◌≤◌, ◌⊎◌, inl, inr, Bool, true, false, cond, Fits, List, [], ◌∷◌, length, take, drop, get_or, map, refl, sym, ◌∙◌, ap, ap₂, arith, zero, suc, w8, lit≤, slice_set}
+use Rattle.std.proofs.Common.{◌≡◌, ℕ, ◌+◌, ◌-◌, ◌*◌, ◌/◌, ◌%◌, ◌^◌, ◌<◌, ◌≤◌, ◌⊎◌, inl, inr, Bool, true, false, not, cond, Fits, List, [], ◌∷◌, length, take, drop, get_or, map, refl, sym, ◌∙◌, ap, ap₂, arith, zero, suc, w8, lit≤, slice_set}
 use Rattle.std.specs.Prelude.{replicate}
 use Rattle.std.specs.Simd.Lanes.{mask_l, top, zip2, sel_l}
 use Rattle.std.proofs.Math.Dec.{ltb}
@@ -21,7 +21,7 @@ among_is xs least many long =
     let size : length off ≡ 16 = length-zip2 (λ a b. (a + (256 - b)) % 256) xs (replicate 16 least) long ∙ long in
     bitmask_splat w8 ltb off 16 many size (lit≤ tt) ∙ ap (λ l. mask_l (map (λ a. ltb a many) l)) is ∙ ap mask_l (map-map (λ a. ltb a many) (λ a. (a + (256 - least)) % 256) xs)
 
-abbrev one_if : Bool → ℕ
+abbrev pub one_if : Bool → ℕ
 one_if b = cond b 1 0
 
 same_bit : (a b : Bool) → one_if a ≡ one_if b → a ≡ b
@@ -83,27 +83,6 @@ value_at text at k room fits h =
     values_at 16 (take 16 (drop at text)) (take 16 (drop (at + 1) text)) k (length-chunk at 16 text (omega arith)) (length-chunk (at + 1) 16 text (omega arith)) h
     ∙ ap₂ lane_value x y ∙ value_is (get_or text (at + k) 0) (get_or text (at + k + 1) 0) (fits (at + k)).fits (fits (at + k + 1)).fits
 
--- ---- where characters begin
-
-abbrev begin_all : ℕ → List ℕ → List ℕ
-begin_all n xs = sel_l (map (top 7) (zip2 (λ a b. cond (ltb a b) 255 0) (zip2 (λ a b. (a + (256 - b)) % 256) xs (replicate n 0x80)) (replicate n 0x40))) (replicate n 0) (replicate n 1)
-
-abbrev none_if : Bool → ℕ
-none_if b = cond b 0 1
-
-begin_is : (b : Bool) → none_if (top 7 (cond b 255 0)) ≡ none_if b
-begin_is true = refl
-begin_is false = refl
-
-begins_at : (n : ℕ) (xs : List ℕ) (k : ℕ) → length xs ≡ n → k < n → get_or (begin_all n xs) k 0 ≡ cond (is_behind (get_or xs k 0)) 0 1
-begins_at zero xs k e h = absurd (omega arith)
-begins_at (suc n) [] k e h = cc
-begins_at (suc n) (x ∷ xs) zero e h = begin_is (is_behind x)
-begins_at (suc n) (x ∷ xs) (suc k) e h = begins_at n xs k (omega arith) (omega arith)
-
-pub beginning_at : (text : List ℕ) (at k : ℕ) → at + 16 ≤ length text → k < 16 → get_or (begin_all 16 (take 16 (drop at text))) k 0 ≡ cond (is_behind (get_or text (at + k) 0)) 0 1
-beginning_at text at k room h = begins_at 16 (take 16 (drop at text)) k (length-chunk at 16 text room) h ∙ ap (λ x. cond (is_behind x) 0 1) (get_or-chunk at 16 text k 0 h)
-
 -- ---- a byte and the next
 
 abbrev IsBehind : ℕ → ℕ → Type 0
@@ -160,18 +139,21 @@ two_spelled text at v room p e =
 
 -- ---- a step of the loop
 
+abbrev none_if : Bool → ℕ
+none_if b = one_if (not b)
+
 -- What is written behind what was read changes nothing.
 none_more : (text : List ℕ) (at : ℕ) (before : List ℕ) (n more used : ℕ) (mid : List ℕ) (v m u : ℕ) → IsReadSpelled utf8_bytes text at before n (spelled more used) mid → m ≡ more → u ≡ used → IsReadSpelled utf8_bytes text at before n (spelled m u) (slice_set mid (n + more) v)
 none_more text at before n more used mid v m u p e f = rw (e, f) (record {
-    characters = p.characters;
-    scalars = p.scalars;
-    begins = p.begins;
-    uses = p.uses;
-    counts = p.counts;
-    stand = take-set mid (n + more) v ∙ p.stand;
-    fits = p.fits;
-    size = length-set mid (n + more) v ∙ p.size;
-  })
+  characters = p.characters;
+  scalars = p.scalars;
+  begins = p.begins;
+  uses = p.uses;
+  counts = p.counts;
+  stand = take-set mid (n + more) v ∙ p.stand;
+  fits = p.fits;
+  size = length-set mid (n + more) v ∙ p.size;
+})
 
 one_more : (text : List ℕ) (at : ℕ) (before : List ℕ) (n more used : ℕ) (mid : List ℕ) (v k m u : ℕ) → IsReadSpelled utf8_bytes text at before n (spelled more used) mid → n + more < length before → IsSpelledAt utf8_bytes text (at + used) v k → m ≡ more + 1 → u ≡ used + k
     → IsReadSpelled utf8_bytes text at before n (spelled m u) (slice_set mid (n + more) v)

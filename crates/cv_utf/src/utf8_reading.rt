@@ -1,9 +1,9 @@
 //! Reading UTF-8.
-ghost use Rattle.std.specs.Prelude.{◌≡◌, ◌+◌, ◌≤◌, ◌<◌, ℕ, ◌++◌, IfSome, length, take, drop, get_or, cond, nat_eq, IsTrue, map, Bool, false};
+ghost use Rattle.std.specs.Prelude.{◌≡◌, ◌+◌, ◌≤◌, ◌<◌, ℕ, ◌++◌, IfSome, length, take, drop, get_or, cond, nat_eq, IsTrue, map, false};
 ghost use Rattle.std.specs.Int.Count.{count_trailing_zeros};
+ghost use Rattle.std.specs.Simd.Lanes.{mask_l};
 ghost use Rattle.cv_base.specs.Spelled.{IsReadSpelled, IsSpelledAt};
 ghost use Rattle.cv_utf.specs.Utf8.{utf8_bytes};
-ghost use Rattle.std.specs.Simd.Lanes.{mask_l};
 ghost use Rattle.cv_utf.specs.Utf8Short.{is_among, is_behind, IsShortAt, short_value, left_over};
 
 use cv_base::{MANY, Scalar, Spelled};
@@ -193,46 +193,39 @@ fn short_values(input: &[u8], at: usize) -> [u16; MANY]
         .to_array()
 }
 
-/// For each of sixteen bytes how many characters begin there: none where it is one behind a first, and else one.
-#[inline(always)]
-fn beginnings(input: &[u8], at: usize) -> [u8; MANY]
-    requires { at + 16 ≤ length input.now }
-    ensures { (k : ℕ) → k < 16 → get_or result k 0 ≡ cond (is_behind (get_or input.now (at + k) 0)) 0 1 }
-{
-    let bytes = u8x16::from_slice(&input[at..]) - u8x16::splat(0x80);
-    bytes
-        .simd_lt(u8x16::splat(0x40))
-        .select(u8x16::splat(0), u8x16::splat(1))
-        .to_array()
-}
-
-/// Puts the characters of sixteen bytes into a buffer, and answers how many they are. At each byte a character is put,
-/// behind those that began before it, so that none of this takes a branch.
-#[inline(always)]
-fn put_short(input: &[u8], at: usize, buffer: &mut [Scalar], n: usize) -> usize
-    requires within { at + 17 ≤ length input.now }
-    requires room { n + 16 ≤ length buffer.old }
-    requires short { (k : ℕ) → k < 16 → IsShortAt input.now (at + k) }
-    requires begins { is_behind (get_or input.now at 0) ≡ false }
-    ensures many { result ≤ 16 }
-    ensures read { IsReadSpelled utf8_bytes input.now at buffer.old n (record { n = result; used = 16 + left_over input.now (at + 16) }) buffer.new }
-{
-    let values = short_values(input, at);
-    let beginnings = beginnings(input, at);
-    let mut more = 0;
-    for lane in 0..MANY {
-        buffer[n + more] = Scalar::known(values[lane] as u32);
-        more += beginnings[lane] as usize;
-    }
-    more
-}
-
 /// Whether the byte is one behind a first.
 #[inline(always)]
 fn is_behind(byte: u8) -> bool
     ensures { result ≡ is_behind byte }
 {
     byte / 64 == 2
+}
+
+/// Puts the characters of sixteen bytes into a buffer, and answers how many they are. At every byte the character that
+/// would begin there is put behind those that began before, and where none begins the next is put over it, so that none
+/// of this takes a branch. It is a call, so that the values are read from memory; LLVM would take each out of a vector.
+#[inline(never)]
+fn put_short(
+    input: &[u8],
+    at: usize,
+    values: &[u16; MANY],
+    buffer: &mut [Scalar],
+    n: usize,
+) -> usize
+    requires within { at + 17 ≤ length input.now }
+    requires room { n + 16 ≤ length buffer.old }
+    requires short { (k : ℕ) → k < 16 → IsShortAt input.now (at + k) }
+    requires begins { is_behind (get_or input.now at 0) ≡ false }
+    requires values { (k : ℕ) → k < 16 → get_or values.now k 0 ≡ short_value input.now (at + k) }
+    ensures many { result ≤ 16 }
+    ensures read { IsReadSpelled utf8_bytes input.now at buffer.old n (record { n = result; used = 16 + left_over input.now (at + 16) }) buffer.new }
+{
+    let mut more = 0;
+    for lane in 0..MANY {
+        buffer[n + more] = Scalar::known(values[lane] as u32);
+        more += !is_behind(input[at + lane]) as usize;
+    }
+    more
 }
 
 /// Reads the characters of ASCII at the front of sixteen bytes.
@@ -265,10 +258,16 @@ pub(crate) fn read_many(input: &[u8], at: usize, buffer: &mut [Scalar], n: usize
     if input.len() - at < MANY + 1 {
         return Spelled { n: 0, used: 0 };
     }
-    if is_behind(input[at]) || !are_short(input, at) {
+    // A character of three bytes or four is told by its first, which costs less.
+    let first = input[at];
+    if first >= 0xe0 || is_behind(first) {
+        return Spelled { n: 0, used: 0 };
+    }
+    if !are_short(input, at) {
         return read_ascii(input, at, buffer, n);
     }
-    let more = put_short(input, at, buffer, n);
+    let values = short_values(input, at);
+    let more = put_short(input, at, &values, buffer, n);
     Spelled {
         n: more,
         used: MANY + is_behind(input[at + MANY]) as usize,

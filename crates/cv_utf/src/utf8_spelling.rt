@@ -1,9 +1,8 @@
 //! UTF-8 as a spelling.
-ghost use Rattle.std.specs.Prelude.{◌≡◌, ◌+◌, ◌≤◌, ◌<◌, ℕ, ◌++◌, IsTrue, IfSome, length, take, drop, get_or};
+ghost use Rattle.std.specs.Prelude.{◌≡◌, ◌+◌, ◌≤◌, ◌<◌, ℕ, IsTrue, length, take, drop, get_or};
 ghost use Rattle.std.specs.Int.{to_le_bytes, w32};
 ghost use Rattle.cv_base.specs.Scalars.{IsScalar};
 ghost use Rattle.cv_base.specs.Items.{Begins};
-ghost use Rattle.cv_base.specs.Spelled.{IsSpelledAt};
 ghost use Rattle.cv_utf.specs.Utf8.{utf8_bytes};
 ghost use Rattle.cv_utf.specs.Utf8Spelled.{utf8_short};
 

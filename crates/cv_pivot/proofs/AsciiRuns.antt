@@ -1,6 +1,6 @@
 -- Runs of ASCII, unit by unit.
-use Rattle.std.proofs.Common.{◌≡◌, ℕ, ◌+◌, ◌-◌, ◌*◌, ◌/◌, ◌<◌, ◌≤◌, List, [], ◌∷◌, ◌++◌, length, take, drop, get_or, refl, sym, ◌∙◌, ap, subst, arith, zero, suc, length-append, length-take, append_assoc, append-nil, add-zero, take-append-drop, inl, inr}
-use Rattle.std.proofs.Math.Nat.{mul-suc, mul-zero, mul-add, mul-le-mul_left, mul-div-le}
+use Rattle.std.proofs.Common.{◌≡◌, ℕ, ◌+◌, ◌-◌, ◌*◌, ◌<◌, ◌≤◌, List, [], ◌∷◌, ◌++◌, length, take, drop, get_or, refl, sym, ◌∙◌, ap, subst, arith, zero, suc, length-append, length-take, append_assoc, append-nil, add-zero, take-append-drop, inl, inr}
+use Rattle.std.proofs.Math.Nat.{mul-suc, mul-zero, mul-add, mul-le-mul_left}
 use Rattle.std.proofs.Math.Seq.{drop-cons}
 use Rattle.std.proofs.lemmas.Bool.{cases_lt}
 use Rattle.std.proofs.lemmas.Grind.{flat_map-append}

@@ -1,4 +1,4 @@
--- Blocks: characters that are read at once, and written at once.
+-- Blocks: characters that are read at once, and written at once. They serve speed: no contract of a conversion cites them.
 use Rattle.std.specs.Prelude.{◌≡◌, ℕ, ◌+◌, ◌≤◌, ◌<◌, List, ◌++◌, take, drop, length}
 use Rattle.cv_base.specs.Items.{Taken, ItemRelation}
 use Rattle.cv_base.specs.Codecs.{Writing}

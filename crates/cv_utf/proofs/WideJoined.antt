@@ -12,7 +12,8 @@ use Rattle.cv_utf.specs.Utf16.{big_unit, little_unit, high_unit, low_unit, units
 use Rattle.cv_utf.specs.Utf16Laws.{one_unit, two_units}
 use Rattle.cv_utf.specs.Wide.{IsUnitAt, ArePaired, IsJoined, AreJoined, unless_low, without_low}
 use Rattle.cv_utf.proofs.WidePairs.{pair_stands}
-use Rattle.cv_utf.proofs.WideRuns.{flat_map-more, Begins-join}
+use Rattle.cv_base.proofs.Front.{Begins-join}
+use Rattle.cv_utf.proofs.WideRuns.{flat_map-more}
 
 -- a number more
 low_more : (numbers : List ℕ) (k : ℕ) → k < length numbers → get_or numbers k 0 / 0x400 ≡ 0x37 → without_low (take (k + 1) numbers) ≡ without_low (take k numbers)

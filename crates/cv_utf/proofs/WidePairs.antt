@@ -6,7 +6,7 @@ use Rattle.cv_base.specs.Spelled.{IsSpelledAt}
 use Rattle.cv_utf.specs.Utf16.{high_unit, low_unit, units}
 use Rattle.cv_utf.specs.Utf16Laws.{one_unit, two_units}
 use Rattle.cv_utf.specs.Wide.{IsUnitAt}
-use Rattle.cv_utf.proofs.WideRuns.{Begins-join}
+use Rattle.cv_base.proofs.Front.{Begins-join}
 
 -- their character stands there
 pub pair_stands : (unit : ℕ → List ℕ) → ((u : ℕ) → length (unit u) ≡ 2) → (text : List ℕ) (at high low c : ℕ) → IsUnitAt (units unit) 2 text at high → IsUnitAt (units unit) 2 text (at + 2) low

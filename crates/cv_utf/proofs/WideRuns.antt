@@ -5,6 +5,7 @@ use Rattle.std.proofs.Math.Seq.{take-suc}
 use Rattle.std.proofs.lemmas.List.{take_all, take_at, take_more, take_rest}
 use Rattle.std.proofs.lemmas.List.Concat.{flat_map-append}
 use Rattle.std.specs.List.{flat_map}
+use Rattle.cv_base.proofs.Front.{Begins-join}
 use Rattle.cv_base.specs.Items.{Begins}
 use Rattle.cv_base.specs.Spelled.{BytesOf, AreScalars, IsReadSpelled, IsWrittenSpelled}
 use Rattle.cv_utf.specs.Wide.{AreUnits, AreScalarsBelow, AreSingle}
@@ -12,12 +13,6 @@ use Rattle.cv_utf.specs.Wide.{AreUnits, AreScalarsBelow, AreSingle}
 -- one character more
 pub flat_map-more : (bytes_of : BytesOf) (characters : List ℕ) (c : ℕ) → flat_map bytes_of (characters ++ c ∷ []) ≡ flat_map bytes_of characters ++ bytes_of c
 flat_map-more bytes_of characters c = flat_map-append bytes_of characters (c ∷ []) ∙ ap (λ (x : List ℕ). flat_map bytes_of characters ++ x) (append-nil (bytes_of c))
-
--- what begins a text, and then what begins the rest
-pub Begins-join : (a b text : List ℕ) → Begins a text → Begins b (drop (length a) text) → Begins (a ++ b) text
-Begins-join [] b text p q = q
-Begins-join (x ∷ a) b [] p q = absurd p
-Begins-join (x ∷ a) b (t ∷ text) p q = (p.0, Begins-join a b text p.1 q)
 
 -- The bytes of the first so many numbers begin a text, and each is one unit.
 record Begun (bytes_of : BytesOf) (size : ℕ) (text numbers : List ℕ) (n : ℕ) : Type 0 where

@@ -47,7 +47,7 @@ pub(crate) fn joined(high: u32, low: u32) -> u32
 
 /// The high surrogate of a scalar from 10000 (hexadecimal) on.
 #[inline]
-pub(crate) fn high_of(value: u32) -> u32
+fn high_of(value: u32) -> u32
     requires from { 0x10000 ≤ value }
     requires to { value < 0x110000 }
     ensures value { result ≡ high_unit value }
@@ -58,7 +58,7 @@ pub(crate) fn high_of(value: u32) -> u32
 
 /// The low surrogate of a scalar from 10000 (hexadecimal) on.
 #[inline]
-pub(crate) fn low_of(value: u32) -> u32
+fn low_of(value: u32) -> u32
     requires { 0x10000 ≤ value }
     ensures value { result ≡ low_unit value }
     ensures few { result < 0xe000 }

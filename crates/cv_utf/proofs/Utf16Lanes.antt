@@ -5,7 +5,7 @@ use Rattle.std.specs.Int.{to_le_bytes, w32}
 use Rattle.cv_base.specs.Scalars.{IsScalar}
 use Rattle.cv_base.specs.Items.{Begins}
 use Rattle.cv_utf.specs.Utf16.{utf16}
-use Rattle.cv_utf.proofs.Utf8Lanes.{below, above, div_all, rem_all, mul_all, sum_all, below_all, above_all}
+use Rattle.cv_utf.proofs.Utf8Lanes.{below, div_all, rem_all, mul_all, sum_all, below_all}
 
 -- one lane
 abbrev first : ℕ → ℕ

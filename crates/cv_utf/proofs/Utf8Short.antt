@@ -1,12 +1,12 @@
 -- Characters of one and of two bytes that are read at once, as vectors compute them.
-use Rattle.std.proofs.Common.{◌≡◌, ℕ, ◌+◌, ◌-◌, ◌*◌, ◌/◌, ◌%◌, ◌^◌, ◌<◌, ◌≤◌, ◌⊎◌, inl, inr, Bool, true, false, cond, Fits, List, [], ◌∷◌, length, take, drop, get_or, map, refl, sym, ◌∙◌, ap, ap₂, arith, zero, suc, w8, lit≤, slice_set}
+use Rattle.std.proofs.Common.{◌≡◌, ℕ, ◌+◌, ◌-◌, ◌*◌, ◌/◌, ◌%◌, ◌^◌, ◌<◌, ◌≤◌, ◌⊎◌, inl, inr, Bool, true, false, cond, Fits, List, [], ◌∷◌, length, take, drop, get_or, map, refl, sym, ◌∙◌, ap, ap₂, arith, zero, suc, w8, lit≤}
 use Rattle.std.specs.Prelude.{replicate}
 use Rattle.std.specs.Simd.Lanes.{mask_l, top, zip2, sel_l}
 use mir.Val.{bool_byte}
 use Rattle.std.proofs.Math.Dec.{ltb}
 use Rattle.std.proofs.Math.Seq.{drop-cons}
 use Rattle.std.proofs.lemmas.Simd.{bitmask_splat, zip2_splat, bit_mask_l, length-chunk, get_or-chunk, length-zip2, map-map}
-use Rattle.std.proofs.lemmas.List.{get_or-map, length-set, take-set}
+use Rattle.std.proofs.lemmas.List.{get_or-map}
 use Rattle.std.proofs.lemmas.Bool.{ltb-true, ltb-false, le-ltb, lt-ltb}
 use Rattle.cv_base.specs.Spelled.{IsSpelledAt}
 use Rattle.cv_utf.specs.Utf8.{utf8_bytes}
@@ -178,9 +178,9 @@ short_begun text at used vs beginnings room fits begins e short are begun =
       begins = omega (arith, first);
       ends = sym e;
       lanes = λ k l.
-        let x = get_or text (at + k) 0 in
-        let y = get_or text (at + k + 1) 0 in
-        let place : at + (k + 1) ≡ at + k + 1 = omega arith in
-        let one : get_or beginnings k 0 ≡ none_if (is_behind x) = begun k l ∙ ap (λ b. cond (is_behind x) 0 (cond b 1 0)) (lt-ltb k 16 l) in
-        rw place (lane_of text at k (get_or vs k 0) (get_or beginnings k 0) room l (are k l) one (which x y (is_behind x) (is_behind y) (fits (at + k)).fits (fits (at + k + 1)).fits (short k l) refl refl));
+          let x = get_or text (at + k) 0 in
+          let y = get_or text (at + k + 1) 0 in
+          let place : at + (k + 1) ≡ at + k + 1 = omega arith in
+          let one : get_or beginnings k 0 ≡ none_if (is_behind x) = begun k l ∙ ap (λ b. cond (is_behind x) 0 (cond b 1 0)) (lt-ltb k 16 l) in
+          rw place (lane_of text at k (get_or vs k 0) (get_or beginnings k 0) room l (are k l) one (which x y (is_behind x) (is_behind y) (fits (at + k)).fits (fits (at + k + 1)).fits (short k l) refl refl));
     }

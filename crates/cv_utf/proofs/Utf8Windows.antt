@@ -1,5 +1,5 @@
 -- Windows of sixteen bytes of UTF-8: what each byte is, and the characters that begin there.
-use Rattle.std.proofs.Common.{◌≡◌, ℕ, ◌+◌, ◌-◌, ◌*◌, ◌/◌, ◌%◌, ◌^◌, ◌<◌, ◌≤◌, ◌⊎◌, inl, inr, Bool, true, false, cond, Fits, List, [], ◌∷◌, ◌++◌, length, take, drop, get_or, map, refl, sym, ◌∙◌, ap, ap₂, arith, zero, suc, w8, w64, lit≤, slice_set, append-nil, min, max}
+use Rattle.std.proofs.Common.{◌≡◌, ℕ, ◌+◌, ◌-◌, ◌*◌, ◌%◌, ◌^◌, ◌<◌, ◌≤◌, ◌⊎◌, inl, inr, Bool, true, false, cond, Fits, List, [], ◌∷◌, length, take, drop, get_or, map, refl, sym, ◌∙◌, ap, ap₂, arith, zero, suc, w8, w64, lit≤, slice_set, append-nil, min, max}
 use Rattle.std.specs.Prelude.{replicate}
 use Rattle.std.specs.Int.{bit_at, trailing_ones}
 use Rattle.std.specs.Int.RustNames.{bit_or}
@@ -11,13 +11,13 @@ use Rattle.std.proofs.lemmas.Nat.{and_le_l, or_lt}
 use Rattle.std.proofs.lemmas.Nat.Bits.{bit_at_and, bit_at_or, bit_at-lt, bit_at_above, bit_at_cat_high, bit_at-trailing_ones}
 use Rattle.std.proofs.lemmas.Simd.{bit_mask_l, mask_l-lt, length-chunk, get_or-chunk}
 use Rattle.std.proofs.lemmas.List.{get_or-map, length-map, length-set, take-set}
-use Rattle.std.proofs.lemmas.Bool.{ltb-true, ltb-false, le-ltb, lt-ltb}
+use Rattle.std.proofs.lemmas.Bool.{ltb-true, le-ltb, lt-ltb}
 use Rattle.cv_base.specs.Scalars.{IsScalar}
 use Rattle.cv_base.specs.Spelled.{IsSpelledAt, IsReadSpelled}
 use Rattle.cv_base.proofs.SpelledRuns.{spelled, read_one_more}
 use Rattle.cv_utf.specs.Utf8.{utf8_bytes}
 use Rattle.cv_utf.specs.Utf8Short.{is_among, is_behind}
-use Rattle.cv_utf.specs.Utf8Windows.{IsLane, AreBegun, IsOneAt, IsTailAt, IsTwoAt, IsThreeAt, AreMarks, IsFollowing, AreWhole, whole_of, whole_value}
+use Rattle.cv_utf.specs.Utf8Windows.{IsLane, AreBegun, IsOneAt, IsTwoAt, IsThreeAt, AreMarks, IsFollowing, AreWhole, whole_of, whole_value}
 use Rattle.cv_utf.proofs.Utf8Short.{two, one_spelled, two_spelled}
 
 -- ---- a step of the loop
@@ -39,15 +39,15 @@ none_read text at before n used h e =
 -- What is written behind what was read changes nothing.
 none_more : (text : List ℕ) (at : ℕ) (before : List ℕ) (n more used : ℕ) (mid : List ℕ) (v m u : ℕ) → IsReadSpelled utf8_bytes text at before n (spelled more used) mid → m ≡ more → u ≡ used → IsReadSpelled utf8_bytes text at before n (spelled m u) (slice_set mid (n + more) v)
 none_more text at before n more used mid v m u p e f = rw (e, f) (record {
-    characters = p.characters;
-    scalars = p.scalars;
-    begins = p.begins;
-    uses = p.uses;
-    counts = p.counts;
-    stand = take-set mid (n + more) v ∙ p.stand;
-    fits = p.fits;
-    size = length-set mid (n + more) v ∙ p.size;
-  })
+  characters = p.characters;
+  scalars = p.scalars;
+  begins = p.begins;
+  uses = p.uses;
+  counts = p.counts;
+  stand = take-set mid (n + more) v ∙ p.stand;
+  fits = p.fits;
+  size = length-set mid (n + more) v ∙ p.size;
+})
 
 one_more : (text : List ℕ) (at : ℕ) (before : List ℕ) (n more used : ℕ) (mid : List ℕ) (v k m u : ℕ) → IsReadSpelled utf8_bytes text at before n (spelled more used) mid → n + more < length before → IsSpelledAt utf8_bytes text (at + used) v k → m ≡ more + 1 → u ≡ used + k
     → IsReadSpelled utf8_bytes text at before n (spelled m u) (slice_set mid (n + more) v)
@@ -119,12 +119,15 @@ one_marks text at one room fits e = (among_lt text at 0 0x80 one (omega arith) e
 
 pub two_marks : (text : List ℕ) (at firsts tails : ℕ) → at + 18 ≤ length text → ((i : ℕ) → Fits w8 (get_or text i 0)) → firsts ≡ mask_l (map (is_among 0xc2 0x1e) (take 16 (drop at text))) → tails ≡ mask_l (map (is_among 0x80 0x40) (take 16 (drop (at + 1) text)))
     → AreMarks (IsTwoAt text) at (bit_and firsts tails)
-two_marks text at firsts tails room fits e f = (wider firsts tails 0 (among_lt text at 0xc2 0x1e firsts (omega arith) e), λ k l b.
-    let parts = in_both firsts tails k b in
-    let place : at + 1 + k ≡ at + k + 1 = omega arith in
-    let x = among_at text at 0xc2 0x1e firsts k (omega arith) (fits (at + k)).fits (lit≤ tt) e l parts.0 in
-    let y = rw place at (among_at text (at + 1) 0x80 0x40 tails k (omega arith) (fits (at + 1 + k)).fits (lit≤ tt) f l parts.1) in
-    (x.0, omega (arith, x.1), (y.0, omega (arith, y.1))))
+two_marks text at firsts tails room fits e f = (
+  wider firsts tails 0 (among_lt text at 0xc2 0x1e firsts (omega arith) e),
+  λ k l b.
+      let parts = in_both firsts tails k b in
+      let place : at + 1 + k ≡ at + k + 1 = omega arith in
+      let x = among_at text at 0xc2 0x1e firsts k (omega arith) (fits (at + k)).fits (lit≤ tt) e l parts.0 in
+      let y = rw place at (among_at text (at + 1) 0x80 0x40 tails k (omega arith) (fits (at + 1 + k)).fits (lit≤ tt) f l parts.1) in
+      (x.0, omega (arith, x.1), (y.0, omega (arith, y.1))),
+)
 
 -- a first byte and the next
 abbrev IsPair : ℕ → ℕ → Type 0
@@ -168,12 +171,14 @@ pub three_marks : (text : List ℕ) (at a b c d e f : ℕ) → at + 18 ≤ lengt
     → AreMarks (IsThreeAt text) at (bit_and (bit_or (bit_and (bit_or a b) c) (bit_and d e)) f)
 three_marks text at a b c d e f room fits p q r s t u =
     let high : bit_and (bit_or a b) c < 2 ^ 16 = wider (bit_or a b) c 0 (or_lt 16 a b (among_lt text at 0xe0 0x0d a (omega arith) p) (among_lt text at 0xee 0x02 b (omega arith) q)) in
-    let low : bit_and d e < 2 ^ 16 = wider d e 0 (among_lt text at 0xe1 0x0f d (omega arith) s) in
-    (wider (bit_or (bit_and (bit_or a b) c) (bit_and d e)) f 0 (or_lt 16 (bit_and (bit_or a b) c) (bit_and d e) high low), λ k l m.
-    let parts = in_both (bit_or (bit_and (bit_or a b) c) (bit_and d e)) f k m in
-    let place : at + 2 + k ≡ at + k + 2 = omega arith in
-    let z = rw place at (among_at text (at + 2) 0x80 0x40 f k (omega arith) (fits (at + 2 + k)).fits (lit≤ tt) u l parts.1) in
-    three_of text (at + k) (mark_pair text at a b c d e k room fits p q r s t l (in_either (bit_and (bit_or a b) c) (bit_and d e) k parts.0)) z)
+    let low : bit_and d e < 2 ^ 16 = wider d e 0 (among_lt text at 0xe1 0x0f d (omega arith) s) in (
+      wider (bit_or (bit_and (bit_or a b) c) (bit_and d e)) f 0 (or_lt 16 (bit_and (bit_or a b) c) (bit_and d e) high low),
+      λ k l m.
+          let parts = in_both (bit_or (bit_and (bit_or a b) c) (bit_and d e)) f k m in
+          let place : at + 2 + k ≡ at + k + 2 = omega arith in
+          let z = rw place at (among_at text (at + 2) 0x80 0x40 f k (omega arith) (fits (at + 2 + k)).fits (lit≤ tt) u l parts.1) in
+          three_of text (at + k) (mark_pair text at a b c d e k room fits p q r s t l (in_either (bit_and (bit_or a b) c) (bit_and d e) k parts.0)) z,
+    )
 
 -- ---- which bytes are of whole characters
 
@@ -536,9 +541,9 @@ whole_begun text at used vs beginnings room fits w are begun =
       begins = at_first text at used (is_behind (get_or text (at + 0) 0)) (is_behind (get_or text (at + 0 + 1) 0)) w (rw here refl) (lt_or_le 0 used);
       ends = at_last text at used (is_behind (get_or text (at + 16) 0)) (is_behind (get_or text (at + 16 + 1) 0)) w refl refl (lt_or_le 16 used) (lt_or_le 17 used);
       lanes = λ k l.
-        let place : at + (k + 1) ≡ at + k + 1 = omega arith in
-        let next : at + k + 1 + 1 ≡ at + k + 2 = omega arith in
-        rw (place, next) (lane_of text at used k (get_or vs k 0) (get_or beginnings k 0) (is_behind (get_or text (at + k) 0)) room w fits l (are k l) refl (begun k l) (lt_or_le k used));
+          let place : at + (k + 1) ≡ at + k + 1 = omega arith in
+          let next : at + k + 1 + 1 ≡ at + k + 2 = omega arith in
+          rw (place, next) (lane_of text at used k (get_or vs k 0) (get_or beginnings k 0) (is_behind (get_or text (at + k) 0)) room w fits l (are k l) refl (begun k l) (lt_or_le k used));
     }
 
 -- ---- beginnings, as vectors compute them

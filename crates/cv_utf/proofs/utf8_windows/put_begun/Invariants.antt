@@ -7,7 +7,7 @@ use Rattle.cv_utf.proofs.utf8_windows.put_begun.Given as goal
 
 abbrev pub invariant-loop-lane : goal.invariant-loop-lane
 invariant-loop-lane l = record {
-    few : l.more ≤ l.lane;
-    size : length l.buffer ≡ length l.fn.buffer;
-    read : (text : List ℕ) (at : ℕ) (p : AreBegun text at l.values l.beginnings l.used) → IsReadSpelled utf8_bytes text at l.fn.buffer l.n (spelled l.more (p.reach l.lane)) l.buffer;
-  }
+  few : l.more ≤ l.lane;
+  size : length l.buffer ≡ length l.fn.buffer;
+  read : (text : List ℕ) (at : ℕ) (p : AreBegun text at l.values l.beginnings l.used) → IsReadSpelled utf8_bytes text at l.fn.buffer l.n (spelled l.more (p.reach l.lane)) l.buffer;
+}

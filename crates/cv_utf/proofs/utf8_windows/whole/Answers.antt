@@ -1,4 +1,3 @@
-use Rattle.std.proofs.Common.{◌∙◌, arith, sym}
 use Rattle.cv_utf.proofs.Utf8Windows.{whole_of_marks, one_marks}
 use Rattle.cv_utf.proofs.utf8_windows.whole.Goals as goal
 

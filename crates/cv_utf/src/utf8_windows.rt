@@ -200,7 +200,8 @@ fn read_whole(input: &[u8], at: usize, buffer: &mut [Scalar], n: usize) -> Spell
     )
 }
 
-/// Reads the characters of up to three bytes that begin among sixteen bytes, up to one that has four.
+/// Reads the characters of up to three bytes that begin among sixteen bytes, up to one that has four. Where a longer one stands
+/// at the front, text is likely all in such, which is read faster one by one.
 #[inline(always)]
 pub(crate) fn read_many(input: &[u8], at: usize, buffer: &mut [Scalar], n: usize) -> Spelled
     requires within { at ≤ length input.now }
@@ -208,7 +209,7 @@ pub(crate) fn read_many(input: &[u8], at: usize, buffer: &mut [Scalar], n: usize
     ensures many { result.n ≤ 16 }
     ensures read { IsReadSpelled utf8_bytes input.now at buffer.old n result buffer.new }
 {
-    if input.len() - at < MANY + 2 || input[at] >= 0xf0 {
+    if input.len() - at < MANY + 2 || input[at] >= 0xe0 || input[at + 1] >= 0xf0 {
         return Spelled { n: 0, used: 0 };
     }
     if !is_behind(input[at]) && are_short(input, at) {

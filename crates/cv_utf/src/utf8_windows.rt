@@ -182,8 +182,9 @@ fn whole_values(input: &[u8], at: usize) -> [u16; MANY]
         .to_array()
 }
 
-/// Reads the whole characters of up to three bytes at the front of sixteen bytes.
-#[inline(always)]
+/// Reads the whole characters of up to three bytes at the front of sixteen bytes. It stands apart, so that the loops
+/// around it keep their registers.
+#[inline(never)]
 fn read_whole(input: &[u8], at: usize, buffer: &mut [Scalar], n: usize) -> Spelled
     requires within { at + 18 ≤ length input.now }
     requires room { n + 16 ≤ length buffer.old }

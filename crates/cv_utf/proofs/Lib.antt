@@ -20,6 +20,7 @@ pub mod ReadBacks
 pub mod Utf8ReadBack
 pub mod Utf8Lanes
 pub mod Utf8Short
+pub mod Utf8Windows
 pub mod Utf8Spelled
 pub mod WordRuns
 pub mod Utf16Lanes

@@ -1,16 +1,17 @@
 -- Characters of one and of two bytes that are read at once, as vectors compute them.
-use Rattle.std.proofs.Common.{◌≡◌, ℕ, ◌+◌, ◌-◌, ◌*◌, ◌/◌, ◌%◌, ◌^◌, ◌<◌, ◌≤◌, ◌⊎◌, inl, inr, Bool, true, false, not, cond, Fits, List, [], ◌∷◌, length, take, drop, get_or, map, refl, sym, ◌∙◌, ap, ap₂, arith, zero, suc, w8, lit≤, slice_set}
+use Rattle.std.proofs.Common.{◌≡◌, ℕ, ◌+◌, ◌-◌, ◌*◌, ◌/◌, ◌%◌, ◌^◌, ◌<◌, ◌≤◌, ◌⊎◌, inl, inr, Bool, true, false, cond, Fits, List, [], ◌∷◌, length, take, drop, get_or, map, refl, sym, ◌∙◌, ap, ap₂, arith, zero, suc, w8, lit≤}
 use Rattle.std.specs.Prelude.{replicate}
 use Rattle.std.specs.Simd.Lanes.{mask_l, top, zip2, sel_l}
+use mir.Val.{bool_byte}
 use Rattle.std.proofs.Math.Dec.{ltb}
 use Rattle.std.proofs.Math.Seq.{drop-cons}
 use Rattle.std.proofs.lemmas.Simd.{bitmask_splat, zip2_splat, bit_mask_l, length-chunk, get_or-chunk, length-zip2, map-map}
-use Rattle.std.proofs.lemmas.List.{get_or-map, length-set, take-set}
-use Rattle.std.proofs.lemmas.Bool.{ltb-true, ltb-false, le-ltb}
-use Rattle.cv_base.specs.Spelled.{IsSpelledAt, IsReadSpelled}
-use Rattle.cv_base.proofs.SpelledRuns.{spelled, read_one_more}
+use Rattle.std.proofs.lemmas.List.{get_or-map}
+use Rattle.std.proofs.lemmas.Bool.{ltb-true, ltb-false, le-ltb, lt-ltb}
+use Rattle.cv_base.specs.Spelled.{IsSpelledAt}
 use Rattle.cv_utf.specs.Utf8.{utf8_bytes}
 use Rattle.cv_utf.specs.Utf8Short.{is_among, is_behind, IsShort, IsShortAt, short_of, short_value, left_over}
+use Rattle.cv_utf.specs.Utf8Windows.{IsTwoAt, IsLane, AreBegun}
 
 -- ---- which bytes they are
 
@@ -21,7 +22,7 @@ among_is xs least many long =
     let size : length off ≡ 16 = length-zip2 (λ a b. (a + (256 - b)) % 256) xs (replicate 16 least) long ∙ long in
     bitmask_splat w8 ltb off 16 many size (lit≤ tt) ∙ ap (λ l. mask_l (map (λ a. ltb a many) l)) is ∙ ap mask_l (map-map (λ a. ltb a many) (λ a. (a + (256 - least)) % 256) xs)
 
-abbrev pub one_if : Bool → ℕ
+abbrev one_if : Bool → ℕ
 one_if b = cond b 1 0
 
 same_bit : (a b : Bool) → one_if a ≡ one_if b → a ≡ b
@@ -107,7 +108,10 @@ which x y false true h k s e f =
     let second : (y + (256 - 0x80)) % 256 < 0x40 = ltb-true _ _ f in
     inr (inr (e, f, omega arith, omega arith, omega arith, omega arith))
 
-two : (text : List ℕ) (at : ℕ) → at + 2 ≤ length text → drop at text ≡ get_or text at 0 ∷ get_or text (at + 1) 0 ∷ drop (suc (suc at)) text
+abbrev none_if : Bool → ℕ
+none_if b = cond b 0 1
+
+pub two : (text : List ℕ) (at : ℕ) → at + 2 ≤ length text → drop at text ≡ get_or text at 0 ∷ get_or text (at + 1) 0 ∷ drop (suc (suc at)) text
 two text at h =
     let first : at < length text = omega arith in
     let second : suc at < length text = omega arith in
@@ -126,65 +130,57 @@ two_value x y h = grind arith
 two_bytes : (x y : ℕ) → 0xc2 ≤ x → x ≤ 0xdf → 0x80 ≤ y → y ≤ 0xbf → utf8_bytes ((x % 32) * 64 + y % 64) ≡ x ∷ y ∷ []
 two_bytes x y h k l m = grind arith
 
-one_spelled : (text : List ℕ) (at v : ℕ) → at + 2 ≤ length text → get_or text at 0 < 128 → v ≡ short_value text at → IsSpelledAt utf8_bytes text at v 1
-one_spelled text at v room h e =
-    let is : v ≡ get_or text at 0 = e ∙ one_value (get_or text at 0) (get_or text (at + 1) 0) h in
-    rw (is, one_bytes (get_or text at 0) h, two text at room) ((omega arith, λ l. omega arith), (refl, tt), refl)
+pub one_spelled : (text : List ℕ) (at v : ℕ) → at + 2 ≤ length text → get_or text at 0 < 128 → v ≡ get_or text at 0 → IsSpelledAt utf8_bytes text at v 1
+one_spelled text at v room h is = rw (is, one_bytes (get_or text at 0) h, two text at room) ((omega arith, λ l. omega arith), (refl, tt), refl)
 
-two_spelled : (text : List ℕ) (at v : ℕ) → at + 2 ≤ length text → IsTwo (get_or text at 0) (get_or text (at + 1) 0) → v ≡ short_value text at → IsSpelledAt utf8_bytes text at v 2
-two_spelled text at v room p e =
-    let is = e ∙ two_value (get_or text at 0) (get_or text (at + 1) 0) p.2 in
-    let bytes = two_bytes (get_or text at 0) (get_or text (at + 1) 0) p.2 p.3 p.4 p.5 in
+pub two_spelled : (text : List ℕ) (at v : ℕ) → at + 2 ≤ length text → IsTwoAt text at → v ≡ (get_or text at 0 % 32) * 64 + get_or text (at + 1) 0 % 64 → IsSpelledAt utf8_bytes text at v 2
+two_spelled text at v room p is =
+    let bytes = two_bytes (get_or text at 0) (get_or text (at + 1) 0) p.0 p.1 p.2.0 p.2.1 in
     rw (is, bytes, two text at room) ((omega arith, λ l. omega arith), (refl, (refl, tt)), refl)
 
--- ---- a step of the loop
+-- ---- a lane
 
-abbrev none_if : Bool → ℕ
-none_if b = one_if (not b)
+lane_of : (text : List ℕ) (at k v s : ℕ) → at + 18 ≤ length text → k < 16 → v ≡ short_value text (at + k) → s ≡ none_if (is_behind (get_or text (at + k) 0))
+    → IsBehind (get_or text (at + k) 0) (get_or text (at + k + 1) 0) ⊎ (IsOne (get_or text (at + k) 0) (get_or text (at + k + 1) 0) ⊎ IsTwo (get_or text (at + k) 0) (get_or text (at + k + 1) 0))
+    → IsLane text at v s (k + left_over text (at + k)) (k + 1 + left_over text (at + k + 1))
+lane_of text at k v s room l e f (inl q) =
+    let now : left_over text (at + k) ≡ 1 = ap one_if q.0 in
+    let next : left_over text (at + k + 1) ≡ 0 = ap one_if q.1 in
+    inl (f ∙ ap none_if q.0, omega arith)
+lane_of text at k v s room l e f (inr (inl q)) =
+    let now : left_over text (at + k) ≡ 0 = ap one_if q.0 in
+    let next : left_over text (at + k + 1) ≡ 0 = ap one_if q.1 in
+    let place : at + (k + left_over text (at + k)) ≡ at + k = omega arith in
+    let is = e ∙ one_value (get_or text (at + k) 0) (get_or text (at + k + 1) 0) q.2 in
+    inr (f ∙ ap none_if q.0, (1, omega arith, rw place (one_spelled text (at + k) v (omega arith) q.2 is)))
+lane_of text at k v s room l e f (inr (inr q)) =
+    let now : left_over text (at + k) ≡ 0 = ap one_if q.0 in
+    let next : left_over text (at + k + 1) ≡ 1 = ap one_if q.1 in
+    let place : at + (k + left_over text (at + k)) ≡ at + k = omega arith in
+    let is = e ∙ two_value (get_or text (at + k) 0) (get_or text (at + k + 1) 0) q.2 in
+    inr (f ∙ ap none_if q.0, (2, omega arith, rw place (two_spelled text (at + k) v (omega arith) (q.2, q.3, (q.4, q.5)) is)))
 
--- What is written behind what was read changes nothing.
-none_more : (text : List ℕ) (at : ℕ) (before : List ℕ) (n more used : ℕ) (mid : List ℕ) (v m u : ℕ) → IsReadSpelled utf8_bytes text at before n (spelled more used) mid → m ≡ more → u ≡ used → IsReadSpelled utf8_bytes text at before n (spelled m u) (slice_set mid (n + more) v)
-none_more text at before n more used mid v m u p e f = rw (e, f) (record {
-  characters = p.characters;
-  scalars = p.scalars;
-  begins = p.begins;
-  uses = p.uses;
-  counts = p.counts;
-  stand = take-set mid (n + more) v ∙ p.stand;
-  fits = p.fits;
-  size = length-set mid (n + more) v ∙ p.size;
-})
+byte_is : (b : Bool) → bool_byte b ≡ one_if b
+byte_is true = refl
+byte_is false = refl
 
-one_more : (text : List ℕ) (at : ℕ) (before : List ℕ) (n more used : ℕ) (mid : List ℕ) (v k m u : ℕ) → IsReadSpelled utf8_bytes text at before n (spelled more used) mid → n + more < length before → IsSpelledAt utf8_bytes text (at + used) v k → m ≡ more + 1 → u ≡ used + k
-    → IsReadSpelled utf8_bytes text at before n (spelled m u) (slice_set mid (n + more) v)
-one_more text at before n more used mid v k m u p h q e f = rw (e, f) (read_one_more utf8_bytes text at before n more used mid v k p h q)
+-- how many bytes they have, as the code adds it up
+pub all_used : (text : List ℕ) (at : ℕ) (b : Bool) → b ≡ is_behind (get_or text (at + 16) 0) → 16 + bool_byte b ≡ 16 + left_over text (at + 16)
+all_used text at b e = ap (λ n. 16 + n) (byte_is b ∙ ap one_if e)
 
-step_of : (text : List ℕ) (at : ℕ) (before : List ℕ) (n lane more : ℕ) (mid : List ℕ) (v s : ℕ) → at + 17 ≤ length text → n + 16 ≤ length before → lane < 16 → more ≤ lane
-    → v ≡ short_value text (at + lane) → s ≡ none_if (is_behind (get_or text (at + lane) 0)) → IsReadSpelled utf8_bytes text at before n (spelled more (lane + left_over text (at + lane))) mid
-    → IsBehind (get_or text (at + lane) 0) (get_or text (at + lane + 1) 0) ⊎ (IsOne (get_or text (at + lane) 0) (get_or text (at + lane + 1) 0) ⊎ IsTwo (get_or text (at + lane) 0) (get_or text (at + lane + 1) 0))
-    → IsReadSpelled utf8_bytes text at before n (spelled (more + s) (lane + 1 + left_over text (at + lane + 1))) (slice_set mid (n + more) v)
-step_of text at before n lane more mid v s room fits l few e f p (inl q) =
-    let now : left_over text (at + lane) ≡ 1 = ap one_if q.0 in
-    let next : left_over text (at + lane + 1) ≡ 0 = ap one_if q.1 in
-    let none : s ≡ 0 = f ∙ ap none_if q.0 in
-    none_more text at before n more (lane + left_over text (at + lane)) mid v (more + s) (lane + 1 + left_over text (at + lane + 1)) p (omega arith) (omega arith)
-step_of text at before n lane more mid v s room fits l few e f p (inr (inl q)) =
-    let now : left_over text (at + lane) ≡ 0 = ap one_if q.0 in
-    let next : left_over text (at + lane + 1) ≡ 0 = ap one_if q.1 in
-    let one : s ≡ 1 = f ∙ ap none_if q.0 in
-    let place : at + (lane + left_over text (at + lane)) ≡ at + lane = omega arith in
-    one_more text at before n more (lane + left_over text (at + lane)) mid v 1 (more + s) (lane + 1 + left_over text (at + lane + 1)) p (omega arith) (rw place (one_spelled text (at + lane) v (omega arith) q.2 e)) (omega arith) (omega arith)
-step_of text at before n lane more mid v s room fits l few e f p (inr (inr q)) =
-    let now : left_over text (at + lane) ≡ 0 = ap one_if q.0 in
-    let next : left_over text (at + lane + 1) ≡ 1 = ap one_if q.1 in
-    let one : s ≡ 1 = f ∙ ap none_if q.0 in
-    let place : at + (lane + left_over text (at + lane)) ≡ at + lane = omega arith in
-    one_more text at before n more (lane + left_over text (at + lane)) mid v 2 (more + s) (lane + 1 + left_over text (at + lane + 1)) p (omega arith) (rw place (two_spelled text (at + lane) v (omega arith) q e)) (omega arith) (omega arith)
-
-pub step : (text : List ℕ) (at : ℕ) (before : List ℕ) (n lane more : ℕ) (mid : List ℕ) (v s : ℕ) → at + 17 ≤ length text → ((i : ℕ) → Fits w8 (get_or text i 0)) → n + 16 ≤ length before → lane < 16 → more ≤ lane → IsShortAt text (at + lane)
-    → v ≡ short_value text (at + lane) → s ≡ none_if (is_behind (get_or text (at + lane) 0)) → IsReadSpelled utf8_bytes text at before n (spelled more (lane + left_over text (at + lane))) mid
-    → (more + s ≤ lane + 1) × IsReadSpelled utf8_bytes text at before n (spelled (more + s) (lane + 1 + left_over text (at + (lane + 1)))) (slice_set mid (n + more) v)
-step text at before n lane more mid v s room fits some l few short e f p =
-    let cases = which (get_or text (at + lane) 0) (get_or text (at + lane + 1) 0) (is_behind (get_or text (at + lane) 0)) (is_behind (get_or text (at + lane + 1) 0)) (fits (at + lane)).fits (fits (at + lane + 1)).fits short refl refl in
-    let place : at + (lane + 1) ≡ at + lane + 1 = omega arith in
-    (grind arith, rw place (step_of text at before n lane more mid v s room some l few e f p cases))
+pub short_begun : (text : List ℕ) (at used : ℕ) (vs beginnings : List ℕ) → at + 18 ≤ length text → ((i : ℕ) → Fits w8 (get_or text i 0)) → is_behind (get_or text at 0) ≡ false → used ≡ 16 + left_over text (at + 16) → ((k : ℕ) → k < 16 → IsShortAt text (at + k))
+    → ((k : ℕ) → k < 16 → get_or vs k 0 ≡ short_value text (at + k)) → ((k : ℕ) → k < 16 → get_or beginnings k 0 ≡ cond (is_behind (get_or text (at + k) 0)) 0 (cond (ltb k 16) 1 0)) → AreBegun text at vs beginnings used
+short_begun text at used vs beginnings room fits begins e short are begun =
+    let here : at + 0 ≡ at = omega arith in
+    let first : left_over text (at + 0) ≡ 0 = rw here (ap one_if begins) in
+    record {
+      reach = λ k. k + left_over text (at + k);
+      begins = omega (arith, first);
+      ends = sym e;
+      lanes = λ k l.
+          let x = get_or text (at + k) 0 in
+          let y = get_or text (at + k + 1) 0 in
+          let place : at + (k + 1) ≡ at + k + 1 = omega arith in
+          let one : get_or beginnings k 0 ≡ none_if (is_behind x) = begun k l ∙ ap (λ b. cond (is_behind x) 0 (cond b 1 0)) (lt-ltb k 16 l) in
+          rw place (lane_of text at k (get_or vs k 0) (get_or beginnings k 0) room l (are k l) one (which x y (is_behind x) (is_behind y) (fits (at + k)).fits (fits (at + k + 1)).fits (short k l) refl refl));
+    }

@@ -3,6 +3,7 @@ pub mod BeginsLaws
 pub mod Utf8
 pub mod Utf8Laws
 pub mod Utf8Short
+pub mod Utf8Windows
 pub mod Orders
 pub mod OrdersLaws
 pub mod Utf16

@@ -13,6 +13,7 @@ mod utf32;
 mod utf8;
 mod utf8_reading;
 mod utf8_spelling;
+mod utf8_windows;
 mod wide;
 mod wide16;
 mod wide32;

@@ -6,7 +6,8 @@ ghost use Rattle.cv_base.specs.Items.{Begins};
 ghost use Rattle.cv_utf.specs.Utf8.{utf8_bytes};
 ghost use Rattle.cv_utf.specs.Utf8Spelled.{utf8_short};
 
-use crate::utf8_reading::{inner_at, last_at, read_many};
+use crate::utf8_reading::{inner_at, last_at};
+use crate::utf8_windows::read_many;
 use crate::words::{Words, write_words};
 use cv_base::{MANY, Scalar, Spelled, Spelling};
 use std::simd::prelude::*;

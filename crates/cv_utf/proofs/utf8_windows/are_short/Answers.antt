@@ -1,7 +1,7 @@
 use Rattle.std.proofs.Common.{sym, ◌∙◌}
 use Rattle.cv_utf.proofs.Utf8Short.{short_lanes}
 use Rattle.std.proofs.lemmas.Bool.{eqb-true}
-use Rattle.cv_utf.proofs.utf8_reading.are_short.Goals as goal
+use Rattle.cv_utf.proofs.utf8_windows.are_short.Goals as goal
 
 pub returns-then-firsts-high : goal.returns-then-firsts-high
 returns-then-firsts-high c t k h =

@@ -1,7 +1,7 @@
 use Rattle.std.proofs.Common.{lit<}
 use Rattle.cv_utf.proofs.Utf8Lanes.{none_zero}
 use Rattle.cv_utf.proofs.Utf8Short.{value_at}
-use Rattle.cv_utf.proofs.utf8_reading.short_values.Goals as goal
+use Rattle.cv_utf.proofs.utf8_windows.short_values.Goals as goal
 
 pub nonzero_rem-two : goal.nonzero_rem-two
 nonzero_rem-two c = none_zero 64 (lit< tt) _

@@ -16,8 +16,6 @@ use Rattle.cv_base.specs.declared.spelling.Spelled.{Spelled}
 use Rattle.cv_base.specs.declared.state.ReadState.TheVariants as read
 use Rattle.cv_base.specs.declared.state.WriteState.TheVariants as write
 use Rattle.cv_utf.specs.Utf8.{table, IsOfOne, utf8_reads, utf8_bytes, utf8_writes}
-use Rattle.cv_utf.specs.Utf8Spelled.{utf8_short}
-use Rattle.cv_base.proofs.SpelledRuns.{written_few, written_one_more}
 use Rattle.cv_utf.specs.BeginsLaws.{Begins-refl}
 use Rattle.cv_base.specs.Chains.{characters_of}
 use Rattle.cv_utf.specs.ReadBack.{AreItems}
@@ -97,22 +95,6 @@ read_front text at before after n k within most p room size put =
       fits = omega arith;
       size = size;
     }
-
--- One character more was written, behind m that have u bytes.
-pub written_word : (characters : List ℕ) (n : ℕ) (before : List ℕ) (at m u : ℕ) (mid word : List ℕ) (k w : ℕ) → IsWrittenSpelled utf8_bytes characters n before at (record { n = m; used = u }) mid → n + 16 ≤ length characters → m < 16 → at + 64 ≤ length before
-    → Begins (utf8_bytes (get_or characters (n + m) 0)) word → k ≡ length (utf8_bytes (get_or characters (n + m) 0)) → w ≡ 4 → length word ≡ 4
-    → IsWrittenSpelled utf8_bytes characters n before at (record { n = m + 1; used = u + k }) (put_mid (at + u) w mid word)
-written_word characters n before at m u mid word k w p within h room begins long e four =
-    let few = written_few utf8_bytes utf8_short characters n before at _ mid p in
-    let short = utf8_short (get_or characters (n + m) 0) in
-    let fits : at + u + 4 ≤ length mid = omega (arith, few, p.size) in
-    written_one_more utf8_bytes characters n before at m u mid k (put_mid (at + u) w mid word) p (omega arith) (omega (arith, short)) long
-    (front_stands mid word (utf8_bytes (get_or characters (n + m) 0)) (at + u) k w (omega arith) begins long)
-    (length-put mid word (at + u) w (omega arith) (four ∙ sym e))
-
--- a lane of sixteen characters
-pub lane_is : (values characters : List ℕ) (n k : ℕ) → values ≡ take 16 (drop n characters) → k < 16 → get_or values k 0 ≡ get_or characters (n + k) 0
-lane_is values characters n k e h = rw (e, get_or-take, get_or-drop) refl
 
 -- Sixteen characters were written.
 pub written_all : (characters : List ℕ) (n : ℕ) (before block : List ℕ) (at m : ℕ) → n + 16 ≤ length characters → ((j : ℕ) → j < 16 → get_or characters (n + j) 0 < 128) → at + 64 ≤ length before → m ≡ 16

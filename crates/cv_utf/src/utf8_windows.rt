@@ -1,5 +1,5 @@
 //! Reading UTF-8 by windows of sixteen bytes, with no branch on which characters they are.
-ghost use Rattle.std.specs.Prelude.{◌≡◌, ◌+◌, ◌≤◌, ◌<◌, ℕ, length, get_or, cond, nat_lt, IsTrue, map, Bool, false, List};
+ghost use Rattle.std.specs.Prelude.{◌≡◌, ◌+◌, ◌++◌, ◌≤◌, ◌<◌, ℕ, length, take, drop, get_or, cond, nat_lt, IsTrue, map, Bool, false, List};
 ghost use Rattle.std.specs.Int.{bit_at};
 ghost use Rattle.std.specs.Simd.Lanes.{mask_l};
 ghost use Rattle.cv_base.specs.Scalars.{IsScalar};
@@ -201,6 +201,46 @@ fn read_whole(input: &[u8], at: usize, buffer: &mut [Scalar], n: usize) -> Spell
     )
 }
 
+/// Whether sixteen bytes are ASCII.
+#[inline(always)]
+fn are_ascii(input: &[u8], at: usize) -> bool
+    requires { at + 16 ≤ length input.now }
+    ensures { IsTrue result → (k : ℕ) → k < 16 → get_or input.now (at + k) 0 < 128 }
+{
+    let lanes = u8x16::from_slice(&input[at..]);
+    lanes.simd_ge(u8x16::splat(128)).to_bitmask() == 0
+}
+
+/// Puts sixteen bytes into a buffer, each as the character of its number. All are read before one is put, so that they are put at once.
+#[inline(always)]
+fn put_bytes(input: &[u8], at: usize, buffer: &mut [Scalar], n: usize)
+    requires within { at + 16 ≤ length input.now }
+    requires room { n + 16 ≤ length buffer.old }
+    ensures stand { take (n + 16) buffer.new ≡ take n buffer.old ++ take 16 (drop at input.now) }
+    ensures size { length buffer.new ≡ length buffer.old }
+{
+    let block = u8x16::from_slice(&input[at..]).to_array();
+    for lane in 0..MANY {
+        buffer[n + lane] = Scalar::known(block[lane] as u32);
+    }
+}
+
+/// Reads sixteen characters of ASCII.
+#[inline(always)]
+fn read_ascii(input: &[u8], at: usize, buffer: &mut [Scalar], n: usize) -> Spelled
+    requires within { at + 16 ≤ length input.now }
+    requires room { n + 16 ≤ length buffer.old }
+    requires ascii { (k : ℕ) → k < 16 → get_or input.now (at + k) 0 < 128 }
+    ensures many { result.n ≤ 16 }
+    ensures read { IsReadSpelled utf8_bytes input.now at buffer.old n result buffer.new }
+{
+    put_bytes(input, at, buffer, n);
+    Spelled {
+        n: MANY,
+        used: MANY,
+    }
+}
+
 /// Reads the characters of up to three bytes that begin among sixteen bytes, up to one that has four. Where a longer one stands
 /// at the front, text is likely all in such, which is read faster one by one.
 #[inline(always)]
@@ -212,6 +252,9 @@ pub(crate) fn read_many(input: &[u8], at: usize, buffer: &mut [Scalar], n: usize
 {
     if input.len() - at < MANY + 2 || input[at] >= 0xe0 || input[at + 1] >= 0xf0 {
         return Spelled { n: 0, used: 0 };
+    }
+    if are_ascii(input, at) {
+        return read_ascii(input, at, buffer, n);
     }
     if !is_behind(input[at]) && are_short(input, at) {
         return read_short(input, at, buffer, n);

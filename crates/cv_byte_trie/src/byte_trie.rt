@@ -95,7 +95,8 @@ impl ByteTrie {
     /// How many entries there are.
     #[inline]
     pub fn len(&self) -> usize
-        ensures { result ≡ length self.now.entries }
+        ensures value { result ≡ length self.now.entries }
+        ensures entries { AreEntries self.now.entries }
     {
         self.entries.len()
     }
@@ -153,6 +154,7 @@ impl ByteTrie {
         requires room { length self.old.entries < 0x1000000 }
         ensures ok { IfOk result (λ added. Adds self.old.entries (bytes.now, character) added self.new.entries) }
         ensures err { OnErr result (self.new.entries ≡ self.old.entries) }
+        ensures entries { AreEntries self.new.entries }
     {
         match walk(&self.steps, &self.entries, bytes) {
             Reached::Leaf { place, depth } => Ok(met(&self.entries, bytes, place, depth)),

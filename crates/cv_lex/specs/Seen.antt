@@ -1,5 +1,5 @@
 -- How the readings of lines stand in the code.
-use Rattle.std.specs.Prelude.{Result, Ok, Err}
+use Rattle.std.specs.Prelude.{◌<◌, length, Result, Ok, Err}
 use Rattle.cv_lex.specs.Declarations as says
 use Rattle.cv_lex.specs.Declarations.{Declared}
 use Rattle.cv_lex.specs.Mappings as maps
@@ -32,3 +32,12 @@ line_seen (line.Range first last hex bytes) = Maps (maps.Range first last hex by
 abbrev pub line_read : Result Line Cause → Result Reading Cause
 line_read (Ok l) = Ok (line_seen l)
 line_read (Err cause) = Err cause
+
+-- A mapping has bytes.
+abbrev pub HasBytes : Line → Type 0
+HasBytes (line.One c bytes) = 0 < length bytes
+HasBytes (line.Range first last hex bytes) = 0 < length bytes
+HasBytes line.Skip = Unit {0}
+HasBytes line.Begin = Unit {0}
+HasBytes line.Finish = Unit {0}
+HasBytes (line.Setting s) = Unit {0}

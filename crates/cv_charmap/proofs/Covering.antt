@@ -118,12 +118,13 @@ passed_on all new p place a apart hex first bytes i count known next number low 
       | inl same ↦ (place, a.2, ap (entry_at hex first bytes) same ∙ here)
       | inr other ↦ has_from new hex first bytes i place number known here is has k from (omega arith)
     ] in
-    let one : i + 1 + (next - 1) ≡ i + next = omega arith in
-    (λ n. goes_on hex first bytes i count low all n p e a.0
-        ∙ ap (λ (x : List Pair). run_entries x n (entries_from hex first bytes (i + 1) count)) (sym a.1)
-        ∙ skips new apart hex first bytes count n (next - 1) (i + 1) (λ k from less. each k (omega arith) (omega arith))
-        ∙ ap (λ (x : ℕ). run_entries new n (entries_from hex first bytes x count)) one,
-    each)
+    let one : i + 1 + (next - 1) ≡ i + next = omega arith in (
+      λ n. goes_on hex first bytes i count low all n p e a.0
+          ∙ ap (λ (x : List Pair). run_entries x n (entries_from hex first bytes (i + 1) count)) (sym a.1)
+          ∙ skips new apart hex first bytes count n (next - 1) (i + 1) (λ k from less. each k (omega arith) (omega arith))
+          ∙ ap (λ (x : ℕ). run_entries new n (entries_from hex first bytes x count)) one,
+      each,
+    )
 
 -- a pair that was refused ends the run
 pub refused_run : (all new : List Pair) (p : Pair) (why : EntryFault) → Enters all p (Err why) new → (hex : Bool) (first : ℕ) (bytes : List ℕ) (i count : ℕ) → i < count → entry_at hex first bytes i ≡ Ok p → Passes all hex first bytes i count (Err why) new
@@ -138,10 +139,10 @@ reach_has all seen reach read place r hex number known c same low is h_is n_is k
     let at : r ≡ reach_at reach place = is none ∙ ap (λ (x : List Reach). get_or x place none) same in
     let h : r.hex ≡ hex = same_flag r.hex hex h_is in
     subst (λ (x : List Pair). HasEntries x hex number (bytes_at x place) known) seen_is (λ i less.
-      subst (λ (x : ℕ). HasEntry all hex x (bytes_at all place) i) n_is
-      (subst (λ (x : Bool). HasEntry all x r.number (bytes_at all place) i) h
-      (subst (λ (x : Reach). HasEntry all x.hex x.number (bytes_at all place) i) (sym at)
-      (c place (rw same at low) i (subst (λ (x : Reach). i < x.count) at (rw k_is at less))))))
+    subst (λ (x : ℕ). HasEntry all hex x (bytes_at all place) i) n_is
+    (subst (λ (x : Bool). HasEntry all x r.number (bytes_at all place) i) h
+    (subst (λ (x : Reach). HasEntry all x.hex x.number (bytes_at all place) i) (sym at)
+    (c place (rw same at low) i (subst (λ (x : Reach). i < x.count) at (rw k_is at less))))))
   where
     same_flag : (a b : Bool) → beq a b ≡ true → a ≡ b
     same_flag true true e = refl

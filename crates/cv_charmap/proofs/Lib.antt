@@ -6,6 +6,8 @@ pub mod LineKinds
 pub mod RunMeaning
 pub mod EntryLemmas
 pub mod Counting
+pub mod FitEntries
+pub mod MeaningLaws
 pub mod Covering
 pub mod Ranging
 pub mod ReaderSteps

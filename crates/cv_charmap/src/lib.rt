@@ -5,6 +5,7 @@ mod draft;
 mod entry;
 mod fault;
 mod header;
+pub mod laws;
 mod pairs;
 mod phase;
 mod range;

@@ -24,7 +24,15 @@ pub(crate) struct Stop {
 }
 
 /// Notes from the pair of one entry on how many entries of the range are in the list. Numbers that 32 bits can't hold are not noted.
-fn note(trie: &ByteTrie, reach: &mut [Reach], hex: bool, first: u32, _bytes: &[u8], stop: Stop, end: u64)
+fn note(
+    trie: &ByteTrie,
+    reach: &mut [Reach],
+    hex: bool,
+    first: u32,
+    _bytes: &[u8],
+    stop: Stop,
+    end: u64,
+)
     requires covered { AreCovered trie.now.entries reach.old }
     requires long { length reach.old ≡ length trie.now.entries }
     requires near { end < 2 ^ 40 }

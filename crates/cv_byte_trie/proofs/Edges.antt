@@ -17,7 +17,7 @@ pub node_read : (t : Steps) (n : ℕ) (x y : Node) → n < length t.nodes.items 
 node_read t n x y low is e = sym (get_or_read t.nodes.items n x low is (Table 0)) ∙ e
 
 -- the links of a node that has a list are its edges
-pub edge_listed : (t : Steps) (n b w c : ℕ) → node_at t n ≡ Listed w c → edge_of t n b ≡ linked t.links.items n b
+pub edge_listed : (t : Steps) (n b w c : ℕ) → node_at t n ≡ Listed c w → edge_of t n b ≡ linked t.links.items n b
 edge_listed t n b w c e = ap (edge_at t n b) e
 
 -- a place in a list of links: the number of a link of the node, or 0
@@ -26,11 +26,11 @@ pub record IsPlace (t : Steps) (n at : ℕ) : Type 0 where
   pub own : (k : ℕ) → at ≡ k + 1 → (link_at t.links.items k).node ≡ n
 
 -- the newest link is a place
-pub head_place : (t : Steps) → IsSound t → (n w c : ℕ) → n < length t.nodes.items → node_at t n ≡ Listed w c → IsPlace t n w
+pub head_place : (t : Steps) → IsSound t → (n w c : ℕ) → n < length t.nodes.items → node_at t n ≡ Listed c w → IsPlace t n w
 head_place t s n w c low e = record { within = s.head n w c low e; own = λ k h. s.headed n w c k low e h }
 
 -- no link stands behind the newest
-pub head_passed : (t : Steps) → IsSound t → (n b w c : ℕ) → n < length t.nodes.items → node_at t n ≡ Listed w c → NoneFrom t.links.items w n b
+pub head_passed : (t : Steps) → IsSound t → (n b w c : ℕ) → n < length t.nodes.items → node_at t n ≡ Listed c w → NoneFrom t.links.items w n b
 head_passed t s n b w c low e j lj from p q = let l = s.newest n w c j low e lj p in omega arith
 
 module _ (t : Steps) (n at : ℕ) (link : Link) (some : 0 < at) (place : IsPlace t n at) (is : link ≡ get_or t.links.items (at - 1) link) where
@@ -41,7 +41,7 @@ module _ (t : Steps) (n at : ℕ) (link : Link) (some : 0 < at) (place : IsPlace
   mine = place.own (at - 1) (omega arith)
 
   -- the link of the byte is found
-  pub edge_found : (b w c : ℕ) → node_at t n ≡ Listed w c → link.byte ≡ b → NoneFrom t.links.items at n b → link.code ≡ edge_of t n b
+  pub edge_found : (b w c : ℕ) → node_at t n ≡ Listed c w → link.byte ≡ b → NoneFrom t.links.items at n b → link.code ≡ edge_of t n b
   edge_found b w c e byte passed =
       let now : suc (at - 1) ≡ at = omega arith in
       ap (λ (l : Link). l.code) there ∙ sym (edge_listed t n b w c e ∙ linked_found t.links.items n b (at - 1) (omega (arith, place.within)) mine (ap (λ (l : Link). l.byte) (sym there) ∙ byte) (rw now passed))
@@ -69,7 +69,7 @@ module _ (t : Steps) (n at : ℕ) (link : Link) (some : 0 < at) (place : IsPlace
       record { within = omega arith; own = λ k e. s.chained k (at - 1) (omega arith) (sym next ∙ e) ∙ mine }
 
 -- there is no link of the byte
-pub edge_none : (t : Steps) (n b w c at : ℕ) → node_at t n ≡ Listed w c → at ≡ 0 → NoneFrom t.links.items at n b → none ≡ edge_of t n b
+pub edge_none : (t : Steps) (n b w c at : ℕ) → node_at t n ≡ Listed c w → at ≡ 0 → NoneFrom t.links.items at n b → none ≡ edge_of t n b
 edge_none t n b w c at e end passed = sym (edge_listed t n b w c e ∙ linked_none t.links.items n b (rw end at passed))
 
 -- A table has the newest links of a node down to a place.
@@ -87,7 +87,7 @@ module _ (t : Steps) (s : IsSound t) (n at : ℕ) (link : Link) (some : 0 < at) 
   ]
 
   -- past the newest link of a byte
-  pub fill_new : (w c : ℕ) → node_at t n ≡ Listed w c → link.byte < 256 → get_or seen link.byte false ≡ false → length table ≡ 256 → length seen ≡ 256
+  pub fill_new : (w c : ℕ) → node_at t n ≡ Listed c w → link.byte < 256 → get_or seen link.byte false ≡ false → length table ≡ 256 → length seen ≡ 256
       → Filled t n (slice_set table link.byte link.code) (slice_set seen link.byte true) link.next
   fill_new w c listed byte e size sizes b l = elim (cases_eq b link.byte) [
     | inl same ↦ elim (filled link.byte byte) [
@@ -108,12 +108,12 @@ module _ (t : Steps) (s : IsSound t) (n at : ℕ) (link : Link) (some : 0 < at) 
   ]
 
 -- the table is whole
-pub fill_end : (t : Steps) (n w c at : ℕ) (table : List ℕ) (seen : List Bool) → node_at t n ≡ Listed w c → at ≡ 0 → Filled t n table seen at → (b : ℕ) → b < 256 → get_or table b none ≡ edge_of t n b
+pub fill_end : (t : Steps) (n w c at : ℕ) (table : List ℕ) (seen : List Bool) → node_at t n ≡ Listed c w → at ≡ 0 → Filled t n table seen at → (b : ℕ) → b < 256 → get_or table b none ≡ edge_of t n b
 fill_end t n w c at table seen listed end filled b l = elim (filled b l) [
   | inl h ↦ h.1
   | inr h ↦ h.1 ∙ edge_none t n b w c at listed end h.2
 ]
 
 -- the table is empty
-pub fill_start : (t : Steps) → IsSound t → (n w c : ℕ) → n < length t.nodes.items → node_at t n ≡ Listed w c → Filled t n (replicate 256 none) (replicate 256 false) w
+pub fill_start : (t : Steps) → IsSound t → (n w c : ℕ) → n < length t.nodes.items → node_at t n ≡ Listed c w → Filled t n (replicate 256 none) (replicate 256 false) w
 fill_start t s n w c low e b l = inr (get_or-replicate 256 b false false l, get_or-replicate 256 b none none l, head_passed t s n b w c low e)

@@ -58,9 +58,9 @@ module _ (old t u : Steps) (bytes : List ℕ) (code n first : ℕ) (some : 0 < n
         | inl l ↦ (l, sym (below m l) ∙ e)
         | inr l ↦ absurd (let bad : One byte first ≡ Table k = sym (last m (omega (arith, longer))) ∙ e in cc)
       ] in
-      let not_listed : (m w c : ℕ) → m < length u.nodes.items → node_at u m ≡ Listed w c → (m < length t.nodes.items) × (node_at t m ≡ Listed w c) = λ m w c low e. elim (cases_lt m (length t.nodes.items)) [
+      let not_listed : (m w c : ℕ) → m < length u.nodes.items → node_at u m ≡ Listed c w → (m < length t.nodes.items) × (node_at t m ≡ Listed c w) = λ m w c low e. elim (cases_lt m (length t.nodes.items)) [
         | inl l ↦ (l, sym (below m l) ∙ e)
-        | inr l ↦ absurd (let bad : One byte first ≡ Listed w c = sym (last m (omega (arith, longer))) ∙ e in cc)
+        | inr l ↦ absurd (let bad : One byte first ≡ Listed c w = sym (last m (omega (arith, longer))) ∙ e in cc)
       ] in
       record {
         some = omega (arith, longer);

@@ -15,7 +15,7 @@ use Rattle.cv_byte_trie.proofs.Linked.{not_eqb, over, over_other, over_same, lin
 -- a node's edges stay where its links and the tables do
 pub edge_same : (t u : Steps) (n b : ℕ) (x : Node) → u.tables.items ≡ t.tables.items → linked u.links.items n b ≡ linked t.links.items n b → edge_at u n b x ≡ edge_at t n b x
 edge_same t u n b (One byte code) e f = refl
-edge_same t u n b (Listed newest count) e f = f
+edge_same t u n b (Listed count newest) e f = f
 edge_same t u n b (Table number) e f = ap (λ (x : List ℕ). get_or x (number * 256 + b) none) e
 
 module _ (t u : Steps) (s : IsSound t) (n : ℕ) (low : n < length t.nodes.items) (x : Node) (nodes : u.nodes.items ≡ slice_set t.nodes.items n x) (tables : u.tables.items ≡ t.tables.items) where
@@ -29,9 +29,9 @@ module _ (t u : Steps) (s : IsSound t) (n : ℕ) (low : n < length t.nodes.items
   others : (m b : ℕ) → m ≢ n → linked u.links.items m b ≡ linked t.links.items m b → edge_of u m b ≡ edge_of t m b
   others m b h e = ap (edge_at u m b) (other m h) ∙ edge_same t u m b (node_at t m) tables e
 
-  module _ (b code next w c v d : ℕ) (is : x ≡ Listed v d) where
+  module _ (b code next w c v d : ℕ) (is : x ≡ Listed d v) where
     -- one more link
-    pub link_sets : node_at t n ≡ Listed w c → u.links.items ≡ t.links.items ++ record { node = n; byte = b; code = code; next = next } ∷ [] → SetsEdge t u n b code
+    pub link_sets : node_at t n ≡ Listed c w → u.links.items ≡ t.links.items ++ record { node = n; byte = b; code = code; next = next } ∷ [] → SetsEdge t u n b code
     link_sets was links =
         let l : Link = record { node = n; byte = b; code = code; next = next } in
         let more : (m a : ℕ) → linked u.links.items m a ≡ over m a (linked t.links.items m a) l = λ m a. ap (λ (y : List Link). linked y m a) links ∙ linked_push t.links.items l m a in
@@ -76,7 +76,7 @@ table_sets t u s n b code k low byte is nodes links tables =
     let stays : (m : ℕ) → node_at u m ≡ node_at t m = λ m. ap (λ (y : List Node). get_or y m (Table 0)) nodes in
     let others : (m c : ℕ) → m < length t.nodes.items → c < 256 → ((m ≡ n) × (c ≡ b) → ⊥) → (x : Node) → node_at t m ≡ x → edge_at u m c x ≡ edge_at t m c x = λ m c lm lc h x e. elim x as (λ x. node_at t m ≡ x → edge_at u m c x ≡ edge_at t m c x) [
       | One own led ↦ λ e. refl
-      | Listed newest count ↦ λ e. ap (λ (y : List Link). linked y m c) links
+      | Listed count newest ↦ λ e. ap (λ (y : List Link). linked y m c) links
       | Table j ↦ λ e.
           let apart : j * 256 + c ≢ k * 256 + b = λ same. (
           let c_same : c ≡ b = omega arith in

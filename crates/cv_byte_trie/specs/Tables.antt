@@ -22,7 +22,7 @@ linked links n b =
 -- where a byte leads from a node, by what the node is
 abbrev pub edge_at : Steps → ℕ → ℕ → Node → ℕ
 edge_at t n b (One byte code) = if b == byte then code else none
-edge_at t n b (Listed newest count) = linked t.links.items n b
+edge_at t n b (Listed count newest) = linked t.links.items n b
 edge_at t n b (Table number) = slice_index_or t.tables.items (number * 256 + b) none
 
 -- where a byte leads from a node

@@ -12,10 +12,10 @@ pub enum Node {
     },
     /// There are a few, in a list of links.
     Listed {
-        /// The number of the newest link, from 1 on.
-        newest: u32,
         /// How many links there are; 255 stands for more, too.
         count: u8,
+        /// The number of the newest link, from 1 on.
+        newest: u32,
     },
     /// There are many, in a table.
     Table {

@@ -33,7 +33,7 @@ impl Steps {
     fn listed(&self, node: u32, newest: u32, byte: u8) -> u32
         requires sound { IsSound self.now }
         requires low { node < length self.now.nodes.items }
-        requires listed { (c : ℕ) × (node_at self.now node ≡ Listed newest c) }
+        requires listed { (c : ℕ) × (node_at self.now node ≡ Listed c newest) }
         ensures { result ≡ edge_of self.now node byte }
     {
         let _ = node;
@@ -88,7 +88,7 @@ impl Steps {
     ) -> Result<(), AllocError>
         requires sound { IsSound self.old }
         requires low { node < length self.old.nodes.items }
-        requires listed { node_at self.old node ≡ Listed newest count }
+        requires listed { node_at self.old node ≡ Listed count newest }
         requires room { length self.old.links.items < 2 ^ 31 }
         ensures sound { OnOk result (IsSound self.new) }
         ensures sets { OnOk result (SetsEdge self.old self.new node byte code) }
@@ -158,7 +158,7 @@ impl Steps {
     fn table_of(&self, node: u32, newest: u32) -> [u32; 256]
         requires sound { IsSound self.now }
         requires low { node < length self.now.nodes.items }
-        requires listed { (c : ℕ) × (node_at self.now node ≡ Listed newest c) }
+        requires listed { (c : ℕ) × (node_at self.now node ≡ Listed c newest) }
         ensures { (b : ℕ) → b < 256 → slice_index_or result b none ≡ edge_of self.now node b }
     {
         let _ = node;
@@ -180,7 +180,7 @@ impl Steps {
     fn promote(&mut self, node: u32, newest: u32) -> Result<u32, AllocError>
         requires sound { IsSound self.old }
         requires low { node < length self.old.nodes.items }
-        requires listed { (c : ℕ) × (node_at self.old node ≡ Listed newest c) }
+        requires listed { (c : ℕ) × (node_at self.old node ≡ Listed c newest) }
         requires room { length self.old.tables.items < 2 ^ 33 }
         ensures sound { OnOk result (IsSound self.new) }
         ensures same { OnOk result (SameEdges self.old self.new) }

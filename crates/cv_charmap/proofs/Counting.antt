@@ -1,9 +1,12 @@
 -- Entries of a range, counted from another of them.
-use Rattle.std.proofs.Common.{◌≡◌, ◌≢◌, ℕ, zero, suc, ◌+◌, ◌-◌, ◌*◌, ◌/◌, ◌%◌, ◌^◌, ◌<◌, ◌≤◌, Bool, true, false, not, cond, leb, List, [], ◌∷◌, ◌++◌, length, take, get_or, refl, sym, subst, ◌∙◌, ap, arith, inl, inr, length-append, Option, Some, None, fold}
+use Rattle.std.proofs.Common.{◌≡◌, ◌≢◌, ℕ, zero, suc, ◌+◌, ◌-◌, ◌*◌, ◌/◌, ◌%◌, ◌^◌, ◌<◌, ◌≤◌, Bool, true, false, not, cond, leb, List, [], ◌∷◌, ◌++◌, length, take, drop, append_assoc, get_or, refl, sym, subst, ◌∙◌, ap, arith, inl, inr, length-append, Option, Some, None, fold}
 use Rattle.std.specs.Prelude.{Result, Ok, Err}
 use Rattle.std.proofs.Math.Nat.{pow-succ'}
 use Rattle.std.proofs.lemmas.Bool.{cases_Bool, leb-false, lt-leb, not-false}
 use Rattle.std.proofs.lemmas.List.Sums.{fold-append}
+use Rattle.std.proofs.lemmas.List.{length-take-le, drop-set}
+use Rattle.std.proofs.Math.Seq.{take-set-lt}
+use Rattle.std.specs.Prelude.{slice_set}
 use Rattle.cv_lex.specs.Names.{is_scalar}
 use Rattle.cv_lex.specs.declared.cause.Cause.{Cause}
 use Rattle.cv_lex.specs.declared.cause.Cause.TheVariants.{NotScalar, Carry}
@@ -61,3 +64,17 @@ counted_on hex first bytes i q e number s is =
     let size : length q.0 ≡ length bytes = ap length p.bytes_are ∙ size_in (length bytes) (number_of bytes + i) in
     let value : number_of q.0 ≡ number_of bytes + i = ap number_of p.bytes_are ∙ number_in (length bytes) (number_of bytes + i) p.fits in
     same_entry hex number first q.0 bytes s (i + s) (omega arith) (omega arith) size
+
+-- a byte before those that are written
+pub byte_written : (k size rest : ℕ) (bytes : List ℕ) → 0 < k → k ≤ size → size ≤ length bytes
+    → bytes_in k rest ++ drop k (take size bytes) ≡ bytes_in (k - 1) (rest / 256) ++ drop (k - 1) (take size (slice_set bytes (k - 1) (rest % 256)))
+byte_written k size rest bytes some low long =
+    let j = k - 1 in
+    let next : suc j ≡ k = omega arith in
+    let one : bytes_in k rest ≡ bytes_in j (rest / 256) ++ rest % 256 ∷ [] = ap (λ (x : ℕ). bytes_in x rest) (sym next) in
+    let cut : length (take size bytes) ≡ size = length-take-le size bytes long in
+    let behind : drop j (take size (slice_set bytes j (rest % 256))) ≡ rest % 256 ∷ drop (j + 1) (take size bytes) =
+    ap (drop j) (take-set-lt size bytes j (rest % 256) (omega arith)) ∙ drop-set (take size bytes) j (rest % 256) (omega arith) in
+    let same : j + 1 ≡ k = omega arith in
+    ap (λ (x : List ℕ). x ++ drop k (take size bytes)) one ∙ append_assoc (bytes_in j (rest / 256)) (rest % 256 ∷ []) (drop k (take size bytes))
+    ∙ ap (λ (x : ℕ). bytes_in j (rest / 256) ++ rest % 256 ∷ drop x (take size bytes)) (sym same) ∙ ap (λ (x : List ℕ). bytes_in j (rest / 256) ++ x) (sym behind)

@@ -40,7 +40,7 @@ fn pass(
         Ok(entry) => entry,
         Err(cause) => return Err(EntryFault::Faulty(cause)),
     };
-    let place = match draft.enter(word.as_slice(), c) {
+    let place = match draft.enter(&word[..bytes.len()], c) {
         Ok(place) => place,
         Err(fault) => return Err(fault),
     };

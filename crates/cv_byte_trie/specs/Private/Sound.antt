@@ -16,9 +16,9 @@ pub record IsSound (t : Steps) : Type 0 where
   pub own : (k : ℕ) → k < length t.links.items → (link_at t.links.items k).node < length t.nodes.items
   pub alone : (n b c k : ℕ) → n < length t.nodes.items → node_at t n ≡ One b c → k < length t.links.items → (link_at t.links.items k).node ≢ n
   -- a list begins with the node's newest link, and each link names the one before it
-  pub head : (n w c : ℕ) → n < length t.nodes.items → node_at t n ≡ Listed w c → w ≤ length t.links.items
-  pub headed : (n w c k : ℕ) → n < length t.nodes.items → node_at t n ≡ Listed w c → w ≡ k + 1 → (link_at t.links.items k).node ≡ n
-  pub newest : (n w c j : ℕ) → n < length t.nodes.items → node_at t n ≡ Listed w c → j < length t.links.items → (link_at t.links.items j).node ≡ n → j < w
+  pub head : (n w c : ℕ) → n < length t.nodes.items → node_at t n ≡ Listed c w → w ≤ length t.links.items
+  pub headed : (n w c k : ℕ) → n < length t.nodes.items → node_at t n ≡ Listed c w → w ≡ k + 1 → (link_at t.links.items k).node ≡ n
+  pub newest : (n w c j : ℕ) → n < length t.nodes.items → node_at t n ≡ Listed c w → j < length t.links.items → (link_at t.links.items j).node ≡ n → j < w
   pub before : (k : ℕ) → k < length t.links.items → (link_at t.links.items k).next ≤ k
   pub chained : (j k : ℕ) → k < length t.links.items → (link_at t.links.items k).next ≡ j + 1 → (link_at t.links.items j).node ≡ (link_at t.links.items k).node
   pub older : (j k : ℕ) → k < length t.links.items → j < k → (link_at t.links.items j).node ≡ (link_at t.links.items k).node → j < (link_at t.links.items k).next

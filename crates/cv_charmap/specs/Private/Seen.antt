@@ -1,6 +1,7 @@
 -- How what is read of a charmap stands in the code: contracts of private functions cite it.
 use Rattle.std.specs.Prelude.{◌≡◌, ℕ, ◌<◌, ◌≤◌, Bool, false, true, List, length, take, Option, Some, None, option_map, Result, Ok, Err}
 use Rattle.cv_lex.specs.Readings.{Reading, reading_of}
+use Rattle.cv_lex.specs.declared.cause.Cause.{Cause}
 use Rattle.cv_charmap.specs.Entries.{Pair, entry_at}
 use Rattle.cv_charmap.specs.Headers as spec
 use Rattle.cv_charmap.specs.Headers.{marks_by}
@@ -27,6 +28,11 @@ header_seen h = record {
   escape = h.escape;
   comment = h.comment;
 }
+
+-- an entry whose bytes have others behind them
+abbrev pub padded_entry : ℕ → Result Pair Cause → Result Pair Cause
+padded_entry size (Ok p) = Ok (take size p.0, p.1)
+padded_entry size (Err cause) = Err cause
 
 -- A pair was entered into a list, at a place, or refused. Want of memory says nothing.
 abbrev pub Enters : List Pair → Pair → Result ℕ EntryFault → List Pair → Type 0

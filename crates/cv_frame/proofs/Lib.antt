@@ -1,5 +1,6 @@
 pub mod Spelled
 pub mod Cuts
+pub mod RestFronts
 pub mod Runs
 pub mod Isolation
 pub mod Answers

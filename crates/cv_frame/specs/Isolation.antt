@@ -26,11 +26,13 @@ module _ {Table : Type 0} where
       → lacks (replies_to caller events) ≡ lacks (replies_to caller others)
       → (replies_to caller events ≡ replies_to caller others) × (after_all here events caller ≡ after_all there others caller)
 
-  -- The events of a run in any order that keeps each caller's order are a run, and leave the same tables.
+  -- Two runs from the same tables in which each caller asks the same and lacks memory at the same places, in whatever order the requests of different callers
+  -- stand: each caller is told the same, and has the same table in the end.
   abbrev pub AnySchedule : Turn Table → Type 0
-  AnySchedule turn = (tables : ℕ → Table) (events others : List (Event Table)) → IsRun turn tables events
-      → ((caller : ℕ) → events_of caller events ≡ events_of caller others)
-      → IsRun turn tables others × (after_all tables events ≡ after_all tables others)
+  AnySchedule turn = (tables : ℕ → Table) (events others : List (Event Table)) → IsRun turn tables events → IsRun turn tables others
+      → ((caller : ℕ) → requests (events_of caller events) ≡ requests (events_of caller others))
+      → ((caller : ℕ) → lacks (replies_to caller events) ≡ lacks (replies_to caller others))
+      → ((caller : ℕ) → replies_to caller events ≡ replies_to caller others) × (after_all tables events ≡ after_all tables others)
 
   -- A run in which a caller begins with the same table as in these tables, and has the same events as among these.
   pub record IsPart (turn : Turn Table) (tables : ℕ → Table) (events : List (Event Table)) (caller : ℕ) : Type 0 where

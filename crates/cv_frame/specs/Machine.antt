@@ -41,6 +41,10 @@ pub record HasOneAnswer {Table : Type 0} (table : Table) (May : Outcome Table �
 abbrev pub IsOneAnswer : {Table : Type 0} → Turn Table → Type 0
 IsOneAnswer {Table} turn = (table : Table) (op : ℕ) (body : List ℕ) → HasOneAnswer table (turn table op body)
 
+-- Each request has some outcome.
+abbrev pub IsSomeAnswer : {Table : Type 0} → Turn Table → Type 0
+IsSomeAnswer {Table} turn = (table : Table) (op : ℕ) (body : List ℕ) → (outcome : Outcome Table) × turn table op body outcome
+
 -- a request, and what came of it
 pub record Event (Table : Type 0) : Type 0 where
   pub request : Message
@@ -128,13 +132,16 @@ pub record Answers {Table : Type 0} (turn : Turn Table) (tables : ℕ → Table)
 abbrev pub IsServed : {Table : Type 0} → Turn Table → (ℕ → Table) → List ℕ → List ℕ → Type 0
 IsServed turn tables given written = Answers turn tables given written × NoneLacks (messages_of written)
 
--- The written bytes answer the first of the given ones: their whole frames are the replies of a run of the first of the whole frames that were given.
-pub record AnswersFirst {Table : Type 0} (turn : Turn Table) (tables : ℕ → Table) (given written : List ℕ) : Type 0 where
+-- The written bytes begin an answer to the given ones: of a run of all whole frames that were given they are the front of the spelled replies, up to the
+-- unwritten ones, and their whole frames are the first of those replies, up to the untold ones.
+pub record BeginsAnswer {Table : Type 0} (turn : Turn Table) (tables : ℕ → Table) (given written : List ℕ) : Type 0 where
   pub events : List (Event Table)
-  pub later : List Message
   pub is_run : IsRun turn tables events
-  pub asks : messages_of given ≡ requests events ++ later
-  pub tells : messages_of written ≡ replies_of events
+  pub asks : requests events ≡ messages_of given
+  pub unwritten : List ℕ
+  pub writes : joined (replies_of events) ≡ written ++ unwritten
+  pub untold : List Message
+  pub tells : replies_of events ≡ messages_of written ++ untold
 
 -- the frames of one caller, joined
 abbrev pub only : ℕ → List ℕ → List ℕ

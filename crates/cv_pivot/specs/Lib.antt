@@ -1,5 +1,4 @@
 pub mod Conversions
-pub mod Converted
 pub mod Cuts
 pub mod Encodings
 pub mod EncodingLaws

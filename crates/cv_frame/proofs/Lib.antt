@@ -3,6 +3,6 @@ pub mod Cuts
 pub mod RestFronts
 pub mod Runs
 pub mod Isolation
-pub mod Answers
+pub mod Outcomes
 pub mod Prefixes
 pub mod ReadBack

@@ -23,10 +23,6 @@ lacking table = record { next = table; code = no_memory; body = [] }
 abbrev pub Turn : Type 0 → Type 1
 Turn Table = Table → ℕ → List ℕ → Outcome Table → Type 0
 
--- The outcome is this one.
-abbrev pub Gives : {Table : Type 0} → Outcome Table → Table → ℕ → List ℕ → Type 0
-Gives outcome next code body = (outcome.next ≡ next) × (outcome.code ≡ code) × (outcome.body ≡ body)
-
 -- Where the test holds the first claim does, and else the second.
 abbrev pub When : Bool → Type 0 → Type 0 → Type 0
 When true Then Else = Then

@@ -1,15 +1,16 @@
 -- What serving says where the source and the sink tell their bytes.
-use Rattle.std.proofs.Common.{◌≡◌, ℕ, List, [], ◌++◌, Option, Some, Result, sym, subst}
-use Rattle.std.proofs.lemmas.List.{append_cancel_right, append_cancel_left}
+use Rattle.std.proofs.Common.{◌≡◌, ℕ, List, [], ◌++◌, Option, Some, Result, refl, sym, ap, ◌∙◌, subst}
+use Rattle.std.proofs.lemmas.List.{append-nil, append_cancel_right, append_cancel_left}
 use Rattle.std.specs.Io.KnownBytes.{Appends, Consumes}
 use Rattle.cv_frame.specs.Message.{Message}
 use Rattle.cv_frame.specs.Cut.{messages_of}
-use Rattle.cv_frame.specs.Machine.{Progress, NoneLacks, AnswersFirst}
+use Rattle.cv_frame.specs.Machine.{Progress, NoneLacks, BeginsAnswer}
 use Rattle.cv_frame.proofs.Isolation.{headline, none_only}
-use Rattle.cv_frame.proofs.Prefixes.{first_answered}
+use Rattle.cv_frame.proofs.Prefixes.{begins_answer}
 use Rattle.cv_world.specs.Turn.{turn}
 use Rattle.cv_world.specs.declared.table.Table.{Table}
-use Rattle.cv_loop.specs.Serving.{Serving, Gave, Took, IsUnbroken, IsAll, AnswersEach, ServesEach}
+use Rattle.cv_world.proofs.SomeAnswer.{some_answer}
+use Rattle.cv_loop.specs.Serving.{Serving, Gave, Took, Ending, ending_of, IsUnbroken, IsAll, AnswersEach, ServesEach, IsHeadline}
 use Rattle.cv_loop.specs.declared.serving.Served.{Served}
 use Rattle.cv_loop.specs.declared.fault.ServeFault.{ServeFault}
 
@@ -33,9 +34,9 @@ all_answered old new given written later unwritten w p =
     let h = headline turn old new given written w.fits b in
     record { all = h.0; each = h.1 }
 
-pub answered : (result : Result Served ServeFault) (old new : ℕ → Table) (left left' held held' : Option (List ℕ)) (pulls max : ℕ)
+answered : (result : Result Served ServeFault) (old new : ℕ → Table) (left left' held held' : Option (List ℕ)) (pulls max : ℕ)
     → Serving result old new left left' held held' pulls max
-    → (given written : List ℕ) → Gave left left' given → Took held held' written → IsUnbroken result → AnswersEach old given written
+    → (given written : List ℕ) → Gave left left' given → Took held held' written → IsUnbroken (ending_of result) → AnswersEach old given written
 answered result old new left left' held held' pulls max s given written gave took unbroken =
     let g : given ≡ s.given = same_given left left' given s.given gave s.gave in
     let w : written ≡ s.written = same_written held held' written s.written took s.took in
@@ -43,13 +44,39 @@ answered result old new left left' held held' pulls max s given written gave too
     subst (λ (x : List ℕ). AnswersEach old x written) (sym g) (subst (λ (x : List ℕ). AnswersEach old s.given x) (sym w) h)
 
 -- where no reply says that memory lacked
-pub all_served : (old : ℕ → Table) (given written : List ℕ) → AnswersEach old given written → NoneLacks (messages_of written) → ServesEach old given written
+all_served : (old : ℕ → Table) (given written : List ℕ) → AnswersEach old given written → NoneLacks (messages_of written) → ServesEach old given written
 all_served old given written p none = record { all = (p.all, none); each = λ c. (p.each c, none_only turn old c given written p.all none) }
 
-pub first : (result : Result Served ServeFault) (old new : ℕ → Table) (left left' held held' : Option (List ℕ)) (pulls max : ℕ)
-    → Serving result old new left left' held held' pulls max → (given written : List ℕ) → Gave left left' given → Took held held' written → AnswersFirst turn old given written
-first result old new left left' held held' pulls max s given written gave took =
+begun : (result : Result Served ServeFault) (old new : ℕ → Table) (left left' held held' : Option (List ℕ)) (pulls max : ℕ)
+    → Serving result old new left left' held held' pulls max → (given written : List ℕ) → Gave left left' given → Took held held' written → BeginsAnswer turn old given written
+begun result old new left left' held held' pulls max s given written gave took =
     let g : given ≡ s.given = same_given left left' given s.given gave s.gave in
     let w : written ≡ s.written = same_written held held' written s.written took s.took in
-    subst (λ (x : List ℕ). AnswersFirst turn old x written) (sym g) (subst (λ (x : List ℕ). AnswersFirst turn old s.given x) (sym w)
-    (first_answered turn old new s.given s.later s.written s.unwritten s.ran))
+    subst (λ (x : List ℕ). BeginsAnswer turn old x written) (sym g) (subst (λ (x : List ℕ). BeginsAnswer turn old s.given x) (sym w)
+    (begins_answer turn some_answer old new s.given s.later s.written s.unwritten s.ran))
+
+-- What serving did is what the headline says.
+pub is_headline : (result : Result Served ServeFault) (old new : ℕ → Table) (left left' held held' : Option (List ℕ)) (pulls max : ℕ)
+    → Serving result old new left left' held held' pulls max → (given written : List ℕ) → Gave left left' given → Took held held' written
+    → IsHeadline (ending_of result) old given written
+is_headline result old new left left' held held' pulls max s given written gave took = record {
+  answered = answered result old new left left' held held' pulls max s given written gave took;
+  served = λ unbroken none. all_served old given written (answered result old new left left' held held' pulls max s given written gave took unbroken) none;
+  begun = begun result old new left left' held held' pulls max s given written gave took;
+}
+
+-- It holds for any other ending that is broken where this one is.
+pub other_ending : (e f : Ending) (tables : ℕ → Table) (given written : List ℕ) → (IsUnbroken f → IsUnbroken e) → IsHeadline e tables given written → IsHeadline f tables given written
+other_ending e f tables given written unbroken h = record {
+  answered = λ u. h.answered (unbroken u);
+  served = λ u none. h.served (unbroken u) none;
+  begun = h.begun;
+}
+
+-- A source that has no bytes left gave all that it had.
+pub all_gave : (left : Option (List ℕ)) (bytes rest : List ℕ) → left ≡ Some bytes → rest ≡ [] → Gave left (Some rest) bytes
+all_gave left bytes rest is end = (rest, is ∙ ap Some (sym (append-nil bytes) ∙ ap (λ (x : List ℕ). bytes ++ x) (sym end)), refl)
+
+-- A sink that began with nothing took all that it holds.
+pub all_took : (began held : Option (List ℕ)) (bytes : List ℕ) → began ≡ Some [] → Some bytes ≡ held → Took began held bytes
+all_took began held bytes none is = ([], none, sym is)

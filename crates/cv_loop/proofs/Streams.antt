@@ -11,7 +11,7 @@ use Rattle.cv_frame.proofs.Runs.{Progress-later}
 use Rattle.cv_frame.proofs.Cuts.{cut_only, cut-joined, front_short}
 use Rattle.cv_world.specs.Turn.{turn}
 use Rattle.cv_world.specs.declared.table.Table.{Table}
-use Rattle.cv_loop.specs.Serving.{Serving, EndsWhere, IsAll, counted, met_the_end, read_failed, write_failed}
+use Rattle.cv_loop.specs.Serving.{Serving, EndsWhere, IsAll, counted, ending_of, met_the_end, read_failed, write_failed}
 use Rattle.cv_loop.specs.Steps.{Broken, Answered, Drained, Stopped, ReadsMore}
 use Rattle.cv_loop.specs.declared.serving.Served.{Served}
 use Rattle.cv_loop.specs.declared.fault.ServeFault.{ServeFault}
@@ -235,7 +235,7 @@ before_the_end false old new bytes end failed e r = absurd cc
 
 -- what the source and the sink say after a read that broke serving off
 pub unread_says : (f : ServeFault) (old new bytes : List ℕ) (end failed broken : Bool) → broken ≡ false → ReadsMore (Err f) old new bytes end failed
-    → (end ≡ met_the_end (Err f)) × (failed ≡ read_failed (Err f)) × (broken ≡ write_failed (Err f)) × (met_the_end (Err f) ≡ false)
+    → (end ≡ met_the_end (ending_of (Err f))) × (failed ≡ read_failed (ending_of (Err f))) × (broken ≡ write_failed (ending_of (Err f))) × (met_the_end (ending_of (Err f)) ≡ false)
 unread_says fault.Read old new bytes end failed broken w why = (why.1, why.2, w, refl)
 unread_says fault.Memory old new bytes end failed broken w why = (why.0, why.1, w, refl)
 unread_says fault.TruncatedFrame old new bytes end failed broken w why = absurd why
@@ -245,7 +245,7 @@ unread_says fault.TooManyReads old new bytes end failed broken w why = absurd wh
 
 -- what they say after a batch that broke it off
 pub stopped_says : (f : ServeFault) (s t : ℕ → Table) (sunk sunk' : Option (List ℕ)) (bytes : List ℕ) (a : ℕ) (end failed broken : Bool) → end ≡ false → failed ≡ false
-    → Stopped f s sunk sunk' bytes t a broken → (end ≡ met_the_end (Err f)) × (failed ≡ read_failed (Err f)) × (broken ≡ write_failed (Err f)) × (met_the_end (Err f) ≡ false)
+    → Stopped f s sunk sunk' bytes t a broken → (end ≡ met_the_end (ending_of (Err f))) × (failed ≡ read_failed (ending_of (Err f))) × (broken ≡ write_failed (ending_of (Err f))) × (met_the_end (ending_of (Err f)) ≡ false)
 stopped_says (fault.BadLength n) s t sunk sunk' bytes a end failed broken e r q = (e, r, q.stops.3, refl)
 stopped_says (fault.Write n) s t sunk sunk' bytes a end failed broken e r q = (e, r, q.stops.why.1, refl)
 stopped_says fault.Memory s t sunk sunk' bytes a end failed broken e r q = (e, r, q.stops.why, refl)

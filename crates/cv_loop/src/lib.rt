@@ -17,7 +17,7 @@ mod world_engine;
 pub use ends::{Failed, Sink, Source};
 pub use engine::Engine;
 pub use fault::ServeFault;
-pub use fresh::serve_new;
+pub use fresh::{serve_bytes, serve_new};
 pub use pushing::push_all;
 pub use serving::{Served, serve};
 pub use std_ends::{FromReader, ToWriter};

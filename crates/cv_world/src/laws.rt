@@ -1,11 +1,19 @@
 //! Laws of the machine of private tables.
-ghost use Rattle.cv_frame.specs.Machine.{IsOneAnswer};
+ghost use Rattle.cv_frame.specs.Machine.{IsOneAnswer, IsSomeAnswer};
 ghost use Rattle.cv_frame.specs.Isolation.{OneWriting, OneService, TwoWorlds, AnySchedule, AnyMerge};
 ghost use Rattle.cv_world.specs.Turn.{turn};
 
 /// Each request has one answer, and want of memory beside it at most.
 pub fn one_answer()
     ensures { IsOneAnswer turn }
+{
+    // The contract is the law; nothing runs.
+}
+
+/// Each request has some answer: where it takes memory, want of it is one.
+#[tactic(auto, using(crate::proofs::SomeAnswer::some_answer))]
+pub fn some_answer()
+    ensures { IsSomeAnswer turn }
 {
     // The contract is the law; nothing runs.
 }
@@ -31,7 +39,7 @@ pub fn two_worlds()
     // The contract is the law; nothing runs.
 }
 
-/// Any order of a run's events that keeps each caller's order is a run, and leaves the same tables.
+/// Runs that differ only in how the requests of different callers stand among one another tell each caller the same, and leave the same tables.
 pub fn schedules()
     ensures { AnySchedule turn }
 {

@@ -2,7 +2,7 @@
 ghost use Rattle.std.specs.Prelude.{◌≡◌, ◌≤◌, OnOk, OnErr, length};
 ghost use Rattle.cv_frame.specs.Machine.{Steps, with_table};
 ghost use Rattle.cv_world.specs.Actions.{asked, Open, Conv, Reset, Close, InputFits};
-ghost use Rattle.cv_world.specs.Answers.{answer_code, answer_body, AnswerFits};
+ghost use Rattle.cv_world.specs.Answers.{AnswerFits};
 ghost use Rattle.cv_world.specs.Tables.{no_tables};
 ghost use Rattle.cv_world.specs.Turn.{Acts, turn};
 ghost use Rattle.cv_world.specs.Worlds.{world_tables};
@@ -60,8 +60,7 @@ impl World {
 
     /// OPEN
     fn open(&mut self, caller: u32, to: &[u8], from: &[u8]) -> Answer
-        ensures acts { Acts (world_tables self.old caller) (Open to.now from.now)
-            (record { next = world_tables self.new caller; code = answer_code result; body = answer_body result }) }
+        ensures acts { Acts (world_tables self.old caller) (Open to.now from.now) (world_tables self.new caller) result }
         ensures others { world_tables self.new ≡ with_table (world_tables self.old) caller (world_tables self.new caller) }
         ensures fits { AnswerFits result }
     {
@@ -85,8 +84,7 @@ impl World {
     /// CONV
     fn conv(&mut self, alloc: Global, caller: u32, number: u32, room: u32, input: &[u8]) -> Answer
         requires { length input.now ≤ 1048567 }
-        ensures acts { Acts (world_tables self.old caller) (Conv number room input.now)
-            (record { next = world_tables self.new caller; code = answer_code result; body = answer_body result }) }
+        ensures acts { Acts (world_tables self.old caller) (Conv number room input.now) (world_tables self.new caller) result }
         ensures others { world_tables self.new ≡ with_table (world_tables self.old) caller (world_tables self.new caller) }
         ensures fits { AnswerFits result }
     {
@@ -98,8 +96,7 @@ impl World {
 
     /// RESET
     fn reset(&mut self, caller: u32, number: u32, room: u32) -> Answer
-        ensures acts { Acts (world_tables self.old caller) (Reset number room)
-            (record { next = world_tables self.new caller; code = answer_code result; body = answer_body result }) }
+        ensures acts { Acts (world_tables self.old caller) (Reset number room) (world_tables self.new caller) result }
         ensures others { world_tables self.new ≡ with_table (world_tables self.old) caller (world_tables self.new caller) }
         ensures fits { AnswerFits result }
     {
@@ -111,8 +108,7 @@ impl World {
 
     /// CLOSE
     fn close(&mut self, caller: u32, number: u32) -> Answer
-        ensures acts { Acts (world_tables self.old caller) (Close number)
-            (record { next = world_tables self.new caller; code = answer_code result; body = answer_body result }) }
+        ensures acts { Acts (world_tables self.old caller) (Close number) (world_tables self.new caller) result }
         ensures others { world_tables self.new ≡ with_table (world_tables self.old) caller (world_tables self.new caller) }
         ensures fits { AnswerFits result }
     {
@@ -126,8 +122,7 @@ impl World {
     /// table as it was.
     pub fn step(&mut self, alloc: Global, caller: u32, op: Op<'_>) -> Answer
         requires { InputFits op }
-        ensures acts { Acts (world_tables self.old caller) (asked op.entry)
-            (record { next = world_tables self.new caller; code = answer_code result; body = answer_body result }) }
+        ensures acts { Acts (world_tables self.old caller) (asked op.entry) (world_tables self.new caller) result }
         ensures others { world_tables self.new ≡ with_table (world_tables self.old) caller (world_tables self.new caller) }
         ensures fits { AnswerFits result }
     {

@@ -13,11 +13,13 @@ returns-in_err-buffer g c =
     let p = err_from_is_err_and c.from_residual.result c.from_residual.ensures.1 in
     rw (p.1, p.2) (record {
       serves = Serving-no_buffer _ _ _ _ _;
-      met_end = c.requires.fresh_reader.0;
-      none_left = λ t. absurd (differ (sym t));
-      read_failed = c.requires.fresh_reader.1;
-      write_failed = c.requires.fresh_writer;
-      reads = omega (arith, c.requires.pulls);
+      ends = record {
+        met_end = c.requires.fresh_reader.0;
+        none_left = λ t. absurd (differ (sym t));
+        read_failed = c.requires.fresh_reader.1;
+        write_failed = c.requires.fresh_writer;
+        reads = omega (arith, c.requires.pulls);
+      };
       ready = c.requires.ready;
     })
 
@@ -39,11 +41,13 @@ returns-in_err-read_more g c =
     let says = unread_says _ _ _ _ _ _ _ c.loop-read.invariant.writes b.2 in
     rw (p.1, p.2) (record {
       serves = Serving-unread _ _ _ _ _ _ _ _ _ _ b.0 _ _ _ _ _ _ c.loop-read.invariant.stands b.1 b.2;
-      met_end = says.0;
-      none_left = λ t. absurd (differ (sym t ∙ says.3));
-      read_failed = says.1;
-      write_failed = says.2;
-      reads = omega (arith, c.in_err-read_more.ensures.pulls, c.loop-read.invariant.pulls);
+      ends = record {
+        met_end = says.0;
+        none_left = λ t. absurd (differ (sym t ∙ says.3));
+        read_failed = says.1;
+        write_failed = says.2;
+        reads = omega (arith, c.in_err-read_more.ensures.pulls, c.loop-read.invariant.pulls);
+      };
       ready = c.loop-read.invariant.ready;
     })
 
@@ -54,11 +58,13 @@ returns-then-is_empty g c =
     let empty : c.read_more.new.held.items ≡ [] = nil_from_length _ (grind (arith, nat_tests)) in
     record {
       serves = Serving-ok _ _ _ _ _ _ _ _ _ b.0 _ _ _ _ c.loop-read.invariant.stands b.1 e.0 (sym e.1 ∙ empty) refl;
-      met_end = e.2;
-      none_left = λ t. c.in_ok-read_more.ensures.end c.if-not-branch.true;
-      read_failed = e.3;
-      write_failed = c.loop-read.invariant.writes;
-      reads = omega (arith, c.in_ok-read_more.ensures.pulls, c.loop-read.invariant.pulls);
+      ends = record {
+        met_end = e.2;
+        none_left = λ t. c.in_ok-read_more.ensures.end c.if-not-branch.true;
+        read_failed = e.3;
+        write_failed = c.loop-read.invariant.writes;
+        reads = omega (arith, c.in_ok-read_more.ensures.pulls, c.loop-read.invariant.pulls);
+      };
       ready = c.loop-read.invariant.ready;
     }
 
@@ -69,11 +75,13 @@ returns-then-not-branch g c =
     let some : c.loop-read.held.items ≢ [] = λ (h : c.loop-read.held.items ≡ []). let len : length c.read_more.new.held.items ≡ 0 = ap length (e.1 ∙ h) in grind (arith, nat_tests, len) in
     record {
       serves = Serving-truncated _ _ _ _ _ _ _ _ b.0 _ _ _ _ c.loop-read.invariant.stands b.1 e.0 some;
-      met_end = e.2;
-      none_left = λ t. c.in_ok-read_more.ensures.end c.if-not-branch.true;
-      read_failed = e.3;
-      write_failed = c.loop-read.invariant.writes;
-      reads = omega (arith, c.in_ok-read_more.ensures.pulls, c.loop-read.invariant.pulls);
+      ends = record {
+        met_end = e.2;
+        none_left = λ t. c.in_ok-read_more.ensures.end c.if-not-branch.true;
+        read_failed = e.3;
+        write_failed = c.loop-read.invariant.writes;
+        reads = omega (arith, c.in_ok-read_more.ensures.pulls, c.loop-read.invariant.pulls);
+      };
       ready = c.loop-read.invariant.ready;
     }
 
@@ -85,11 +93,13 @@ returns-in_err-used g c =
     let says = stopped_says _ _ _ _ _ _ _ _ _ _ more.1 more.2 c.in_err-used.ensures.err in
     rw (p.1, p.2) (record {
       serves = Serving-stops _ _ _ _ _ _ _ _ _ _ _ _ b.0 _ _ _ _ _ c.loop-read.invariant.stands b.1 (c.deref.ensures.value ∙ more.0) c.in_err-used.ensures.err;
-      met_end = says.0;
-      none_left = λ t. absurd (differ (sym t ∙ says.3));
-      read_failed = says.1;
-      write_failed = says.2;
-      reads = omega (arith, c.in_ok-read_more.ensures.pulls, c.loop-read.invariant.pulls);
+      ends = record {
+        met_end = says.0;
+        none_left = λ t. absurd (differ (sym t ∙ says.3));
+        read_failed = says.1;
+        write_failed = says.2;
+        reads = omega (arith, c.in_ok-read_more.ensures.pulls, c.loop-read.invariant.pulls);
+      };
       ready = c.in_err-used.ensures.ready;
     })
 

@@ -8,7 +8,7 @@ use Rattle.cv_frame.specs.Cut.{front_of}
 use Rattle.cv_frame.specs.declared.reading.Frame.TheVariants as front
 use Rattle.cv_world.specs.Turn.{turn}
 use Rattle.cv_loop.specs.Serving.{counted}
-use Rattle.cv_loop.specs.Steps.{Broken, BreaksOff, Answered, Drained, Stops, Stopped}
+use Rattle.cv_loop.specs.Private.Draining.{Broken, BreaksOff, Answered, Drained, Stops, Stopped}
 use Rattle.cv_world.specs.declared.table.Table.{Table}
 use Rattle.cv_loop.specs.declared.fault.ServeFault.{ServeFault}
 use Rattle.cv_loop.specs.declared.fault.ServeFault.TheVariants as fault

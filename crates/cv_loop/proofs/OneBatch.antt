@@ -7,7 +7,7 @@ use Rattle.cv_frame.specs.Machine.{Runs}
 use Rattle.cv_frame.proofs.Runs.{Progress-batch, Progress-stays}
 use Rattle.cv_world.specs.Turn.{turn}
 use Rattle.cv_loop.specs.Serving.{counted}
-use Rattle.cv_loop.specs.Steps.{Broken, Answered}
+use Rattle.cv_loop.specs.Private.Draining.{Broken, Answered}
 use Rattle.cv_world.specs.declared.table.Table.{Table}
 use Rattle.cv_loop.specs.declared.fault.ServeFault.TheVariants as fault
 use Rattle.cv_loop.proofs.Known.{Appends-none}

@@ -12,7 +12,7 @@ use Rattle.cv_frame.proofs.Cuts.{cut_only, cut-joined, front_short}
 use Rattle.cv_world.specs.Turn.{turn}
 use Rattle.cv_world.specs.declared.table.Table.{Table}
 use Rattle.cv_loop.specs.Serving.{Serving, EndsWhere, IsAll, counted, ending_of, met_the_end, read_failed, write_failed}
-use Rattle.cv_loop.specs.Steps.{Broken, Answered, Drained, Stopped, ReadsMore}
+use Rattle.cv_loop.specs.Private.Draining.{Broken, Answered, Drained, Stopped, ReadsMore}
 use Rattle.cv_loop.specs.declared.serving.Served.{Served}
 use Rattle.cv_loop.specs.declared.fault.ServeFault.{ServeFault}
 use Rattle.cv_loop.specs.declared.fault.ServeFault.TheVariants as fault

@@ -2,7 +2,7 @@
 
 ghost use Rattle.std.specs.Prelude.{◌≡◌, ◌-◌, ◌^◌, false, length, min, IfOk, IfErr, OnOk};
 ghost use Rattle.cv_frame.specs.Message.{joined};
-ghost use Rattle.cv_loop.specs.Steps.{Answered, Broken};
+ghost use Rattle.cv_loop.specs.Private.Draining.{Answered, Broken};
 
 use crate::ends::Sink;
 use crate::engine::Engine;

@@ -3,7 +3,7 @@
 ghost use Rattle.std.specs.Prelude.{◌≡◌, false, IfOk, IfErr, OnOk, drop};
 ghost use Rattle.cv_frame.specs.Cut.{front_of};
 ghost use Rattle.cv_frame.specs.declared.reading.Frame.TheVariants as front;
-ghost use Rattle.cv_loop.specs.Steps.{Drained, Stopped, EndsBatch};
+ghost use Rattle.cv_loop.specs.Private.Draining.{Drained, Stopped, EndsBatch};
 
 use crate::answering::answer;
 use crate::batch::{End, next_batch};

@@ -2,7 +2,7 @@
 
 ghost use Rattle.std.specs.Prelude.{◌≡◌, ◌≤◌, ◌<◌, ◌+◌, ◌-◌, ◌^◌, ◌++◌, ℕ, List, false, IfOk, OnOk, vec_len, length, take, drop};
 ghost use Rattle.std.specs.Io.KnownBytes.{Consumes, IsAtEnd};
-ghost use Rattle.cv_loop.specs.Steps.{ReadsMore};
+ghost use Rattle.cv_loop.specs.Private.Draining.{ReadsMore};
 
 use crate::ends::Source;
 use crate::fault::ServeFault;

@@ -1,5 +1,5 @@
 use Rattle.std.proofs.Common.{◌≡◌, false, length, ◌-◌}
-use Rattle.cv_loop.specs.Steps.{Drained}
+use Rattle.cv_loop.specs.Private.Draining.{Drained}
 use Rattle.cv_loop.proofs.draining.drain.Given as goal
 
 -- what was answered so far

@@ -1,4 +1,4 @@
--- What the steps of serving leave behind: the contracts of this crate's private functions. No public contract cites this page.
+-- What draining a stream leaves behind, one batch after another.
 use Rattle.std.specs.Prelude.{◌≡◌, ℕ, ◌+◌, ◌<◌, ◌≤◌, true, false, List, [], ◌++◌, length, drop, Option, Bool, Result, Ok, Err}
 use Rattle.std.specs.Io.KnownBytes.{Appends}
 use Rattle.std.specs.List.{AllByRecursion}

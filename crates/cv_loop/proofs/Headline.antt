@@ -4,12 +4,9 @@ use Rattle.std.proofs.lemmas.List.{append-nil, append_cancel_right, append_cance
 use Rattle.std.specs.Io.KnownBytes.{Appends, Consumes}
 use Rattle.cv_frame.specs.Message.{Message}
 use Rattle.cv_frame.specs.Cut.{messages_of}
-use Rattle.cv_frame.specs.Machine.{Progress, NoneLacks, BeginsAnswer}
+use Rattle.cv_frame.specs.Machine.{Turn, IsSomeAnswer, Progress, NoneLacks, BeginsAnswer}
 use Rattle.cv_frame.proofs.Isolation.{headline, none_only}
 use Rattle.cv_frame.proofs.Prefixes.{begins_answer}
-use Rattle.cv_world.specs.Turn.{turn}
-use Rattle.cv_world.specs.declared.table.Table.{Table}
-use Rattle.cv_world.proofs.SomeAnswer.{some_answer}
 use Rattle.cv_loop.specs.Serving.{Serving, Gave, Took, Ending, ending_of, IsUnbroken, IsAll, AnswersEach, ServesEach, IsHeadline}
 use Rattle.cv_loop.specs.declared.serving.Served.{Served}
 use Rattle.cv_loop.specs.declared.fault.ServeFault.{ServeFault}
@@ -26,52 +23,53 @@ same_written held held' w w' p q =
     let b : Appends (Some p.0) (Some (p.0 ++ w)) w' = subst (λ (o : Option (List ℕ)). Appends (Some p.0) o w') p.2 a in
     append_cancel_left p.0 w w' b
 
-all_answered : (old new : ℕ → Table) (given written : List ℕ) (later : List Message) (unwritten : List ℕ) → IsAll given later unwritten
-    → Progress turn old (messages_of given) later written unwritten new → AnswersEach old given written
-all_answered old new given written later unwritten w p =
-    let a : Progress turn old (messages_of given) [] written unwritten new = subst (λ (ms : List Message). Progress turn old (messages_of given) ms written unwritten new) w.ran p in
-    let b : Progress turn old (messages_of given) [] written [] new = subst (λ (x : List ℕ). Progress turn old (messages_of given) [] written x new) w.wrote a in
-    let h = headline turn old new given written w.fits b in
-    record { all = h.0; each = h.1 }
+module _ {Table : Type 0} {turn : Turn Table} where
+  all_answered : (old new : ℕ → Table) (given written : List ℕ) (later : List Message) (unwritten : List ℕ) → IsAll given later unwritten
+      → Progress turn old (messages_of given) later written unwritten new → AnswersEach turn old given written
+  all_answered old new given written later unwritten w p =
+      let a : Progress turn old (messages_of given) [] written unwritten new = subst (λ (ms : List Message). Progress turn old (messages_of given) ms written unwritten new) w.ran p in
+      let b : Progress turn old (messages_of given) [] written [] new = subst (λ (x : List ℕ). Progress turn old (messages_of given) [] written x new) w.wrote a in
+      let h = headline turn old new given written w.fits b in
+      record { all = h.0; each = h.1 }
 
-answered : (result : Result Served ServeFault) (old new : ℕ → Table) (left left' held held' : Option (List ℕ)) (pulls max : ℕ)
-    → Serving result old new left left' held held' pulls max
-    → (given written : List ℕ) → Gave left left' given → Took held held' written → IsUnbroken (ending_of result) → AnswersEach old given written
-answered result old new left left' held held' pulls max s given written gave took unbroken =
-    let g : given ≡ s.given = same_given left left' given s.given gave s.gave in
-    let w : written ≡ s.written = same_written held held' written s.written took s.took in
-    let h = all_answered old new s.given s.written s.later s.unwritten (s.all unbroken) s.ran in
-    subst (λ (x : List ℕ). AnswersEach old x written) (sym g) (subst (λ (x : List ℕ). AnswersEach old s.given x) (sym w) h)
+  answered : (result : Result Served ServeFault) (old new : ℕ → Table) (left left' held held' : Option (List ℕ)) (pulls max : ℕ)
+      → Serving turn result old new left left' held held' pulls max
+      → (given written : List ℕ) → Gave left left' given → Took held held' written → IsUnbroken (ending_of result) → AnswersEach turn old given written
+  answered result old new left left' held held' pulls max s given written gave took unbroken =
+      let g : given ≡ s.given = same_given left left' given s.given gave s.gave in
+      let w : written ≡ s.written = same_written held held' written s.written took s.took in
+      let h = all_answered old new s.given s.written s.later s.unwritten (s.all unbroken) s.ran in
+      subst (λ (x : List ℕ). AnswersEach turn old x written) (sym g) (subst (λ (x : List ℕ). AnswersEach turn old s.given x) (sym w) h)
 
--- where no reply says that memory lacked
-all_served : (old : ℕ → Table) (given written : List ℕ) → AnswersEach old given written → NoneLacks (messages_of written) → ServesEach old given written
-all_served old given written p none = record { all = (p.all, none); each = λ c. (p.each c, none_only turn old c given written p.all none) }
+  -- where no reply says that memory lacked
+  all_served : (old : ℕ → Table) (given written : List ℕ) → AnswersEach turn old given written → NoneLacks (messages_of written) → ServesEach turn old given written
+  all_served old given written p none = record { all = (p.all, none); each = λ c. (p.each c, none_only turn old c given written p.all none) }
 
-begun : (result : Result Served ServeFault) (old new : ℕ → Table) (left left' held held' : Option (List ℕ)) (pulls max : ℕ)
-    → Serving result old new left left' held held' pulls max → (given written : List ℕ) → Gave left left' given → Took held held' written → BeginsAnswer turn old given written
-begun result old new left left' held held' pulls max s given written gave took =
-    let g : given ≡ s.given = same_given left left' given s.given gave s.gave in
-    let w : written ≡ s.written = same_written held held' written s.written took s.took in
-    subst (λ (x : List ℕ). BeginsAnswer turn old x written) (sym g) (subst (λ (x : List ℕ). BeginsAnswer turn old s.given x) (sym w)
-    (begins_answer turn some_answer old new s.given s.later s.written s.unwritten s.ran))
+  begun : IsSomeAnswer turn → (result : Result Served ServeFault) (old new : ℕ → Table) (left left' held held' : Option (List ℕ)) (pulls max : ℕ)
+      → Serving turn result old new left left' held held' pulls max → (given written : List ℕ) → Gave left left' given → Took held held' written → BeginsAnswer turn old given written
+  begun law result old new left left' held held' pulls max s given written gave took =
+      let g : given ≡ s.given = same_given left left' given s.given gave s.gave in
+      let w : written ≡ s.written = same_written held held' written s.written took s.took in
+      subst (λ (x : List ℕ). BeginsAnswer turn old x written) (sym g) (subst (λ (x : List ℕ). BeginsAnswer turn old s.given x) (sym w)
+      (begins_answer turn law old new s.given s.later s.written s.unwritten s.ran))
 
--- What serving did is what the headline says.
-pub is_headline : (result : Result Served ServeFault) (old new : ℕ → Table) (left left' held held' : Option (List ℕ)) (pulls max : ℕ)
-    → Serving result old new left left' held held' pulls max → (given written : List ℕ) → Gave left left' given → Took held held' written
-    → IsHeadline (ending_of result) old given written
-is_headline result old new left left' held held' pulls max s given written gave took = record {
-  answered = answered result old new left left' held held' pulls max s given written gave took;
-  served = λ unbroken none. all_served old given written (answered result old new left left' held held' pulls max s given written gave took unbroken) none;
-  begun = begun result old new left left' held held' pulls max s given written gave took;
-}
+  -- What serving did is what the headline says.
+  pub is_headline : IsSomeAnswer turn → (result : Result Served ServeFault) (old new : ℕ → Table) (left left' held held' : Option (List ℕ)) (pulls max : ℕ)
+      → Serving turn result old new left left' held held' pulls max → (given written : List ℕ) → Gave left left' given → Took held held' written
+      → IsHeadline turn (ending_of result) old given written
+  is_headline law result old new left left' held held' pulls max s given written gave took = record {
+    answered = answered result old new left left' held held' pulls max s given written gave took;
+    served = λ unbroken none. all_served old given written (answered result old new left left' held held' pulls max s given written gave took unbroken) none;
+    begun = begun law result old new left left' held held' pulls max s given written gave took;
+  }
 
--- It holds for any other ending that is broken where this one is.
-pub other_ending : (e f : Ending) (tables : ℕ → Table) (given written : List ℕ) → (IsUnbroken f → IsUnbroken e) → IsHeadline e tables given written → IsHeadline f tables given written
-other_ending e f tables given written unbroken h = record {
-  answered = λ u. h.answered (unbroken u);
-  served = λ u none. h.served (unbroken u) none;
-  begun = h.begun;
-}
+  -- It holds for any other ending that is broken where this one is.
+  pub other_ending : (e f : Ending) (tables : ℕ → Table) (given written : List ℕ) → (IsUnbroken f → IsUnbroken e) → IsHeadline turn e tables given written → IsHeadline turn f tables given written
+  other_ending e f tables given written unbroken h = record {
+    answered = λ u. h.answered (unbroken u);
+    served = λ u none. h.served (unbroken u) none;
+    begun = h.begun;
+  }
 
 -- A source that has no bytes left gave all that it had.
 pub all_gave : (left : Option (List ℕ)) (bytes rest : List ℕ) → left ≡ Some bytes → rest ≡ [] → Gave left (Some rest) bytes

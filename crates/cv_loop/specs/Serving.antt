@@ -4,10 +4,8 @@ use Rattle.std.specs.Io.KnownBytes.{Appends, Consumes, IsAtEnd}
 use Rattle.std.specs.List.{AllByRecursion}
 use Rattle.cv_frame.specs.Message.{Message, FitsFrame}
 use Rattle.cv_frame.specs.Cut.{front_of, messages_of, rest_of}
-use Rattle.cv_frame.specs.Machine.{Progress, Answers, IsServed, BeginsAnswer, NoneLacks, only}
+use Rattle.cv_frame.specs.Machine.{Turn, Progress, Answers, IsServed, BeginsAnswer, NoneLacks, only}
 use Rattle.cv_frame.specs.declared.reading.Frame.TheVariants as front
-use Rattle.cv_world.specs.Turn.{turn}
-use Rattle.cv_world.specs.declared.table.Table.{Table}
 use Rattle.cv_loop.specs.declared.fault.ServeFault.{ServeFault}
 use Rattle.cv_loop.specs.declared.fault.ServeFault.TheVariants as fault
 use Rattle.cv_loop.specs.declared.serving.Served.{Served}
@@ -23,12 +21,12 @@ abbrev pub Took : Option (List ℕ) → Option (List ℕ) → List ℕ → Type 
 Took held held' written = (before : List ℕ) × (held ≡ Some before) × (held' ≡ Some (before ++ written))
 
 -- The written bytes answer the given ones, and to each caller its frames alone.
-pub record AnswersEach (tables : ℕ → Table) (given written : List ℕ) : Type 0 where
+pub record AnswersEach {Table : Type 0} (turn : Turn Table) (tables : ℕ → Table) (given written : List ℕ) : Type 0 where
   pub all : Answers turn tables given written
   pub each : (caller : ℕ) → Answers turn tables (only caller given) (only caller written)
 
 -- They answer them, to each caller its frames alone, and memory never lacked.
-pub record ServesEach (tables : ℕ → Table) (given written : List ℕ) : Type 0 where
+pub record ServesEach {Table : Type 0} (turn : Turn Table) (tables : ℕ → Table) (given written : List ℕ) : Type 0 where
   pub all : IsServed turn tables given written
   pub each : (caller : ℕ) → IsServed turn tables (only caller given) (only caller written)
 
@@ -96,9 +94,9 @@ EndsWhere (Err fault.Memory) frames rest written pulls max_reads = Unit {0}
 -- The headline, of the bytes that were given and those that were written: unless a write or want of memory broke serving off, these answer those, to each
 -- caller its frames alone; where besides no reply says that memory lacked, they are what is served for them; and however serving ended, they begin an answer to
 -- all that was given.
-pub record IsHeadline (ending : Ending) (tables : ℕ → Table) (given written : List ℕ) : Type 0 where
-  pub answered : IsUnbroken ending → AnswersEach tables given written
-  pub served : IsUnbroken ending → NoneLacks (messages_of written) → ServesEach tables given written
+pub record IsHeadline {Table : Type 0} (turn : Turn Table) (ending : Ending) (tables : ℕ → Table) (given written : List ℕ) : Type 0 where
+  pub answered : IsUnbroken ending → AnswersEach turn tables given written
+  pub served : IsUnbroken ending → NoneLacks (messages_of written) → ServesEach turn tables given written
   pub begun : BeginsAnswer turn tables given written
 
 -- All whole frames of what was given ran, and all of their replies was written.
@@ -108,7 +106,7 @@ pub record IsAll (given : List ℕ) (later : List Message) (unwritten : List ℕ
   pub fits : AllByRecursion FitsFrame (messages_of given)
 
 -- What serving a stream did, from the tables old to new.
-pub record Serving (result : Result Served ServeFault) (old new : ℕ → Table) (left left' held held' : Option (List ℕ)) (pulls max_reads : ℕ) : Type 0 where
+pub record Serving {Table : Type 0} (turn : Turn Table) (result : Result Served ServeFault) (old new : ℕ → Table) (left left' held held' : Option (List ℕ)) (pulls max_reads : ℕ) : Type 0 where
   -- what the source gave
   pub given : List ℕ
   pub gave : Consumes left left' given

@@ -2,6 +2,7 @@
 
 ghost use Rattle.std.specs.Prelude.{◌≡◌, ℕ, List, false, IsTrue};
 ghost use Rattle.cv_world.specs.Tables.{no_tables};
+ghost use Rattle.cv_world.specs.Turn.{turn};
 ghost use Rattle.cv_world.specs.declared.table.Table.{Table};
 ghost use Rattle.cv_loop.specs.Serving.{Serving, Gave, Took, IsHeadline, EndsSay, IsUnbroken, ending_of, met_the_end, write_failed};
 
@@ -27,8 +28,8 @@ pub fn serve_new<R, S: Source, W: Sink>(
 
     // As `serve`, from the tables of callers who never asked.
     ensures headline { (given written : List ℕ) → Gave (S.left reader.old) (S.left reader.new) given
-        → Took (W.held writer.old) (W.held writer.new) written → IsHeadline (ending_of result) no_tables given written }
-    ensures serves { (tables : ℕ → Table) × Serving result no_tables tables (S.left reader.old) (S.left reader.new)
+        → Took (W.held writer.old) (W.held writer.new) written → IsHeadline turn (ending_of result) no_tables given written }
+    ensures serves { (tables : ℕ → Table) × Serving turn result no_tables tables (S.left reader.old) (S.left reader.new)
         (W.held writer.old) (W.held writer.new) (S.pulls reader.new) max_reads }
     ensures ends { EndsSay (ending_of result) (S.met_end reader.new) (S.has_failed reader.new) (W.has_failed writer.new)
         (S.left reader.new) (S.pulls reader.new) max_reads }
@@ -58,7 +59,7 @@ pub fn serve_bytes<R>(
     max_reads: u64,
 ) -> (Result<Served, ServeFault>, Vec<u8>)
     // To the end, unless as many reads were made as may be or a length was bad.
-    ensures headline { IsTrue (met_the_end (ending_of result.0)) → IsHeadline (ending_of result.0) no_tables frames.now result.1.items }
+    ensures headline { IsTrue (met_the_end (ending_of result.0)) → IsHeadline turn (ending_of result.0) no_tables frames.now result.1.items }
     ensures no_write { write_failed (ending_of result.0) ≡ false }
 {
     let mut reader = FromReader::new(frames);

@@ -29,7 +29,7 @@ fn serve_stream<R, E: Engine<R>, S: Source, W: Sink>(
     requires fresh_reader { (S.met_end reader.old ≡ false) × (S.has_failed reader.old ≡ false) }
     requires fresh_writer { W.has_failed writer.old ≡ false }
     requires ready { E.ready engine.old }
-    ensures serves { Serving result (E.tables engine.old) (E.tables engine.new) (S.left reader.old) (S.left reader.new)
+    ensures serves { Serving E.turn result (E.tables engine.old) (E.tables engine.new) (S.left reader.old) (S.left reader.new)
         (W.held writer.old) (W.held writer.new) (S.pulls reader.new) max_reads }
     ensures ends { EndsSay (ending_of result) (S.met_end reader.new) (S.has_failed reader.new) (W.has_failed writer.new)
         (S.left reader.new) (S.pulls reader.new) max_reads }
@@ -75,10 +75,10 @@ pub fn serve<R, E: Engine<R>, S: Source, W: Sink>(
 
     // What was written answers what was given, and each caller for its frames alone.
     ensures headline { (given written : List ℕ) → Gave (S.left reader.old) (S.left reader.new) given
-        → Took (W.held writer.old) (W.held writer.new) written → IsHeadline (ending_of result) (E.tables engine.old) given written }
+        → Took (W.held writer.old) (W.held writer.new) written → IsHeadline E.turn (ending_of result) (E.tables engine.old) given written }
 
     // Which result comes where, what was written, and where it left the engine.
-    ensures serves { Serving result (E.tables engine.old) (E.tables engine.new) (S.left reader.old) (S.left reader.new)
+    ensures serves { Serving E.turn result (E.tables engine.old) (E.tables engine.new) (S.left reader.old) (S.left reader.new)
         (W.held writer.old) (W.held writer.new) (S.pulls reader.new) max_reads }
 
     // `Ok` and `TruncatedFrame` come where the stream ended; `Read` where a read failed; `Write` where a write failed; and nowhere else.
@@ -87,5 +87,6 @@ pub fn serve<R, E: Engine<R>, S: Source, W: Sink>(
 
     ensures ready { E.ready engine.new }
 {
+    engine.assert_valid();
     serve_stream(engine, rt, alloc, reader, writer, max_reads)
 }

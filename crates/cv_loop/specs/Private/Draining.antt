@@ -4,10 +4,8 @@ use Rattle.std.specs.Io.KnownBytes.{Appends}
 use Rattle.std.specs.List.{AllByRecursion}
 use Rattle.cv_frame.specs.Message.{Message, joined, FitsFrame}
 use Rattle.cv_frame.specs.Cut.{front_of}
-use Rattle.cv_frame.specs.Machine.{Progress}
+use Rattle.cv_frame.specs.Machine.{Turn, Progress}
 use Rattle.cv_frame.specs.declared.reading.Frame.TheVariants as front
-use Rattle.cv_world.specs.Turn.{turn}
-use Rattle.cv_world.specs.declared.table.Table.{Table}
 use Rattle.cv_loop.specs.Serving.{counted}
 use Rattle.cv_loop.specs.declared.fault.ServeFault.{ServeFault}
 use Rattle.cv_loop.specs.declared.fault.ServeFault.TheVariants as fault
@@ -21,7 +19,7 @@ EndsBatch ends.Partial used rest = front_of rest ≡ front.Partial
 EndsBatch (ends.Bad n) used rest = front_of rest ≡ front.Bad n
 
 -- what ran and what of it was written, by a sink that held these bytes before and after
-pub record Wrote (old : ℕ → Table) (held held' : Option (List ℕ)) (asked later : List Message) (written unwritten : List ℕ) (new : ℕ → Table) : Type 0 where
+pub record Wrote {Table : Type 0} (turn : Turn Table) (old : ℕ → Table) (held held' : Option (List ℕ)) (asked later : List Message) (written unwritten : List ℕ) (new : ℕ → Table) : Type 0 where
   pub took : Appends held held' written
   pub ran : Progress turn old asked later written unwritten new
 
@@ -35,45 +33,45 @@ BreaksOff fault.Read written failed = ⊥
 BreaksOff fault.TooManyReads written failed = ⊥
 
 -- a batch broke off, where before is how much was written before it
-pub record Broken (old : ℕ → Table) (held held' : Option (List ℕ)) (asked : List Message) (new : ℕ → Table) (before : ℕ) (f : ServeFault) (failed : Bool) : Type 0 where
+pub record Broken {Table : Type 0} (turn : Turn Table) (old : ℕ → Table) (held held' : Option (List ℕ)) (asked : List Message) (new : ℕ → Table) (before : ℕ) (f : ServeFault) (failed : Bool) : Type 0 where
   pub later : List Message
   pub written : List ℕ
   pub unwritten : List ℕ
-  pub wrote : Wrote old held held' asked later written unwritten new
+  pub wrote : Wrote turn old held held' asked later written unwritten new
   pub why : BreaksOff f (before + length written) failed
 
 -- all was answered and written, and the counts say how much
-pub record Answered (old : ℕ → Table) (held held' : Option (List ℕ)) (asked : List Message) (new : ℕ → Table) (before after : ℕ) : Type 0 where
+pub record Answered {Table : Type 0} (turn : Turn Table) (old : ℕ → Table) (held held' : Option (List ℕ)) (asked : List Message) (new : ℕ → Table) (before after : ℕ) : Type 0 where
   pub written : List ℕ
-  pub wrote : Wrote old held held' asked [] written [] new
+  pub wrote : Wrote turn old held held' asked [] written [] new
   pub counts : after ≡ counted (before + length written)
 
 -- of some bytes the whole frames from the front, up to used, were answered and written
-pub record Drained (old : ℕ → Table) (held held' : Option (List ℕ)) (bytes : List ℕ) (used : ℕ) (new : ℕ → Table) (written written' served served' : ℕ) : Type 0 where
+pub record Drained {Table : Type 0} (turn : Turn Table) (old : ℕ → Table) (held held' : Option (List ℕ)) (bytes : List ℕ) (used : ℕ) (new : ℕ → Table) (written written' served served' : ℕ) : Type 0 where
   pub asked : List Message
   pub within : used ≤ length bytes
   pub fits : AllByRecursion FitsFrame asked
   pub front : bytes ≡ joined asked ++ drop used bytes
-  pub answered : Answered old held held' asked new written written'
+  pub answered : Answered turn old held held' asked new written written'
   pub counts : served' ≡ counted (served + length asked)
 
 -- serving broke off at these requests, where rest stands after them
-abbrev pub Stops : ServeFault → (ℕ → Table) → Option (List ℕ) → Option (List ℕ) → List Message → List ℕ → (ℕ → Table) → ℕ → Bool → Type 0
-Stops (fault.BadLength n) old held held' asked rest new written failed =
-    (after : ℕ) × Answered old held held' asked new written after × (front_of rest ≡ front.Bad n) × (failed ≡ false)
-Stops (fault.Write n) old held held' asked rest new written failed = Broken old held held' asked new written (fault.Write n) failed
-Stops fault.Memory old held held' asked rest new written failed = Broken old held held' asked new written fault.Memory failed
-Stops fault.TruncatedFrame old held held' asked rest new written failed = ⊥
-Stops fault.Read old held held' asked rest new written failed = ⊥
-Stops fault.TooManyReads old held held' asked rest new written failed = ⊥
+abbrev pub Stops : {Table : Type 0} → Turn Table → ServeFault → (ℕ → Table) → Option (List ℕ) → Option (List ℕ) → List Message → List ℕ → (ℕ → Table) → ℕ → Bool → Type 0
+Stops turn (fault.BadLength n) old held held' asked rest new written failed =
+    (after : ℕ) × Answered turn old held held' asked new written after × (front_of rest ≡ front.Bad n) × (failed ≡ false)
+Stops turn (fault.Write n) old held held' asked rest new written failed = Broken turn old held held' asked new written (fault.Write n) failed
+Stops turn fault.Memory old held held' asked rest new written failed = Broken turn old held held' asked new written fault.Memory failed
+Stops turn fault.TruncatedFrame old held held' asked rest new written failed = ⊥
+Stops turn fault.Read old held held' asked rest new written failed = ⊥
+Stops turn fault.TooManyReads old held held' asked rest new written failed = ⊥
 
 -- draining some bytes stopped
-pub record Stopped (f : ServeFault) (old : ℕ → Table) (held held' : Option (List ℕ)) (bytes : List ℕ) (new : ℕ → Table) (written : ℕ) (failed : Bool) : Type 0 where
+pub record Stopped {Table : Type 0} (turn : Turn Table) (f : ServeFault) (old : ℕ → Table) (held held' : Option (List ℕ)) (bytes : List ℕ) (new : ℕ → Table) (written : ℕ) (failed : Bool) : Type 0 where
   pub asked : List Message
   pub rest : List ℕ
   pub fits : AllByRecursion FitsFrame asked
   pub front : bytes ≡ joined asked ++ rest
-  pub stops : Stops f old held held' asked rest new written failed
+  pub stops : Stops turn f old held held' asked rest new written failed
 
 -- what one read brought, and what the source says after it: whether its end was met, and whether it has failed
 abbrev pub ReadsMore : Result Bool ServeFault → List ℕ → List ℕ → List ℕ → Bool → Bool → Type 0

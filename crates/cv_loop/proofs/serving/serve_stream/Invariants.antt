@@ -11,6 +11,6 @@ invariant-loop-read g l = record {
   writes : g.W.Sink.has_failed l.writer ≡ false;
   ready : g.E.Engine.ready l.engine;
   room : vec_len l.buffer ≡ 65536;
-  stands : Standing (g.E.Engine.tables l.fn.engine) (g.E.Engine.tables l.engine) (g.S.Source.left l.fn.reader) (g.S.Source.left l.reader)
+  stands : Standing g.E.Engine.turn (g.E.Engine.tables l.fn.engine) (g.E.Engine.tables l.engine) (g.S.Source.left l.fn.reader) (g.S.Source.left l.reader)
       (g.W.Sink.held l.fn.writer) (g.W.Sink.held l.writer) l.held.items l.counts.requests l.counts.written;
 }

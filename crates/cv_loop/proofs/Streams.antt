@@ -218,20 +218,17 @@ module _ {Table : Type 0} {turn : Turn Table} where
   Serving-stops fault.Read s t u left left' left'' sunk sunk' sunk'' held held' bytes k a failed pulls max p gave more q = absurd q.stops
   Serving-stops fault.TooManyReads s t u left left' left'' sunk sunk' sunk'' held held' bytes k a failed pulls max p gave more q = absurd q.stops
 
-  -- want of memory before the first read
-  pub Serving-no_buffer : (s : ℕ → Table) (left sunk : Option (List ℕ)) (pulls max : ℕ) → Serving turn (Err fault.Memory) s s left left sunk sunk pulls max
-  Serving-no_buffer s left sunk pulls max =
-      Serving-unread fault.Memory s s left left left sunk sunk [] [] [] 0 0 false false pulls max (Standing-none s left sunk) (Consumes-none left) (refl, refl)
-
 -- what a read that came to the end, or didn't, says
 pub at_the_end : (more : Bool) (old new bytes : List ℕ) (end failed : Bool) → more ≡ false → ReadsMore (Ok more) old new bytes end failed
     → (bytes ≡ []) × (new ≡ old) × (end ≡ true) × (failed ≡ false)
 at_the_end true old new bytes end failed e r = absurd cc
-at_the_end false old new bytes end failed e r = r
+at_the_end false old new bytes end failed e r =
+    let none = r.1 refl in
+    (none, r.0 ∙ ap (λ (x : List ℕ). old ++ x) none ∙ append-nil old, r.2, r.3)
 
 pub before_the_end : (more : Bool) (old new bytes : List ℕ) (end failed : Bool) → more ≡ true → ReadsMore (Ok more) old new bytes end failed
     → (new ≡ old ++ bytes) × (end ≡ false) × (failed ≡ false)
-before_the_end true old new bytes end failed e r = r
+before_the_end true old new bytes end failed e r = (r.0, r.2, r.3)
 before_the_end false old new bytes end failed e r = absurd cc
 
 -- what the source and the sink say after a read that broke serving off

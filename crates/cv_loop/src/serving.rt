@@ -7,7 +7,7 @@ use crate::draining::{Counts, drain};
 use crate::ends::{Sink, Source};
 use crate::engine::Engine;
 use crate::fault::ServeFault;
-use crate::reading::{forget, read_buffer, read_more};
+use crate::held::Held;
 use std::alloc::Global;
 
 /// A stream was served to its end.
@@ -35,22 +35,21 @@ fn serve_stream<R, E: Engine<R>, S: Source, W: Sink>(
         (S.left reader.new) (S.pulls reader.new) max_reads }
     ensures ready { E.ready engine.new }
 {
-    let mut buffer = read_buffer(alloc)?;
-    let mut held = Vec::new(alloc);
+    let mut held = Held::new(alloc);
     let mut counts = Counts {
         requests: 0,
         written: 0,
     };
     for _read in 0..max_reads {
-        if !read_more(reader, &mut buffer, &mut held)? {
-            if held.is_empty() {
+        if !held.read_more(reader)? {
+            if held.as_slice().is_empty() {
                 let requests = counts.requests;
                 return Ok(Served { requests });
             }
             return Err(ServeFault::TruncatedFrame);
         }
-        let used = drain(engine, rt, alloc, writer, &held, &mut counts)?;
-        forget(&mut held, used);
+        let used = drain(engine, rt, alloc, writer, held.as_slice(), &mut counts)?;
+        held.forget(used);
     }
     Err(ServeFault::TooManyReads)
 }

@@ -1,5 +1,5 @@
 -- What draining a stream leaves behind, one batch after another.
-use Rattle.std.specs.Prelude.{◌≡◌, ℕ, ◌+◌, ◌<◌, ◌≤◌, true, false, List, [], ◌++◌, length, drop, Option, Bool, Result, Ok, Err}
+use Rattle.std.specs.Prelude.{◌≡◌, ℕ, ◌+◌, ◌<◌, ◌≤◌, true, false, not, List, [], ◌++◌, length, drop, Option, Bool, Result, Ok, Err}
 use Rattle.std.specs.Io.KnownBytes.{Appends}
 use Rattle.std.specs.List.{AllByRecursion}
 use Rattle.cv_frame.specs.Message.{Message, joined, FitsFrame}
@@ -75,8 +75,7 @@ pub record Stopped {Table : Type 0} (turn : Turn Table) (f : ServeFault) (old : 
 
 -- what one read brought, and what the source says after it: whether its end was met, and whether it has failed
 abbrev pub ReadsMore : Result Bool ServeFault → List ℕ → List ℕ → List ℕ → Bool → Bool → Type 0
-ReadsMore (Ok true) old new bytes end failed = (new ≡ old ++ bytes) × (end ≡ false) × (failed ≡ false)
-ReadsMore (Ok false) old new bytes end failed = (bytes ≡ []) × (new ≡ old) × (end ≡ true) × (failed ≡ false)
+ReadsMore (Ok more) old new bytes end failed = (new ≡ old ++ bytes) × (more ≡ false → bytes ≡ []) × (end ≡ not more) × (failed ≡ false)
 ReadsMore (Err fault.Read) old new bytes end failed = (bytes ≡ []) × (end ≡ false) × (failed ≡ true)
 ReadsMore (Err fault.Memory) old new bytes end failed = (end ≡ false) × (failed ≡ false)
 ReadsMore (Err fault.TruncatedFrame) old new bytes end failed = ⊥

@@ -3,7 +3,7 @@ use Rattle.std.proofs.Common.{◌≡◌, ℕ, ◌+◌, ◌-◌, ◌^◌, ◌<◌
 use Rattle.std.proofs.lemmas.List.{length-drop, drop-drop, take_rest}
 use Rattle.std.proofs.lemmas.List.Concat.{flat_map-append}
 use Rattle.cv_frame.specs.Message.{Message, joined, spelling}
-use Rattle.cv_frame.proofs.Runs.{Progress-none, Progress-then}
+use Rattle.cv_machine.proofs.Runs.{Progress-none, Progress-then}
 use Rattle.cv_frame.specs.Cut.{front_of}
 use Rattle.cv_frame.specs.declared.reading.Frame.TheVariants as front
 use Rattle.cv_loop.specs.Serving.{counted}
@@ -12,7 +12,7 @@ use Rattle.cv_loop.specs.declared.fault.ServeFault.{ServeFault}
 use Rattle.cv_loop.specs.declared.fault.ServeFault.TheVariants as fault
 use Rattle.cv_loop.proofs.Known.{Appends-none, Appends-then}
 use Rattle.cv_loop.proofs.Batches.{all-append}
-use Rattle.cv_frame.specs.Machine.{Turn}
+use Rattle.cv_machine.specs.Machine.{Turn}
 
 pub counted-add : (a b c : ℕ) → counted (counted (a + b) + c) ≡ counted (a + (b + c))
 counted-add a b c = omega arith

@@ -4,9 +4,9 @@ use Rattle.std.proofs.lemmas.List.{append-nil, append_cancel_right, append_cance
 use Rattle.std.specs.Io.KnownBytes.{Appends, Consumes}
 use Rattle.cv_frame.specs.Message.{Message}
 use Rattle.cv_frame.specs.Cut.{messages_of}
-use Rattle.cv_frame.specs.Machine.{Turn, IsSomeAnswer, Progress, NoneLacks, BeginsAnswer}
-use Rattle.cv_frame.proofs.Isolation.{headline, none_only}
-use Rattle.cv_frame.proofs.Prefixes.{begins_answer}
+use Rattle.cv_machine.specs.Machine.{Turn, IsSomeAnswer, Progress, NoneLacks, BeginsAnswer}
+use Rattle.cv_machine.proofs.Isolation.{headline, none_only}
+use Rattle.cv_machine.proofs.Begun.{begins_answer}
 use Rattle.cv_loop.specs.Serving.{Serving, Gave, Took, Ending, ending_of, IsUnbroken, IsAll, AnswersEach, ServesEach, IsHeadline}
 use Rattle.cv_loop.specs.declared.serving.Served.{Served}
 use Rattle.cv_loop.specs.declared.fault.ServeFault.{ServeFault}

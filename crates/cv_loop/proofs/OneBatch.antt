@@ -3,8 +3,8 @@ use Rattle.std.proofs.Common.{◌≡◌, ℕ, ◌+◌, ◌≤◌, true, false, B
 use Rattle.std.proofs.lemmas.List.{append-nil, take-append-drop, length-take}
 use Rattle.std.specs.Io.KnownBytes.{Appends}
 use Rattle.cv_frame.specs.Message.{Message, joined}
-use Rattle.cv_frame.specs.Machine.{Turn, Runs}
-use Rattle.cv_frame.proofs.Runs.{Progress-batch, Progress-stays}
+use Rattle.cv_machine.specs.Machine.{Turn, Runs}
+use Rattle.cv_machine.proofs.Runs.{Progress-batch, Progress-stays}
 use Rattle.cv_loop.specs.Serving.{counted}
 use Rattle.cv_loop.specs.Private.Draining.{Broken, Answered}
 use Rattle.cv_loop.specs.declared.fault.ServeFault.TheVariants as fault

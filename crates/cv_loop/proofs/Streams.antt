@@ -6,8 +6,8 @@ use Rattle.std.specs.Io.KnownBytes.{Consumes}
 use Rattle.cv_frame.specs.Message.{Message, joined, FitsFrame}
 use Rattle.cv_frame.specs.Cut.{front_of, Cut, messages_of, rest_of, IsRest}
 use Rattle.cv_frame.specs.declared.reading.Frame.TheVariants as at_front
-use Rattle.cv_frame.specs.Machine.{Turn, Progress}
-use Rattle.cv_frame.proofs.Runs.{Progress-later}
+use Rattle.cv_machine.specs.Machine.{Turn, Progress}
+use Rattle.cv_machine.proofs.Runs.{Progress-later}
 use Rattle.cv_frame.proofs.Cuts.{cut_only, cut-joined, front_short}
 use Rattle.cv_loop.specs.Serving.{Serving, EndsWhere, IsAll, counted, ending_of, met_the_end, read_failed, write_failed}
 use Rattle.cv_loop.specs.Private.Draining.{Broken, Answered, Drained, Stopped, ReadsMore}

@@ -4,7 +4,7 @@ use Rattle.std.specs.Io.KnownBytes.{Appends, Consumes, IsAtEnd}
 use Rattle.std.specs.List.{AllByRecursion}
 use Rattle.cv_frame.specs.Message.{Message, FitsFrame}
 use Rattle.cv_frame.specs.Cut.{front_of, messages_of, rest_of}
-use Rattle.cv_frame.specs.Machine.{Turn, Progress, Answers, IsServed, BeginsAnswer, NoneLacks, only}
+use Rattle.cv_machine.specs.Machine.{Turn, Progress, Answers, IsServed, BeginsAnswer, NoneLacks, only}
 use Rattle.cv_frame.specs.declared.reading.Frame.TheVariants as front
 use Rattle.cv_loop.specs.declared.fault.ServeFault.{ServeFault}
 use Rattle.cv_loop.specs.declared.fault.ServeFault.TheVariants as fault

@@ -2,5 +2,5 @@ mod Buffers
 mod Changes
 mod Emptiness
 mod OneAnswer
-pub mod SomeAnswer
+mod SomeAnswer
 mod Stepping

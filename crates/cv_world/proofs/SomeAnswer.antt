@@ -3,7 +3,7 @@ use Rattle.std.proofs.Common.{◌⊎◌, inr, ◌==◌, ℕ, Bool, true, false, 
 use Rattle.cv_pivot.specs.Encodings.{builtin_of, encoding_closes}
 use Rattle.cv_pivot.specs.declared.conversion.Conversion.{Conversion}
 use Rattle.cv_pivot.specs.declared.encoding.Encoding.{Encoding}
-use Rattle.cv_frame.specs.Machine.{IsSomeAnswer, When}
+use Rattle.cv_machine.specs.Machine.{IsSomeAnswer, When}
 use Rattle.cv_frame.specs.declared.status.Status.TheVariants as status
 use Rattle.cv_world.specs.Actions.{Action, Open, Conv, Reset, Close, Bad, action_of}
 use Rattle.cv_world.specs.Answers.{answer_code, answer_body, most_room}

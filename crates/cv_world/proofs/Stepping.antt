@@ -3,7 +3,7 @@ use Rattle.std.proofs.Common.{◌≡◌, ℕ, List, Some, refl, sym, subst, inr,
 use Rattle.cv_pivot.specs.Encodings.{builtin_of}
 use Rattle.cv_pivot.specs.declared.encoding.Encoding.{Encoding}
 use Rattle.cv_frame.specs.Message.{Message, FitsFrame}
-use Rattle.cv_frame.specs.Machine.{with_table, Steps}
+use Rattle.cv_machine.specs.Machine.{with_table, Steps}
 use Rattle.cv_frame.specs.declared.status.Status.TheVariants as status
 use Rattle.cv_world.specs.Actions.{Action, action_of}
 use Rattle.cv_world.specs.Answers.{answer_code, answer_body}

@@ -6,7 +6,7 @@ use Rattle.cv_pivot.specs.Encodings.{builtin_of, encoding_reads, encoding_writes
 use Rattle.cv_pivot.specs.declared.conversion.Conversion.{Conversion}
 use Rattle.cv_pivot.specs.declared.encoding.Encoding.{Encoding}
 use Rattle.cv_pivot.specs.declared.outcome.States.{States}
-use Rattle.cv_frame.specs.Machine.{Outcome, When, Turn}
+use Rattle.cv_machine.specs.Machine.{Outcome, When, Turn}
 use Rattle.cv_frame.specs.declared.status.Status.{Status}
 use Rattle.cv_frame.specs.declared.status.Status.TheVariants as status
 use Rattle.cv_world.specs.Actions.{Action, Open, Conv, Reset, Close, Bad, action_of}

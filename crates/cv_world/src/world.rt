@@ -1,17 +1,20 @@
 //! The callers of a shard.
 ghost use Rattle.std.specs.Prelude.{◌≡◌, ◌≤◌, OnOk, OnErr, length};
-ghost use Rattle.cv_frame.specs.Machine.{Steps, with_table};
+ghost use Rattle.cv_machine.specs.Machine.{Steps, with_table};
 ghost use Rattle.cv_world.specs.Actions.{asked, Open, Conv, Reset, Close, InputFits};
 ghost use Rattle.cv_world.specs.Answers.{AnswerFits};
 ghost use Rattle.cv_world.specs.Tables.{no_tables};
-ghost use Rattle.cv_world.specs.Turn.{Acts, turn};
+ghost use Rattle.cv_world.specs.Turn.{Acts, turn as world_turn};
+ghost use Rattle.cv_world.specs.declared.table.Table.{Table as WorldTable};
 ghost use Rattle.cv_world.specs.Worlds.{world_tables};
 
 use crate::answer::Answer;
+use crate::laws::{one_answer, some_answer};
 use crate::op::Op;
 use crate::table::Table;
 use cv_base::Memory;
 use cv_frame::{Reply, Request, Status};
+use cv_machine::Machine;
 use cv_pivot::{Conversion, builtin};
 use std::alloc::Global;
 use std::collections::BTreeMap;
@@ -20,6 +23,19 @@ use std::collections::BTreeMap;
 #[derive(Drop)]
 pub struct World {
     callers: BTreeMap<u32, Table>,
+}
+
+impl Machine for World {
+    ghost Table = { WorldTable };
+
+    ghost turn = { world_turn };
+
+    ghost tables = { world_tables };
+
+    fn assert_valid(&self) {
+        one_answer();
+        some_answer();
+    }
 }
 
 impl World {
@@ -145,7 +161,7 @@ impl World {
 
     /// The reply to one request.
     pub fn answer(&mut self, alloc: Global, request: &Request) -> Reply
-        ensures { Steps turn (world_tables self.old) request.now result (world_tables self.new) }
+        ensures { Steps world_turn (world_tables self.old) request.now result (world_tables self.new) }
     {
         let op = Op::read(request.op, request.body);
         let answer = self.step(alloc, request.caller, op);

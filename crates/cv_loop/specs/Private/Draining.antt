@@ -4,7 +4,7 @@ use Rattle.std.specs.Io.KnownBytes.{Appends}
 use Rattle.std.specs.List.{AllByRecursion}
 use Rattle.cv_frame.specs.Message.{Message, joined, FitsFrame}
 use Rattle.cv_frame.specs.Cut.{front_of}
-use Rattle.cv_frame.specs.Machine.{Turn, Progress}
+use Rattle.cv_machine.specs.Machine.{Turn, Progress}
 use Rattle.cv_frame.specs.declared.reading.Frame.TheVariants as front
 use Rattle.cv_loop.specs.Serving.{counted}
 use Rattle.cv_loop.specs.declared.fault.ServeFault.{ServeFault}

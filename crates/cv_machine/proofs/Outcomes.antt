@@ -1,6 +1,6 @@
 -- Outcomes of requests.
 use Rattle.std.proofs.Common.{◌≡◌, refl}
-use Rattle.cv_frame.specs.Machine.{Outcome}
+use Rattle.cv_machine.specs.Machine.{Outcome}
 
 module _ {Table : Type 0} where
   -- outcomes whose parts are the same are the same

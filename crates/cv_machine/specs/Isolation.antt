@@ -2,7 +2,7 @@
 use Rattle.std.specs.Prelude.{filter, ◌≡◌, ℕ, List, ◌==◌}
 use Rattle.cv_frame.specs.Message.{Message}
 use Rattle.cv_frame.specs.Cut.{messages_of}
-use Rattle.cv_frame.specs.Machine.{Turn, Event, requests, replies_of, after_all, events_of, lacks, IsRun, Answers, IsServed}
+use Rattle.cv_machine.specs.Machine.{Turn, Event, requests, replies_of, after_all, events_of, lacks, IsRun, Answers, IsServed}
 
 module _ {Table : Type 0} where
   -- the replies to one caller

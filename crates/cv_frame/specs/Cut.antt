@@ -4,6 +4,7 @@ use Rattle.std.specs.Int.{w32, from_be_bytes}
 use Rattle.std.specs.List.{AllByRecursion}
 use Rattle.cv_frame.specs.Message.{Message, joined, FitsFrame}
 use Rattle.cv_frame.specs.declared.reading.Frame.{Frame}
+use Rattle.cv_frame.specs.declared.sizes.TheConstants.{LEAST_LENGTH, MOST_LENGTH}
 use Rattle.cv_frame.specs.declared.reading.Frame.TheVariants.{Whole, Partial, Bad}
 use Rattle.cv_frame.specs.declared.reading.ReplyFrame.{ReplyFrame}
 use Rattle.cv_frame.specs.declared.reading.ReplyFrame.TheVariants as reply
@@ -25,7 +26,7 @@ message_at n bytes = record {
 unfoldable pub front_of : List ℕ → Frame
 front_of bytes =
     if nat_lt (length bytes) 4 then Partial else
-    if nat_lt (number_at bytes) 9 || nat_lt 1048576 (number_at bytes) then Bad (number_at bytes) else
+    if nat_lt (number_at bytes) LEAST_LENGTH || nat_lt MOST_LENGTH (number_at bytes) then Bad (number_at bytes) else
     if nat_lt (length bytes) (4 + number_at bytes) then Partial else
     Whole (message_at (number_at bytes) (drop 4 bytes)) (4 + number_at bytes)
 

@@ -9,7 +9,7 @@ ghost use Rattle.cv_world.specs.Turn.{Closes, Convs, Resets};
 
 use crate::answer::Answer;
 use cv_base::{Codec, Memory};
-use cv_frame::{Bytes, Status};
+use cv_frame::{Bytes, MOST_BODY, Status};
 use cv_pivot::{Conversion, Outcome};
 use std::alloc::Global;
 
@@ -119,7 +119,7 @@ impl Table {
 
     /// CONV: converts by a descriptor.
     pub(crate) fn conv(&mut self, alloc: Global, number: u32, room: u32, input: &[u8]) -> Answer
-        requires { length input.now ≤ 1048567 }
+        requires { length input.now ≤ MOST_BODY }
         ensures acts { Convs self.old number (descriptor_at self.old number) room input.now self.new result }
         ensures fits { AnswerFits result }
     {

@@ -13,7 +13,7 @@ use crate::laws::{one_answer, some_answer};
 use crate::op::Op;
 use crate::table::Table;
 use cv_base::Memory;
-use cv_frame::{Reply, Request, Status};
+use cv_frame::{MOST_BODY, Reply, Request, Status};
 use cv_machine::Machine;
 use cv_pivot::{Conversion, builtin};
 use std::alloc::Global;
@@ -99,7 +99,7 @@ impl World {
 
     /// CONV
     fn conv(&mut self, alloc: Global, caller: u32, number: u32, room: u32, input: &[u8]) -> Answer
-        requires { length input.now ≤ 1048567 }
+        requires { length input.now ≤ MOST_BODY }
         ensures acts { Acts (world_tables self.old caller) (Conv number room input.now) (world_tables self.new caller) result }
         ensures others { world_tables self.new ≡ with_table (world_tables self.old) caller (world_tables self.new caller) }
         ensures fits { AnswerFits result }

@@ -22,7 +22,7 @@ use Rattle.cv_utf7.proofs.Found.{front_none}
 use Rattle.cv_utf7.proofs.ShiftItems.{unit_length, char_stands, end_item}
 use Rattle.cv_utf7.proofs.StartItems.{start_shift}
 use Rattle.cv_utf7.specs.Utf7Laws.{utf7_readable}
-use Rattle.cv_utf7.specs.BlockSteps.{ReadsOn, IsLone}
+use Rattle.cv_utf7.specs.Private.BlockSteps.{ReadsOn, IsLone}
 use Rattle.cv_base.proofs.ChainLaws.{used_bytes-append, read_state-append, characters_of-append, IsChain-append}
 
 -- nothing is read

@@ -18,7 +18,7 @@ use Rattle.cv_utf7.specs.BitLists.{bits_of, character_bits, digits}
 use Rattle.cv_utf7.specs.BitLaws.{length-bits}
 use Rattle.cv_utf7.specs.UnitLaws.{one_unit, two_units, high_of, low_of}
 use Rattle.cv_utf7.specs.Utf7.{plus, utf7_writes, writes_at_start, writes_in_shift}
-use Rattle.cv_utf7.specs.BlockSteps.{WritesOn}
+use Rattle.cv_utf7.specs.Private.BlockSteps.{WritesOn}
 use Rattle.std.specs.Int.{bit_at}
 use Rattle.cv_utf7.proofs.BlockReading.{front_of_put}
 use Rattle.cv_base.proofs.ChainLaws.{output_for-append}

@@ -1,5 +1,5 @@
 -- Bits cut into digits.
-use Rattle.std.proofs.Common.{◌≡◌, ℕ, zero, suc, ◌+◌, ◌-◌, ◌*◌, ◌/◌, ◌%◌, ◌^◌, ◌<◌, ◌≤◌, Bool, false, ◌⊎◌, List, [], ◌∷◌, ◌++◌, length, replicate, refl, sym, ◌∙◌, ap, subst, arith, inl, inr}
+use Rattle.std.proofs.Common.{◌≡◌, ℕ, zero, suc, ◌+◌, ◌*◌, ◌/◌, ◌%◌, ◌^◌, ◌<◌, ◌≤◌, Bool, false, ◌⊎◌, List, [], ◌∷◌, ◌++◌, length, replicate, refl, sym, ◌∙◌, ap, subst, arith, inl, inr}
 use Rattle.std.proofs.lemmas.List.{length-replicate}
 use Rattle.std.proofs.Math.Nat.{mod-eq_of_lt, pow-le-pow_right}
 use Rattle.std.proofs.lemmas.Bool.{cases_eq}
@@ -7,9 +7,11 @@ use Rattle.cv_base.specs.declared.state.Bits.{Bits}
 use Rattle.cv_base.specs.declared.state.WriteState.TheVariants as write
 use Rattle.cv_utf7.specs.Sets.{digit_of}
 use Rattle.cv_utf7.specs.BitLists.{bits, number, bits_of, character_bits, digits, over}
-use Rattle.cv_utf7.specs.BitLaws.{length-bits, number-bits, number-append, bits-split, bits-mod, same-pending}
+use Rattle.cv_utf7.specs.BitLaws.{length-bits, number-bits, number-append, bits-split, bits-mod}
 use Rattle.cv_utf7.specs.UnitLaws.{high_of, low_of, one_unit, two_units}
-use Rattle.cv_utf7.specs.Utf7.{minus, pending_of, written_bits, last_digit, utf7_closes}
+use Rattle.cv_utf7.specs.Utf7.{minus, written_bits, last_digit, utf7_closes}
+use Rattle.cv_utf7.specs.Private.PendingBits.{pending_of}
+use Rattle.cv_utf7.proofs.PendingBits.{pending_is}
 use Rattle.cv_utf7.specs.declared.cut.Cut.{Cut}
 
 digits_six : (l r : List Bool) → length l ≡ 6 → (digits (l ++ r) ≡ digit_of (number l) ∷ digits r) × (over (l ++ r) ≡ over r)
@@ -81,15 +83,6 @@ digits_5 v = digits_more 24 v ∙ ap (λ (w : List ℕ). digit_of (v / 16777216 
 pub digits_6 : (v : ℕ) → digits (bits 36 v) ≡ digit_of (v / 1073741824 % 64) ∷ digit_of (v / 16777216 % 64) ∷ digit_of (v / 262144 % 64) ∷ digit_of (v / 4096 % 64) ∷ digit_of (v / 64 % 64) ∷ digit_of (v / 1 % 64) ∷ []
 digits_6 v = digits_more 30 v ∙ ap (λ (w : List ℕ). digit_of (v / 1073741824 % 64) ∷ w) (digits_5 v)
 
--- pending bits are those of their list
-pub pending_is : (l : List Bool) (next : Bits) → length l ≡ next.count → number l ≡ next.value → pending_of l ≡ next
-pending_is [] next e f = same-pending _ next e f
-pending_is (a ∷ []) next e f = absurd (omega (arith, next.even))
-pending_is (a ∷ b ∷ []) next e f = same-pending _ next e f
-pending_is (a ∷ b ∷ c ∷ []) next e f = absurd (omega (arith, next.even))
-pending_is (a ∷ b ∷ c ∷ d ∷ []) next e f = same-pending _ next e f
-pending_is (a ∷ b ∷ c ∷ d ∷ g ∷ l) next e f = absurd (omega (arith, next.few))
-
 cut_is : (l : List Bool) (n q all value : ℕ) (next : Bits) → l ≡ bits (6 * n + q) all → next.count ≡ q → value ≡ all / 2 ^ q → next.value ≡ all % 2 ^ q → written_bits l ≡ (digits (bits (6 * n) value), write.Shifted next)
 cut_is l n q all value next e c v w =
     let s : l ≡ bits (6 * n) value ++ bits q all = e ∙ bits-split (6 * n) q all ∙ ap (λ (k : ℕ). bits (6 * n) k ++ bits q all) (sym v) in
@@ -129,19 +122,25 @@ value_below pending = let e : 2 ^ pending.count ≤ 2 ^ 4 = pow-le-pow_right {n 
 pub last_two : (pending : Bits) → pending.count ≡ 2 → pending.value < 4
 last_two pending e = subst (λ (k : ℕ). pending.value < 2 ^ k) e pending.in_range
 
-pub no_value : (pending : Bits) → pending.count ≡ 0 → pending.value ≡ 0
-no_value pending e = let h : pending.value < 1 = subst (λ (k : ℕ). pending.value < 2 ^ k) e pending.in_range in omega arith
-
 number-zeros : (n : ℕ) → number (replicate n false) ≡ 0
 number-zeros zero = refl
 number-zeros (suc n) = omega (arith, number-zeros n)
 
+-- a closing digit is that of the bits and of zero bits up to six
+pub last_digit_six : (l : List Bool) (k : ℕ) → length l + k ≡ 6 → 0 < length l → last_digit l ≡ digit_of (number (l ++ replicate k false)) ∷ []
+last_digit_six [] k e h = absurd (omega arith)
+last_digit_six (a ∷ []) k e h = let f : k ≡ 5 = omega arith in rw f refl
+last_digit_six (a ∷ b ∷ []) k e h = let f : k ≡ 4 = omega arith in rw f refl
+last_digit_six (a ∷ b ∷ c ∷ []) k e h = let f : k ≡ 3 = omega arith in rw f refl
+last_digit_six (a ∷ b ∷ c ∷ d ∷ []) k e h = let f : k ≡ 2 = omega arith in rw f refl
+last_digit_six (a ∷ b ∷ c ∷ d ∷ f ∷ []) k e h = let f : k ≡ 1 = omega arith in rw f refl
+last_digit_six (a ∷ b ∷ c ∷ d ∷ f ∷ g ∷ []) k e h = let f : k ≡ 0 = omega arith in rw f refl
+last_digit_six (a ∷ b ∷ c ∷ d ∷ f ∷ g ∷ o ∷ l) k e h = absurd (omega arith)
+
 last_digit_is : (l : List Bool) (k : ℕ) → length l + k ≡ 6 → 0 < length l → last_digit l ≡ digit_of (number l * 2 ^ k) ∷ []
-last_digit_is [] k e h = absurd (omega arith)
-last_digit_is (a ∷ l) k e h =
-    let f : 5 - length l ≡ k = omega arith in
-    let n : number ((a ∷ l) ++ replicate (5 - length l) false) ≡ number (a ∷ l) * 2 ^ k = number-append (a ∷ l) (replicate (5 - length l) false) ∙ rw (length-replicate (5 - length l) false, number-zeros (5 - length l), f) (omega arith) in
-    ap (λ (m : ℕ). digit_of m ∷ []) n
+last_digit_is l k e h =
+    let n : number (l ++ replicate k false) ≡ number l * 2 ^ k = number-append l (replicate k false) ∙ rw (length-replicate k false, number-zeros k) (omega arith) in
+    last_digit_six l k e h ∙ ap (λ (m : ℕ). digit_of m ∷ []) n
 
 pub closing_none : (pending : Bits) → pending.count ≡ 0 → utf7_closes (write.Shifted pending) ≡ minus ∷ []
 unfolding bits

@@ -10,7 +10,7 @@ use Rattle.cv_utf7.specs.BitLists.{bits, bits_of, AreDigits, digit_bits}
 use Rattle.cv_utf7.specs.BitLaws.{bits-digit, bits-split, bits-mod}
 use Rattle.cv_utf7.specs.SetLaws.{value_lt}
 use Rattle.cv_utf7.specs.UnitLaws.{digit_bits-append, AreDigits-append, AreDigits-at, get-take}
-use Rattle.cv_utf7.specs.Steps.{IsUnit, NoUnit, IsFront}
+use Rattle.cv_utf7.specs.Private.Steps.{IsUnit, NoUnit, IsFront}
 use Rattle.cv_utf7.specs.declared.units.Unit.{Unit}
 
 two_digits : (p v a b : ℕ) → bits p v ++ (bits 6 (value_of a) ++ (bits 6 (value_of b) ++ [])) ≡ bits (p + 12) ((v * 64 + value_of a) * 64 + value_of b)

@@ -9,3 +9,4 @@ pub mod StartItems
 pub mod ShiftItems
 pub mod Tables
 pub mod Writes
+pub mod PendingBits

@@ -1,8 +1,6 @@
 -- What is written is read back.
 use Rattle.std.proofs.Common.{◌≡◌, ℕ, ◌+◌, ◌-◌, ◌*◌, ◌/◌, ◌%◌, ◌<◌, ◌≤◌, Bool, true, false, ◌||◌, ◌⊎◌, List, [], ◌∷◌, ◌++◌, length, take, drop, replicate, refl, sym, ◌∙◌, ap, subst, arith, inl, inr, Some, None}
 use Rattle.std.proofs.lemmas.Bool.{cases_Bool, cases_lt, cases_eq, eq-eqb, or_cases}
-use Rattle.std.proofs.Math.Nat.{mod-eq_of_lt}
-use Rattle.cv_utf7.specs.BitNumbers.{number_lt}
 use Rattle.std.proofs.lemmas.List.{length-append, append_assoc, append-nil, length-take-le, length-replicate, take-append-drop, drop_at}
 use Rattle.cv_base.specs.Scalars.{IsScalar}
 use Rattle.cv_base.specs.Items.{Taken, taken}
@@ -14,11 +12,15 @@ use Rattle.cv_base.specs.declared.state.WriteState.{WriteState}
 use Rattle.cv_base.specs.declared.state.WriteState.TheVariants as write
 use Rattle.cv_utf7.specs.Sets.{is_digit, is_direct, may_be_direct, is_set_d, is_set_o, is_blank}
 use Rattle.cv_utf7.specs.BitLists.{bits, number, bits_of, character_bits, AreDigits, digit_bits, digits, over}
-use Rattle.cv_utf7.specs.BitLaws.{length-bits, length-digits, number-bits, same-bits}
+use Rattle.cv_utf7.specs.BitLaws.{length-bits, length-digits}
 use Rattle.cv_utf7.specs.UnitLaws.{digit_bits-append, digit_bits-cut, AreDigits-append, AreDigits-take, AreDigits-drop, one_unit, two_units, high_of, low_of}
-use Rattle.cv_utf7.specs.Utf7.{plus, minus, ReadsCharacter, pending_of, written_bits, last_digit, utf7_reads, utf7_writes, utf7_closes, writes_at_start}
+use Rattle.cv_utf7.specs.Utf7.{plus, minus, ReadsCharacter, written_bits, last_digit, utf7_reads, utf7_writes, utf7_closes, writes_at_start}
 use Rattle.cv_utf7.specs.ReadBack.{AreScalars, text_of, given, IsReadAs, IsReadBack}
+use Rattle.cv_utf7.specs.Private.PendingBits.{pending_of}
+use Rattle.cv_utf7.specs.Sets.{digit_of}
+use Rattle.cv_utf7.proofs.Cuts.{last_digit_six}
 use Rattle.cv_utf7.proofs.Digits.{six}
+use Rattle.cv_utf7.proofs.PendingBits.{pending_bits}
 use Rattle.cv_utf7.proofs.Writes.{start_direct, start_other, shift_direct, shift_other}
 
 -- the bits of characters
@@ -59,23 +61,6 @@ cut_list (x ∷ a) b (y ∷ c) d e l =
     let t : a ++ b ≡ c ++ d = cc in
     let r = cut_list a b c d t (omega arith) in
     (r.0, cc (h, r.1), r.2)
-
-number-two : (a b : Bool) → number (bits 2 (number (a ∷ b ∷ []))) ≡ number (a ∷ b ∷ [])
-number-two a b = number-bits 2 (number (a ∷ b ∷ [])) ∙ mod-eq_of_lt (number_lt (a ∷ b ∷ []))
-
-number-four : (a b c d : Bool) → number (bits 4 (number (a ∷ b ∷ c ∷ d ∷ []))) ≡ number (a ∷ b ∷ c ∷ d ∷ [])
-number-four a b c d = number-bits 4 (number (a ∷ b ∷ c ∷ d ∷ [])) ∙ mod-eq_of_lt (number_lt (a ∷ b ∷ c ∷ d ∷ []))
-
--- two or four bits, or none, are those of their pending bits
-pending_bits : (q : List Bool) → length q < 6 → length q % 2 ≡ 0 → bits_of (pending_of q) ≡ q
-unfolding bits
-pending_bits [] l e = refl
-pending_bits (a ∷ []) l e = absurd (omega arith)
-pending_bits (a ∷ b ∷ []) l e = same-bits (bits 2 (number (a ∷ b ∷ []))) (a ∷ b ∷ []) (length-bits 2 (number (a ∷ b ∷ []))) (number-two a b)
-pending_bits (a ∷ b ∷ c ∷ []) l e = absurd (omega arith)
-pending_bits (a ∷ b ∷ c ∷ d ∷ []) l e = same-bits (bits 4 (number (a ∷ b ∷ c ∷ d ∷ []))) (a ∷ b ∷ c ∷ d ∷ []) (length-bits 4 (number (a ∷ b ∷ c ∷ d ∷ []))) (number-four a b c d)
-pending_bits (a ∷ b ∷ c ∷ d ∷ f ∷ []) l e = absurd (omega arith)
-pending_bits (a ∷ b ∷ c ∷ d ∷ f ∷ g ∷ q) l e = absurd (omega arith)
 
 -- an item in front of what is read
 front_item : (s : ReadState) (w rest : List ℕ) (i : Taken) (characters : List ℕ) → utf7_reads s w i → i.used ≡ length w → IsReadAs utf7_reads i.next rest characters → IsReadAs utf7_reads s (w ++ rest) (given i.gives characters)
@@ -149,7 +134,8 @@ last_back [] h = (0, omega arith, tt, refl)
 last_back (a ∷ l) h =
     let e : length ((a ∷ l) ++ replicate (5 - length l) false) ≡ 6 = length-append (a ∷ l) (replicate (5 - length l) false) ∙ omega (arith, length-replicate (5 - length l) false) in
     let s = six ((a ∷ l) ++ replicate (5 - length l) false) e in
-    (5 - length l, omega arith, (s.0, tt), append-nil _ ∙ s.1)
+    let d : last_digit (a ∷ l) ≡ digit_of (number ((a ∷ l) ++ replicate (5 - length l) false)) ∷ [] = last_digit_six (a ∷ l) (5 - length l) (omega arith) (omega arith) in
+    (5 - length l, omega arith, subst AreDigits (sym d) (s.0, tt), ap digit_bits d ∙ append-nil _ ∙ s.1)
 
 or_true : (b : Bool) → (b || true) ≡ true
 or_true true = refl
@@ -166,22 +152,18 @@ may_of c e = elim (or_cases (is_set_d c) (is_blank c) e) [
 direct_front : (c : ℕ) (rest characters : List ℕ) → is_direct c ≡ true → IsReadAs utf7_reads read.Start rest characters → IsReadAs utf7_reads read.Start (c ∷ rest) (c ∷ characters)
 direct_front c rest characters e h = front_item read.Start (c ∷ []) rest (taken 1 (Some c) read.Start) characters (may_of c e, refl) refl h
 
-no_pending : Bits
-no_pending = record { count = 0; value = 0; few = omega arith; even = refl; in_range = omega arith }
-
-none_bits : bits_of no_pending ≡ []
-unfolding bits no_pending
-none_bits = refl
+none_bits : bits_of (pending_of []) ≡ []
+none_bits = pending_bits [] (omega arith) refl
 
 -- `+` in front of digits
-plus_front : (d : ℕ) (rest characters : List ℕ) → is_digit d ≡ true → IsReadAs utf7_reads (read.Shifted no_pending) (d ∷ rest) characters → IsReadAs utf7_reads read.Start (plus ∷ d ∷ rest) characters
+plus_front : (d : ℕ) (rest characters : List ℕ) → is_digit d ≡ true → IsReadAs utf7_reads (read.Shifted (pending_of [])) (d ∷ rest) characters → IsReadAs utf7_reads read.Start (plus ∷ d ∷ rest) characters
 plus_front d rest characters e h = record {
-  items = taken 1 None (read.Shifted no_pending) ∷ h.items;
-  are_items = (record { bytes = plus ∷ d ∷ []; is_item = inr (refl, e, no_pending, none_bits, refl); front = (refl, (refl, tt)) }, h.are_items);
+  items = taken 1 None (read.Shifted (pending_of [])) ∷ h.items;
+  are_items = (record { bytes = plus ∷ d ∷ []; is_item = inr (refl, e, refl); front = (refl, (refl, tt)) }, h.are_items);
   gives = h.gives;
 }
 
-plus_digits : (w rest characters : List ℕ) → AreDigits w → 0 < length w → IsReadAs utf7_reads (read.Shifted no_pending) (w ++ rest) characters → IsReadAs utf7_reads read.Start (plus ∷ w ++ rest) characters
+plus_digits : (w rest characters : List ℕ) → AreDigits w → 0 < length w → IsReadAs utf7_reads (read.Shifted (pending_of [])) (w ++ rest) characters → IsReadAs utf7_reads read.Start (plus ∷ w ++ rest) characters
 plus_digits [] rest characters d l h = absurd (omega arith)
 plus_digits (b ∷ w) rest characters d l h = plus_front b (w ++ rest) characters d.0 h
 
@@ -252,7 +234,7 @@ more_start c cs i a b = elim (cases_Bool (is_direct c)) [
     | inr f ↦ (
         let v : length (character_bits c) % 2 ≡ 0 = elim (character_length c) [ inl z ↦ omega arith | inr z ↦ omega arith ] in
         let k = cut_back (character_bits c) v in
-        let g = b no_pending (pending_of (over (character_bits c))) (digits (character_bits c)) (c ∷ []) k.0 (i, tt) (ap (λ (t : List Bool). (t ++ digit_bits (digits (character_bits c))) ++ bits_of (pending_of (over (character_bits c)))) none_bits ∙ k.1 ∙ sym (append-nil (character_bits c))) in
+        let g = b (pending_of []) (pending_of (over (character_bits c))) (digits (character_bits c)) (c ∷ []) k.0 (i, tt) (ap (λ (t : List Bool). (t ++ digit_bits (digits (character_bits c))) ++ bits_of (pending_of (over (character_bits c)))) none_bits ∙ k.1 ∙ sym (append-nil (character_bits c))) in
         subst (λ (n : List ℕ × WriteState). IsReadAs utf7_reads read.Start (n.0 ++ text_of utf7_writes utf7_closes n.1 cs) (c ∷ cs)) (sym (start_other c (character_bits c) (written_bits (character_bits c)) e f refl refl))
         (plus_digits (digits (character_bits c)) (text_of utf7_writes utf7_closes (write.Shifted (pending_of (over (character_bits c)))) cs) (c ∷ cs) k.0 (some_digits c) g))
   ]

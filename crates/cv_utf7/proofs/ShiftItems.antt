@@ -18,7 +18,7 @@ use Rattle.cv_utf7.specs.Utf7.{EndsAt, utf7_reads}
 use Rattle.cv_utf7.specs.SetLaws.{direct_lt, minus_is_no_digit}
 use Rattle.cv_utf7.specs.UnitLaws.{Agree, Begins-agree, Begins-short, agree-at, agree-drop, get-take, digit_bits-append, digit_bits-cut, AreDigits-append, AreDigits-at, AreDigits-drop, Leads, leads-long, leads-unit, leads-front, high_of, low_of, one_unit, two_units, IsOne, IsPair, one_or_pair}
 use Rattle.cv_utf7.specs.Utf7Laws.{IsStop, stop_of, leads-length, leads_stop}
-use Rattle.cv_utf7.specs.Steps.{IsUnit, IsFront, IsEnding}
+use Rattle.cv_utf7.specs.Private.Steps.{IsUnit, IsFront, IsEnding}
 use Rattle.cv_utf7.specs.declared.units.Unit.{Unit}
 use Rattle.cv_utf7.proofs.Found.{front_none}
 use Rattle.cv_utf7.proofs.Digits.{digits-bits}

@@ -1,5 +1,5 @@
 -- UTF-7 keeps what every codec keeps.
-use Rattle.std.proofs.Common.{◌≡◌, ℕ, ◌+◌, ◌*◌, ◌%◌, ◌^◌, ◌<◌, ◌≤◌, Bool, true, false, List, [], ◌∷◌, ◌++◌, length, take, get_or, replicate, refl, sym, ◌∙◌, ap, subst, arith, inl, inr, Some, None}
+use Rattle.std.proofs.Common.{◌≡◌, ℕ, ◌+◌, ◌*◌, ◌%◌, ◌^◌, ◌<◌, ◌≤◌, Bool, true, false, List, [], ◌∷◌, ◌++◌, length, take, get_or, replicate, refl, sym, ◌∙◌, ap, subst, arith, inl, inr, Some}
 use Rattle.std.proofs.lemmas.List.{length-append, length-replicate, take_at, take_all}
 use Rattle.std.proofs.lemmas.List.{length-take}
 use Rattle.std.proofs.lemmas.Bool.{cases_order, true≢false}
@@ -12,7 +12,7 @@ use Rattle.cv_base.specs.declared.state.WriteState.TheVariants as write
 use Rattle.cv_utf7.specs.Sets.{is_digit, may_be_direct}
 use Rattle.cv_utf7.specs.BitLists.{bits, bits_of, AreDigits, digit_bits}
 use Rattle.cv_utf7.specs.BitLaws.{length-bits, length-digits, mod-bits, append-same, bits_of-same}
-use Rattle.cv_utf7.specs.Utf7.{plus, minus, reads_at_start, ReadsCharacter, ReadsEnd, EndsAt, utf7_reads, utf7_writes}
+use Rattle.cv_utf7.specs.Utf7.{plus, minus, ReadsAtStart, ReadsCharacter, ReadsEnd, EndsAt, utf7_reads, utf7_writes}
 use Rattle.cv_utf7.specs.SetLaws.{plus_is_not_direct, minus_is_no_digit}
 use Rattle.cv_utf7.specs.UnitLaws.{Agree, get-take, agree-both, agree-at, AreDigits-at, Leads, leads-long, leads-unit, IsOne, IsPair, one_or_pair, high_of, low_of}
 
@@ -172,7 +172,7 @@ one_in_shift p text a b i j x y f g =
     ]
 
 -- at the start
-one_at_start : (text a b : List ℕ) (i j : Taken) → reads_at_start a i → reads_at_start b j → Begins a text → Begins b text → i ≡ j
+one_at_start : (text a b : List ℕ) (i j : Taken) → ReadsAtStart a i → ReadsAtStart b j → Begins a text → Begins b text → i ≡ j
 one_at_start text [] b i j p q f g = absurd p
 one_at_start text (x ∷ y ∷ z ∷ a) b i j p q f g = absurd p
 one_at_start text (x ∷ []) [] i j p q f g = absurd q
@@ -194,7 +194,7 @@ one_at_start (t ∷ s ∷ text) (x ∷ y ∷ []) (u ∷ v ∷ []) i j p q f g = 
   ]
   | inr r ↦ elim q [
     | inl m ↦ absurd (minus_digit v y (g.1.0 ∙ sym f.1.0) m.1 r.1)
-    | inr m ↦ (let e : r.2 ≡ m.2 = bits_of-same r.2 m.2 (r.3 ∙ sym m.3) in r.4 ∙ ap (λ (b : Bits). taken 1 None (read.Shifted b)) e ∙ sym m.4)
+    | inr m ↦ r.2 ∙ sym m.2
   ]
 ]
 
@@ -204,13 +204,13 @@ uses_in_shift p a i r = elim r [
   | inr s ↦ (let t = stop_of p a i s in let e : i.used ≡ t.n + 1 = ends_used (t.n + 1) (get_or a t.n 0) i t.ends in (omega arith, omega (arith, t.long)))
 ]
 
-uses_at_start : (a : List ℕ) (i : Taken) → reads_at_start a i → (0 < i.used) × (i.used ≤ length a)
+uses_at_start : (a : List ℕ) (i : Taken) → ReadsAtStart a i → (0 < i.used) × (i.used ≤ length a)
 uses_at_start [] i p = absurd p
 uses_at_start (x ∷ y ∷ z ∷ a) i p = absurd p
 uses_at_start (x ∷ []) i p = let e : i.used ≡ 1 = ap (λ (t : Taken). t.used) p.1 in (omega arith, omega arith)
 uses_at_start (x ∷ y ∷ []) i p = elim p [
   | inl r ↦ (let e : i.used ≡ 2 = ap (λ (t : Taken). t.used) r.2 in (omega arith, omega arith))
-  | inr r ↦ (let e : i.used ≡ 1 = ap (λ (t : Taken). t.used) r.4 in (omega arith, omega arith))
+  | inr r ↦ (let e : i.used ≡ 1 = ap (λ (t : Taken). t.used) r.2 in (omega arith, omega arith))
 ]
 
 one_utf7 : (s : ReadState) (text a b : List ℕ) (i j : Taken) → utf7_reads s a i → utf7_reads s b j → Begins a text → Begins b text → i ≡ j

@@ -4,7 +4,7 @@ ghost use Rattle.cv_utf7.specs.Sets.{may_be_direct};
 ghost use Rattle.std.specs.Int.{bit_at};
 ghost use Rattle.cv_base.specs.Blocks.{IsReadBlock};
 ghost use Rattle.cv_utf7.specs.Utf7.{utf7_reads};
-ghost use Rattle.cv_utf7.specs.BlockSteps.{ReadsOn, Continues, Ends, IsLone};
+ghost use Rattle.cv_utf7.specs.Private.BlockSteps.{ReadsOn, Continues, Ends, IsLone};
 
 use crate::byte_sets::not_direct;
 use crate::reading::{NONE, is_surrogate, item_at_start, item_in_shift};

@@ -4,7 +4,7 @@ ghost use Rattle.std.specs.Int.{bit_at};
 ghost use Rattle.cv_base.specs.Blocks.{IsWrittenBlock};
 ghost use Rattle.cv_utf7.specs.Sets.{is_direct};
 ghost use Rattle.cv_utf7.specs.Utf7.{utf7_writes};
-ghost use Rattle.cv_utf7.specs.BlockSteps.{WritesOn};
+ghost use Rattle.cv_utf7.specs.Private.BlockSteps.{WritesOn};
 
 use crate::block_reading::run_at;
 use crate::byte_sets::not_written_direct;

@@ -1,7 +1,7 @@
 //! Sets of bytes, against which 64 bytes are held at once.
 ghost use Rattle.std.specs.Prelude.{◌≡◌, ◌+◌, ◌≤◌, ◌<◌, ◌/◌, ℕ, true, IsTrue, map, length, get_or, bit_and};
 ghost use Rattle.std.specs.Int.{bit_at};
-ghost use Rattle.cv_utf7.specs.ByteSets.{half_bits, is_in, repeats};
+ghost use Rattle.cv_utf7.specs.Private.ByteSets.{half_bits, is_in, repeats};
 ghost use Rattle.cv_utf7.specs.Sets.{may_be_direct, is_direct};
 
 use std::simd::prelude::*;

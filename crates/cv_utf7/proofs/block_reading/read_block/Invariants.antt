@@ -1,5 +1,5 @@
 use Rattle.std.proofs.Common.{length, ◌-◌}
-use Rattle.cv_utf7.specs.BlockSteps.{ReadsOn}
+use Rattle.cv_utf7.specs.Private.BlockSteps.{ReadsOn}
 use Rattle.cv_utf7.proofs.block_reading.read_block.Given as goal
 
 abbrev pub invariant-loop-next : goal.invariant-loop-next

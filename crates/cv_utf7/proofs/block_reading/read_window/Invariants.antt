@@ -1,6 +1,6 @@
 use Rattle.std.proofs.Common.{length, ◌-◌, ◌≤◌}
 use Rattle.cv_base.specs.declared.state.ReadState.TheVariants as read
-use Rattle.cv_utf7.specs.BlockSteps.{ReadsOn}
+use Rattle.cv_utf7.specs.Private.BlockSteps.{ReadsOn}
 use Rattle.cv_utf7.proofs.block_reading.read_window.Given as goal
 
 abbrev pub invariant-loop-used : goal.invariant-loop-used

@@ -1,5 +1,5 @@
 use Rattle.std.proofs.Common.{length, ◌-◌}
-use Rattle.cv_utf7.specs.BlockSteps.{WritesOn}
+use Rattle.cv_utf7.specs.Private.BlockSteps.{WritesOn}
 use Rattle.cv_utf7.proofs.block_writing.write_block.Given as goal
 
 abbrev pub invariant-loop-reached : goal.invariant-loop-reached

@@ -1,6 +1,6 @@
 use Rattle.std.proofs.Common.{length, ◌-◌, ◌<◌, ◌≤◌}
 use Rattle.cv_base.specs.declared.state.WriteState.TheVariants as write
-use Rattle.cv_utf7.specs.BlockSteps.{WritesOn}
+use Rattle.cv_utf7.specs.Private.BlockSteps.{WritesOn}
 use Rattle.cv_utf7.proofs.block_writing.write_inside.Given as goal
 
 abbrev pub invariant-loop-reached : goal.invariant-loop-reached

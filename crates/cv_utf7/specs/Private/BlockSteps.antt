@@ -7,7 +7,7 @@ use Rattle.cv_base.specs.declared.state.Bits.{Bits}
 use Rattle.cv_base.specs.declared.state.ReadState.{ReadState}
 use Rattle.cv_base.specs.declared.state.WriteState.{WriteState}
 use Rattle.cv_utf7.specs.Sets.{may_be_direct, is_digit}
-use Rattle.cv_utf7.specs.Steps.{IsUnit}
+use Rattle.cv_utf7.specs.Private.Steps.{IsUnit}
 use Rattle.cv_utf7.specs.Utf7.{plus, utf7_reads, utf7_writes}
 use Rattle.cv_utf7.specs.declared.units.Unit.{Unit}
 

@@ -3,9 +3,8 @@ ghost use Rattle.std.specs.Prelude.{◌≡◌, ◌+◌, ◌*◌, ◌<◌, ◌≤
 ghost use Rattle.cv_base.specs.Items.{IsNext};
 ghost use Rattle.cv_base.specs.Places.{PutsAt};
 ghost use Rattle.cv_utf.specs.Orders.{gives, reads_first, reads_in, writes_in};
-ghost use Rattle.cv_utf.specs.OrdersLaws.{in_readable, in_substitutable};
 ghost use Rattle.cv_utf.specs.Utf16.{utf16, high_unit, low_unit};
-ghost use Rattle.cv_utf.specs.Utf16Laws.{IsSurrogate, IsLow, utf16_is_form};
+ghost use Rattle.cv_utf.specs.Utf16Laws.{IsSurrogate, IsLow};
 
 use crate::character::character;
 use crate::order::Order;
@@ -323,14 +322,13 @@ fn put_marked(c: Scalar, out: &mut [u8], at: usize) -> Put
 }
 
 impl Codec for Utf16 {
-    ghost is_valid = { λ _. Unit {0} };
-
     ghost reads = { λ codec. reads_in utf16 codec.0 };
 
     ghost writes = { λ codec. writes_in utf16 codec.0 };
 
     ghost closes = { λ _ _. [] };
 
+    #[tactic(auto, using(crate::specs::OrdersLaws::in_readable, crate::specs::OrdersLaws::in_substitutable, crate::specs::Utf16Laws::utf16_is_form))]
     fn assert_valid(&self) {}
 
     #[inline]
@@ -399,8 +397,4 @@ impl Codec for Utf16 {
             _ => None,
         }
     }
-
-    ghost readable = { λ codec _. in_readable utf16 utf16_is_form codec.0 };
-
-    ghost substitutable = { λ codec _. in_substitutable utf16 codec.0 };
 }

@@ -3,9 +3,8 @@ ghost use Rattle.std.specs.Prelude.{◌≡◌, ◌+◌, ◌*◌, ◌≤◌, ◌�
 ghost use Rattle.cv_base.specs.Items.{Begins, IsNext};
 ghost use Rattle.cv_base.specs.Places.{PutsAt};
 ghost use Rattle.cv_utf.specs.Orders.{gives, reads_first, reads_in, writes_in};
-ghost use Rattle.cv_utf.specs.OrdersLaws.{in_readable, in_substitutable};
 ghost use Rattle.cv_utf.specs.Utf32.{utf32};
-ghost use Rattle.cv_utf.specs.Utf32Laws.{IsThird, utf32_is_form};
+ghost use Rattle.cv_utf.specs.Utf32Laws.{IsThird};
 
 use crate::character::character;
 use crate::order::Order;
@@ -227,14 +226,13 @@ fn put_marked(c: Scalar, out: &mut [u8], at: usize) -> Put
 }
 
 impl Codec for Utf32 {
-    ghost is_valid = { λ _. Unit {0} };
-
     ghost reads = { λ codec. reads_in utf32 codec.0 };
 
     ghost writes = { λ codec. writes_in utf32 codec.0 };
 
     ghost closes = { λ _ _. [] };
 
+    #[tactic(auto, using(crate::specs::OrdersLaws::in_readable, crate::specs::OrdersLaws::in_substitutable, crate::specs::Utf32Laws::utf32_is_form))]
     fn assert_valid(&self) {}
 
     #[inline]
@@ -303,8 +301,4 @@ impl Codec for Utf32 {
             _ => None,
         }
     }
-
-    ghost readable = { λ codec _. in_readable utf32 utf32_is_form codec.0 };
-
-    ghost substitutable = { λ codec _. in_substitutable utf32 codec.0 };
 }

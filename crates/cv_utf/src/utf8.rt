@@ -1,9 +1,8 @@
 //! UTF-8.
 ghost use Rattle.std.specs.Prelude.{◌≡◌, ◌+◌, ◌%◌, ◌<◌, ◌≤◌, ◌↔◌, IsTrue, [], length, get_or};
-ghost use Rattle.std.proofs.Common.{rules};
 ghost use Rattle.cv_base.specs.Items.{IsNext};
 ghost use Rattle.cv_utf.specs.Utf8.{utf8_reads, utf8_writes};
-ghost use Rattle.cv_utf.specs.Utf8Laws.{IsTail, IsSecond, utf8_readable};
+ghost use Rattle.cv_utf.specs.Utf8Laws.{IsTail, IsSecond};
 
 use crate::character::character;
 use cv_base::place::{write_four, write_one, write_three, write_two};
@@ -86,14 +85,13 @@ fn tail(bits: u32) -> u8
 }
 
 impl Codec for Utf8 {
-    ghost is_valid = { λ _. Unit {0} };
-
     ghost reads = { λ _. utf8_reads };
 
     ghost writes = { λ _. utf8_writes };
 
     ghost closes = { λ _ _. [] };
 
+    #[tactic(auto, using(crate::specs::Utf8Laws::utf8_readable))]
     fn assert_valid(&self) {}
 
     #[inline]
@@ -204,8 +202,4 @@ impl Codec for Utf8 {
             _ => None,
         }
     }
-
-    ghost readable = { λ _ _. utf8_readable };
-
-    ghost substitutable = { λ _ _ _. Prim.search rules };
 }

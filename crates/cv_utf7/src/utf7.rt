@@ -2,7 +2,6 @@
 ghost use Rattle.std.specs.Prelude.{◌≡◌, ◌≤◌, length, Some};
 ghost use Rattle.cv_base.specs.Places.{PutsAt};
 ghost use Rattle.cv_utf7.specs.Utf7.{utf7_reads, utf7_writes, utf7_closes, writes_at_start};
-ghost use Rattle.cv_utf7.specs.Utf7Laws.{utf7_readable, utf7_substitutable};
 
 use crate::cut::Cut;
 use crate::reading::{NONE, item_at_start, item_in_shift};
@@ -59,14 +58,13 @@ fn put_at_start(c: Scalar, out: &mut [u8], at: usize) -> Put
 }
 
 impl Codec for Utf7 {
-    ghost is_valid = { λ _. Unit {0} };
-
     ghost reads = { λ _. utf7_reads };
 
     ghost writes = { λ _. utf7_writes };
 
     ghost closes = { λ _. utf7_closes };
 
+    #[tactic(auto, using(crate::specs::Utf7Laws::utf7_readable, crate::specs::Utf7Laws::utf7_substitutable))]
     fn assert_valid(&self) {}
 
     #[inline]
@@ -120,8 +118,4 @@ impl Codec for Utf7 {
     fn most_bytes(&self) -> usize {
         6
     }
-
-    ghost readable = { λ _ _. utf7_readable };
-
-    ghost substitutable = { λ _ _. utf7_substitutable };
 }

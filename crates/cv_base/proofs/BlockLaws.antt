@@ -1,12 +1,11 @@
 -- What was read or written of a spelling is a block.
-use Rattle.std.proofs.Common.{◌≡◌, ℕ, ◌+◌, ◌≤◌, ◌<◌, suc, get_or, get_or-take, length-take, List, [], ◌∷◌, ◌++◌, length, take, drop, refl, sym, ◌∙◌, ap, arith, Some, length-append, zero-add}
+use Rattle.std.proofs.Common.{◌≡◌, ℕ, ◌≤◌, ◌<◌, suc, get_or, get_or-take, length-take, List, [], ◌∷◌, length, take, drop, refl, sym, ◌∙◌, ap, arith, Some, length-append, zero-add}
 use Rattle.std.specs.List.{flat_map}
 use Rattle.cv_base.specs.Items.{Taken, taken, ItemRelation, Begins}
 use Rattle.cv_base.specs.Codecs.{Writing}
-use Rattle.cv_base.specs.Chains.{IsChain, used_bytes, read_state, characters_of, Output, output, output_for}
+use Rattle.cv_base.specs.Chains.{IsChain, used_bytes, read_state, characters_of, output, output_for}
 use Rattle.cv_base.specs.Blocks.{IsReadBlock, IsWrittenBlock}
 use Rattle.cv_base.specs.Scalars.{IsScalar, AreScalars}
-use Rattle.cv_base.specs.Places.{IsOutput}
 use Rattle.cv_base.specs.Spelled.{BytesOf, IsSpelledRead, IsSpelledWritten}
 use Rattle.cv_base.specs.declared.block.ReadBlock.{ReadBlock}
 use Rattle.cv_base.specs.declared.block.WrittenBlock.{WrittenBlock}

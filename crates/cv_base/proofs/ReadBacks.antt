@@ -1,12 +1,12 @@
 -- A codec whose characters each read back, in states that go together, reads whole texts back.
-use Rattle.std.proofs.Common.{◌≡◌, ℕ, ◌+◌, ◌≤◌, List, [], ◌∷◌, ◌++◌, length, drop, refl, sym, ◌∙◌, ap, subst, arith, append_assoc, length-append, length-drop, Option, Some, None}
+use Rattle.std.proofs.Common.{◌≡◌, ℕ, ◌≤◌, List, [], ◌∷◌, ◌++◌, length, drop, refl, ◌∙◌, ap, subst, arith, append_assoc, length-append, length-drop, Option, Some, None}
 use Rattle.std.proofs.Math.Seq.{drop-append_seam}
 use Rattle.std.proofs.lemmas.List.{drop-append-le}
 use Rattle.cv_base.specs.Scalars.{IsScalar, AreScalars, question}
 use Rattle.cv_base.specs.Items.{Taken, taken, ItemRelation}
 use Rattle.cv_base.specs.Codecs.{Writing}
-use Rattle.cv_base.specs.Chains.{IsChain, used_bytes, read_state, characters_of, Output, output, substituted, put_or, written, output_for}
-use Rattle.cv_base.specs.ReadBack.{IsReadAs, ReadsBack}
+use Rattle.cv_base.specs.Chains.{IsChain, used_bytes, read_state, characters_of, substituted, put_or, written, output_for}
+use Rattle.cv_base.specs.ReadBack.{ReadsBack}
 use Rattle.cv_base.specs.declared.state.ReadState.{ReadState}
 use Rattle.cv_base.specs.declared.state.ReadState.TheVariants as read
 use Rattle.cv_base.specs.declared.state.WriteState.{WriteState}

@@ -6,7 +6,7 @@ use Rattle.std.proofs.lemmas.List.{drop-drop, take_all}
 use Rattle.cv_base.specs.Scalars.{question}
 use Rattle.cv_base.specs.Codecs.{Writing, WritesAtMost}
 use Rattle.cv_base.specs.Chains.{Output, written, put_or, substituted, followed, output_for}
-use Rattle.cv_base.specs.Places.{IsPut, IsOutput}
+use Rattle.cv_base.specs.Places.{IsOutput}
 use Rattle.cv_base.specs.Blocks.{IsWrittenBlock}
 use Rattle.cv_base.specs.declared.state.WriteState.{WriteState}
 use Rattle.cv_base.proofs.ChainLaws.{output_for-append, output_for-one}

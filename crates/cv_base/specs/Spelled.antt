@@ -1,5 +1,5 @@
 -- Spellings: encodings, or states of them, in which each character has its bytes whatever stands around it. They serve blocks.
-use Rattle.std.specs.Prelude.{◌≡◌, ℕ, ◌+◌, ◌≤◌, List, [], ◌∷◌, ◌++◌, take, drop, length}
+use Rattle.std.specs.Prelude.{◌≡◌, ℕ, ◌+◌, ◌≤◌, List, ◌++◌, take, drop, length}
 use Rattle.std.specs.List.{flat_map}
 use Rattle.cv_base.specs.Scalars.{IsScalar, AreScalars}
 use Rattle.cv_base.specs.Items.{Begins}

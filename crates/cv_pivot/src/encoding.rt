@@ -78,17 +78,6 @@ impl Codec for Encoding {
         }
     }
 
-    fn put(&self, state: WriteState, c: Scalar) -> Option<(Piece, WriteState)> {
-        match self {
-            Encoding::Ascii => Ascii.put(state, c),
-            Encoding::Latin1 => Latin1.put(state, c),
-            Encoding::Utf8 => Utf8.put(state, c),
-            Encoding::Utf16(order) => Utf16(*order).put(state, c),
-            Encoding::Utf32(order) => Utf32(*order).put(state, c),
-            Encoding::Utf7 => Utf7.put(state, c),
-        }
-    }
-
     fn put_at(&self, state: WriteState, c: Scalar, out: &mut [u8], at: usize) -> Put {
         match self {
             Encoding::Ascii => Ascii.put_at(state, c, out, at),

@@ -1,6 +1,6 @@
-use Rattle.std.proofs.Common.{arith, refl, sym, ap, ◌≡◌, ◌∙◌, [], ◌∷◌, ◌++◌, ◌+◌, suc, slice_set, take, drop, append_assoc, length, Some}
+use Rattle.std.proofs.Common.{arith, refl, sym, ◌≡◌, ◌∙◌, [], ◌∷◌, ◌++◌, ◌+◌, suc, slice_set, take, drop, append_assoc, Some}
 use Rattle.std.proofs.lemmas.List.{set_split}
-use Rattle.cv_base.specs.Chains.{Output, output, written}
+use Rattle.cv_base.specs.Chains.{output, written}
 use Rattle.cv_base.specs.SingleBytes.{byte_writes}
 use Rattle.cv_base.specs.declared.state.WriteState.TheVariants as write
 use Rattle.cv_base.proofs.SingleByteItems.{byte_writes_one}

@@ -1,7 +1,7 @@
 -- An encoding keeps what every codec keeps.
 use Rattle.std.proofs.Common.{refl}
 use Rattle.cv_base.specs.Codecs.{IsReadable, CanSubstitute}
-use Rattle.cv_base.specs.SingleByteLaws.{byte_readable}
+use Rattle.cv_base.proofs.SingleByteLaws.{byte_readable}
 use Rattle.cv_utf.specs.OrdersLaws.{in_readable, in_substitutable}
 use Rattle.cv_utf.specs.Utf8Laws.{utf8_readable}
 use Rattle.cv_utf.specs.Utf16.{utf16}

@@ -8,60 +8,8 @@ ghost use Rattle.cv_utf7.specs.Utf7.{plus, utf7_closes};
 
 use crate::cut::Cut;
 use crate::sets::digit_for;
-use cv_base::place::{write_three, write_two};
+use cv_base::place::write_slice;
 use cv_base::{Bits, Piece, Put, WriteState};
-
-/// Five bytes.
-fn five(bytes: [u8; 5]) -> Piece
-    ensures { result ≡ bytes }
-{
-    let [a, b, c, d, e] = bytes;
-    let mut piece = Piece::four(a, b, c, d);
-    piece.push(e);
-    piece
-}
-
-/// Six bytes.
-fn six(bytes: [u8; 6]) -> Piece
-    ensures { result ≡ bytes }
-{
-    let [a, b, c, d, e, f] = bytes;
-    let mut piece = five([a, b, c, d, e]);
-    piece.push(f);
-    piece
-}
-
-/// The digits of a character.
-#[tactic(auto, using(crate::proofs::Cuts::spelled))]
-pub(crate) fn piece_of(cut: Cut) -> Piece
-    requires { (cut.n ≡ 2) ⊎ (cut.n ≡ 3) ⊎ (cut.n ≡ 5) ⊎ (cut.n ≡ 6) }
-    ensures { result ≡ digits (bits (6 * cut.n) cut.value) }
-{
-    if cut.n == 2 {
-        return Piece::two(cut.digit(1), cut.digit(0));
-    }
-    if cut.n == 3 {
-        return Piece::three(cut.digit(2), cut.digit(1), cut.digit(0));
-    }
-    let [b, c, d, e, f] = cut.last_five();
-    if cut.n == 5 {
-        return five([b, c, d, e, f]);
-    }
-    six([cut.digit(5), b, c, d, e, f])
-}
-
-/// `+` and the digits of the first character of a shifted sequence.
-#[tactic(auto, using(crate::proofs::Cuts::spelled))]
-pub(crate) fn first_piece(cut: Cut) -> Piece
-    requires { (cut.n ≡ 2) ⊎ (cut.n ≡ 5) }
-    ensures { result ≡ plus ∷ digits (bits (6 * cut.n) cut.value) }
-{
-    if cut.n == 2 {
-        return Piece::three(b'+', cut.digit(1), cut.digit(0));
-    }
-    let [b, c, d, e, f] = cut.last_five();
-    six([b'+', b, c, d, e, f])
-}
 
 /// What closes a shifted sequence.
 #[inline(always)]
@@ -88,24 +36,6 @@ fn last_digit(pending: Bits) -> u8
     digit_for(pending.value as u32 * 4)
 }
 
-/// Writes five bytes.
-#[inline(always)]
-fn write_five(out: &mut [u8], at: usize, bytes: [u8; 5])
-    requires { at + 5 ≤ length out.old }
-    ensures { out.new ≡ take at out.old ++ bytes ++ drop (at + 5) out.old }
-{
-    out[at..at + 5].copy_from_slice(&bytes);
-}
-
-/// Writes six bytes.
-#[inline(always)]
-fn write_six(out: &mut [u8], at: usize, bytes: [u8; 6])
-    requires { at + 6 ≤ length out.old }
-    ensures { out.new ≡ take at out.old ++ bytes ++ drop (at + 6) out.old }
-{
-    out[at..at + 6].copy_from_slice(&bytes);
-}
-
 /// Writes the digits of a character.
 #[inline(always)]
 #[tactic(auto, using(crate::proofs::Cuts::spelled))]
@@ -122,19 +52,19 @@ pub(crate) fn put_digits(cut: Cut, out: &mut [u8], at: usize) -> Put
         next: WriteState::Shifted(cut.next),
     };
     if cut.n == 2 {
-        write_two(out, at, cut.digit(1), cut.digit(0));
+        write_slice(out, at, &[cut.digit(1), cut.digit(0)]);
         return wrote;
     }
     if cut.n == 3 {
-        write_three(out, at, cut.digit(2), cut.digit(1), cut.digit(0));
+        write_slice(out, at, &[cut.digit(2), cut.digit(1), cut.digit(0)]);
         return wrote;
     }
     let [b, c, d, e, f] = cut.last_five();
     if cut.n == 5 {
-        write_five(out, at, [b, c, d, e, f]);
+        write_slice(out, at, &[b, c, d, e, f]);
         return wrote;
     }
-    write_six(out, at, [cut.digit(5), b, c, d, e, f]);
+    write_slice(out, at, &[cut.digit(5), b, c, d, e, f]);
     wrote
 }
 
@@ -155,11 +85,11 @@ pub(crate) fn put_first(cut: Cut, out: &mut [u8], at: usize) -> Put
         next: WriteState::Shifted(cut.next),
     };
     if cut.n == 2 {
-        write_three(out, at, b'+', cut.digit(1), cut.digit(0));
+        write_slice(out, at, &[b'+', cut.digit(1), cut.digit(0)]);
         return wrote;
     }
     let [b, c, d, e, f] = cut.last_five();
-    write_six(out, at, [b'+', b, c, d, e, f]);
+    write_slice(out, at, &[b'+', b, c, d, e, f]);
     wrote
 }
 
@@ -176,13 +106,13 @@ pub(crate) fn put_closed(pending: Bits, byte: u8, out: &mut [u8], at: usize) -> 
         if room < 2 {
             return Put::NoRoom;
         }
-        write_two(out, at, b'-', byte);
+        write_slice(out, at, &[b'-', byte]);
         return Put::Wrote { n: 2, next };
     }
     let digit = last_digit(pending);
     if room < 3 {
         return Put::NoRoom;
     }
-    write_three(out, at, digit, b'-', byte);
+    write_slice(out, at, &[digit, b'-', byte]);
     Put::Wrote { n: 3, next }
 }

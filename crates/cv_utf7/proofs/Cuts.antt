@@ -7,8 +7,9 @@ use Rattle.cv_base.specs.declared.state.Bits.{Bits}
 use Rattle.cv_base.specs.declared.state.WriteState.TheVariants as write
 use Rattle.cv_utf7.specs.Sets.{digit_of}
 use Rattle.cv_utf7.specs.BitLists.{bits, number, bits_of, character_bits, digits, over}
-use Rattle.cv_utf7.specs.BitLaws.{length-bits, number-bits, number-append, bits-split, bits-mod}
-use Rattle.cv_utf7.specs.UnitLaws.{high_of, low_of, one_unit, two_units}
+use Rattle.cv_utf7.proofs.BitStrings.{length-bits, number-bits, number-append, bits-split, bits-mod}
+use Rattle.cv_utf7.proofs.CodeUnits.{one_unit, two_units}
+use Rattle.cv_base.specs.Units.{high_unit, low_unit}
 use Rattle.cv_utf7.specs.Utf7.{minus, written_bits, last_digit, utf7_closes}
 use Rattle.cv_utf7.specs.Private.PendingBits.{pending_of}
 use Rattle.cv_utf7.proofs.PendingBits.{pending_is}
@@ -98,22 +99,22 @@ unit_behind pending c h =
     let f : bits 16 (pending.value * 65536 + c) ≡ bits 16 c = bits-mod 16 (pending.value * 65536 + c) c (omega arith) in
     ap (λ (t : List Bool). bits_of pending ++ t) (one_unit c h) ∙ sym (bits-split pending.count 16 (pending.value * 65536 + c) ∙ rw (e, f) refl)
 
-pair_behind : (pending : Bits) (c : ℕ) → 0x10000 ≤ c → c < 0x110000 → bits_of pending ++ character_bits c ≡ bits (pending.count + 32) (pending.value * 4294967296 + (high_of c * 65536 + low_of c))
+pair_behind : (pending : Bits) (c : ℕ) → 0x10000 ≤ c → c < 0x110000 → bits_of pending ++ character_bits c ≡ bits (pending.count + 32) (pending.value * 4294967296 + (high_unit c * 65536 + low_unit c))
 pair_behind pending c h k =
-    let e : (pending.value * 4294967296 + (high_of c * 65536 + low_of c)) / 2 ^ 32 ≡ pending.value = omega arith in
-    let f : bits 32 (pending.value * 4294967296 + (high_of c * 65536 + low_of c)) ≡ bits 32 (high_of c * 65536 + low_of c) = bits-mod 32 (pending.value * 4294967296 + (high_of c * 65536 + low_of c)) (high_of c * 65536 + low_of c) (omega arith) in
-    let g : (high_of c * 65536 + low_of c) / 2 ^ 16 ≡ high_of c = omega arith in
-    let j : bits 16 (high_of c * 65536 + low_of c) ≡ bits 16 (low_of c) = bits-mod 16 (high_of c * 65536 + low_of c) (low_of c) (omega arith) in
-    let s : bits 32 (high_of c * 65536 + low_of c) ≡ bits 16 (high_of c) ++ bits 16 (low_of c) = bits-split 16 16 (high_of c * 65536 + low_of c) ∙ rw (g, j) refl in
-    ap (λ (t : List Bool). bits_of pending ++ t) (two_units c h) ∙ sym (bits-split pending.count 32 (pending.value * 4294967296 + (high_of c * 65536 + low_of c)) ∙ rw (e, f, s) refl)
+    let e : (pending.value * 4294967296 + (high_unit c * 65536 + low_unit c)) / 2 ^ 32 ≡ pending.value = omega arith in
+    let f : bits 32 (pending.value * 4294967296 + (high_unit c * 65536 + low_unit c)) ≡ bits 32 (high_unit c * 65536 + low_unit c) = bits-mod 32 (pending.value * 4294967296 + (high_unit c * 65536 + low_unit c)) (high_unit c * 65536 + low_unit c) (omega arith) in
+    let g : (high_unit c * 65536 + low_unit c) / 2 ^ 16 ≡ high_unit c = omega arith in
+    let j : bits 16 (high_unit c * 65536 + low_unit c) ≡ bits 16 (low_unit c) = bits-mod 16 (high_unit c * 65536 + low_unit c) (low_unit c) (omega arith) in
+    let s : bits 32 (high_unit c * 65536 + low_unit c) ≡ bits 16 (high_unit c) ++ bits 16 (low_unit c) = bits-split 16 16 (high_unit c * 65536 + low_unit c) ∙ rw (g, j) refl in
+    ap (λ (t : List Bool). bits_of pending ++ t) (two_units c h) ∙ sym (bits-split pending.count 32 (pending.value * 4294967296 + (high_unit c * 65536 + low_unit c)) ∙ rw (e, f, s) refl)
 
 pub cut_unit : (pending : Bits) (c : ℕ) (cut : Cut) → c < 0x10000 → pending.count + 16 ≡ 6 * cut.n + cut.next.count → cut.value ≡ (pending.value * 65536 + c) / 2 ^ cut.next.count → cut.next.value ≡ (pending.value * 65536 + c) % 2 ^ cut.next.count
     → written_bits (bits_of pending ++ character_bits c) ≡ (digits (bits (6 * cut.n) cut.value), write.Shifted cut.next)
 cut_unit pending c cut h e v w = cut_is _ cut.n cut.next.count (pending.value * 65536 + c) cut.value cut.next (unit_behind pending c h ∙ ap (λ (k : ℕ). bits k (pending.value * 65536 + c)) e) refl v w
 
-pub cut_pair : (pending : Bits) (c : ℕ) (cut : Cut) → 0x10000 ≤ c → c < 0x110000 → pending.count + 32 ≡ 6 * cut.n + cut.next.count → cut.value ≡ (pending.value * 4294967296 + (high_of c * 65536 + low_of c)) / 2 ^ cut.next.count → cut.next.value ≡ (pending.value * 4294967296 + (high_of c * 65536 + low_of c)) % 2 ^ cut.next.count
+pub cut_pair : (pending : Bits) (c : ℕ) (cut : Cut) → 0x10000 ≤ c → c < 0x110000 → pending.count + 32 ≡ 6 * cut.n + cut.next.count → cut.value ≡ (pending.value * 4294967296 + (high_unit c * 65536 + low_unit c)) / 2 ^ cut.next.count → cut.next.value ≡ (pending.value * 4294967296 + (high_unit c * 65536 + low_unit c)) % 2 ^ cut.next.count
     → written_bits (bits_of pending ++ character_bits c) ≡ (digits (bits (6 * cut.n) cut.value), write.Shifted cut.next)
-cut_pair pending c cut h k e v w = cut_is _ cut.n cut.next.count (pending.value * 4294967296 + (high_of c * 65536 + low_of c)) cut.value cut.next (pair_behind pending c h k ∙ ap (λ (m : ℕ). bits m (pending.value * 4294967296 + (high_of c * 65536 + low_of c))) e) refl v w
+cut_pair pending c cut h k e v w = cut_is _ cut.n cut.next.count (pending.value * 4294967296 + (high_unit c * 65536 + low_unit c)) cut.value cut.next (pair_behind pending c h k ∙ ap (λ (m : ℕ). bits m (pending.value * 4294967296 + (high_unit c * 65536 + low_unit c))) e) refl v w
 
 -- pending values are small
 pub value_below : (pending : Bits) → pending.value < 16

@@ -1,11 +1,18 @@
 -- The digits of bits, and the bits of digits.
+use Rattle.std.proofs.Common.{zero, suc, take, drop, get_or, append_assoc}
+use Rattle.std.proofs.lemmas.List.{length-append, take-append-drop}
 use Rattle.std.proofs.Common.{◌≡◌, ℕ, zero, suc, ◌*◌, ◌%◌, ◌^◌, ◌<◌, Bool, true, List, [], ◌∷◌, ◌++◌, length, refl, sym, ◌∙◌, ap, arith}
 use Rattle.std.proofs.Math.Nat.{mod-eq_of_lt}
 use Rattle.cv_utf7.specs.Sets.{is_digit, value_of, digit_of}
 use Rattle.cv_utf7.specs.BitLists.{bits, number, AreDigits, digit_bits, digits}
-use Rattle.cv_utf7.specs.BitNumbers.{number_lt}
-use Rattle.cv_utf7.specs.BitLaws.{length-bits, number-bits, same-bits}
-use Rattle.cv_utf7.specs.SetLaws.{value-digit, digit-digit}
+use Rattle.cv_utf7.specs.Private.BitNumbers.{number_lt}
+use Rattle.cv_utf7.proofs.BitStrings.{length-bits, number-bits, same-bits}
+use Rattle.cv_utf7.proofs.SetMembers.{value-digit, digit-digit}
+
+-- six bits a digit
+pub length-digits : (bytes : List ℕ) → length (digit_bits bytes) ≡ 6 * length bytes
+length-digits [] = refl
+length-digits (b ∷ bytes) = simp length-append (omega (arith, length-digits bytes, length-bits 6))
 
 -- six bits are those of their digit
 pub six : (l : List Bool) → length l ≡ 6 → (is_digit (digit_of (number l)) ≡ true) × (bits 6 (value_of (digit_of (number l))) ≡ l)
@@ -28,3 +35,30 @@ digits-bits (suc m) (a ∷ b ∷ c ∷ d ∷ f ∷ g ∷ l) e =
     let s = six (a ∷ b ∷ c ∷ d ∷ f ∷ g ∷ []) refl in
     let r = digits-bits m l (omega arith) in
     ((s.0, r.0), ap (λ (t : List Bool). t ++ digit_bits (digits l)) s.1 ∙ ap (λ (t : List Bool). a ∷ b ∷ c ∷ d ∷ f ∷ g ∷ t) r.1)
+
+pub digit_bits-append : (a b : List ℕ) → digit_bits (a ++ b) ≡ digit_bits a ++ digit_bits b
+digit_bits-append [] b = refl
+digit_bits-append (x ∷ a) b = ap (λ (t : List Bool). bits 6 (value_of x) ++ t) (digit_bits-append a b) ∙ sym (append_assoc (bits 6 (value_of x)) (digit_bits a) (digit_bits b))
+
+pub digit_bits-cut : (n : ℕ) (w : List ℕ) → digit_bits w ≡ digit_bits (take n w) ++ digit_bits (drop n w)
+digit_bits-cut n w = sym (ap digit_bits (take-append-drop n w)) ∙ digit_bits-append (take n w) (drop n w)
+
+pub AreDigits-append : (a b : List ℕ) → AreDigits a → AreDigits b → AreDigits (a ++ b)
+AreDigits-append [] b p q = q
+AreDigits-append (x ∷ a) b p q = (p.0, AreDigits-append a b p.1 q)
+
+pub AreDigits-at : (w : List ℕ) → AreDigits w → (k : ℕ) → k < length w → is_digit (get_or w k 0) ≡ true
+AreDigits-at [] d k l = absurd (omega arith)
+AreDigits-at (b ∷ w) d zero l = d.0
+AreDigits-at (b ∷ w) d (suc k) l = AreDigits-at w d.1 k (omega arith)
+
+pub AreDigits-take : (n : ℕ) (w : List ℕ) → AreDigits w → AreDigits (take n w)
+AreDigits-take zero w d = tt
+AreDigits-take (suc n) [] d = tt
+AreDigits-take (suc n) (b ∷ w) d = (d.0, AreDigits-take n w d.1)
+
+pub AreDigits-drop : (n : ℕ) (w : List ℕ) → AreDigits w → AreDigits (drop n w)
+AreDigits-drop zero w d = d
+AreDigits-drop (suc n) [] d = tt
+AreDigits-drop (suc n) (b ∷ w) d = AreDigits-drop n w d.1
+

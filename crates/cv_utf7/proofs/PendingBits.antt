@@ -1,11 +1,36 @@
 -- Pending bits, and the lists of bits that make them.
-use Rattle.std.proofs.Common.{◌≡◌, ℕ, ◌%◌, ◌^◌, ◌<◌, Bool, List, [], ◌∷◌, length, refl, ap, ◌∙◌, subst, arith, sym}
+use Rattle.std.proofs.Common.{◌≡◌, ℕ, ◌%◌, ◌^◌, ◌<◌, ◌≤◌, Bool, List, [], ◌∷◌, length, refl, ap, ◌∙◌, subst, arith, sym}
 use Rattle.std.proofs.Math.Nat.{mod-eq_of_lt}
+use Rattle.std.proofs.Props.{props}
 use Rattle.cv_base.specs.declared.state.Bits.{Bits}
 use Rattle.cv_utf7.specs.BitLists.{bits, number, bits_of}
-use Rattle.cv_utf7.specs.BitNumbers.{number_lt}
-use Rattle.cv_utf7.specs.BitLaws.{length-bits, number-bits, same-bits, same-pending}
+use Rattle.cv_utf7.specs.Private.BitNumbers.{number_lt}
+use Rattle.cv_utf7.proofs.BitStrings.{length-bits, number-bits, same-bits}
 use Rattle.cv_utf7.specs.Private.PendingBits.{pending_of}
+
+-- the fields of pending bits say all of them
+same-fields : (c v : ℕ) (h i : c ≤ 4) (j k : c % 2 ≡ 0) (l m : v < 2 ^ c) → (let x : Bits = record { count = c; value = v; few = h; even = j; in_range = l } in let y : Bits = record { count = c; value = v; few = i; even = k; in_range = m } in x ≡ y)
+same-fields c v h i j k l m =
+    let s : IsProp (c ≤ 4) = hlevel props in
+    let t : IsProp (c % 2 ≡ 0) = hlevel props in
+    let u : IsProp (v < 2 ^ c) = hlevel props in
+    let p : h ≡ i = s h i in
+    let q : j ≡ k = t j k in
+    let r : l ≡ m = u l m in
+    cc
+
+-- pending bits of one count and one value are the same
+pub same-pending : (a b : Bits) → a.count ≡ b.count → a.value ≡ b.value → a ≡ b
+same-pending a b e f =
+    let P : ℕ → ℕ → Type 0 = λ c v. (h : c ≤ 4) (j : c % 2 ≡ 0) (l : v < 2 ^ c) → (let x : Bits = record { count = c; value = v; few = h; even = j; in_range = l } in a ≡ x) in
+    subst (λ (v : ℕ). P b.count v) f (subst (λ (c : ℕ). P c a.value) e (λ h j l. same-fields a.count a.value a.few h a.even j a.in_range l)) b.few b.even b.in_range
+
+-- pending bits with one list are the same
+pub bits_of-same : (a b : Bits) → bits_of a ≡ bits_of b → a ≡ b
+bits_of-same a b e =
+    let c : a.count ≡ b.count = sym (length-bits a.count a.value) ∙ ap length e ∙ length-bits b.count b.value in
+    let n : a.value % 2 ^ a.count ≡ b.value % 2 ^ b.count = sym (number-bits a.count a.value) ∙ ap number e ∙ number-bits b.count b.value in
+    same-pending a b c (sym (mod-eq_of_lt {n = a.value} {m = 2 ^ a.count} a.in_range) ∙ n ∙ mod-eq_of_lt {n = b.value} {m = 2 ^ b.count} b.in_range)
 
 -- the bits of pending bits that are made of a list of as many and as great a number are these
 pub pending_is : (l : List Bool) (next : Bits) → length l ≡ next.count → number l ≡ next.value → pending_of l ≡ next

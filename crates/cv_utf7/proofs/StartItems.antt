@@ -9,7 +9,7 @@ use Rattle.cv_base.specs.declared.state.ReadState.{ReadState}
 use Rattle.cv_base.specs.declared.state.ReadState.TheVariants as read
 use Rattle.cv_utf7.specs.Sets.{is_digit, may_be_direct}
 use Rattle.cv_utf7.specs.Utf7.{plus, minus, ReadsAtStart, utf7_reads}
-use Rattle.cv_utf7.specs.SetLaws.{direct_lt, plus_is_not_direct}
+use Rattle.cv_utf7.proofs.SetMembers.{direct_lt, plus_is_not_direct}
 use Rattle.cv_utf7.proofs.PendingBits.{none_pending}
 
 -- what an item needs of the first two bytes

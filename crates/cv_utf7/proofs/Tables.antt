@@ -2,7 +2,7 @@
 use Rattle.std.proofs.Common.{◌≡◌, ℕ, ◌<◌, ◌≤◌, Bool, true, false, ◌||◌, not, nat_eq, nat_lt, get_or, refl, sym, ◌∙◌, arith, inl, inr}
 use Rattle.std.proofs.lemmas.Bool.{agree_below_at, cases_Bool, le-ltb, lt-ltb, eqb-true}
 use Rattle.cv_utf7.specs.Sets.{is_digit, value_of, digit_of, may_be_direct, is_direct, is_set_d, is_set_o, is_blank}
-use Rattle.cv_utf7.specs.SetLaws.{direct_lt, written_lt}
+use Rattle.cv_utf7.proofs.SetMembers.{direct_lt, written_lt}
 use Rattle.cv_utf7.specs.declared.sets.TheConstants.{VALUES, DIGITS, DIRECT}
 
 value_agrees : ℕ → Bool

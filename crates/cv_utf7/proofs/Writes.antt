@@ -9,9 +9,10 @@ use Rattle.cv_base.specs.declared.state.WriteState.{WriteState}
 use Rattle.cv_base.specs.declared.state.WriteState.TheVariants as write
 use Rattle.cv_utf7.specs.Sets.{is_direct}
 use Rattle.cv_utf7.specs.BitLists.{bits, bits_of, character_bits, digits}
-use Rattle.cv_utf7.specs.BitLaws.{length-bits}
-use Rattle.cv_utf7.specs.SetLaws.{written_lt}
-use Rattle.cv_utf7.specs.UnitLaws.{one_unit, two_units, high_of, low_of}
+use Rattle.cv_utf7.proofs.BitStrings.{length-bits}
+use Rattle.cv_utf7.proofs.SetMembers.{written_lt}
+use Rattle.cv_utf7.proofs.CodeUnits.{one_unit, two_units}
+use Rattle.cv_base.specs.Units.{high_unit, low_unit}
 use Rattle.cv_utf7.proofs.PendingBits.{no_bits}
 use Rattle.cv_utf7.specs.Utf7.{plus, minus, written_bits, last_digit, utf7_closes, writes_at_start, writes_in_shift, utf7_writes}
 
@@ -51,7 +52,7 @@ digits_at_most (suc n) (a ∷ b ∷ c ∷ d ∷ f ∷ g ∷ l) h = omega (arith,
 character_long : (c : ℕ) → length (character_bits c) ≤ 32
 character_long c = elim (cases_lt c 0x10000) [
   | inl h ↦ rw (one_unit c h) (omega (arith, length-bits 16 c))
-  | inr h ↦ rw (two_units c h, length-append) (omega (arith, length-bits 16 (high_of c), length-bits 16 (low_of c)))
+  | inr h ↦ rw (two_units c h, length-append) (omega (arith, length-bits 16 (high_unit c), length-bits 16 (low_unit c)))
 ]
 
 pub last_digit_long : (p : Bits) → length (last_digit (bits_of p)) ≤ 1

@@ -1,6 +1,7 @@
 -- Strings of bits, the highest first.
-use Rattle.std.specs.Prelude.{◌≡◌, ℕ, zero, suc, ◌+◌, ◌-◌, ◌*◌, ◌/◌, ◌%◌, ◌^◌, Bool, true, List, [], ◌∷◌, ◌++◌, length, ◌==◌, nat_lt, if◌then◌else◌}
+use Rattle.std.specs.Prelude.{◌≡◌, ℕ, zero, suc, ◌+◌, ◌*◌, ◌/◌, ◌%◌, ◌^◌, Bool, true, List, [], ◌∷◌, ◌++◌, length, ◌==◌, if◌then◌else◌}
 use Rattle.std.specs.List.{flat_map}
+use Rattle.cv_base.specs.Units.{units_of}
 use Rattle.cv_base.specs.declared.state.Bits.{Bits}
 use Rattle.cv_utf7.specs.Sets.{is_digit, value_of, digit_of}
 
@@ -17,10 +18,6 @@ number (bit ∷ rest) = (if bit then 1 else 0) * 2 ^ length rest + number rest
 -- the bits that are pending
 abbrev pub bits_of : Bits → List Bool
 bits_of pending = bits pending.count pending.value
-
--- the code units of a character (Unicode 3.9, D91): one, or a high and a low surrogate
-unfoldable pub units_of : ℕ → List ℕ
-units_of c = if nat_lt c 0x10000 then c ∷ [] else (0xD800 + (c - 0x10000) / 1024) ∷ (0xDC00 + (c - 0x10000) % 1024) ∷ []
 
 -- the bits of a character: sixteen for each of its code units
 abbrev pub character_bits : ℕ → List Bool

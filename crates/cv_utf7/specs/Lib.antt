@@ -1,10 +1,4 @@
 pub mod Sets
 pub mod BitLists
 pub mod Utf7
-pub mod ReadBack
 pub mod Private
-pub mod BitNumbers
-pub mod BitLaws
-pub mod SetLaws
-pub mod UnitLaws
-pub mod Utf7Laws

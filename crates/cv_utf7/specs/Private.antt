@@ -1,3 +1,4 @@
+pub mod BitNumbers
 pub mod BlockSteps
 pub mod ByteSets
 pub mod PendingBits

@@ -48,7 +48,7 @@ impl Codec for Utf7 {
 
     ghost closes = { λ _. utf7_closes };
 
-    #[tactic(auto, using(crate::specs::Utf7Laws::utf7_readable, crate::specs::Utf7Laws::utf7_substitutable))]
+    #[tactic(auto, using(crate::proofs::OneItem::utf7_readable, crate::proofs::OneItem::utf7_substitutable))]
     fn assert_valid(&self) {}
 
     #[inline]

@@ -3,7 +3,7 @@ use Rattle.std.proofs.Common.{refl, lit≤}
 use Rattle.std.specs.Prelude.{Bool, List, [], ◌∷◌}
 use Rattle.cv_base.specs.declared.state.Bits.{Bits}
 use Rattle.cv_utf7.specs.BitLists.{number}
-use Rattle.cv_utf7.specs.BitNumbers.{number_lt}
+use Rattle.cv_utf7.specs.Private.BitNumbers.{number_lt}
 
 -- two or four bits, or none, as the bits that are pending
 unfoldable pub pending_of : List Bool → Bits

@@ -1,6 +1,6 @@
 use Rattle.std.proofs.Common.{sym, ◌∙◌, arith, ◌+◌, ◌≡◌}
 use Rattle.std.proofs.lemmas.List.{get_or_read}
-use Rattle.cv_utf7.specs.SetLaws.{written_lt}
+use Rattle.cv_utf7.proofs.SetMembers.{written_lt}
 use Rattle.cv_utf7.proofs.BlockWriting.{direct_more}
 use Rattle.cv_utf7.proofs.write_runs.write_direct.Goals as goal
 

@@ -7,9 +7,10 @@ use Rattle.std.proofs.Math.Nat.{mul-le-mul_right, pow-le-pow_right}
 use Rattle.cv_base.specs.declared.state.Bits.{Bits}
 use Rattle.cv_utf7.specs.Sets.{is_digit, value_of}
 use Rattle.cv_utf7.specs.BitLists.{bits, bits_of, AreDigits, digit_bits}
-use Rattle.cv_utf7.specs.BitLaws.{bits-digit, bits-split, bits-mod}
-use Rattle.cv_utf7.specs.SetLaws.{value_lt}
-use Rattle.cv_utf7.specs.UnitLaws.{digit_bits-append, AreDigits-append, AreDigits-at, get-take}
+use Rattle.cv_utf7.proofs.BitStrings.{bits-digit, bits-split, bits-mod}
+use Rattle.cv_utf7.proofs.SetMembers.{value_lt}
+use Rattle.cv_utf7.proofs.Digits.{digit_bits-append, AreDigits-append, AreDigits-at}
+use Rattle.std.proofs.lemmas.List.{get_or-take}
 use Rattle.cv_utf7.specs.Private.Steps.{IsUnit, NoUnit, IsFront}
 use Rattle.cv_utf7.specs.declared.units.Unit.{Unit}
 
@@ -88,7 +89,7 @@ none_shorter pending text p h n l k d = omega (arith, pending.few, pending.even)
 none_where : (pending : Bits) (text : List ℕ) (m : ℕ) → m < length text → is_digit (get_or text m 0) ≡ false → pending.count + 6 * m < 16 → NoUnit pending text
 none_where pending text m h e f n l k d =
     let t = AreDigits-at (take n text) d m (simp length-take (omega arith)) in
-    let g : get_or (take n text) m 0 ≡ get_or text m 0 = get-take text n m (omega arith) in
+    let g : get_or (take n text) m 0 ≡ get_or text m 0 = get_or-take n text m 0 (omega arith) in
     (let same : true ≡ false = cc in true≢false same)
 
 pub none_first : (pending : Bits) (text : List ℕ) → 2 ≤ length text → is_digit (get_or text 0 0) ≡ false → NoUnit pending text

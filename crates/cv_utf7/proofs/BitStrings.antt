@@ -1,23 +1,16 @@
--- Laws of strings of bits.
-use Rattle.std.proofs.Common.{◌≡◌, ℕ, zero, suc, ◌+◌, ◌*◌, ◌/◌, ◌%◌, ◌^◌, ◌<◌, ◌≤◌, Bool, true, false, List, [], ◌∷◌, ◌++◌, length, pred, refl, sym, ◌∙◌, ap, subst, arith, inl, inr, add-one}
+-- Strings of bits: how many they are, the number that they spell, and where they are cut.
+use Rattle.std.proofs.Common.{◌≡◌, ℕ, zero, suc, ◌+◌, ◌*◌, ◌/◌, ◌%◌, ◌^◌, ◌<◌, Bool, true, false, List, [], ◌∷◌, ◌++◌, length, pred, refl, sym, ◌∙◌, ap, arith, inl, inr, add-one}
 use Rattle.std.specs.Prelude.{◌==◌}
 use Rattle.std.proofs.lemmas.Bool.{cases_eq, eq-eqb, ne_eqb}
-use Rattle.std.proofs.Math.Nat.{mod-eq_of_lt}
 use Rattle.std.proofs.lemmas.List.{length-append}
 use Rattle.std.proofs.lemmas.Nat.{pow-add, mod-pow-add}
-use Rattle.std.proofs.Props.{props}
-use Rattle.cv_base.specs.declared.state.Bits.{Bits}
-use Rattle.cv_utf7.specs.BitLists.{bits, number, bits_of, digit_bits}
-use Rattle.cv_utf7.specs.BitNumbers.{number_lt}
+use Rattle.cv_utf7.specs.BitLists.{bits, number}
+use Rattle.cv_utf7.specs.Private.BitNumbers.{number_lt}
 
 pub length-bits : (count n : ℕ) → length (bits count n) ≡ count
 unfolding bits
 length-bits zero n = refl
 length-bits (suc count) n = simp length-append (omega (arith, length-bits count (n / 2)))
-
-pub length-digits : (bytes : List ℕ) → length (digit_bits bytes) ≡ 6 * length bytes
-length-digits [] = refl
-length-digits (b ∷ bytes) = simp length-append (omega (arith, length-digits bytes, length-bits 6))
 
 -- the number of bits behind others
 pub number-append : (a b : List Bool) → number (a ++ b) ≡ number a * 2 ^ length b + number b
@@ -79,25 +72,3 @@ bits-digit p v d h =
     let e : (v * 64 + d) / 2 ^ 6 ≡ v = omega arith in
     let f : bits 6 (v * 64 + d) ≡ bits 6 d = bits-mod 6 (v * 64 + d) d (omega arith) in
     sym (bits-split p 6 (v * 64 + d) ∙ rw (e, f) refl)
-
-same-fields : (c v : ℕ) (h i : c ≤ 4) (j k : c % 2 ≡ 0) (l m : v < 2 ^ c) → (let x : Bits = record { count = c; value = v; few = h; even = j; in_range = l } in let y : Bits = record { count = c; value = v; few = i; even = k; in_range = m } in x ≡ y)
-same-fields c v h i j k l m =
-    let s : IsProp (c ≤ 4) = hlevel props in
-    let t : IsProp (c % 2 ≡ 0) = hlevel props in
-    let u : IsProp (v < 2 ^ c) = hlevel props in
-    let p : h ≡ i = s h i in
-    let q : j ≡ k = t j k in
-    let r : l ≡ m = u l m in
-    cc
-
--- pending bits of one count and one value are the same
-pub same-pending : (a b : Bits) → a.count ≡ b.count → a.value ≡ b.value → a ≡ b
-same-pending a b e f =
-    let P : ℕ → ℕ → Type 0 = λ c v. (h : c ≤ 4) (j : c % 2 ≡ 0) (l : v < 2 ^ c) → (let x : Bits = record { count = c; value = v; few = h; even = j; in_range = l } in a ≡ x) in
-    subst (λ (v : ℕ). P b.count v) f (subst (λ (c : ℕ). P c a.value) e (λ h j l. same-fields a.count a.value a.few h a.even j a.in_range l)) b.few b.even b.in_range
-
-pub bits_of-same : (a b : Bits) → bits_of a ≡ bits_of b → a ≡ b
-bits_of-same a b e =
-    let c : a.count ≡ b.count = sym (length-bits a.count a.value) ∙ ap length e ∙ length-bits b.count b.value in
-    let n : a.value % 2 ^ a.count ≡ b.value % 2 ^ b.count = sym (number-bits a.count a.value) ∙ ap number e ∙ number-bits b.count b.value in
-    same-pending a b c (sym (mod-eq_of_lt {n = a.value} {m = 2 ^ a.count} a.in_range) ∙ n ∙ mod-eq_of_lt {n = b.value} {m = 2 ^ b.count} b.in_range)

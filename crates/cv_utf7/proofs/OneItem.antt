@@ -11,10 +11,16 @@ use Rattle.cv_base.specs.declared.state.ReadState.TheVariants as read
 use Rattle.cv_base.specs.declared.state.WriteState.TheVariants as write
 use Rattle.cv_utf7.specs.Sets.{is_digit, may_be_direct}
 use Rattle.cv_utf7.specs.BitLists.{bits, bits_of, AreDigits, digit_bits}
-use Rattle.cv_utf7.specs.BitLaws.{length-bits, length-digits, mod-bits, append-same, bits_of-same}
+use Rattle.cv_utf7.proofs.BitStrings.{length-bits, mod-bits, append-same}
 use Rattle.cv_utf7.specs.Utf7.{plus, minus, ReadsAtStart, ReadsCharacter, ReadsEnd, EndsAt, utf7_reads, utf7_writes}
-use Rattle.cv_utf7.specs.SetLaws.{plus_is_not_direct, minus_is_no_digit}
-use Rattle.cv_utf7.specs.UnitLaws.{Agree, get-take, agree-both, agree-at, AreDigits-at, Leads, leads-long, leads-unit, IsOne, IsPair, one_or_pair, high_of, low_of}
+use Rattle.cv_utf7.proofs.SetMembers.{plus_is_not_direct, minus_is_no_digit}
+use Rattle.cv_utf7.proofs.CodeUnits.{Leads, leads-long, leads-unit, IsOne, IsPair, one_or_pair}
+use Rattle.cv_base.specs.Units.{high_unit, low_unit}
+use Rattle.cv_base.proofs.Front.{Agree}
+use Rattle.cv_utf7.proofs.Agreement.{agree-sym, agree-both, agree-take, agree-whole}
+use Rattle.cv_utf7.proofs.Digits.{AreDigits-at, length-digits}
+use Rattle.std.proofs.lemmas.List.{get_or-take}
+use Rattle.cv_utf7.proofs.PendingBits.{bits_of-same}
 
 -- The end of a shifted sequence, by the place of the byte that is no digit.
 pub record IsStop (pending : Bits) (w : List ℕ) (i : Taken) : Type 0 where
@@ -55,9 +61,6 @@ leads-length pending w u rest h =
     let e : length (bits_of pending ++ digit_bits w) ≡ length (bits 16 u ++ rest) = ap length h.same in
     omega (arith, simp length-append at e, length-bits pending.count pending.value, length-bits 16 u, length-digits w)
 
-agree-whole : (a b : List ℕ) → Agree a b → length a ≡ length b → a ≡ b
-agree-whole a b g e = sym (take_all (length a) a (omega arith)) ∙ g (length a) (omega arith) (omega arith) ∙ take_all (length a) b (omega arith)
-
 -- one is as the other
 one_one : (p : Bits) (a b : List ℕ) (i j : Taken) → IsOne p a i → IsOne p b j → Agree a b → i ≡ j
 one_one p a b i j h k g =
@@ -73,27 +76,27 @@ one_one p a b i j h k g =
 one_pair : (p : Bits) (a b : List ℕ) (i j : Taken) → IsOne p a i → IsPair p b j → Agree a b → ⊥
 one_pair p a b i j h k g =
     let x = leads-length p a h.c (bits_of h.next) h.leads in
-    let y = leads-length p b (high_of k.c) (bits 16 (low_of k.c) ++ bits_of k.next) k.leads in
-    let z : length (bits 16 (low_of k.c) ++ bits_of k.next) ≡ 16 + k.next.count = simp length-append (omega (arith, length-bits 16 (low_of k.c), length-bits k.next.count k.next.value)) in
+    let y = leads-length p b (high_unit k.c) (bits 16 (low_unit k.c) ++ bits_of k.next) k.leads in
+    let z : length (bits 16 (low_unit k.c) ++ bits_of k.next) ≡ 16 + k.next.count = simp length-append (omega (arith, length-bits 16 (low_unit k.c), length-bits k.next.count k.next.value)) in
     let l : length a < length b = omega (arith, length-bits h.next.count h.next.value, h.next.few) in
-    let t : take (length a) b ≡ a = sym (g (length a) (omega arith) (omega arith)) ∙ take_all (length a) a (omega arith) in
-    let e = (leads-unit p b (high_of k.c) h.c (length a) (bits 16 (low_of k.c) ++ bits_of k.next) (bits_of h.next) k.leads (ap (λ (w : List ℕ). bits_of p ++ digit_bits w) t ∙ h.leads.same)).0 in
-    let c_is : h.c ≡ high_of k.c = omega (arith, h.small, k.in_range, k.large) in
+    let t : take (length a) b ≡ a = sym (agree-take a b g (length a) (omega arith) (omega arith)) ∙ take_all (length a) a (omega arith) in
+    let e = (leads-unit p b (high_unit k.c) h.c (length a) (bits 16 (low_unit k.c) ++ bits_of k.next) (bits_of h.next) k.leads (ap (λ (w : List ℕ). bits_of p ++ digit_bits w) t ∙ h.leads.same)).0 in
+    let c_is : h.c ≡ high_unit k.c = omega (arith, h.small, k.in_range, k.large) in
     omega (arith, h.scalar.1, k.in_range, k.large)
 
 pair_pair : (p : Bits) (a b : List ℕ) (i j : Taken) → IsPair p a i → IsPair p b j → Agree a b → i ≡ j
 pair_pair p a b i j h k g =
-    let x = leads-length p a (high_of h.c) (bits 16 (low_of h.c) ++ bits_of h.next) h.leads in
-    let y = leads-length p b (high_of k.c) (bits 16 (low_of k.c) ++ bits_of k.next) k.leads in
-    let v : length (bits 16 (low_of h.c) ++ bits_of h.next) ≡ 16 + h.next.count = simp length-append (omega (arith, length-bits 16 (low_of h.c), length-bits h.next.count h.next.value)) in
-    let z : length (bits 16 (low_of k.c) ++ bits_of k.next) ≡ 16 + k.next.count = simp length-append (omega (arith, length-bits 16 (low_of k.c), length-bits k.next.count k.next.value)) in
+    let x = leads-length p a (high_unit h.c) (bits 16 (low_unit h.c) ++ bits_of h.next) h.leads in
+    let y = leads-length p b (high_unit k.c) (bits 16 (low_unit k.c) ++ bits_of k.next) k.leads in
+    let v : length (bits 16 (low_unit h.c) ++ bits_of h.next) ≡ 16 + h.next.count = simp length-append (omega (arith, length-bits 16 (low_unit h.c), length-bits h.next.count h.next.value)) in
+    let z : length (bits 16 (low_unit k.c) ++ bits_of k.next) ≡ 16 + k.next.count = simp length-append (omega (arith, length-bits 16 (low_unit k.c), length-bits k.next.count k.next.value)) in
     let l : length a ≡ length b = omega (arith, h.next.few, k.next.few) in
     let e : a ≡ b = agree-whole a b g l in
-    let f : bits 16 (high_of h.c) ++ (bits 16 (low_of h.c) ++ bits_of h.next) ≡ bits 16 (high_of k.c) ++ (bits 16 (low_of k.c) ++ bits_of k.next) = sym h.leads.same ∙ ap (λ (w : List ℕ). bits_of p ++ digit_bits w) e ∙ k.leads.same in
-    let s = append-same (bits 16 (high_of h.c)) (bits 16 (high_of k.c)) (bits 16 (low_of h.c) ++ bits_of h.next) (bits 16 (low_of k.c) ++ bits_of k.next) f (length-bits 16 (high_of h.c) ∙ sym (length-bits 16 (high_of k.c))) in
-    let r = append-same (bits 16 (low_of h.c)) (bits 16 (low_of k.c)) (bits_of h.next) (bits_of k.next) s.1 (length-bits 16 (low_of h.c) ∙ sym (length-bits 16 (low_of k.c))) in
-    let m : high_of h.c % 2 ^ 16 ≡ high_of k.c % 2 ^ 16 = mod-bits 16 (high_of h.c) (high_of k.c) s.0 in
-    let n : low_of h.c % 2 ^ 16 ≡ low_of k.c % 2 ^ 16 = mod-bits 16 (low_of h.c) (low_of k.c) r.0 in
+    let f : bits 16 (high_unit h.c) ++ (bits 16 (low_unit h.c) ++ bits_of h.next) ≡ bits 16 (high_unit k.c) ++ (bits 16 (low_unit k.c) ++ bits_of k.next) = sym h.leads.same ∙ ap (λ (w : List ℕ). bits_of p ++ digit_bits w) e ∙ k.leads.same in
+    let s = append-same (bits 16 (high_unit h.c)) (bits 16 (high_unit k.c)) (bits 16 (low_unit h.c) ++ bits_of h.next) (bits 16 (low_unit k.c) ++ bits_of k.next) f (length-bits 16 (high_unit h.c) ∙ sym (length-bits 16 (high_unit k.c))) in
+    let r = append-same (bits 16 (low_unit h.c)) (bits 16 (low_unit k.c)) (bits_of h.next) (bits_of k.next) s.1 (length-bits 16 (low_unit h.c) ∙ sym (length-bits 16 (low_unit k.c))) in
+    let m : high_unit h.c % 2 ^ 16 ≡ high_unit k.c % 2 ^ 16 = mod-bits 16 (high_unit h.c) (high_unit k.c) s.0 in
+    let n : low_unit h.c % 2 ^ 16 ≡ low_unit k.c % 2 ^ 16 = mod-bits 16 (low_unit h.c) (low_unit k.c) r.0 in
     let c_is : h.c ≡ k.c = omega (arith, h.in_range, k.in_range, h.large, k.large) in
     let next_is : h.next ≡ k.next = bits_of-same h.next k.next r.1 in
     h.is ∙ (let same : taken (length a) (Some h.c) (read.Shifted h.next) ≡ taken (length b) (Some k.c) (read.Shifted k.next) = cc in same) ∙ sym k.is
@@ -102,7 +105,7 @@ pair_pair p a b i j h k g =
 pub leads_stop : (p : Bits) (a b : List ℕ) (u : ℕ) (rest : List Bool) (j : Taken) → Leads p a u rest → IsStop p b j → Agree a b → ⊥
 leads_stop p a b u rest j h k g =
     let l : k.n < length a = omega (arith, leads-long p a u rest h, k.few) in
-    let e : get_or a k.n 0 ≡ get_or b k.n 0 = agree-at a b g k.n l (omega (arith, k.long)) in
+    let e : get_or a k.n 0 ≡ get_or b k.n 0 = g k.n l (omega (arith, k.long)) in
     let d = AreDigits-at a h.are_digits k.n l in
     let f = k.last in
     cc
@@ -120,7 +123,7 @@ ends_used used b i e = elim e [ inl p ↦ ap (λ (t : Taken). t.used) p.1 | inr 
 no_both : (p : Bits) (a b : List ℕ) (i j : Taken) → ReadsCharacter p a i → ReadsEnd p b j → Agree a b → ⊥
 no_both p a b i j r s h = elim (one_or_pair p a i r) [
   | inl m ↦ leads_stop p a b m.c (bits_of m.next) j m.leads (stop_of p b j s) h
-  | inr m ↦ leads_stop p a b (high_of m.c) (bits 16 (low_of m.c) ++ bits_of m.next) j m.leads (stop_of p b j s) h
+  | inr m ↦ leads_stop p a b (high_unit m.c) (bits 16 (low_unit m.c) ++ bits_of m.next) j m.leads (stop_of p b j s) h
 ]
 
 plus_direct : (x u : ℕ) → x ≡ u → may_be_direct x ≡ true → u ≡ plus → ⊥
@@ -132,26 +135,23 @@ minus_digit x u e p q = true≢false (sym q ∙ ap is_digit (sym e ∙ p) ∙ mi
 stop_stop : (p : Bits) (a b : List ℕ) (i j : Taken) → IsStop p a i → IsStop p b j → Agree a b → i ≡ j
 stop_stop p a b i j h k g = elim (cases_order h.n k.n) [
   | inl e ↦ (
-      let f : get_or a h.n 0 ≡ get_or b k.n 0 = agree-at a b g h.n (omega (arith, h.long)) (omega (arith, k.long)) ∙ ap (λ (n : ℕ). get_or b n 0) e in
+      let f : get_or a h.n 0 ≡ get_or b k.n 0 = g h.n (omega (arith, h.long)) (omega (arith, k.long)) ∙ ap (λ (n : ℕ). get_or b n 0) e in
       same_end (h.n + 1) (get_or a h.n 0) i j h.ends (subst (λ (c : ℕ). EndsAt (h.n + 1) c j) (sym f) (subst (λ (n : ℕ). EndsAt (n + 1) (get_or b k.n 0) j) (sym e) k.ends)))
   | inr o ↦ elim o [
     | inl l ↦ absurd (
-        let e : get_or a h.n 0 ≡ get_or b h.n 0 = agree-at a b g h.n (omega (arith, h.long)) (omega (arith, k.long)) in
-        let t : get_or (take k.n b) h.n 0 ≡ get_or b h.n 0 = get-take b k.n h.n l in
+        let e : get_or a h.n 0 ≡ get_or b h.n 0 = g h.n (omega (arith, h.long)) (omega (arith, k.long)) in
+        let t : get_or (take k.n b) h.n 0 ≡ get_or b h.n 0 = get_or-take k.n b h.n 0 l in
         let d = AreDigits-at (take k.n b) k.are_digits h.n (simp length-take (omega (arith, k.long))) in
         let f = h.last in
         (let same : true ≡ false = cc in true≢false same))
     | inr l ↦ absurd (
-        let e : get_or a k.n 0 ≡ get_or b k.n 0 = agree-at a b g k.n (omega (arith, h.long)) (omega (arith, k.long)) in
-        let t : get_or (take h.n a) k.n 0 ≡ get_or a k.n 0 = get-take a h.n k.n l in
+        let e : get_or a k.n 0 ≡ get_or b k.n 0 = g k.n (omega (arith, h.long)) (omega (arith, k.long)) in
+        let t : get_or (take h.n a) k.n 0 ≡ get_or a k.n 0 = get_or-take h.n a k.n 0 l in
         let d = AreDigits-at (take h.n a) h.are_digits k.n (simp length-take (omega (arith, h.long))) in
         let f = k.last in
         (let same : true ≡ false = cc in true≢false same))
   ]
 ]
-
-agree-sym : (a b : List ℕ) → Agree a b → Agree b a
-agree-sym a b g n k l = sym (g n l k)
 
 one_in_shift : (p : Bits) (text a b : List ℕ) (i j : Taken) → utf7_reads (read.Shifted p) a i → utf7_reads (read.Shifted p) b j → Begins a text → Begins b text → i ≡ j
 one_in_shift p text a b i j x y f g =
@@ -200,7 +200,7 @@ one_at_start (t ∷ s ∷ text) (x ∷ y ∷ []) (u ∷ v ∷ []) i j p q f g = 
 
 uses_in_shift : (p : Bits) (a : List ℕ) (i : Taken) → utf7_reads (read.Shifted p) a i → (0 < i.used) × (i.used ≤ length a)
 uses_in_shift p a i r = elim r [
-  | inl s ↦ (let e : i.used ≡ length a = ap (λ (t : Taken). t.used) s.is in let l : 0 < length a = elim (one_or_pair p a i s) [ inl m ↦ omega (arith, leads-long p a m.c (bits_of m.next) m.leads, p.few) | inr m ↦ omega (arith, leads-long p a (high_of m.c) (bits 16 (low_of m.c) ++ bits_of m.next) m.leads, p.few) ] in (omega arith, omega arith))
+  | inl s ↦ (let e : i.used ≡ length a = ap (λ (t : Taken). t.used) s.is in let l : 0 < length a = elim (one_or_pair p a i s) [ inl m ↦ omega (arith, leads-long p a m.c (bits_of m.next) m.leads, p.few) | inr m ↦ omega (arith, leads-long p a (high_unit m.c) (bits 16 (low_unit m.c) ++ bits_of m.next) m.leads, p.few) ] in (omega arith, omega arith))
   | inr s ↦ (let t = stop_of p a i s in let e : i.used ≡ t.n + 1 = ends_used (t.n + 1) (get_or a t.n 0) i t.ends in (omega arith, omega (arith, t.long)))
 ]
 

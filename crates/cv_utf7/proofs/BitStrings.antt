@@ -5,12 +5,18 @@ use Rattle.std.proofs.lemmas.Bool.{cases_eq, eq-eqb, ne_eqb}
 use Rattle.std.proofs.lemmas.List.{length-append}
 use Rattle.std.proofs.lemmas.Nat.{pow-add, mod-pow-add}
 use Rattle.cv_utf7.specs.BitLists.{bits, number}
-use Rattle.cv_utf7.specs.Private.BitNumbers.{number_lt}
+use Rattle.std.proofs.Math.Nat.{pow-suc}
 
 pub length-bits : (count n : ℕ) → length (bits count n) ≡ count
 unfolding bits
 length-bits zero n = refl
 length-bits (suc count) n = simp length-append (omega (arith, length-bits count (n / 2)))
+
+-- bits spell a number that is in range
+pub number_lt : (bits : List Bool) → number bits < 2 ^ length bits
+number_lt [] = omega arith
+number_lt (true ∷ bits) = omega (arith, number_lt bits, pow-suc 2 (length bits))
+number_lt (false ∷ bits) = omega (arith, number_lt bits, pow-suc 2 (length bits))
 
 -- the number of bits behind others
 pub number-append : (a b : List Bool) → number (a ++ b) ≡ number a * 2 ^ length b + number b

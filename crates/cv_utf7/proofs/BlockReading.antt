@@ -282,3 +282,5 @@ put_more n i v before now bytes h l e p =
     let place : n + (i + 1) ≡ n + i + 1 = omega arith in
     ap (λ (k : ℕ). take k (set now (n + i) v)) place ∙ take_more_set now (n + i) v h ∙ ap (λ (x : List ℕ). x ++ v ∷ []) p ∙ append_assoc (take n before) (take i bytes) (v ∷ [])
     ∙ ap (λ (x : List ℕ). take n before ++ x) (ap (λ (w : ℕ). take i bytes ++ w ∷ []) e ∙ sym (take_more bytes i 0 l))
+
+pub ruleset lone_reads = (reads_lone, reads_lone_direct)

@@ -147,16 +147,21 @@ pub closing_none : (pending : Bits) → pending.count ≡ 0 → utf7_closes (wri
 unfolding bits
 closing_none pending e = ap (λ (k : ℕ). last_digit (bits k pending.value) ++ minus ∷ []) e
 
-closing_of : (pending : Bits) (k d : ℕ) → pending.count + k ≡ 6 → 0 < pending.count → d ≡ digit_of (pending.value * 2 ^ k) → utf7_closes (write.Shifted pending) ≡ d ∷ minus ∷ []
+closing_of : (pending : Bits) (k d : ℕ) → pending.count + k ≡ 6 → 0 < pending.count → d ≡ digit_of (pending.value * 2 ^ k) → last_digit (bits_of pending) ≡ d ∷ []
 closing_of pending k d e h f =
     let n : number (bits_of pending) ≡ pending.value = number-bits pending.count pending.value ∙ mod-eq_of_lt pending.in_range in
-    ap (λ (w : List ℕ). w ++ minus ∷ []) (last_digit_is (bits_of pending) k (omega (arith, length-bits pending.count pending.value)) (omega (arith, length-bits pending.count pending.value)) ∙ ap (λ (m : ℕ). digit_of (m * 2 ^ k) ∷ []) n ∙ ap (λ (m : ℕ). m ∷ []) (sym f))
+    last_digit_is (bits_of pending) k (omega (arith, length-bits pending.count pending.value)) (omega (arith, length-bits pending.count pending.value)) ∙ ap (λ (m : ℕ). digit_of (m * 2 ^ k) ∷ []) n ∙ ap (λ (m : ℕ). m ∷ []) (sym f)
 
-pub closing_some : (pending : Bits) (d : ℕ) → (pending.count ≡ 0 → ⊥) → (pending.count ≡ 2 → d ≡ digit_of (pending.value * 16)) → (pending.count ≡ 4 → d ≡ digit_of (pending.value * 4)) → utf7_closes (write.Shifted pending) ≡ d ∷ minus ∷ []
-closing_some pending d z two four = elim (cases_eq pending.count 2) [
-  | inl e ↦ closing_of pending 4 d (omega arith) (omega arith) (two e)
-  | inr f ↦ (let g : pending.count ≡ 4 = omega (arith, pending.few, pending.even) in closing_of pending 2 d (omega arith) (omega arith) (four g))
-]
+-- the closing digit of two bits, and of four
+pub closing_two : (pending : Bits) (d : ℕ) → pending.count ≡ 2 → d ≡ digit_of (pending.value * 16) → last_digit (bits_of pending) ≡ d ∷ []
+closing_two pending d e f = closing_of pending 4 d (omega arith) (omega arith) f
+
+pub closing_four : (pending : Bits) (d : ℕ) → 0 < pending.count → (pending.count ≡ 2 → ⊥) → d ≡ digit_of (pending.value * 4) → last_digit (bits_of pending) ≡ d ∷ []
+closing_four pending d h e f = let g : pending.count ≡ 4 = omega (arith, pending.few, pending.even) in closing_of pending 2 d (omega arith) h f
+
+-- what closes a sequence behind a closing digit
+pub closing_some : (pending : Bits) (d : ℕ) → last_digit (bits_of pending) ≡ d ∷ [] → utf7_closes (write.Shifted pending) ≡ d ∷ minus ∷ []
+closing_some pending d e = ap (λ (w : List ℕ). w ++ minus ∷ []) e
 
 -- the digits of a cut, one by one
 pub spell_2 : (cut : Cut) → cut.n ≡ 2 → digits (bits (6 * cut.n) cut.value) ≡ digit_of (cut.value / 64 % 64) ∷ digit_of (cut.value / 1 % 64) ∷ []
@@ -187,4 +192,4 @@ pub ruleset pairs = (cut_pair, value_below)
 
 pub ruleset closings = (closing_none, closing_some)
 
-pub ruleset last_lt = (last_two, value_below)
+pub ruleset closing_digits = (closing_two, closing_four, last_two, value_below)

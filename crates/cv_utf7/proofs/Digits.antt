@@ -5,7 +5,7 @@ use Rattle.std.proofs.Common.{◌≡◌, ℕ, zero, suc, ◌*◌, ◌%◌, ◌^�
 use Rattle.std.proofs.Math.Nat.{mod-eq_of_lt}
 use Rattle.cv_utf7.specs.Sets.{is_digit, value_of, digit_of}
 use Rattle.cv_utf7.specs.BitLists.{bits, number, AreDigits, digit_bits, digits}
-use Rattle.cv_utf7.specs.Private.BitNumbers.{number_lt}
+use Rattle.cv_utf7.proofs.BitStrings.{number_lt}
 use Rattle.cv_utf7.proofs.BitStrings.{length-bits, number-bits, same-bits}
 use Rattle.cv_utf7.proofs.SetMembers.{value-digit, digit-digit}
 

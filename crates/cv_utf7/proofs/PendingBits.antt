@@ -4,7 +4,7 @@ use Rattle.std.proofs.Math.Nat.{mod-eq_of_lt}
 use Rattle.std.proofs.Props.{props}
 use Rattle.cv_base.specs.declared.state.Bits.{Bits}
 use Rattle.cv_utf7.specs.BitLists.{bits, number, bits_of}
-use Rattle.cv_utf7.specs.Private.BitNumbers.{number_lt}
+use Rattle.cv_utf7.proofs.BitStrings.{number_lt}
 use Rattle.cv_utf7.proofs.BitStrings.{length-bits, number-bits, same-bits}
 use Rattle.cv_utf7.specs.Private.PendingBits.{pending_of}
 
@@ -37,9 +37,9 @@ pub pending_is : (l : List Bool) (next : Bits) → length l ≡ next.count → n
 unfolding pending_of
 pending_is [] next e f = same-pending _ next e f
 pending_is (a ∷ []) next e f = absurd (omega (arith, next.even))
-pending_is (a ∷ b ∷ []) next e f = same-pending _ next e f
+pending_is (a ∷ b ∷ []) next e f = same-pending _ next e (mod-eq_of_lt (number_lt (a ∷ b ∷ [])) ∙ f)
 pending_is (a ∷ b ∷ c ∷ []) next e f = absurd (omega (arith, next.even))
-pending_is (a ∷ b ∷ c ∷ d ∷ []) next e f = same-pending _ next e f
+pending_is (a ∷ b ∷ c ∷ d ∷ []) next e f = same-pending _ next e (mod-eq_of_lt (number_lt (a ∷ b ∷ c ∷ d ∷ [])) ∙ f)
 pending_is (a ∷ b ∷ c ∷ d ∷ g ∷ l) next e f = absurd (omega (arith, next.few))
 
 -- where no bits are pending their number is 0
@@ -55,19 +55,19 @@ pub no_bits : (pending : Bits) → pending.count ≡ 0 → bits_of pending ≡ [
 unfolding bits
 no_bits pending e = ap (λ (n : ℕ). bits n pending.value) e
 
-number-two : (a b : Bool) → number (bits 2 (number (a ∷ b ∷ []))) ≡ number (a ∷ b ∷ [])
-number-two a b = number-bits 2 (number (a ∷ b ∷ [])) ∙ mod-eq_of_lt (number_lt (a ∷ b ∷ []))
-
-number-four : (a b c d : Bool) → number (bits 4 (number (a ∷ b ∷ c ∷ d ∷ []))) ≡ number (a ∷ b ∷ c ∷ d ∷ [])
-number-four a b c d = number-bits 4 (number (a ∷ b ∷ c ∷ d ∷ [])) ∙ mod-eq_of_lt (number_lt (a ∷ b ∷ c ∷ d ∷ []))
+-- the low bits of the number of as many bits are these
+bits-number : (l : List Bool) → bits (length l) (number l % 2 ^ length l) ≡ l
+bits-number l =
+    let low : number l % 2 ^ length l ≡ number l = mod-eq_of_lt (number_lt l) in
+    same-bits (bits (length l) (number l % 2 ^ length l)) l (length-bits (length l) (number l % 2 ^ length l)) (number-bits (length l) (number l % 2 ^ length l) ∙ ap (λ (n : ℕ). n % 2 ^ length l) low ∙ low)
 
 -- two or four bits, or none, are those of the pending bits that they make
 pub pending_bits : (q : List Bool) → length q < 6 → length q % 2 ≡ 0 → bits_of (pending_of q) ≡ q
 unfolding bits pending_of
 pending_bits [] l e = refl
 pending_bits (a ∷ []) l e = absurd (omega arith)
-pending_bits (a ∷ b ∷ []) l e = same-bits (bits 2 (number (a ∷ b ∷ []))) (a ∷ b ∷ []) (length-bits 2 (number (a ∷ b ∷ []))) (number-two a b)
+pending_bits (a ∷ b ∷ []) l e = bits-number (a ∷ b ∷ [])
 pending_bits (a ∷ b ∷ c ∷ []) l e = absurd (omega arith)
-pending_bits (a ∷ b ∷ c ∷ d ∷ []) l e = same-bits (bits 4 (number (a ∷ b ∷ c ∷ d ∷ []))) (a ∷ b ∷ c ∷ d ∷ []) (length-bits 4 (number (a ∷ b ∷ c ∷ d ∷ []))) (number-four a b c d)
+pending_bits (a ∷ b ∷ c ∷ d ∷ []) l e = bits-number (a ∷ b ∷ c ∷ d ∷ [])
 pending_bits (a ∷ b ∷ c ∷ d ∷ f ∷ []) l e = absurd (omega arith)
 pending_bits (a ∷ b ∷ c ∷ d ∷ f ∷ g ∷ q) l e = absurd (omega arith)

@@ -1,4 +1,3 @@
-pub mod BitNumbers
 pub mod BlockSteps
 pub mod ByteSets
 pub mod PendingBits

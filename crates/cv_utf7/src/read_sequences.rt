@@ -40,6 +40,7 @@ fn lone(input: &[u8], at: usize) -> Option<Scalar>
 /// Reads a shifted sequence of one character, and the direct character that ends it if `-` does not.
 /// Answers how many characters they are: none if no such sequence stands here.
 #[inline(always)]
+#[tactic(auto, using(crate::proofs::BlockReading::lone_reads))]
 pub(crate) fn read_lone(input: &[u8], used: usize, buffer: &mut [Scalar], n: usize) -> usize
     requires within { used + 5 ≤ length input.now }
     requires room { n + 2 ≤ length buffer.old }

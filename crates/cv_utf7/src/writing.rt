@@ -1,10 +1,10 @@
 //! The bytes of characters.
-ghost use Rattle.std.specs.Prelude.{◌≡◌, ◌⊎◌, [], ◌∷◌, ◌++◌, ◌+◌, ◌*◌, ◌≤◌, length, take, drop, Some};
+ghost use Rattle.std.specs.Prelude.{◌≡◌, ◌⊎◌, [], ◌∷◌, ◌++◌, ◌+◌, ◌*◌, ◌<◌, ◌≤◌, length, take, drop, Some};
 ghost use Rattle.cv_base.specs.Places.{PutsAt};
 ghost use Rattle.cv_base.specs.declared.state.WriteState.{WriteState};
 ghost use Rattle.cv_utf7.specs.Sets.{digit_of};
-ghost use Rattle.cv_utf7.specs.BitLists.{bits, digits};
-ghost use Rattle.cv_utf7.specs.Utf7.{plus, utf7_closes};
+ghost use Rattle.cv_utf7.specs.BitLists.{bits, bits_of, digits};
+ghost use Rattle.cv_utf7.specs.Utf7.{plus, last_digit, utf7_closes};
 
 use crate::cut::Cut;
 use crate::sets::digit_for;
@@ -20,15 +20,15 @@ pub(crate) fn closing(pending: Bits) -> Piece
     if pending.count == 0 {
         return Piece::one(b'-');
     }
-    Piece::two(last_digit(pending), b'-')
+    Piece::two(closing_digit(pending), b'-')
 }
 
 /// The digit of pending bits, followed by zero bits.
 #[inline(always)]
-#[tactic(auto, using(crate::proofs::Cuts::last_lt))]
-fn last_digit(pending: Bits) -> u8
-    ensures two { pending.count ≡ 2 → result ≡ digit_of (pending.value * 16) }
-    ensures four { pending.count ≡ 4 → result ≡ digit_of (pending.value * 4) }
+#[tactic(auto, using(crate::proofs::Cuts::closing_digits))]
+fn closing_digit(pending: Bits) -> u8
+    requires { 0 < pending.count }
+    ensures { last_digit (bits_of pending) ≡ result ∷ [] }
 {
     if pending.count == 2 {
         return digit_for(pending.value as u32 * 16);
@@ -109,7 +109,7 @@ pub(crate) fn put_closed(pending: Bits, byte: u8, out: &mut [u8], at: usize) -> 
         write_slice(out, at, &[b'-', byte]);
         return Put::Wrote { n: 2, next };
     }
-    let digit = last_digit(pending);
+    let digit = closing_digit(pending);
     if room < 3 {
         return Put::NoRoom;
     }

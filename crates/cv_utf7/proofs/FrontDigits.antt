@@ -14,20 +14,20 @@ use Rattle.std.proofs.lemmas.List.{get_or-take}
 use Rattle.cv_utf7.specs.Private.Steps.{IsUnit, NoUnit, IsFront}
 use Rattle.cv_utf7.specs.declared.units.Unit.{Unit}
 
-two_digits : (p v a b : ℕ) → bits p v ++ (bits 6 (value_of a) ++ (bits 6 (value_of b) ++ [])) ≡ bits (p + 12) ((v * 64 + value_of a) * 64 + value_of b)
-two_digits p v a b =
+two_digits : (p v a b : ℕ) → is_digit a ≡ true → is_digit b ≡ true → bits p v ++ (bits 6 (value_of a) ++ (bits 6 (value_of b) ++ [])) ≡ bits (p + 12) ((v * 64 + value_of a) * 64 + value_of b)
+two_digits p v a b d e =
     rw append-nil (sym (append_assoc (bits p v) (bits 6 (value_of a)) (bits 6 (value_of b)))
-    ∙ ap (λ (t : List Bool). t ++ bits 6 (value_of b)) (bits-digit p v (value_of a) (value_lt a))
-    ∙ bits-digit (p + 6) (v * 64 + value_of a) (value_of b) (value_lt b)
+    ∙ ap (λ (t : List Bool). t ++ bits 6 (value_of b)) (bits-digit p v (value_of a) (value_lt a d))
+    ∙ bits-digit (p + 6) (v * 64 + value_of a) (value_of b) (value_lt b e)
     ∙ (let e : p + 6 + 6 ≡ p + 12 = omega arith in ap (λ (n : ℕ). bits n ((v * 64 + value_of a) * 64 + value_of b)) e))
 
-three_digits : (p v a b c : ℕ) → bits p v ++ (bits 6 (value_of a) ++ (bits 6 (value_of b) ++ (bits 6 (value_of c) ++ []))) ≡ bits (p + 18) (((v * 64 + value_of a) * 64 + value_of b) * 64 + value_of c)
-three_digits p v a b c =
+three_digits : (p v a b c : ℕ) → is_digit a ≡ true → is_digit b ≡ true → is_digit c ≡ true → bits p v ++ (bits 6 (value_of a) ++ (bits 6 (value_of b) ++ (bits 6 (value_of c) ++ []))) ≡ bits (p + 18) (((v * 64 + value_of a) * 64 + value_of b) * 64 + value_of c)
+three_digits p v a b c d e f =
     rw append-nil (
     ap (λ (t : List Bool). bits p v ++ t) (sym (append_assoc (bits 6 (value_of a)) (bits 6 (value_of b)) (bits 6 (value_of c))))
     ∙ sym (append_assoc (bits p v) (bits 6 (value_of a) ++ bits 6 (value_of b)) (bits 6 (value_of c)))
-    ∙ ap (λ (t : List Bool). t ++ bits 6 (value_of c)) (rw append-nil at (two_digits p v a b))
-    ∙ bits-digit (p + 12) ((v * 64 + value_of a) * 64 + value_of b) (value_of c) (value_lt c)
+    ∙ ap (λ (t : List Bool). t ++ bits 6 (value_of c)) (rw append-nil at (two_digits p v a b d e))
+    ∙ bits-digit (p + 12) ((v * 64 + value_of a) * 64 + value_of b) (value_of c) (value_lt c f)
     ∙ (let e : p + 12 + 6 ≡ p + 18 = omega arith in ap (λ (n : ℕ). bits n (((v * 64 + value_of a) * 64 + value_of b) * 64 + value_of c)) e))
 
 -- the unit's bits and those over
@@ -44,8 +44,8 @@ unit_4 pending (x ∷ y ∷ text) u p l a b n q e =
     record {
       within = omega arith;
       are_digits = rw w (a, (b, tt));
-      same = rw w (two_digits pending.count pending.value x y ∙ cut_unit pending.count 12 u.over.count _ u.value u.over.value (omega arith) (rw q (omega arith)) (rw q (omega arith)));
-      small = omega (arith, value_lt x, value_lt y);
+      same = rw w (two_digits pending.count pending.value x y a b ∙ cut_unit pending.count 12 u.over.count _ u.value u.over.value (omega arith) (rw q (omega arith)) (rw q (omega arith)));
+      small = omega (arith, value_lt x a, value_lt y b);
     }
 
 pub unit_2 : (pending : Bits) (text : List ℕ) (u : Unit) → pending.count ≡ 2 → 3 ≤ length text → is_digit (get_or text 0 0) ≡ true → is_digit (get_or text 1 0) ≡ true → is_digit (get_or text 2 0) ≡ true → u.n ≡ 3 → u.over.count ≡ 4
@@ -59,8 +59,8 @@ unit_2 pending (x ∷ y ∷ z ∷ text) u p l a b c n q e f =
     record {
       within = omega arith;
       are_digits = rw w (a, (b, (c, tt)));
-      same = rw w (three_digits pending.count pending.value x y z ∙ cut_unit pending.count 18 u.over.count _ u.value u.over.value (omega arith) (rw q (omega arith)) (rw q (omega arith)));
-      small = omega (arith, value_lt x, value_lt y, value_lt z);
+      same = rw w (three_digits pending.count pending.value x y z a b c ∙ cut_unit pending.count 18 u.over.count _ u.value u.over.value (omega arith) (rw q (omega arith)) (rw q (omega arith)));
+      small = omega (arith, value_lt x a, value_lt y b, value_lt z c);
     }
 
 pub unit_0 : (pending : Bits) (text : List ℕ) (u : Unit) → (pending.count ≡ 4 → ⊥) → (pending.count ≡ 2 → ⊥) → 3 ≤ length text → is_digit (get_or text 0 0) ≡ true → is_digit (get_or text 1 0) ≡ true → is_digit (get_or text 2 0) ≡ true → u.n ≡ 3 → u.over.count ≡ 2
@@ -75,8 +75,8 @@ unit_0 pending (x ∷ y ∷ z ∷ text) u p r l a b c n q e f =
     record {
       within = omega arith;
       are_digits = rw w (a, (b, (c, tt)));
-      same = rw w (three_digits pending.count pending.value x y z ∙ cut_unit pending.count 18 u.over.count _ u.value u.over.value (omega arith) (rw q (omega arith)) (rw q (omega arith)));
-      small = omega (arith, value_lt x, value_lt y, value_lt z);
+      same = rw w (three_digits pending.count pending.value x y z a b c ∙ cut_unit pending.count 18 u.over.count _ u.value u.over.value (omega arith) (rw q (omega arith)) (rw q (omega arith)));
+      small = omega (arith, value_lt x a, value_lt y b, value_lt z c);
     }
 
 -- too few digits
@@ -117,11 +117,11 @@ front_more pending text n m count value more next none h l d g e f =
       are_digits = are;
       counts = omega (arith, h.counts);
       few = few;
-      small = rw (e, f) (let k : 2 ^ (count + 6) ≡ 2 ^ count * 64 = pow-add 2 count 6 in omega (arith, h.small, value_lt (get_or text n 0)));
+      small = rw (e, f) (let k : 2 ^ (count + 6) ≡ 2 ^ count * 64 = pow-add 2 count 6 in omega (arith, h.small, value_lt (get_or text n 0) d));
       same = rw (t, digit_bits-append (take n text) (get_or text n 0 ∷ []), append-nil (bits 6 (value_of (get_or text n 0)))) (
           sym (append_assoc (bits_of pending) (digit_bits (take n text)) (bits 6 (value_of (get_or text n 0))))
           ∙ ap (λ (b : List Bool). b ++ bits 6 (value_of (get_or text n 0))) h.same
-          ∙ rw (e, f) (bits-digit count value (value_of (get_or text n 0)) (value_lt (get_or text n 0))));
+          ∙ rw (e, f) (bits-digit count value (value_of (get_or text n 0)) (value_lt (get_or text n 0) d)));
     }
 
 pub front_bound : (pending : Bits) (text : List ℕ) (n count value : ℕ) → IsFront pending text n count value → value < 65536

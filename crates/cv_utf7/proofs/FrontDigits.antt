@@ -9,7 +9,7 @@ use Rattle.cv_utf7.specs.Sets.{is_digit, value_of}
 use Rattle.cv_utf7.specs.BitLists.{bits, bits_of, AreDigits, digit_bits}
 use Rattle.cv_utf7.proofs.BitStrings.{bits-digit, bits-split, bits-mod}
 use Rattle.cv_utf7.proofs.SetMembers.{value_lt}
-use Rattle.cv_utf7.proofs.Digits.{digit_bits-append, AreDigits-append, AreDigits-at}
+use Rattle.cv_utf7.proofs.Digits.{digit_bits-append, no_digits, AreDigits-cons, AreDigits-append, AreDigits-at}
 use Rattle.std.proofs.lemmas.List.{get_or-take}
 use Rattle.cv_utf7.specs.Private.Steps.{IsUnit, NoUnit, IsFront}
 use Rattle.cv_utf7.specs.declared.units.Unit.{Unit}
@@ -43,7 +43,7 @@ unit_4 pending (x ∷ y ∷ text) u p l a b n q e =
     let t : (pending.value * 64 + value_of x) * 64 + value_of y ≡ u.value = omega arith in
     record {
       within = omega arith;
-      are_digits = rw w (a, (b, tt));
+      are_digits = rw w (AreDigits-cons x (y ∷ []) a (AreDigits-cons y [] b no_digits));
       same = rw w (two_digits pending.count pending.value x y a b ∙ cut_unit pending.count 12 u.over.count _ u.value u.over.value (omega arith) (rw q (omega arith)) (rw q (omega arith)));
       small = omega (arith, value_lt x a, value_lt y b);
     }
@@ -58,7 +58,7 @@ unit_2 pending (x ∷ y ∷ z ∷ text) u p l a b c n q e f =
     let v : pending.value < 4 = subst (λ (k : ℕ). pending.value < 2 ^ k) p pending.in_range in
     record {
       within = omega arith;
-      are_digits = rw w (a, (b, (c, tt)));
+      are_digits = rw w (AreDigits-cons x (y ∷ z ∷ []) a (AreDigits-cons y (z ∷ []) b (AreDigits-cons z [] c no_digits)));
       same = rw w (three_digits pending.count pending.value x y z a b c ∙ cut_unit pending.count 18 u.over.count _ u.value u.over.value (omega arith) (rw q (omega arith)) (rw q (omega arith)));
       small = omega (arith, value_lt x a, value_lt y b, value_lt z c);
     }
@@ -74,7 +74,7 @@ unit_0 pending (x ∷ y ∷ z ∷ text) u p r l a b c n q e f =
     let v : pending.value < 1 = subst (λ (k : ℕ). pending.value < 2 ^ k) o pending.in_range in
     record {
       within = omega arith;
-      are_digits = rw w (a, (b, (c, tt)));
+      are_digits = rw w (AreDigits-cons x (y ∷ z ∷ []) a (AreDigits-cons y (z ∷ []) b (AreDigits-cons z [] c no_digits)));
       same = rw w (three_digits pending.count pending.value x y z a b c ∙ cut_unit pending.count 18 u.over.count _ u.value u.over.value (omega arith) (rw q (omega arith)) (rw q (omega arith)));
       small = omega (arith, value_lt x a, value_lt y b, value_lt z c);
     }
@@ -105,12 +105,12 @@ pub ruleset units = (unit_0, unit_2, unit_4, none_short, none_shorter, none_firs
 
 -- the digits at the front
 pub front_none : (pending : Bits) (text : List ℕ) (count value : ℕ) → count ≡ pending.count → value ≡ pending.value → IsFront pending text 0 count value
-front_none pending text count value e f = record { within = omega arith; are_digits = tt; counts = omega arith; few = omega (arith, pending.few); small = rw (e, f) pending.in_range; same = rw (e, f) (append-nil (bits_of pending)) }
+front_none pending text count value e f = record { within = omega arith; are_digits = no_digits; counts = omega arith; few = omega (arith, pending.few); small = rw (e, f) pending.in_range; same = rw (e, f) (append-nil (bits_of pending)) }
 
 pub front_more : (pending : Bits) (text : List ℕ) (n m count value more next : ℕ) → NoUnit pending text → IsFront pending text n count value → n < length text → is_digit (get_or text n 0) ≡ true → m ≡ n + 1 → more ≡ count + 6 → next ≡ value * 64 + value_of (get_or text n 0) → IsFront pending text m more next
 front_more pending text n m count value more next none h l d g e f =
     let t : take m text ≡ take n text ++ get_or text n 0 ∷ [] = ap (λ (k : ℕ). take k text) g ∙ take_more text n 0 l in
-    let are : AreDigits (take m text) = rw t (AreDigits-append (take n text) (get_or text n 0 ∷ []) h.are_digits (d, tt)) in
+    let are : AreDigits (take m text) = rw t (AreDigits-append (take n text) (get_or text n 0 ∷ []) h.are_digits (AreDigits-cons (get_or text n 0) [] d no_digits)) in
     let few : more < 16 = elim (cases_lt more 16) [ inl k ↦ k | inr k ↦ absurd (none m (omega arith) (omega (arith, h.counts)) are) ] in
     record {
       within = omega arith;

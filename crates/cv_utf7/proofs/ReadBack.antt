@@ -22,7 +22,7 @@ use Rattle.cv_utf7.specs.Utf7.{plus, minus, ReadsCharacter, written_bits, last_d
 use Rattle.cv_utf7.specs.Private.PendingBits.{pending_of}
 use Rattle.cv_utf7.specs.Sets.{digit_of}
 use Rattle.cv_utf7.proofs.Cuts.{last_digit_six}
-use Rattle.cv_utf7.proofs.Digits.{six, length-digits, digit_bits-append, digit_bits-cut, AreDigits-append, AreDigits-take, AreDigits-drop}
+use Rattle.cv_utf7.proofs.Digits.{six, length-digits, no_digits, AreDigits-cons, AreDigits-at, digit_bits-append, digit_bits-cut, AreDigits-append, AreDigits-take, AreDigits-drop}
 use Rattle.cv_utf7.proofs.PendingBits.{pending_bits}
 use Rattle.cv_utf7.proofs.Writes.{start_direct, start_other, shift_direct, shift_other}
 
@@ -130,25 +130,25 @@ deliver (c ∷ os) r w k rest characters d s l e h =
 
 -- digits and what is over are the bits
 cut_back : (l : List Bool) → length l % 2 ≡ 0 → AreDigits (digits l) × (digit_bits (digits l) ++ bits_of (pending_of (over l)) ≡ l)
-cut_back [] e = (tt, pending_bits [] (omega arith) refl)
+cut_back [] e = (no_digits, pending_bits [] (omega arith) refl)
 cut_back (a ∷ []) e = absurd (omega arith)
-cut_back (a ∷ b ∷ []) e = (tt, pending_bits (a ∷ b ∷ []) (omega arith) refl)
+cut_back (a ∷ b ∷ []) e = (no_digits, pending_bits (a ∷ b ∷ []) (omega arith) refl)
 cut_back (a ∷ b ∷ c ∷ []) e = absurd (omega arith)
-cut_back (a ∷ b ∷ c ∷ d ∷ []) e = (tt, pending_bits (a ∷ b ∷ c ∷ d ∷ []) (omega arith) refl)
+cut_back (a ∷ b ∷ c ∷ d ∷ []) e = (no_digits, pending_bits (a ∷ b ∷ c ∷ d ∷ []) (omega arith) refl)
 cut_back (a ∷ b ∷ c ∷ d ∷ f ∷ []) e = absurd (omega arith)
 cut_back (a ∷ b ∷ c ∷ d ∷ f ∷ g ∷ l) e =
     let s = six (a ∷ b ∷ c ∷ d ∷ f ∷ g ∷ []) refl in
     let r = cut_back l (omega arith) in
-    ((s.0, r.0), ap (λ (t : List Bool). (t ++ digit_bits (digits l)) ++ bits_of (pending_of (over l))) s.1 ∙ ap (λ (t : List Bool). a ∷ b ∷ c ∷ d ∷ f ∷ g ∷ t) r.1)
+    (AreDigits-cons _ _ s.0 r.0, ap (λ (t : List Bool). (t ++ digit_bits (digits l)) ++ bits_of (pending_of (over l))) s.1 ∙ ap (λ (t : List Bool). a ∷ b ∷ c ∷ d ∷ f ∷ g ∷ t) r.1)
 
 -- the closing digit is the pending bits followed by zero bits
 last_back : (l : List Bool) → length l < 6 → (k : ℕ) × (k < 6) × AreDigits (last_digit l) × (digit_bits (last_digit l) ≡ l ++ replicate k false)
-last_back [] h = (0, omega arith, tt, refl)
+last_back [] h = (0, omega arith, no_digits, refl)
 last_back (a ∷ l) h =
     let e : length ((a ∷ l) ++ replicate (5 - length l) false) ≡ 6 = length-append (a ∷ l) (replicate (5 - length l) false) ∙ omega (arith, length-replicate (5 - length l) false) in
     let s = six ((a ∷ l) ++ replicate (5 - length l) false) e in
     let d : last_digit (a ∷ l) ≡ digit_of (number ((a ∷ l) ++ replicate (5 - length l) false)) ∷ [] = last_digit_six (a ∷ l) (5 - length l) (omega arith) (omega arith) in
-    (5 - length l, omega arith, subst AreDigits (sym d) (s.0, tt), ap digit_bits d ∙ append-nil _ ∙ s.1)
+    (5 - length l, omega arith, subst AreDigits (sym d) (AreDigits-cons _ [] s.0 no_digits), ap digit_bits d ∙ append-nil _ ∙ s.1)
 
 or_true : (b : Bool) → (b || true) ≡ true
 or_true true = refl
@@ -180,7 +180,7 @@ plus_front d rest characters e h = record {
 
 plus_digits : (w rest characters : List ℕ) → AreDigits w → 0 < length w → IsRead (read.Shifted (pending_of [])) (w ++ rest) characters → IsRead read.Start (plus ∷ w ++ rest) characters
 plus_digits [] rest characters d l h = absurd (omega arith)
-plus_digits (b ∷ w) rest characters d l h = plus_front b (w ++ rest) characters d.0 h
+plus_digits (b ∷ w) rest characters d l h = plus_front b (w ++ rest) characters (AreDigits-at (b ∷ w) d 0 l) h
 
 -- what is written of characters from a state, and closed
 abbrev text_of : WriteState → List ℕ → List ℕ

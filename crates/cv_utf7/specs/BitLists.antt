@@ -1,6 +1,6 @@
 -- Strings of bits, the highest first.
 use Rattle.std.specs.Prelude.{◌≡◌, ℕ, zero, suc, ◌+◌, ◌*◌, ◌/◌, ◌%◌, ◌^◌, Bool, true, List, [], ◌∷◌, ◌++◌, length, ◌==◌, if◌then◌else◌}
-use Rattle.std.specs.List.{flat_map}
+use Rattle.std.specs.List.{All, flat_map}
 use Rattle.cv_base.specs.Units.{units_of}
 use Rattle.cv_base.specs.declared.state.Bits.{Bits}
 use Rattle.cv_utf7.specs.Sets.{is_digit, value_of, digit_of}
@@ -25,8 +25,7 @@ character_bits c = flat_map (bits 16) (units_of c)
 
 -- Each byte is a digit.
 abbrev pub AreDigits : List ℕ → Type 0
-AreDigits [] = Unit {0}
-AreDigits (b ∷ bytes) = (is_digit b ≡ true) × AreDigits bytes
+AreDigits bytes = All (λ b. is_digit b ≡ true) bytes
 
 -- the six bits of each digit
 abbrev pub digit_bits : List ℕ → List Bool

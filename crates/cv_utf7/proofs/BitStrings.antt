@@ -1,8 +1,10 @@
 -- Strings of bits: how many they are, the number that they spell, and where they are cut.
-use Rattle.std.proofs.Common.{◌≡◌, ℕ, zero, suc, ◌+◌, ◌*◌, ◌/◌, ◌%◌, ◌^◌, ◌<◌, Bool, true, false, List, [], ◌∷◌, ◌++◌, length, pred, refl, sym, ◌∙◌, ap, arith, inl, inr, add-one}
+use Rattle.std.proofs.Common.{◌≡◌, ℕ, zero, suc, ◌+◌, ◌*◌, ◌/◌, ◌%◌, ◌^◌, ◌<◌, Bool, true, false, replicate, List, [], ◌∷◌, ◌++◌, length, pred, refl, sym, ◌∙◌, ap, arith, inl, inr, add-one}
 use Rattle.std.specs.Prelude.{◌==◌}
 use Rattle.std.proofs.lemmas.Bool.{cases_eq, eq-eqb, ne_eqb}
-use Rattle.std.proofs.lemmas.List.{length-append}
+use Rattle.std.proofs.lemmas.List.{length-append, length-replicate}
+use Rattle.std.proofs.lemmas.Nat.{pow_pos}
+use Rattle.std.proofs.Math.Nat.{mod-eq_of_lt}
 use Rattle.std.proofs.lemmas.Nat.{pow-add, mod-pow-add}
 use Rattle.cv_utf7.specs.BitLists.{bits, number}
 use Rattle.std.proofs.Math.Nat.{pow-suc}
@@ -78,3 +80,11 @@ bits-digit p v d h =
     let e : (v * 64 + d) / 2 ^ 6 ≡ v = omega arith in
     let f : bits 6 (v * 64 + d) ≡ bits 6 d = bits-mod 6 (v * 64 + d) d (omega arith) in
     sym (bits-split p 6 (v * 64 + d) ∙ rw (e, f) refl)
+
+-- zero bits spell 0
+pub number-zeros : (n : ℕ) → number (replicate n false) ≡ 0
+number-zeros zero = refl
+number-zeros (suc n) = omega (arith, number-zeros n)
+
+pub zero_bits : (n : ℕ) → bits n 0 ≡ replicate n false
+zero_bits n = same-bits (bits n 0) (replicate n false) (length-bits n 0 ∙ sym (length-replicate n false)) (number-bits n 0 ∙ mod-eq_of_lt (pow_pos n) ∙ sym (number-zeros n))

@@ -20,7 +20,8 @@ use Rattle.cv_utf7.proofs.Digits.{AreDigits-at}
 use Rattle.std.proofs.lemmas.List.{get_or-take}
 use Rattle.cv_utf7.specs.Utf7.{plus, minus, EndsAt, utf7_reads}
 use Rattle.cv_utf7.proofs.FrontDigits.{front_none}
-use Rattle.cv_utf7.proofs.ShiftItems.{unit_length, char_stands, end_item}
+use Rattle.cv_utf7.proofs.ShiftItems.{unit_length, char_stands}
+use Rattle.cv_utf7.proofs.FewDigits.{end_item}
 use Rattle.cv_utf7.proofs.StartItems.{start_shift}
 use Rattle.cv_utf7.proofs.OneItem.{utf7_readable}
 use Rattle.cv_utf7.specs.Private.BlockSteps.{ReadsOn, IsLone}

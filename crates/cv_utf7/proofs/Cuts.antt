@@ -6,7 +6,7 @@ use Rattle.cv_base.specs.declared.state.Bits.{Bits}
 use Rattle.cv_base.specs.declared.state.WriteState.TheVariants as write
 use Rattle.cv_utf7.specs.Sets.{digit_of}
 use Rattle.cv_utf7.specs.BitLists.{bits, number, bits_of, character_bits, digits, over}
-use Rattle.cv_utf7.proofs.BitStrings.{length-bits, number-bits, number-append, bits-split, bits-mod}
+use Rattle.cv_utf7.proofs.BitStrings.{number-zeros, length-bits, number-bits, number-append, bits-split, bits-mod}
 use Rattle.cv_utf7.proofs.CodeUnits.{one_unit, two_units}
 use Rattle.cv_base.specs.Units.{high_unit, low_unit}
 use Rattle.cv_utf7.specs.Utf7.{minus, written_bits, last_digit, utf7_closes}
@@ -121,10 +121,6 @@ value_below pending = let e : 2 ^ pending.count ≤ 2 ^ 4 = pow-le-pow_right {n 
 
 pub last_two : (pending : Bits) → pending.count ≡ 2 → pending.value < 4
 last_two pending e = subst (λ (k : ℕ). pending.value < 2 ^ k) e pending.in_range
-
-number-zeros : (n : ℕ) → number (replicate n false) ≡ 0
-number-zeros zero = refl
-number-zeros (suc n) = omega (arith, number-zeros n)
 
 -- a closing digit is that of the bits and of zero bits up to six
 pub last_digit_six : (l : List Bool) (k : ℕ) → length l + k ≡ 6 → 0 < length l → last_digit l ≡ digit_of (number (l ++ replicate k false)) ∷ []

@@ -5,7 +5,9 @@ pub mod BlockWriting
 pub mod CodeUnits
 pub mod Cuts
 pub mod Digits
+pub mod FewDigits
 pub mod FrontDigits
+pub mod GrownDigits
 pub mod Lanes
 pub mod OneItem
 pub mod PendingBits

@@ -4,12 +4,13 @@
 mod blocks;
 mod byte_sets;
 mod cut;
+mod items;
 pub mod laws;
 mod read_blocks;
 mod read_runs;
 mod read_sequences;
-mod reading;
 mod sets;
+mod shifted_bytes;
 #[cfg(test)]
 mod tests;
 mod units;
@@ -17,6 +18,5 @@ mod utf7;
 mod write_blocks;
 mod write_runs;
 mod write_sequences;
-mod writing;
 
 pub use utf7::Utf7;

@@ -2,7 +2,7 @@
 ghost use Rattle.std.specs.Prelude.{◌≡◌, ◌≤◌, ◌<◌, ◌+◌, ◌↔◌, IsTrue, IfSome, length};
 ghost use Rattle.cv_utf7.specs.Private.BlockSteps.{ReadsOn, Ends, IsLone};
 
-use crate::reading::{NONE, is_surrogate, item_at_start, item_in_shift};
+use crate::items::{NONE, is_surrogate, item_at_start, item_in_shift};
 use crate::sets::{digit, may_stand};
 use crate::units::Unit;
 use cv_base::{Bits, Item, ReadBlock, ReadState, Scalar};

@@ -4,9 +4,9 @@ ghost use Rattle.cv_base.specs.Places.{PutsAt};
 ghost use Rattle.cv_utf7.specs.Utf7.{utf7_reads, utf7_writes, utf7_closes, writes_at_start};
 
 use crate::cut::Cut;
-use crate::reading::{NONE, item_at_start, item_in_shift};
+use crate::items::{NONE, item_at_start, item_in_shift};
 use crate::sets::stands;
-use crate::writing::{closing, put_closed, put_digits, put_first};
+use crate::shifted_bytes::{closing, put_closed, put_digits, put_first};
 use cv_base::place::write_slice;
 use cv_base::{Codec, Item, Piece, Put, ReadState, Scalar, WriteState};
 

@@ -1,6 +1,6 @@
 use Rattle.std.proofs.Common.{refl}
 use Rattle.cv_utf7.proofs.Cuts.{spell_6}
-use Rattle.cv_utf7.proofs.writing.put_digits.Goals as goal
+use Rattle.cv_utf7.proofs.shifted_bytes.put_digits.Goals as goal
 
 pub returns : goal.returns
 returns c =

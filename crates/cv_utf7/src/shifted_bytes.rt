@@ -1,4 +1,4 @@
-//! The bytes of characters.
+//! The bytes of shifted sequences: digits, and what closes them.
 ghost use Rattle.std.specs.Prelude.{◌≡◌, ◌⊎◌, [], ◌∷◌, ◌++◌, ◌+◌, ◌*◌, ◌<◌, ◌≤◌, length, take, drop, Some};
 ghost use Rattle.cv_base.specs.Places.{PutsAt};
 ghost use Rattle.cv_base.specs.declared.state.WriteState.{WriteState};

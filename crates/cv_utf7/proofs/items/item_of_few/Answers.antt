@@ -1,5 +1,6 @@
-use Rattle.cv_utf7.proofs.ShiftItems.{few_ill, few_low, few_below, few_above}
-use Rattle.cv_utf7.proofs.reading.item_of_few.Goals as goal
+use Rattle.cv_utf7.proofs.FewDigits.{few_ill, few_low}
+use Rattle.cv_utf7.proofs.GrownDigits.{few_below, few_above}
+use Rattle.cv_utf7.proofs.items.item_of_few.Goals as goal
 
 pub returns-then-front-ne0 : goal.returns-then-front-ne0
 returns-then-front-ne0 c = few_ill c.args.pending c.args.input.now _ _ _ c.of-front.ensures.front c.if-front-input.true (c.of-front.ensures.stop c.if-front-input.true) c.if-front-ne0.true

@@ -1,5 +1,5 @@
-use Rattle.cv_utf7.proofs.ShiftItems.{half_stop, half_above, half_below, half_short}
-use Rattle.cv_utf7.proofs.reading.item_of_front.Goals as goal
+use Rattle.cv_utf7.proofs.GrownDigits.{half_stop, half_above, half_below, half_short}
+use Rattle.cv_utf7.proofs.items.item_of_front.Goals as goal
 
 pub returns-then-front-rest : goal.returns-then-front-rest
 returns-then-front-rest c =

@@ -1,5 +1,5 @@
 use Rattle.cv_utf7.proofs.ShiftItems.{low_first, no_low_below, no_low_above}
-use Rattle.cv_utf7.proofs.reading.item_of_surrogate.Goals as goal
+use Rattle.cv_utf7.proofs.items.item_of_surrogate.Goals as goal
 
 pub returns-then-high-ge56320 : goal.returns-then-high-ge56320
 returns-then-high-ge56320 c = low_first c.args.pending c.args.input.now c.args.high c.requires.unit c.if-high-ge56320.true c.requires.surrogate.1

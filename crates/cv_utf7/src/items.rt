@@ -90,7 +90,7 @@ pub(crate) fn item_in_shift(pending: Bits, input: &[u8]) -> Item
 
 /// What stands next where no digit does: the end of the sequence, if no bits are left.
 #[inline(always)]
-#[tactic(auto, using(crate::proofs::ShiftItems::stops))]
+#[tactic(auto, using(crate::proofs::FewDigits::stops))]
 fn item_of_end(pending: Bits, input: &[u8]) -> Item
     requires some { 0 < length input.now }
     requires none { is_digit (get_or input.now 0 0) ≡ false }
@@ -131,7 +131,7 @@ fn item_of_surrogate(pending: Bits, input: &[u8], high: Unit) -> Item
 }
 
 /// What stands next where a high surrogate does, and then too few digits for a code unit.
-#[tactic(auto, using(crate::proofs::ShiftItems::halves))]
+#[tactic(auto, using(crate::proofs::GrownDigits::halves))]
 fn item_of_front(pending: Bits, input: &[u8], high: Unit) -> Item
     requires unit { IsUnit pending input.now high }
     requires surrogate { (0xD800 ≤ high.value) × (high.value < 0xDC00) }
@@ -154,7 +154,7 @@ fn item_of_front(pending: Bits, input: &[u8], high: Unit) -> Item
 }
 
 /// What stands next where there are too few digits for a code unit: the end of the sequence, or the front of a character.
-#[tactic(auto, using(crate::proofs::ShiftItems::fews))]
+#[tactic(auto, using(crate::proofs::GrownDigits::fews))]
 fn item_of_few(pending: Bits, input: &[u8]) -> Item
     requires few { NoUnit pending input.now }
     requires some { 0 < length input.now }
@@ -179,7 +179,7 @@ fn item_of_few(pending: Bits, input: &[u8]) -> Item
 
 /// What a byte ends, after bits that are zero.
 #[inline(always)]
-#[tactic(auto, using(crate::proofs::ShiftItems::ends))]
+#[tactic(auto, using(crate::proofs::FewDigits::ends))]
 fn ending(last: u8, used: usize) -> Item
     ensures { IsEnding last used result }
 {

@@ -1,4 +1,5 @@
 -- UTF-7 (RFC 2152, "UTF-7 Definition", rules 1 to 3).
+-- `pending_of` makes pending bits of two or four bits, or of none: they are the bits that it is given (`laws::pending_bits`).
 use Rattle.std.specs.Prelude.{◌≡◌, ℕ, ◌<◌, Bool, true, false, ◌⊎◌, List, [], ◌∷◌, ◌++◌, length, Option, Some, None, ◌==◌, if◌then◌else◌, replicate}
 use Rattle.cv_base.specs.Scalars.{IsScalar}
 use Rattle.cv_base.specs.Items.{Taken, taken}
@@ -52,7 +53,7 @@ pub record ReadsEnd (pending : Bits) (bytes : List ℕ) (item : Taken) : Type 0 
   pub whole : bytes ≡ front ++ last ∷ []
   pub ends : EndsAt (length bytes) last item
 
--- The whole byte string is an item.
+-- The whole byte string is an item, of a shifted sequence or outside one.
 abbrev pub utf7_reads : ReadState → List ℕ → Taken → Type 0
 utf7_reads (read.Shifted pending) bytes item = ReadsCharacter pending bytes item ⊎ ReadsEnd pending bytes item
 utf7_reads other bytes item = ReadsAtStart bytes item
@@ -61,29 +62,29 @@ utf7_reads other bytes item = ReadsAtStart bytes item
 abbrev pub written_bits : List Bool → List ℕ × WriteState
 written_bits all = (digits all, write.Shifted (pending_of (over all)))
 
--- the digit of the pending bits followed by zero bits, if there are any
+-- the closing digit: the pending bits followed by zero bits, or no digit where none are pending
 abbrev pub last_digit : List Bool → List ℕ
 last_digit few = digits (few ++ replicate 5 false)
 
--- What closes a shifted sequence.
+-- what closes a shifted sequence: the closing digit and `-`; nothing outside one
 abbrev pub utf7_closes : WriteState → List ℕ
 utf7_closes (write.Shifted pending) = last_digit (bits_of pending) ++ minus ∷ []
 utf7_closes other = []
 
--- a character outside a shifted sequence: itself, `+-`, or `+` and digits
+-- a character outside a shifted sequence: itself, `+-`, or `+` and the digits of its bits
 abbrev pub writes_at_start : ℕ → List ℕ × WriteState
 writes_at_start c =
     if is_direct c then (c ∷ [], write.Start)
     else if c == plus then (plus ∷ minus ∷ [], write.Start)
     else (plus ∷ digits (character_bits c), write.Shifted (pending_of (over (character_bits c))))
 
--- a character in a shifted sequence: the closing bytes and itself, or digits
+-- a character in a shifted sequence: what closes it and itself, or the digits of the pending bits and its own
 abbrev pub writes_in_shift : Bits → ℕ → List ℕ × WriteState
 writes_in_shift pending c =
     if is_direct c then (utf7_closes (write.Shifted pending) ++ c ∷ [], write.Start)
     else written_bits (bits_of pending ++ character_bits c)
 
--- Every character is written.
+-- Every character is written, in a shifted sequence or outside one.
 abbrev pub utf7_writes : WriteState → ℕ → Option (List ℕ × WriteState)
 utf7_writes (write.Shifted pending) c = Some (writes_in_shift pending c)
 utf7_writes other c = Some (writes_at_start c)

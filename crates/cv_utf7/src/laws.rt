@@ -8,7 +8,8 @@ ghost use Rattle.cv_utf7.specs.Utf7.{utf7_reads, utf7_writes, utf7_closes};
 /// Pending bits that are made of two or four bits, or of none, are these bits.
 #[tactic(auto, using(crate::proofs::PendingBits::pending_bits))]
 pub fn pending_bits()
-    ensures { (few : List Bool) → length few ≤ 4 → length few % 2 ≡ 0 → bits_of (pending_of few) ≡ few }
+    ensures { (few : List Bool) → length few ≤ 4 → length few % 2 ≡ 0
+        → bits_of (pending_of few) ≡ few }
 {
     // The contract is the law; nothing runs.
 }

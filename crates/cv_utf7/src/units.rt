@@ -76,7 +76,8 @@ impl Front {
     pub(crate) fn of(pending: Bits, input: &[u8]) -> Front
         requires { NoUnit pending input.now }
         ensures front { IsFront pending input.now result.n result.count result.value }
-        ensures stop { result.n < length input.now → is_digit (get_or input.now result.n 0) ≡ false }
+        ensures stop { result.n < length input.now
+            → is_digit (get_or input.now result.n 0) ≡ false }
     {
         let mut count = pending.count as u32;
         let mut value = pending.value as u32;

@@ -4,7 +4,8 @@ use Rattle.std.proofs.Math.Seq.{drop-cons, take-add}
 use Rattle.std.specs.List.{flat_map}
 use Rattle.std.proofs.lemmas.List.{drop-drop, take_more_set, length-set}
 use Rattle.std.proofs.lemmas.Grind.{flat_map-append}
-use Rattle.cv_base.specs.Spelled.{BytesOf, AreScalars, IsSpelledAt, IsReadSpelled, IsWrittenSpelled}
+use Rattle.cv_base.specs.Scalars.{AreScalars}
+use Rattle.cv_base.specs.Spelled.{BytesOf, HasFourAtMost, IsSpelledAt, IsReadSpelled, IsWrittenSpelled}
 use Rattle.cv_base.specs.declared.spelling.Spelled.{Spelled}
 use Rattle.cv_base.proofs.Front.{Begins-length, Begins-join}
 
@@ -39,6 +40,26 @@ read_more bytes_of text at before n m u mid k v place behind after p e f q =
       size = q.size ∙ p.size;
     }
 
+nothing : (c : List ℕ) → 0 ≡ length c → c ≡ []
+nothing [] e = refl
+nothing (x ∷ c) e = absurd (omega arith)
+
+-- some, where none was read before them
+pub read_after_none : (bytes_of : BytesOf) (text : List ℕ) (at : ℕ) (before : List ℕ) (n : ℕ) (none : Spelled) (mid : List ℕ) (run : Spelled) (after : List ℕ) → none.n ≡ 0
+    → IsReadSpelled bytes_of text at before n none mid → IsReadSpelled bytes_of text at mid n run after → IsReadSpelled bytes_of text at before n run after
+read_after_none bytes_of text at before n none mid run after z p q =
+    let stayed : take n mid ≡ take n before = ap (λ i. take i mid) (let o : n ≡ n + none.n = omega arith in o) ∙ p.stand ∙ ap (λ (x : List ℕ). take n before ++ x) (nothing p.characters (sym z ∙ p.counts)) ∙ append-nil (take n before) in
+    record {
+      characters = q.characters;
+      scalars = q.scalars;
+      begins = q.begins;
+      uses = q.uses;
+      counts = q.counts;
+      stand = q.stand ∙ ap (λ (x : List ℕ). x ++ q.characters) stayed;
+      fits = omega (arith, q.fits, p.size);
+      size = q.size ∙ p.size;
+    }
+
 -- one more, behind what was read
 pub read_one_more : (bytes_of : BytesOf) (text : List ℕ) (at : ℕ) (before : List ℕ) (n m u : ℕ) (mid : List ℕ) (c k : ℕ) → IsReadSpelled bytes_of text at before n (spelled m u) mid
     → n + m < length before → IsSpelledAt bytes_of text (at + u) c k → IsReadSpelled bytes_of text at before n (spelled (m + 1) (u + k)) (slice_set mid (n + m) c)
@@ -55,12 +76,12 @@ read_one_more bytes_of text at before n m u mid c k p h q =
     })
 
 -- the bytes of characters that each have at most four
-pub short_all : (bytes_of : BytesOf) → ((c : ℕ) → length (bytes_of c) ≤ 4) → (characters : List ℕ) → length (flat_map bytes_of characters) ≤ 4 * length characters
+pub short_all : (bytes_of : BytesOf) → HasFourAtMost bytes_of → (characters : List ℕ) → length (flat_map bytes_of characters) ≤ 4 * length characters
 short_all bytes_of short [] = omega arith
 short_all bytes_of short (c ∷ characters) = omega (arith, length-append (bytes_of c) (flat_map bytes_of characters), short c, short_all bytes_of short characters)
 
 -- no more than four bytes a character
-pub written_few : (bytes_of : BytesOf) → ((c : ℕ) → length (bytes_of c) ≤ 4) → (characters : List ℕ) (n : ℕ) (before : List ℕ) (at : ℕ) (run : Spelled) (after : List ℕ) → IsWrittenSpelled bytes_of characters n before at run after → run.used ≤ 4 * run.n
+pub written_few : (bytes_of : BytesOf) → HasFourAtMost bytes_of → (characters : List ℕ) (n : ℕ) (before : List ℕ) (at : ℕ) (run : Spelled) (after : List ℕ) → IsWrittenSpelled bytes_of characters n before at run after → run.used ≤ 4 * run.n
 written_few bytes_of short characters n before at run after p =
     let front : List ℕ = take run.n (drop n characters) in
     omega (arith, p.uses, p.within, short_all bytes_of short front, length-take run.n (drop n characters), length-drop n characters)

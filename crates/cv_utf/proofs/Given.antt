@@ -5,7 +5,7 @@ use Rattle.cv_base.specs.Items.{Taken, taken, ItemRelation, Begins, Stands, IsNe
 use Rattle.cv_base.specs.declared.state.ReadState.{ReadState}
 use Rattle.cv_base.specs.declared.item.Item.{Item}
 use Rattle.cv_base.specs.declared.item.Item.TheVariants.{Char, Shift, Incomplete, Ill, End}
-use Rattle.cv_utf.specs.BeginsLaws.{Agree, Begins-agree}
+use Rattle.cv_base.proofs.Front.{Agree, Begins-agree}
 use Rattle.cv_utf.specs.Orders.{gives}
 
 -- a scalar whose bytes begin the text stands there

@@ -1,6 +1,6 @@
 -- The states in which UTF-16 and UTF-32 are spelled: each character has its bytes whatever stands around it.
 use Rattle.std.proofs.Common.{refl}
-use Rattle.cv_base.specs.Spelled.{ReadsSpelled, WritesSpelled}
+use Rattle.cv_base.proofs.BlockLaws.{ReadsSpelled, WritesSpelled}
 use Rattle.cv_base.specs.declared.state.ReadState.TheVariants as read
 use Rattle.cv_base.specs.declared.state.WriteState.TheVariants as write
 use Rattle.cv_utf.specs.declared.order.Order.TheVariants.{Be, Le, Marked}

@@ -5,7 +5,7 @@ use Rattle.cv_base.specs.Scalars.{IsScalar}
 use Rattle.cv_base.specs.Items.{taken, Begins, Stands, IsNext}
 use Rattle.cv_base.specs.declared.state.ReadState.{ReadState}
 use Rattle.cv_base.specs.declared.item.Item.TheVariants.{Incomplete, Ill}
-use Rattle.cv_utf.specs.BeginsLaws.{Agree}
+use Rattle.cv_base.proofs.Front.{Agree}
 use Rattle.cv_utf.specs.Orders.{gives}
 use Rattle.cv_utf.specs.Utf16.{utf16}
 use Rattle.cv_utf.specs.Utf16Laws.{IsSurrogate, IsLow, big_units}

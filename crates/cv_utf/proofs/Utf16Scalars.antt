@@ -2,7 +2,8 @@
 use Rattle.std.proofs.Common.{◌≡◌, ℕ, ◌+◌, ◌-◌, ◌*◌, ◌/◌, ◌%◌, ◌<◌, ◌≤◌, inl, inr, [], ◌∷◌, ◌++◌, ◌∙◌, arith}
 use Rattle.std.proofs.lemmas.Bool.{cases_lt}
 use Rattle.cv_base.specs.Scalars.{IsScalar}
-use Rattle.cv_utf.specs.Utf16.{big_unit, little_unit, high_unit, low_unit, units}
+use Rattle.cv_base.specs.Units.{high_unit, low_unit}
+use Rattle.cv_utf.specs.Utf16.{big_unit, little_unit, units}
 use Rattle.cv_utf.specs.Utf16Laws.{IsSurrogate, IsLow, one_unit, two_units}
 
 -- the scalar of four bytes

@@ -9,7 +9,8 @@ use Rattle.cv_base.specs.declared.state.ReadState.TheVariants as read
 use Rattle.cv_base.specs.declared.state.WriteState.TheVariants as write
 use Rattle.cv_utf.specs.declared.order.Order.TheVariants.{Be, Le, Marked}
 use Rattle.cv_utf.specs.Orders.{reads_in, writes_in}
-use Rattle.cv_utf.specs.Utf16.{big_unit, little_unit, high_unit, low_unit, units, utf16}
+use Rattle.cv_base.specs.Units.{high_unit, low_unit}
+use Rattle.cv_utf.specs.Utf16.{big_unit, little_unit, units, utf16}
 use Rattle.cv_utf.specs.Utf16Laws.{one_unit, two_units}
 
 -- one scalar has four bytes at most

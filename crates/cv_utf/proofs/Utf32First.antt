@@ -9,7 +9,7 @@ use Rattle.cv_base.specs.declared.state.ReadState.{ReadState}
 use Rattle.cv_base.specs.declared.state.ReadState.TheVariants as read
 use Rattle.cv_base.specs.declared.item.Item.{Item}
 use Rattle.cv_base.specs.declared.item.Item.TheVariants.{Incomplete}
-use Rattle.cv_utf.specs.BeginsLaws.{Begins-agree, Begins-append}
+use Rattle.cv_base.proofs.Front.{Begins-agree, Begins-append}
 use Rattle.cv_utf.specs.Orders.{gives, reads_first}
 use Rattle.cv_utf.specs.Utf32.{utf32}
 use Rattle.cv_utf.proofs.First.{grows, first_from, big_mark_stands, little_mark_stands}

@@ -9,7 +9,7 @@ use Rattle.cv_base.specs.declared.ascii_form.AsciiForm.TheVariants.{Byte}
 use Rattle.cv_base.specs.declared.state.ReadState.{ReadState}
 use Rattle.cv_base.specs.declared.state.ReadState.TheVariants as read
 use Rattle.cv_base.specs.declared.item.Item.TheVariants.{Incomplete, Ill}
-use Rattle.cv_utf.specs.BeginsLaws.{Agree, Begins-agree}
+use Rattle.cv_base.proofs.Front.{Agree, Begins-agree}
 use Rattle.cv_utf.specs.Utf8.{table, carried, IsOfOne, utf8_reads, utf8_writes}
 use Rattle.cv_utf.specs.Utf8Laws.{IsTail, IsSecond, IsSequence, sequence_of}
 

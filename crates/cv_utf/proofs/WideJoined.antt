@@ -7,8 +7,10 @@ use Rattle.std.proofs.lemmas.List.{take_all, take_more, take_more_set, take-set,
 use mir.Val.{bool_byte}
 use Rattle.cv_base.specs.Scalars.{IsScalar}
 use Rattle.cv_base.specs.Items.{Begins}
-use Rattle.cv_base.specs.Spelled.{BytesOf, AreScalars, IsReadSpelled}
-use Rattle.cv_utf.specs.Utf16.{big_unit, little_unit, high_unit, low_unit, units, utf16}
+use Rattle.cv_base.specs.Scalars.{AreScalars}
+use Rattle.cv_base.specs.Spelled.{BytesOf, IsReadSpelled}
+use Rattle.cv_base.specs.Units.{high_unit, low_unit}
+use Rattle.cv_utf.specs.Utf16.{big_unit, little_unit, units, utf16}
 use Rattle.cv_utf.specs.Utf16Laws.{one_unit, two_units}
 use Rattle.cv_utf.specs.Wide.{IsUnitAt, ArePaired, IsJoined, AreJoined, unless_low, without_low}
 use Rattle.cv_utf.proofs.WidePairs.{pair_stands}

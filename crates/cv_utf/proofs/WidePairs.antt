@@ -3,7 +3,8 @@ use Rattle.std.proofs.Common.{◌≡◌, ℕ, ◌+◌, ◌*◌, ◌<◌, ◌≤�
 use Rattle.std.proofs.lemmas.List.{drop-drop}
 use Rattle.cv_base.specs.Items.{Begins}
 use Rattle.cv_base.specs.Spelled.{IsSpelledAt}
-use Rattle.cv_utf.specs.Utf16.{high_unit, low_unit, units}
+use Rattle.cv_base.specs.Units.{high_unit, low_unit}
+use Rattle.cv_utf.specs.Utf16.{units}
 use Rattle.cv_utf.specs.Utf16Laws.{one_unit, two_units}
 use Rattle.cv_utf.specs.Wide.{IsUnitAt}
 use Rattle.cv_base.proofs.Front.{Begins-join}

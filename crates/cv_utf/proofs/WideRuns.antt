@@ -7,7 +7,8 @@ use Rattle.std.proofs.lemmas.List.Concat.{flat_map-append}
 use Rattle.std.specs.List.{flat_map}
 use Rattle.cv_base.proofs.Front.{Begins-join}
 use Rattle.cv_base.specs.Items.{Begins}
-use Rattle.cv_base.specs.Spelled.{BytesOf, AreScalars, IsReadSpelled, IsWrittenSpelled}
+use Rattle.cv_base.specs.Scalars.{AreScalars}
+use Rattle.cv_base.specs.Spelled.{BytesOf, IsReadSpelled, IsWrittenSpelled}
 use Rattle.cv_utf.specs.Wide.{AreUnits, AreScalarsBelow, AreSingle}
 
 -- one character more

@@ -1,5 +1,4 @@
 -- The encoding forms of Unicode.
-pub mod BeginsLaws
 pub mod Utf8
 pub mod Utf8Laws
 pub mod Utf8Short
@@ -12,6 +11,3 @@ pub mod Utf32
 pub mod Utf32Laws
 pub mod Wide
 pub mod Words
-pub mod WideLaws
-pub mod ReadBack
-pub mod Utf8Spelled

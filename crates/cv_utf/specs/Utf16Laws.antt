@@ -1,10 +1,11 @@
 -- UTF-16 keeps what a codec keeps.
-use Rattle.std.proofs.Common.{◌≡◌, ℕ, ◌+◌, ◌*◌, ◌<◌, ◌≤◌, ◌⊎◌, inl, inr, List, [], ◌∷◌, ◌++◌, length, length-append, get_or, refl, ap, arith, cond}
+use Rattle.std.proofs.Common.{◌≡◌, ℕ, ◌+◌, ◌*◌, ◌<◌, ◌≤◌, ◌⊎◌, inl, inr, List, [], ◌∷◌, ◌++◌, length, length-append, get_or, refl, ap, arith, append-nil}
 use Rattle.std.proofs.lemmas.Bool.{cases_lt, lt-ltb, le-ltb}
 use Rattle.cv_base.specs.Scalars.{IsScalar}
 use Rattle.cv_base.specs.Items.{Begins}
-use Rattle.cv_utf.specs.BeginsLaws.{Begins-agree}
-use Rattle.cv_utf.specs.Utf16.{big_unit, little_unit, high_unit, low_unit, units, utf16}
+use Rattle.cv_base.proofs.Front.{Begins-agree}
+use Rattle.cv_base.specs.Units.{high_unit, low_unit}
+use Rattle.cv_utf.specs.Utf16.{big_unit, little_unit, units, utf16}
 use Rattle.cv_utf.specs.OrdersLaws.{IsUnique, IsForm}
 
 -- the high byte of a surrogate
@@ -37,10 +38,10 @@ IsUnits w h l m k c = IsOne w h l c ⊎ IsTwo w h l m k c
 
 -- the bytes of a scalar below 10000, and of another
 pub one_unit : (unit : ℕ → List ℕ) (c : ℕ) → c < 0x10000 → units unit c ≡ unit c
-one_unit unit c h = ap (λ b. cond b (unit c) (unit (high_unit c) ++ unit (low_unit c))) (lt-ltb c 0x10000 h)
+one_unit unit c h = rw (lt-ltb c 0x10000 h) (append-nil (unit c))
 
 pub two_units : (unit : ℕ → List ℕ) (c : ℕ) → 0x10000 ≤ c → units unit c ≡ unit (high_unit c) ++ unit (low_unit c)
-two_units unit c h = ap (λ b. cond b (unit c) (unit (high_unit c) ++ unit (low_unit c))) (le-ltb c 0x10000 h)
+two_units unit c h = rw (le-ltb c 0x10000 h, append-nil) refl
 
 big_one : (c : ℕ) → IsScalar c → c < 0x10000 → IsOne (big_unit c) 0 1 c
 big_one c s h = record { size = refl; no_surrogate = λ p. omega (arith, s.1 (omega arith)); low = omega arith; carries = omega arith }

@@ -2,7 +2,7 @@
 use Rattle.std.proofs.Common.{◌≡◌, ℕ, ◌+◌, ◌*◌, ◌/◌, ◌%◌, ◌<◌, ◌≤◌, List, [], ◌∷◌, length, get_or, refl, sym, ◌∙◌, ap, arith}
 use Rattle.cv_base.specs.Scalars.{IsScalar}
 use Rattle.cv_base.specs.Items.{Begins}
-use Rattle.cv_utf.specs.BeginsLaws.{Begins-agree}
+use Rattle.cv_base.proofs.Front.{Begins-agree}
 use Rattle.cv_utf.specs.Utf32.{big_four, little_four, utf32}
 use Rattle.cv_utf.specs.OrdersLaws.{IsUnique, IsForm}
 

@@ -4,7 +4,6 @@ ghost use Rattle.std.specs.Int.{to_le_bytes, w32};
 ghost use Rattle.cv_base.specs.Scalars.{IsScalar};
 ghost use Rattle.cv_base.specs.Items.{Begins};
 ghost use Rattle.cv_utf.specs.Utf8.{utf8_bytes};
-ghost use Rattle.cv_utf.specs.Utf8Spelled.{utf8_short};
 
 use crate::utf8_reading::{inner_at, last_at};
 use crate::utf8_windows::read_many;
@@ -121,8 +120,6 @@ impl Words for Utf8Spelling {
     fn sizes(values: &[u32; MANY]) -> [u32; MANY] {
         sizes(u32x16::from_array(*values)).to_array()
     }
-
-    ghost short = { utf8_short };
 }
 
 impl Spelling for Utf8Spelling {
@@ -130,7 +127,7 @@ impl Spelling for Utf8Spelling {
 
     const MANY_SIZE: usize = 1;
 
-    ghost short = { utf8_short };
+    fn assert_short() {}
 
     #[inline(always)]
     fn read_at(input: &[u8], at: usize) -> Option<(Scalar, usize)> {

@@ -27,9 +27,6 @@ pub(crate) trait Words {
         requires { length values.now ≡ 16 }
         ensures long { length result ≡ 16 }
         ensures sizes { AreSizes bytes_of values.now result 16 };
-
-    /// A character has at most four bytes.
-    ghost short: { (c : ℕ) → length (bytes_of c) ≤ 4 };
 }
 
 /// Writes words one behind the other, each by its size, and answers how many bytes they have together. What is behind them may be

@@ -15,10 +15,11 @@ use Rattle.cv_base.specs.declared.state.WriteState.{WriteState}
 use Rattle.cv_base.specs.declared.state.WriteState.TheVariants as write
 use Rattle.cv_utf7.specs.Sets.{is_direct, is_set_d, is_blank}
 use Rattle.cv_utf7.specs.BitLists.{bits_of, character_bits, digits}
-use Rattle.cv_utf7.specs.BitLaws.{length-bits}
-use Rattle.cv_utf7.specs.UnitLaws.{one_unit, two_units, high_of, low_of}
+use Rattle.cv_utf7.proofs.BitStrings.{length-bits}
+use Rattle.cv_utf7.proofs.CodeUnits.{one_unit, two_units}
+use Rattle.cv_base.specs.Units.{high_unit, low_unit}
 use Rattle.cv_utf7.specs.Utf7.{plus, utf7_writes, writes_at_start, writes_in_shift}
-use Rattle.cv_utf7.specs.BlockSteps.{WritesOn}
+use Rattle.cv_utf7.specs.Private.BlockSteps.{WritesOn}
 use Rattle.std.specs.Int.{bit_at}
 use Rattle.cv_utf7.proofs.BlockReading.{front_of_put}
 use Rattle.cv_base.proofs.ChainLaws.{output_for-append}
@@ -54,7 +55,7 @@ some_digits (a ∷ b ∷ c ∷ d ∷ f ∷ g ∷ l) h = omega arith
 character_some : (c : ℕ) → 16 ≤ length (character_bits c)
 character_some c = elim (cases_lt c 0x10000) [
   | inl h ↦ rw (one_unit c h) (omega (arith, length-bits 16 c))
-  | inr h ↦ rw (two_units c h, length-append) (omega (arith, length-bits 16 (high_of c), length-bits 16 (low_of c)))
+  | inr h ↦ rw (two_units c h, length-append) (omega (arith, length-bits 16 (high_unit c), length-bits 16 (low_unit c)))
 ]
 
 starts_some : (c : ℕ) → 0 < length (writes_at_start c).0
@@ -157,13 +158,13 @@ put_one characters t k at n before next after h e f l p =
 pub writes_put : (characters : List ℕ) (t : WriteState) (k at n : ℕ) (before : List ℕ) (next : WriteState) (after : List ℕ) → k < length characters → PutsAt (utf7_writes t (get_or characters k 0)) before at (Wrote n next) after → WritesOn characters t k at before next (k + 1) (at + n) after
 writes_put characters t k at n before next after h p =
     let q = subst (λ (w : Option (List ℕ × WriteState)). PutsAt w before at (Wrote n next) after) (all_written t (get_or characters k 0)) p in
-    put_one characters t k at n before next after h q.0 q.1 q.2 q.3
+    put_one characters t k at n before next after h q.0.wrote q.1 q.0.fits q.0.out
 
 -- there is room
 pub never_full : (t : WriteState) (c at : ℕ) (before after : List ℕ) → at + 8 ≤ length before → PutsAt (utf7_writes t c) before at NoRoom after → ⊥
 never_full t c at before after h p =
     let q = subst (λ (w : Option (List ℕ × WriteState)). PutsAt w before at NoRoom after) (all_written t c) p in
-    omega (arith, q.0, bytes_most t c)
+    omega (arith, q.full, bytes_most t c)
 
 -- no character lacks
 pub never_lacks : (t : WriteState) (c at : ℕ) (before after : List ℕ) → PutsAt (utf7_writes t c) before at Lacks after → ⊥
@@ -176,12 +177,14 @@ is_block characters t at before u end after block p w c n =
     let same : output_for utf7_writes t characters ≡ output_for utf7_writes t p.run = ap (output_for utf7_writes t) all in
     let place : end + (length characters - length characters) ≡ at + block.wrote = omega arith in
     record {
-      wrote = omega (arith, p.ends, ap (λ (o : Output). length o.bytes) same);
       counts = c ∙ sym (ap (λ (o : Output). o.count) same ∙ p.count);
       next = n ∙ p.next ∙ sym (ap (λ (o : Output). o.next) same);
-      fits = omega (arith, p.fits);
-      out = sym (take-append-drop end after) ∙ ap (λ (x : List ℕ). x ++ drop end after) (p.stand ∙ ap (λ (o : Output). take at before ++ o.bytes) (sym same))
-          ∙ ap (λ (x : List ℕ). take at before ++ (output_for utf7_writes t characters).bytes ++ x) (ap (λ (i : ℕ). drop i after) (omega arith) ∙ p.behind ∙ ap (λ (i : ℕ). drop i before) place);
+      bytes = record {
+        wrote = omega (arith, p.ends, ap (λ (o : Output). length o.bytes) same);
+        fits = omega (arith, p.fits);
+        out = sym (take-append-drop end after) ∙ ap (λ (x : List ℕ). x ++ drop end after) (p.stand ∙ ap (λ (o : Output). take at before ++ o.bytes) (sym same))
+            ∙ ap (λ (x : List ℕ). take at before ++ (output_for utf7_writes t characters).bytes ++ x) (ap (λ (i : ℕ). drop i after) (omega arith) ∙ p.behind ∙ ap (λ (i : ℕ). drop i before) place);
+      };
     }
 
 -- a character is put where there is room

@@ -8,7 +8,8 @@ use Rattle.cv_base.specs.declared.item.Item.TheVariants.{Incomplete, Ill}
 use Rattle.cv_base.proofs.Front.{Agree}
 use Rattle.cv_utf.specs.Orders.{gives}
 use Rattle.cv_utf.specs.Utf16.{utf16}
-use Rattle.cv_utf.specs.Utf16Laws.{IsSurrogate, IsLow, big_units}
+use Rattle.cv_utf.specs.Private.Surrogates.{IsSurrogate, IsLow}
+use Rattle.cv_utf.proofs.Utf16Laws.{big_units}
 use Rattle.cv_utf.proofs.Given.{char_from, ill_from, incomplete_from}
 use Rattle.cv_utf.proofs.Utf16Scalars.{pair, scalar_one, scalar_two, big_is_one, big_is_two}
 

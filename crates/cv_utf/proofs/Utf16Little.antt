@@ -7,7 +7,8 @@ use Rattle.cv_base.specs.declared.item.Item.TheVariants.{Incomplete, Ill}
 use Rattle.cv_base.proofs.Front.{Agree}
 use Rattle.cv_utf.specs.Orders.{gives}
 use Rattle.cv_utf.specs.Utf16.{utf16}
-use Rattle.cv_utf.specs.Utf16Laws.{IsSurrogate, IsLow, little_units}
+use Rattle.cv_utf.specs.Private.Surrogates.{IsSurrogate, IsLow}
+use Rattle.cv_utf.proofs.Utf16Laws.{little_units}
 use Rattle.cv_utf.proofs.Given.{char_from, ill_from, incomplete_from}
 use Rattle.cv_utf.proofs.Utf16Scalars.{pair, scalar_one, scalar_two, little_is_one, little_is_two}
 

@@ -4,7 +4,8 @@ use Rattle.std.proofs.lemmas.Bool.{cases_lt}
 use Rattle.cv_base.specs.Scalars.{IsScalar}
 use Rattle.cv_base.specs.Units.{high_unit, low_unit}
 use Rattle.cv_utf.specs.Utf16.{big_unit, little_unit, units}
-use Rattle.cv_utf.specs.Utf16Laws.{IsSurrogate, IsLow, one_unit, two_units}
+use Rattle.cv_utf.specs.Private.Surrogates.{IsSurrogate, IsLow}
+use Rattle.cv_utf.proofs.Utf16Laws.{one_unit, two_units}
 
 -- the scalar of four bytes
 abbrev pub pair : ℕ → ℕ → ℕ → ℕ → ℕ

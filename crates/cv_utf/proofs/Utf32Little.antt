@@ -5,7 +5,8 @@ use Rattle.cv_base.specs.declared.state.ReadState.{ReadState}
 use Rattle.cv_base.specs.declared.item.Item.TheVariants.{Incomplete, Ill}
 use Rattle.cv_utf.specs.Orders.{gives}
 use Rattle.cv_utf.specs.Utf32.{utf32}
-use Rattle.cv_utf.specs.Utf32Laws.{IsThird, little_is_four}
+use Rattle.cv_utf.specs.Private.Utf32Bytes.{IsThird}
+use Rattle.cv_utf.proofs.Utf32Laws.{little_is_four}
 use Rattle.cv_utf.proofs.Given.{char_from, ill_from, incomplete_from}
 use Rattle.cv_utf.proofs.Utf32Scalars.{number, scalar_four, little_is}
 

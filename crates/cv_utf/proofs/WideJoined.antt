@@ -11,8 +11,8 @@ use Rattle.cv_base.specs.Scalars.{AreScalars}
 use Rattle.cv_base.specs.Spelled.{BytesOf, IsReadSpelled}
 use Rattle.cv_base.specs.Units.{high_unit, low_unit}
 use Rattle.cv_utf.specs.Utf16.{big_unit, little_unit, units, utf16}
-use Rattle.cv_utf.specs.Utf16Laws.{one_unit, two_units}
-use Rattle.cv_utf.specs.Wide.{IsUnitAt, ArePaired, IsJoined, AreJoined, unless_low, without_low}
+use Rattle.cv_utf.proofs.Utf16Laws.{one_unit, two_units}
+use Rattle.cv_utf.specs.Private.Wide.{IsUnitAt, ArePaired, IsJoined, AreJoined, unless_low, without_low}
 use Rattle.cv_utf.proofs.WidePairs.{pair_stands}
 use Rattle.cv_base.proofs.Front.{Begins-join}
 use Rattle.cv_utf.proofs.WideRuns.{flat_map-more}

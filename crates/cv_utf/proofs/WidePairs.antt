@@ -5,8 +5,8 @@ use Rattle.cv_base.specs.Items.{Begins}
 use Rattle.cv_base.specs.Spelled.{IsSpelledAt}
 use Rattle.cv_base.specs.Units.{high_unit, low_unit}
 use Rattle.cv_utf.specs.Utf16.{units}
-use Rattle.cv_utf.specs.Utf16Laws.{one_unit, two_units}
-use Rattle.cv_utf.specs.Wide.{IsUnitAt}
+use Rattle.cv_utf.proofs.Utf16Laws.{one_unit, two_units}
+use Rattle.cv_utf.specs.Private.Wide.{IsUnitAt}
 use Rattle.cv_base.proofs.Front.{Begins-join}
 
 -- their character stands there

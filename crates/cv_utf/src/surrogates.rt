@@ -1,7 +1,7 @@
 //! Characters of UTF-16 among which some are surrogate pairs, many at once.
 ghost use Rattle.std.specs.Prelude.{◌≡◌, ◌↔◌, ◌+◌, ◌*◌, ◌/◌, ◌%◌, ◌≤◌, ◌++◌, IsTrue, IfSome, length, take};
 ghost use Rattle.cv_base.specs.Spelled.{IsReadSpelled};
-ghost use Rattle.cv_utf.specs.Wide.{ArePaired, AreJoined, AreScalarsOrLow, without_low};
+ghost use Rattle.cv_utf.specs.Private.Wide.{ArePaired, AreJoined, AreScalarsOrLow, without_low};
 
 use crate::wide::WideUnit;
 use cv_base::{MANY, Scalar, Spelled};

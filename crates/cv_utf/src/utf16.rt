@@ -5,7 +5,7 @@ ghost use Rattle.cv_base.specs.Places.{PutsAt};
 ghost use Rattle.cv_utf.specs.Orders.{gives, reads_first, reads_in, writes_in};
 ghost use Rattle.cv_base.specs.Units.{high_unit, low_unit};
 ghost use Rattle.cv_utf.specs.Utf16.{utf16};
-ghost use Rattle.cv_utf.specs.Utf16Laws.{IsSurrogate, IsLow};
+ghost use Rattle.cv_utf.specs.Private.Surrogates.{IsSurrogate, IsLow};
 
 use crate::character::character;
 use crate::order::Order;
@@ -275,7 +275,7 @@ impl Codec for Utf16 {
 
     ghost closes = { λ _ _. [] };
 
-    #[tactic(auto, using(crate::specs::OrdersLaws::in_readable, crate::specs::OrdersLaws::in_substitutable, crate::specs::Utf16Laws::utf16_is_form))]
+    #[tactic(auto, using(crate::proofs::OrdersLaws::in_readable, crate::proofs::OrdersLaws::in_substitutable, crate::proofs::Utf16Laws::utf16_is_form))]
     fn assert_valid(&self) {}
 
     #[inline]

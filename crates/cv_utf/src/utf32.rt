@@ -4,7 +4,7 @@ ghost use Rattle.cv_base.specs.Items.{Begins, IsNext};
 ghost use Rattle.cv_base.specs.Places.{PutsAt};
 ghost use Rattle.cv_utf.specs.Orders.{gives, reads_first, reads_in, writes_in};
 ghost use Rattle.cv_utf.specs.Utf32.{utf32};
-ghost use Rattle.cv_utf.specs.Utf32Laws.{IsThird};
+ghost use Rattle.cv_utf.specs.Private.Utf32Bytes.{IsThird};
 
 use crate::character::character;
 use crate::order::Order;
@@ -200,7 +200,7 @@ impl Codec for Utf32 {
 
     ghost closes = { λ _ _. [] };
 
-    #[tactic(auto, using(crate::specs::OrdersLaws::in_readable, crate::specs::OrdersLaws::in_substitutable, crate::specs::Utf32Laws::utf32_is_form))]
+    #[tactic(auto, using(crate::proofs::OrdersLaws::in_readable, crate::proofs::OrdersLaws::in_substitutable, crate::proofs::Utf32Laws::utf32_is_form))]
     fn assert_valid(&self) {}
 
     #[inline]

@@ -6,15 +6,7 @@ use Rattle.cv_base.specs.Items.{Begins}
 use Rattle.cv_base.proofs.Front.{Begins-agree}
 use Rattle.cv_base.specs.Units.{high_unit, low_unit}
 use Rattle.cv_utf.specs.Utf16.{big_unit, little_unit, units, utf16}
-use Rattle.cv_utf.specs.OrdersLaws.{IsUnique, IsForm}
-
--- the high byte of a surrogate
-abbrev pub IsSurrogate : ℕ → Type 0
-IsSurrogate b = (0xd8 ≤ b) × (b < 0xe0)
-
--- the high byte of a low surrogate
-abbrev pub IsLow : ℕ → Type 0
-IsLow b = (0xdc ≤ b) × (b < 0xe0)
+use Rattle.cv_utf.proofs.OrdersLaws.{IsUnique, IsForm}
 
 -- One unit, by the places of its high and its low byte.
 pub record IsOne (w : List ℕ) (h l c : ℕ) : Type 0 where

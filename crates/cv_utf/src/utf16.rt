@@ -2,7 +2,8 @@
 ghost use Rattle.std.specs.Prelude.{◌≡◌, ◌+◌, ◌*◌, ◌<◌, ◌≤◌, ◌↔◌, IsTrue, ◌++◌, [], length, Some};
 ghost use Rattle.cv_base.specs.Items.{IsNext};
 ghost use Rattle.cv_base.specs.Places.{PutsAt};
-ghost use Rattle.cv_utf.specs.Orders.{gives, reads_first, reads_in, writes_in};
+ghost use Rattle.cv_utf.specs.Orders.{reads_in, writes_in};
+ghost use Rattle.cv_utf.specs.Private.AnyState.{always_gives, always_first};
 ghost use Rattle.cv_base.specs.Units.{high_unit, low_unit};
 ghost use Rattle.cv_utf.specs.Utf16.{utf16};
 ghost use Rattle.cv_utf.specs.Private.Surrogates.{IsSurrogate, IsLow};
@@ -78,7 +79,7 @@ fn unit(high: u8, low: u8) -> u32
 #[inline]
 #[tactic(auto, using(crate::proofs::Utf16Big::steps))]
 fn big_item(input: &[u8], next: ReadState) -> Item
-    ensures { IsNext (gives utf16.big next) next input.now result }
+    ensures { IsNext (always_gives utf16.big next) next input.now result }
 {
     if input.is_empty() {
         return Item::End;
@@ -111,7 +112,7 @@ fn big_item(input: &[u8], next: ReadState) -> Item
 #[inline]
 #[tactic(auto, using(crate::proofs::Utf16Little::steps))]
 fn little_item(input: &[u8], next: ReadState) -> Item
-    ensures { IsNext (gives utf16.little next) next input.now result }
+    ensures { IsNext (always_gives utf16.little next) next input.now result }
 {
     if input.is_empty() {
         return Item::End;
@@ -141,7 +142,7 @@ fn little_item(input: &[u8], next: ReadState) -> Item
 #[inline]
 #[tactic(auto, using(crate::proofs::Utf16First::steps))]
 fn first_item(input: &[u8]) -> Item
-    ensures { (state : ReadState) → IsNext (reads_first utf16) state input.now result }
+    ensures { (state : ReadState) → IsNext (always_first utf16) state input.now result }
 {
     if input.len() < 2 {
         return big_item(input, ReadState::Big);

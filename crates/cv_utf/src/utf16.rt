@@ -6,7 +6,7 @@ ghost use Rattle.cv_utf.specs.Orders.{reads_in, writes_in};
 ghost use Rattle.cv_utf.specs.Private.AnyState.{always_gives, always_first};
 ghost use Rattle.cv_base.specs.Units.{high_unit, low_unit};
 ghost use Rattle.cv_utf.specs.Utf16.{utf16};
-ghost use Rattle.cv_utf.specs.Private.Surrogates.{IsSurrogate, IsLow};
+ghost use Rattle.cv_utf.specs.Private.Surrogates.{IsSurrogate, IsLow, IsPair};
 
 use crate::character::character;
 use crate::order::Order;
@@ -41,7 +41,7 @@ pub(crate) fn joined(high: u32, low: u32) -> u32
     requires high_to { high < 0xdc00 }
     requires low_from { 0xdc00 ≤ low }
     requires low_to { low < 0xe000 }
-    ensures { result + (0xd800 * 0x400 + 0xdc00) ≡ 0x10000 + high * 0x400 + low }
+    ensures { IsPair high low result }
 {
     0x1_0000 + (high - 0xd800) * 0x400 + (low - 0xdc00)
 }

@@ -10,6 +10,14 @@ IsSurrogate b = (0xd8 ≤ b) × (b < 0xe0)
 abbrev pub IsLow : ℕ → Type 0
 IsLow b = (0xdc ≤ b) × (b < 0xe0)
 
+-- the unit is a high surrogate
+abbrev pub IsHighUnit : ℕ → Type 0
+IsHighUnit unit = unit / 0x400 ≡ 0x36
+
+-- the unit is a low surrogate
+abbrev pub IsLowUnit : ℕ → Type 0
+IsLowUnit unit = unit / 0x400 ≡ 0x37
+
 -- A high and a low surrogate are the units of a character.
 pub record IsPair (high low c : ℕ) : Type 0 where
   pub above : 0x10000 ≤ c

@@ -11,7 +11,7 @@ use Rattle.cv_utf.specs.declared.order.Order.TheVariants.{Be, Le, Marked}
 use Rattle.cv_utf.specs.Orders.{reads_in, writes_in}
 use Rattle.cv_base.specs.Units.{high_unit, low_unit}
 use Rattle.cv_utf.specs.Utf16.{big_unit, little_unit, units, utf16}
-use Rattle.cv_utf.specs.Utf16Laws.{one_unit, two_units}
+use Rattle.cv_utf.proofs.Utf16Laws.{one_unit, two_units}
 
 -- one scalar has four bytes at most
 units_few : (unit : ℕ → List ℕ) (c : ℕ) → ((u : ℕ) → length (unit u) ≡ 2) → length (units unit c) ≤ 4

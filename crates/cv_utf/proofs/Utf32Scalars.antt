@@ -3,7 +3,7 @@ use Rattle.std.proofs.Common.{◌≡◌, ℕ, ◌+◌, ◌*◌, ◌/◌, ◌%◌
 use Rattle.std.proofs.lemmas.Bool.{cases_lt}
 use Rattle.cv_base.specs.Scalars.{IsScalar}
 use Rattle.cv_utf.specs.Utf32.{utf32}
-use Rattle.cv_utf.specs.Utf32Laws.{IsThird}
+use Rattle.cv_utf.specs.Private.Utf32Bytes.{IsThird}
 
 -- the number of four bytes, of which the highest is 0
 abbrev pub number : ℕ → ℕ → ℕ → ℕ

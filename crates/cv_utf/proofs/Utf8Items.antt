@@ -11,7 +11,8 @@ use Rattle.cv_base.specs.declared.state.ReadState.TheVariants as read
 use Rattle.cv_base.specs.declared.item.Item.TheVariants.{Incomplete, Ill}
 use Rattle.cv_base.proofs.Front.{Agree, Begins-agree}
 use Rattle.cv_utf.specs.Utf8.{table, carried, IsOfOne, utf8_reads, utf8_writes}
-use Rattle.cv_utf.specs.Utf8Laws.{IsTail, IsSecond, IsSequence, sequence_of}
+use Rattle.cv_utf.specs.Private.Utf8Bytes.{IsTail, IsSecond}
+use Rattle.cv_utf.proofs.Utf8Laws.{IsSequence, sequence_of}
 
 -- a sequence of a long first byte
 long : (w : List ℕ) (c : ℕ) → IsSequence w c → 0xe0 ≤ get_or w 0 0 → 3 ≤ length w

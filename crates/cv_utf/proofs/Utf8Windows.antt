@@ -16,8 +16,8 @@ use Rattle.cv_base.specs.Scalars.{IsScalar}
 use Rattle.cv_base.specs.Spelled.{IsSpelledAt, IsReadSpelled}
 use Rattle.cv_base.proofs.SpelledRuns.{spelled, read_one_more}
 use Rattle.cv_utf.specs.Utf8.{utf8_bytes}
-use Rattle.cv_utf.specs.Utf8Short.{is_among, is_behind}
-use Rattle.cv_utf.specs.Utf8Windows.{IsLane, AreBegun, IsOneAt, IsTwoAt, IsThreeAt, AreMarks, IsFollowing, AreWhole, whole_of, whole_value}
+use Rattle.cv_utf.specs.Private.Utf8Short.{is_among, is_behind}
+use Rattle.cv_utf.specs.Private.Utf8Windows.{IsLane, AreBegun, IsOneAt, IsTwoAt, IsThreeAt, AreMarks, IsFollowing, AreWhole, whole_of, whole_value}
 use Rattle.cv_utf.proofs.Utf8Short.{two, one_spelled, two_spelled}
 
 -- ---- a step of the loop

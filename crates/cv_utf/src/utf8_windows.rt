@@ -5,8 +5,8 @@ ghost use Rattle.std.specs.Simd.Lanes.{mask_l};
 ghost use Rattle.cv_base.specs.Scalars.{IsScalar};
 ghost use Rattle.cv_base.specs.Spelled.{IsReadSpelled};
 ghost use Rattle.cv_utf.specs.Utf8.{utf8_bytes};
-ghost use Rattle.cv_utf.specs.Utf8Short.{is_among, is_behind, IsShortAt, short_value};
-ghost use Rattle.cv_utf.specs.Utf8Windows.{AreBegun, AreWhole, AreMarks, IsOneAt, IsTwoAt, IsThreeAt, whole_value};
+ghost use Rattle.cv_utf.specs.Private.Utf8Short.{is_among, is_behind, IsShortAt, short_value};
+ghost use Rattle.cv_utf.specs.Private.Utf8Windows.{AreBegun, AreWhole, AreMarks, IsOneAt, IsTwoAt, IsThreeAt, whole_value};
 
 use cv_base::{MANY, Scalar, Spelled};
 use std::simd::prelude::*;

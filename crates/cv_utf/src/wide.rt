@@ -3,7 +3,7 @@ ghost use Rattle.std.specs.Prelude.{◌≡◌, ℕ, ◌+◌, ◌*◌, ◌<◌, �
 ghost use Rattle.std.specs.List.{flat_map};
 ghost use Rattle.cv_base.specs.Scalars.{IsScalar};
 ghost use Rattle.cv_base.specs.Spelled.{BytesOf, IsReadSpelled, IsWrittenSpelled};
-ghost use Rattle.cv_utf.specs.Wide.{IsUnitAt, AreUnits, AreScalarsBelow, AreSingle};
+ghost use Rattle.cv_utf.specs.Private.Wide.{IsUnitAt, AreUnits, AreScalarsBelow, AreSingle};
 
 use cv_base::{MANY, Scalar, Spelled};
 

@@ -5,8 +5,8 @@ ghost use Rattle.std.specs.List.{flat_map};
 ghost use Rattle.cv_base.specs.Scalars.{IsScalar};
 ghost use Rattle.cv_base.specs.Items.{Begins};
 ghost use Rattle.cv_base.specs.Spelled.{BytesOf, IsWrittenSpelled};
-ghost use Rattle.cv_utf.specs.Wide.{AreScalarsBelow};
-ghost use Rattle.cv_utf.specs.Words.{AreWords, AreSizes};
+ghost use Rattle.cv_utf.specs.Private.Wide.{AreScalarsBelow};
+ghost use Rattle.cv_utf.specs.Private.Words.{AreWords, AreSizes};
 
 use crate::wide::values_of;
 use cv_base::{MANY, Scalar, Spelled};

@@ -2,7 +2,7 @@
 use Rattle.std.proofs.Common.{◌≡◌, ◌≢◌, ◌⊎◌, inl, inr, ◌==◌, ℕ, Bool, true, false, List, [], length, nat_lt, Option, Some, None, sym, ap, ◌∙◌}
 use Rattle.cv_pivot.specs.Conversions.{Converted}
 use Rattle.cv_pivot.specs.Encodings.{builtin_of, encoding_closes}
-use Rattle.cv_pivot.specs.EncodingLaws.{encoding_readable}
+use Rattle.cv_pivot.proofs.EncodingLaws.{encoding_readable}
 use Rattle.cv_pivot.specs.declared.conversion.Conversion.{Conversion}
 use Rattle.cv_pivot.specs.declared.encoding.Encoding.{Encoding}
 use Rattle.cv_pivot.specs.declared.outcome.Stop.{Stop}

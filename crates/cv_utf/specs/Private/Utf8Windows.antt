@@ -3,7 +3,7 @@ use Rattle.std.specs.Prelude.{◌≡◌, ℕ, ◌+◌, ◌*◌, ◌%◌, ◌≤�
 use Rattle.std.specs.Int.{bit_at}
 use Rattle.cv_base.specs.Spelled.{IsSpelledAt}
 use Rattle.cv_utf.specs.Utf8.{utf8_bytes}
-use Rattle.cv_utf.specs.Utf8Short.{is_behind}
+use Rattle.cv_utf.specs.Private.Utf8Short.{is_behind}
 
 -- At a lane no character begins and the place that is reached stays, or the character at that place begins, and the next stands behind it.
 abbrev pub IsLane : List ℕ → ℕ → ℕ → ℕ → ℕ → ℕ → Type 0

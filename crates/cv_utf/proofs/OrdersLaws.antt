@@ -26,20 +26,20 @@ pub record IsForm (form : Form) : Type 0 where
   pub little_alone : (text : List ℕ) (c : ℕ) → IsScalar c → Begins (form.big c) text → Begins form.little_mark text → form.big c ≡ form.little_mark
 
 -- one item stands, and it uses some of its bytes: characters, then marks, then each order
-one_given : (bytes_of : ℕ → List ℕ) → IsUnique bytes_of → (next s : ReadState) (text a b : List ℕ) (i j : Taken) → gives bytes_of next s a i → gives bytes_of next s b j → Begins a text → Begins b text → i ≡ j
-one_given bytes_of u next s text a b i j p q f g =
+one_given : (bytes_of : ℕ → List ℕ) → IsUnique bytes_of → (next : ReadState) (text a b : List ℕ) (i j : Taken) → gives bytes_of next a i → gives bytes_of next b j → Begins a text → Begins b text → i ≡ j
+one_given bytes_of u next text a b i j p q f g =
     let c_is : p.0 ≡ q.0 = u.one text p.0 q.0 p.1 q.1 (rw (← p.2) f) (rw (← q.2) g) in
     let same : a ≡ b = p.2 ∙ ap bytes_of c_is ∙ sym q.2 in
     p.3 ∙ (let e : taken (length a) (Some p.0) next ≡ taken (length b) (Some q.0) next = cc (same, c_is) in e) ∙ sym q.3
 
-uses_given : (bytes_of : ℕ → List ℕ) → IsUnique bytes_of → (next s : ReadState) (a : List ℕ) (i : Taken) → gives bytes_of next s a i → (0 < i.used) × (i.used ≤ length a)
-uses_given bytes_of u next s a i p = let e : i.used ≡ length a = ap (λ t. t.used) p.3 in let f : length a ≡ length (bytes_of p.0) = ap length p.2 in (omega (arith, u.some p.0), omega arith)
+uses_given : (bytes_of : ℕ → List ℕ) → IsUnique bytes_of → (next : ReadState) (a : List ℕ) (i : Taken) → gives bytes_of next a i → (0 < i.used) × (i.used ≤ length a)
+uses_given bytes_of u next a i p = let e : i.used ≡ length a = ap (λ t. t.used) p.3 in let f : length a ≡ length (bytes_of p.0) = ap length p.2 in (omega (arith, u.some p.0), omega arith)
 
 same_mark : (a b mark : List ℕ) (i j : Taken) (next : ReadState) → a ≡ mark → b ≡ mark → i ≡ taken (length a) None next → j ≡ taken (length b) None next → i ≡ j
 same_mark a b mark i j next p q e f = e ∙ (let g : taken (length a) None next ≡ taken (length b) None next = cc (p, q) in g) ∙ sym f
 
-one_first : (form : Form) → IsForm form → (s : ReadState) (text a b : List ℕ) (i j : Taken) → reads_first form s a i → reads_first form s b j → Begins a text → Begins b text → i ≡ j
-one_first form u s text a b i j p q f g =
+one_first : (form : Form) → IsForm form → (text a b : List ℕ) (i j : Taken) → reads_first form a i → reads_first form b j → Begins a text → Begins b text → i ≡ j
+one_first form u text a b i j p q f g =
     elim p [
       | inl p ↦ elim q [
         | inl q ↦ same_mark a b form.big_mark i j read.Big p.0 q.0 p.1 q.1
@@ -60,7 +60,7 @@ one_first form u s text a b i j p q f g =
           | inl q ↦ absurd (p.0 (p.2.2 ∙ u.big_alone text p.2.0 p.2.1 (rw (← p.2.2) f) (rw (← q.0) g)))
           | inr q ↦ elim q [
             | inl q ↦ absurd (p.1 (p.2.2 ∙ u.little_alone text p.2.0 p.2.1 (rw (← p.2.2) f) (rw (← q.0) g)))
-            | inr q ↦ one_given form.big u.big_unique read.Big s text a b i j p.2 q.2 f g
+            | inr q ↦ one_given form.big u.big_unique read.Big text a b i j p.2 q.2 f g
           ]
         ]
       ]
@@ -69,30 +69,30 @@ one_first form u s text a b i j p q f g =
 uses_mark : (a mark : List ℕ) (i : Taken) (next : ReadState) → 0 < length mark → a ≡ mark → i ≡ taken (length a) None next → (0 < i.used) × (i.used ≤ length a)
 uses_mark a mark i next h p e = let f : i.used ≡ length a = ap (λ t. t.used) e in let g : length a ≡ length mark = ap length p in (omega arith, omega arith)
 
-uses_first : (form : Form) → IsForm form → (s : ReadState) (a : List ℕ) (i : Taken) → reads_first form s a i → (0 < i.used) × (i.used ≤ length a)
-uses_first form u s a i p = elim p [
+uses_first : (form : Form) → IsForm form → (a : List ℕ) (i : Taken) → reads_first form a i → (0 < i.used) × (i.used ≤ length a)
+uses_first form u a i p = elim p [
   | inl p ↦ uses_mark a form.big_mark i read.Big u.big_some p.0 p.1
   | inr p ↦ elim p [
     | inl p ↦ uses_mark a form.little_mark i read.Little u.little_some p.0 p.1
-    | inr p ↦ uses_given form.big u.big_unique read.Big s a i p.2
+    | inr p ↦ uses_given form.big u.big_unique read.Big a i p.2
   ]
 ]
 
 one_in : (form : Form) → IsForm form → (order : Order) (s : ReadState) (text a b : List ℕ) (i j : Taken) → reads_in form order s a i → reads_in form order s b j → Begins a text → Begins b text → i ≡ j
-one_in form u Be s = one_given form.big u.big_unique read.Start s
-one_in form u Le s = one_given form.little u.little_unique read.Start s
-one_in form u Marked read.Start = one_first form u read.Start
-one_in form u Marked read.Big = one_given form.big u.big_unique read.Big read.Big
-one_in form u Marked read.Little = one_given form.little u.little_unique read.Little read.Little
-one_in form u Marked (read.Shifted bits) = one_first form u (read.Shifted bits)
+one_in form u Be s = one_given form.big u.big_unique read.Start
+one_in form u Le s = one_given form.little u.little_unique read.Start
+one_in form u Marked read.Start = one_first form u
+one_in form u Marked read.Big = one_given form.big u.big_unique read.Big
+one_in form u Marked read.Little = one_given form.little u.little_unique read.Little
+one_in form u Marked (read.Shifted bits) = one_first form u
 
 uses_in : (form : Form) → IsForm form → (order : Order) (s : ReadState) (a : List ℕ) (i : Taken) → reads_in form order s a i → (0 < i.used) × (i.used ≤ length a)
-uses_in form u Be s = uses_given form.big u.big_unique read.Start s
-uses_in form u Le s = uses_given form.little u.little_unique read.Start s
-uses_in form u Marked read.Start = uses_first form u read.Start
-uses_in form u Marked read.Big = uses_given form.big u.big_unique read.Big read.Big
-uses_in form u Marked read.Little = uses_given form.little u.little_unique read.Little read.Little
-uses_in form u Marked (read.Shifted bits) = uses_first form u (read.Shifted bits)
+uses_in form u Be s = uses_given form.big u.big_unique read.Start
+uses_in form u Le s = uses_given form.little u.little_unique read.Start
+uses_in form u Marked read.Start = uses_first form u
+uses_in form u Marked read.Big = uses_given form.big u.big_unique read.Big
+uses_in form u Marked read.Little = uses_given form.little u.little_unique read.Little
+uses_in form u Marked (read.Shifted bits) = uses_first form u
 
 -- an encoding form keeps it in each order
 pub in_readable : (form : Form) → IsForm form → (order : Order) → IsReadable (reads_in form order)

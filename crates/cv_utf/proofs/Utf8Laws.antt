@@ -5,15 +5,8 @@ use Rattle.cv_base.specs.Items.{Taken, taken, Begins}
 use Rattle.cv_base.specs.Codecs.{IsReadable}
 use Rattle.cv_base.specs.declared.state.ReadState.{ReadState}
 use Rattle.cv_base.specs.declared.state.ReadState.TheVariants as read
+use Rattle.cv_utf.specs.Private.Utf8Bytes.{IsTail, IsSecond}
 use Rattle.cv_utf.specs.Utf8.{table, carried, IsOfRow, IsOfOne, utf8_reads, row, range, tail}
-
--- a byte behind the first
-abbrev pub IsTail : ℕ → Type 0
-IsTail b = (0x80 ≤ b) × (b ≤ 0xbf)
-
--- a second byte behind a first byte of three or four: in the range of the row
-abbrev pub IsSecond : ℕ → ℕ → Type 0
-IsSecond a b = (0x80 ≤ b) × (b ≤ 0xbf) × (a ≡ 0xe0 → 0xa0 ≤ b) × (a ≡ 0xed → b ≤ 0x9f) × (a ≡ 0xf0 → 0x90 ≤ b) × (a ≡ 0xf4 → b ≤ 0x8f)
 
 -- What a sequence of the table is, by its first byte.
 pub record IsSequence (w : List ℕ) (c : ℕ) : Type 0 where

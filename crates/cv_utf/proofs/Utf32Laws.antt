@@ -3,12 +3,9 @@ use Rattle.std.proofs.Common.{◌≡◌, ℕ, ◌+◌, ◌*◌, ◌/◌, ◌%◌
 use Rattle.cv_base.specs.Scalars.{IsScalar}
 use Rattle.cv_base.specs.Items.{Begins}
 use Rattle.cv_base.proofs.Front.{Begins-agree}
+use Rattle.cv_utf.specs.Private.Utf32Bytes.{IsThird}
 use Rattle.cv_utf.specs.Utf32.{big_four, little_four, utf32}
-use Rattle.cv_utf.specs.OrdersLaws.{IsUnique, IsForm}
-
--- the third byte of a scalar fits behind the second: they are of no surrogate
-abbrev pub IsThird : ℕ → ℕ → Type 0
-IsThird second third = second ≡ 0 → 0xd8 ≤ third → 0xe0 ≤ third
+use Rattle.cv_utf.proofs.OrdersLaws.{IsUnique, IsForm}
 
 -- The bytes of a scalar, by the places of the highest, the second, the third and the lowest.
 pub record IsFour (w : List ℕ) (h i j k c : ℕ) : Type 0 where

@@ -1,5 +1,6 @@
 //! Requests to a new world, each with its reply: bytes that are right by the public standards, and by docs/PROTOCOL.md.
 use crate::run::run_script;
+use std::alloc::Global;
 use std::test::Fail;
 
 /// The lines of one script, each with the line of its reply. A body of CONV is what is left, the count and the output.
@@ -232,15 +233,21 @@ const CASES: [Case; 19] = [
     },
 ];
 
+/// The script of some requests, and the lines of their replies.
+fn texts(alloc: Global, exchanges: &[(&str, &str)]) -> Result<(String, String), Fail> {
+    let mut script = String::new(alloc);
+    let mut lines = String::new(alloc);
+    for (request, reply) in exchanges {
+        write!(script, "{request}\n")?;
+        write!(lines, "{reply}\n")?;
+    }
+    Ok((script, lines))
+}
+
 #[test]
 fn each_request_has_its_reply(rt: HostRuntime) -> Result<(), Fail> {
     for case in CASES {
-        let mut script = String::new(rt.alloc());
-        let mut want = String::new(rt.alloc());
-        for (request, reply) in case.exchanges {
-            write!(script, "{request}\n")?;
-            write!(want, "{reply}\n")?;
-        }
+        let (script, want) = texts(rt.alloc(), case.exchanges)?;
         let lines = run_script(&rt, rt.alloc(), script.as_bytes()).map_err(|_| "refused")?;
         let got = String::from_utf8_lossy(rt.alloc(), &lines)?;
         assert!(rt; got == want, "{}:\n{got}", case.name);

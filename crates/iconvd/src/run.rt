@@ -1,4 +1,6 @@
 //! The command `run`.
+ghost use Rattle.std.specs.Prelude.{IfErr};
+ghost use Rattle.iconvd.specs.Faults.{IsNoFailedWrite};
 
 use crate::fault::RunFault;
 use crate::input::{MAX_READS, read_all};
@@ -10,7 +12,9 @@ use std::alloc::Global;
 use std::io;
 
 /// Why serving in memory ended. A vector takes all that is written to it, unless memory lacks.
-fn fault_in_memory(fault: ServeFault) -> RunFault {
+fn fault_in_memory(fault: ServeFault) -> RunFault
+    ensures { IsNoFailedWrite result }
+{
     match fault {
         ServeFault::Write { written: _ } => RunFault::Memory,
         other => RunFault::Serve(other),
@@ -18,7 +22,9 @@ fn fault_in_memory(fault: ServeFault) -> RunFault {
 }
 
 /// Serves frames by a new world, and gives the replies. The frames are let go with it.
-fn serve_frames<R>(rt: &R, alloc: Global, frames: Vec<u8>) -> Result<Vec<u8>, RunFault> {
+fn serve_frames<R>(rt: &R, alloc: Global, frames: Vec<u8>) -> Result<Vec<u8>, RunFault>
+    ensures { IfErr result IsNoFailedWrite }
+{
     let mut reader = FromReader::new(frames.as_slice());
     let mut writer = ToWriter::new(Vec::new(alloc));
     match serve_new(rt, alloc, &mut reader, &mut writer, MAX_READS) {
@@ -28,7 +34,9 @@ fn serve_frames<R>(rt: &R, alloc: Global, frames: Vec<u8>) -> Result<Vec<u8>, Ru
 }
 
 /// Serves a script by a new world, and gives the reply lines.
-pub fn run_script<R>(rt: &R, alloc: Global, script: &[u8]) -> Result<Vec<u8>, RunFault> {
+pub fn run_script<R>(rt: &R, alloc: Global, script: &[u8]) -> Result<Vec<u8>, RunFault>
+    ensures { IfErr result IsNoFailedWrite }
+{
     let replies = serve_frames(rt, alloc, ask_script(alloc, script)?)?;
     show_replies(alloc, &replies)
 }

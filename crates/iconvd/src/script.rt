@@ -1,5 +1,6 @@
 //! Scripts: requests as lines of text.
-ghost use Rattle.std.specs.Prelude.{◌≤◌, length, IfOk};
+ghost use Rattle.std.specs.Prelude.{◌≤◌, length, IfOk, IfErr};
+ghost use Rattle.iconvd.specs.Faults.{IsOfScript};
 
 use crate::fault::RunFault;
 use crate::lines::{decimal, hex_bytes, words};
@@ -157,7 +158,9 @@ fn is_skipped(line: &[u8]) -> bool {
 }
 
 /// The request frames of a script, in the order of its lines. Nothing of it is left at a fault.
-pub fn ask_script(alloc: Global, script: &[u8]) -> Result<Vec<u8>, RunFault> {
+pub fn ask_script(alloc: Global, script: &[u8]) -> Result<Vec<u8>, RunFault>
+    ensures { IfErr result IsOfScript }
+{
     let mut frames = Vec::new(alloc);
     let mut number: u32 = 0;
     for line in script.split(|byte| *byte == b'\n') {

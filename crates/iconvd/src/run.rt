@@ -1,5 +1,8 @@
 //! The command `run`.
-ghost use Rattle.std.specs.Prelude.{IfErr};
+ghost use Rattle.std.specs.Prelude.{IfOk, IfErr};
+ghost use Rattle.cv_world.specs.Tables.{no_tables};
+ghost use Rattle.cv_world.specs.Turn.{turn};
+ghost use Rattle.cv_loop.specs.Serving.{AnswersEach};
 ghost use Rattle.iconvd.specs.Faults.{IsNoFailedWrite};
 
 use crate::fault::RunFault;
@@ -7,29 +10,19 @@ use crate::input::{MAX_READS, read_all};
 use crate::output::write_all;
 use crate::replies::show_replies;
 use crate::script::ask_script;
-use cv_loop::{FromReader, ServeFault, ToWriter, serve_new};
+use cv_loop::serve_bytes;
 use std::alloc::Global;
 use std::io;
 
-/// Why serving in memory ended. A vector takes all that is written to it, unless memory lacks.
-fn fault_in_memory(fault: ServeFault) -> RunFault
-    ensures { IsNoFailedWrite result }
-{
-    match fault {
-        ServeFault::Write { written: _ } => RunFault::Memory,
-        other => RunFault::Serve(other),
-    }
-}
-
 /// Serves frames by a new world, and gives the replies. The frames are let go with it.
 fn serve_frames<R>(rt: &R, alloc: Global, frames: Vec<u8>) -> Result<Vec<u8>, RunFault>
-    ensures { IfErr result IsNoFailedWrite }
+    ensures answered { IfOk result (λ replies. AnswersEach turn no_tables frames.items replies.items) }
+    ensures err { IfErr result IsNoFailedWrite }
 {
-    let mut reader = FromReader::new(frames.as_slice());
-    let mut writer = ToWriter::new(Vec::new(alloc));
-    match serve_new(rt, alloc, &mut reader, &mut writer, MAX_READS) {
-        Ok(_) => Ok(writer.into_inner()),
-        Err(fault) => Err(fault_in_memory(fault)),
+    let (served, replies) = serve_bytes(rt, alloc, &frames, MAX_READS);
+    match served {
+        Ok(_) => Ok(replies),
+        Err(fault) => Err(RunFault::Serve(fault)),
     }
 }
 

@@ -8,7 +8,7 @@ ghost use Rattle.cv_world.specs.Tables.{empty_table, least_free, descriptor_at, 
 ghost use Rattle.cv_world.specs.Turn.{Closes, Convs, Resets};
 
 use crate::answer::Answer;
-use cv_base::{Codec, Memory};
+use cv_base::Memory;
 use cv_frame::{Bytes, MOST_BODY, Status};
 use cv_pivot::{Conversion, Outcome};
 use std::alloc::Global;
@@ -39,6 +39,7 @@ fn convert(
     room: u32,
     input: &[u8],
 ) -> Result<Output, Memory>
+    requires { length input.now ≤ MOST_BODY }
     ensures converted { IfOk result (λ r. IsConverted (encoding_reads conversion.old.from) (encoding_writes conversion.old.to) conversion.old.states input.now room
         (record { left = r.outcome.left; count = r.outcome.count; stop = r.outcome.stop; output = r.bytes.items; states = conversion.new.states })) }
     ensures same { (conversion.new.from ≡ conversion.old.from) × (conversion.new.to ≡ conversion.old.to) }
@@ -46,8 +47,7 @@ fn convert(
     ensures fits { IfOk result (λ r. length r.bytes.items ≤ room) }
     ensures err { OnErr result (conversion.new ≡ conversion.old) }
 {
-    let most = conversion.to.most_bytes();
-    let size = (room as usize).min(most.saturating_mul(input.len()));
+    let size = (room as usize).min(conversion.most_output(input.len()));
     let mut bytes = vec![in alloc; 0u8; size]?;
     let outcome = conversion.convert(input, &mut bytes);
     bytes.truncate(size - outcome.room_left);

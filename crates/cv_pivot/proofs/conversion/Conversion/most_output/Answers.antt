@@ -1,0 +1,7 @@
+use Rattle.std.proofs.Common.{◌*◌, ◌≤◌, ◌<◌, arith, refl}
+use Rattle.std.proofs.lemmas.Nat.{mul-le}
+use Rattle.cv_pivot.proofs.Enough.{most_output}
+use Rattle.cv_pivot.proofs.conversion.Conversion.most_output.Goals as goal
+
+pub returns : goal.returns
+returns c = most_output _ _ _ c.assert_valid.ensures.readable c.most_bytes.ensures.most c.args.len _ refl

@@ -1,13 +1,11 @@
 -- What the front of a rest says: whether more bytes make a frame of it.
-use Rattle.std.proofs.Common.{◌≡◌, ℕ, ◌+◌, ◌<◌, ◌≤◌, Bool, true, false, ltb, List, ◌++◌, length, take, drop, refl, sym, ap, ◌∙◌, arith, inl, inr, ◌⊎◌}
+use Rattle.std.proofs.Common.{◌≡◌, ℕ, ◌+◌, ◌≤◌, Bool, true, false, ltb, List, ◌++◌, length, drop, refl, ap, arith, inl, inr, ◌⊎◌}
 use Rattle.std.specs.Prelude.{◌||◌, replicate}
 use Rattle.std.specs.Int.{w32, from_be_bytes}
 use Rattle.std.proofs.lemmas.Bool.{ltb-false, le-ltb}
 use Rattle.std.proofs.lemmas.List.{take-append-le, length-append, length-replicate}
-use Rattle.cv_frame.specs.Message.{Message}
 use Rattle.cv_frame.specs.Cut.{number_at, message_at, front_of, IsRest, CanBeWhole, IsFrontOfRest, OneCut}
-use Rattle.cv_frame.specs.declared.reading.Frame.{Frame}
-use Rattle.cv_frame.specs.declared.reading.Frame.TheVariants.{Whole, Partial, Bad}
+use Rattle.cv_frame.specs.declared.reading.Frame.TheVariants.{Partial, Bad}
 use Rattle.cv_frame.proofs.Cuts.{either_false, front_by, front_short, cut_is, cut_only}
 
 -- whether a length is one that no frame has

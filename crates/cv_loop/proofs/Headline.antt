@@ -1,5 +1,5 @@
 -- What serving says where the source and the sink tell their bytes.
-use Rattle.std.proofs.Common.{◌≡◌, ℕ, List, [], ◌++◌, Option, Some, Result, refl, sym, ap, ◌∙◌, subst}
+use Rattle.std.proofs.Common.{◌≡◌, ◌≤◌, None, length, length-append, arith, ℕ, List, [], ◌++◌, Option, Some, Result, refl, sym, ap, ◌∙◌, subst}
 use Rattle.std.proofs.lemmas.List.{append-nil, append_cancel_right, append_cancel_left}
 use Rattle.std.specs.Io.KnownBytes.{Appends, Consumes}
 use Rattle.cv_frame.specs.Message.{Message}
@@ -74,6 +74,14 @@ module _ {Table : Type 0} {turn : Turn Table} where
 -- A source that has no bytes left gave all that it had.
 pub all_gave : (left : Option (List ℕ)) (bytes rest : List ℕ) → left ≡ Some bytes → rest ≡ [] → Gave left (Some rest) bytes
 all_gave left bytes rest is end = (rest, is ∙ ap Some (sym (append-nil bytes) ∙ ap (λ (x : List ℕ). bytes ++ x) (sym end)), refl)
+
+-- A source gives no more than it had.
+pub gave_few : (left left' : Option (List ℕ)) (bytes given : List ℕ) → left ≡ Some bytes → Consumes left left' given → length given ≤ length bytes
+gave_few None left' bytes given is p = absurd cc
+gave_few (Some b) None bytes given is p = absurd p
+gave_few (Some b) (Some rest) bytes given is p =
+    let same : b ≡ bytes = cc in
+    omega (arith, ap length p, ap length same, length-append given rest)
 
 -- A sink that began with nothing took all that it holds.
 pub all_took : (began held : Option (List ℕ)) (bytes : List ℕ) → began ≡ Some [] → Some bytes ≡ held → Took began held bytes

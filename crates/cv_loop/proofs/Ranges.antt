@@ -1,5 +1,5 @@
 -- A range of a buffer: what it is once bytes were put behind it, and once some of its front is forgotten.
-use Rattle.std.proofs.Common.{◌≡◌, ℕ, ◌+◌, ◌-◌, ◌≤◌, ◌==◌, nat_lt, false, List, [], ◌++◌, length, take, drop, sym, ap, ◌∙◌, append_assoc, arith}
+use Rattle.std.proofs.Common.{◌≡◌, ℕ, ◌+◌, ◌-◌, ◌≤◌, ◌==◌, nat_lt, ◌<◌, true, false, List, [], ◌++◌, length, take, drop, sym, ap, ◌∙◌, append_assoc, arith}
 use Rattle.std.specs.Prelude.{slice_range, not}
 use Rattle.std.proofs.lemmas.Bool.Decides.{nat_tests}
 use Rattle.std.proofs.lemmas.List.{length-take, length-drop, drop-drop, drop-take, drop-append-le, take-append-le, take-take}
@@ -58,6 +58,9 @@ range_lent b more rest over len s e n le within few room =
 -- where no bytes came none are taken
 pub none_taken : (n : ℕ) (bytes : List ℕ) → nat_lt 0 n ≡ false → take n bytes ≡ []
 none_taken n bytes none = let zero_is : n ≡ 0 = grind (arith, nat_tests, none) in ap (λ (k : ℕ). take k bytes) zero_is
+
+pub some_taken : (n : ℕ) (bytes : List ℕ) → n ≤ length bytes → nat_lt 0 n ≡ true → 0 < length (take n bytes)
+some_taken n bytes few some = let more : 0 < n = grind (arith, nat_tests, some) in omega (arith, length-take n bytes)
 
 pub is_none : (n : ℕ) → (n == 0) ≡ not (nat_lt 0 n)
 is_none n = grind (arith, nat_tests)

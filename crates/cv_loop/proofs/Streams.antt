@@ -1,5 +1,5 @@
 -- What stands between two reads, and what is left at each end.
-use Rattle.std.proofs.Common.{◌≡◌, ◌≢◌, ℕ, ◌+◌, true, false, Bool, List, [], ◌++◌, length, drop, Option, Result, Ok, Err, refl, sym, ap, subst, ◌∙◌, append_assoc, arith, length-append}
+use Rattle.std.proofs.Common.{◌≡◌, ◌≢◌, ℕ, ◌+◌, ◌<◌, ◌≤◌, true, false, Bool, List, [], ◌++◌, length, drop, Option, Result, Ok, Err, refl, sym, ap, subst, ◌∙◌, append_assoc, arith, length-append}
 use Rattle.std.specs.List.{AllByRecursion}
 use Rattle.std.proofs.lemmas.List.{append-nil}
 use Rattle.std.specs.Io.KnownBytes.{Consumes}
@@ -19,7 +19,7 @@ use Rattle.cv_loop.proofs.Batches.{all-append}
 use Rattle.cv_loop.proofs.Flows.{Answered-none, Answered-then, Broken-then, joined-append}
 
 -- All whole frames of what was given so far were answered, and less than a frame is held.
-pub record Standing {Table : Type 0} (turn : Turn Table) (s t : ℕ → Table) (left left' sunk sunk' : Option (List ℕ)) (held : List ℕ) (served written : ℕ) : Type 0 where
+pub record Standing {Table : Type 0} (turn : Turn Table) (s t : ℕ → Table) (left left' sunk sunk' : Option (List ℕ)) (held : List ℕ) (served written reads : ℕ) : Type 0 where
   pub given : List ℕ
   pub asked : List Message
   pub gave : Consumes left left' given
@@ -27,10 +27,11 @@ pub record Standing {Table : Type 0} (turn : Turn Table) (s t : ℕ → Table) (
   pub front : given ≡ joined asked ++ held
   pub answered : Answered turn s sunk sunk' asked t 0 written
   pub counts : served ≡ counted (length asked)
+  pub few : reads ≤ length given
   pub partial : front_of held ≡ at_front.Partial
 
 module _ {Table : Type 0} {turn : Turn Table} where
-  pub Standing-none : (s : ℕ → Table) (left sunk : Option (List ℕ)) → Standing turn s s left left sunk sunk [] 0 0
+  pub Standing-none : (s : ℕ → Table) (left sunk : Option (List ℕ)) → Standing turn s s left left sunk sunk [] 0 0 0
   Standing-none s left sunk = record {
     given = [];
     asked = [];
@@ -39,6 +40,7 @@ module _ {Table : Type 0} {turn : Turn Table} where
     front = refl;
     answered = Answered-none s sunk 0 (omega arith);
     counts = refl;
+    few = omega arith;
     partial = front_short [] (omega arith);
   }
 
@@ -50,11 +52,11 @@ front_on given held held' bytes rest asked more p q r =
 
 module _ {Table : Type 0} {turn : Turn Table} where
   -- one read, and all whole frames answered
-  pub Standing-more : (s t u : ℕ → Table) (left left' left'' sunk sunk' sunk'' : Option (List ℕ)) (held held' bytes : List ℕ) (used : ℕ) (k l a b : ℕ)
-      → Standing turn s t left left' sunk sunk' held k a → Consumes left' left'' bytes → held' ≡ held ++ bytes
+  pub Standing-more : (s t u : ℕ → Table) (left left' left'' sunk sunk' sunk'' : Option (List ℕ)) (held held' bytes : List ℕ) (used : ℕ) (k l a b r : ℕ)
+      → Standing turn s t left left' sunk sunk' held k a r → Consumes left' left'' bytes → held' ≡ held ++ bytes → 0 < length bytes
       → Drained turn t sunk' sunk'' held' used u a b k l → front_of (drop used held') ≡ at_front.Partial
-      → Standing turn s u left left'' sunk sunk'' (drop used held') l b
-  Standing-more s t u left left' left'' sunk sunk' sunk'' held held' bytes used k l a b p gave more q partial = record {
+      → Standing turn s u left left'' sunk sunk'' (drop used held') l b (r + 1)
+  Standing-more s t u left left' left'' sunk sunk' sunk'' held held' bytes used k l a b r p gave more some q partial = record {
     given = p.given ++ bytes;
     asked = p.asked ++ q.asked;
     gave = Consumes-then left left' left'' p.given bytes p.gave gave;
@@ -62,6 +64,7 @@ module _ {Table : Type 0} {turn : Turn Table} where
     front = front_on p.given held held' bytes (drop used held') p.asked q.asked p.front more q.front;
     answered = Answered-then s t u sunk sunk' sunk'' p.asked q.asked 0 a b p.answered q.answered;
     counts = q.counts ∙ ap (λ (n : ℕ). counted (n + length q.asked)) p.counts ∙ omega (arith, length-append p.asked q.asked);
+    few = omega (arith, p.few, some, length-append p.given bytes);
     partial = partial;
   }
 
@@ -95,11 +98,12 @@ module _ {Table : Type 0} {turn : Turn Table} where
       }
 
   -- Serving turn ends with all whole frames answered, after a read that brought nothing.
-  ends_standing : (result : Result Served ServeFault) (s t : ℕ → Table) (left left' left'' sunk sunk' : Option (List ℕ)) (held bytes : List ℕ) (k a pulls max : ℕ)
-      → Standing turn s t left left' sunk sunk' held k a → Consumes left' left'' bytes → bytes ≡ []
+  ends_standing : (result : Result Served ServeFault) (s t : ℕ → Table) (left left' left'' sunk sunk' : Option (List ℕ)) (held bytes : List ℕ) (k a r pulls max : ℕ)
+      → Standing turn s t left left' sunk sunk' held k a r → Consumes left' left'' bytes → bytes ≡ []
       → ((frames : List Message) (written : List ℕ) → k ≡ counted (length frames) → front_of held ≡ at_front.Partial → EndsWhere result frames held written pulls max)
+      → (result ≡ Err fault.TooManyReads → max ≤ r)
       → Serving turn result s t left left'' sunk sunk' pulls max
-  ends_standing result s t left left' left'' sunk sunk' held bytes k a pulls max p gave none ends =
+  ends_standing result s t left left' left'' sunk sunk' held bytes k a r pulls max p gave none ends enough =
       let w = whole s t sunk sunk' p.given held p.asked 0 a p.front p.fits (rest_partial held p.partial) p.answered in
       let same : p.given ++ bytes ≡ p.given = ap (λ (x : List ℕ). p.given ++ x) none ∙ append-nil p.given in
       record {
@@ -113,33 +117,34 @@ module _ {Table : Type 0} {turn : Turn Table} where
         all = λ u. w.all;
         ends = subst (λ (rest : List ℕ). EndsWhere result (messages_of p.given) rest p.answered.written pulls max) (sym w.same_rest)
             (ends (messages_of p.given) p.answered.written (p.counts ∙ ap (λ (ms : List Message). counted (length ms)) (sym w.frames)) p.partial);
+        enough = λ e. omega (arith, enough e, p.few);
       }
 
-  pub Serving-ok : (served : Served) (s t : ℕ → Table) (left left' left'' sunk sunk' : Option (List ℕ)) (held bytes : List ℕ) (k a pulls max : ℕ)
-      → Standing turn s t left left' sunk sunk' held k a → Consumes left' left'' bytes → bytes ≡ [] → held ≡ [] → served.requests ≡ k
+  pub Serving-ok : (served : Served) (s t : ℕ → Table) (left left' left'' sunk sunk' : Option (List ℕ)) (held bytes : List ℕ) (k a r pulls max : ℕ)
+      → Standing turn s t left left' sunk sunk' held k a r → Consumes left' left'' bytes → bytes ≡ [] → held ≡ [] → served.requests ≡ k
       → Serving turn (Ok served) s t left left'' sunk sunk' pulls max
-  Serving-ok served s t left left' left'' sunk sunk' held bytes k a pulls max p gave none empty count =
-      ends_standing (Ok served) s t left left' left'' sunk sunk' held bytes k a pulls max p gave none (λ frames written counts partial. (empty, count ∙ counts))
+  Serving-ok served s t left left' left'' sunk sunk' held bytes k a r pulls max p gave none empty count =
+      ends_standing (Ok served) s t left left' left'' sunk sunk' held bytes k a r pulls max p gave none (λ frames written counts partial. (empty, count ∙ counts)) (λ e. absurd cc)
 
-  pub Serving-truncated : (s t : ℕ → Table) (left left' left'' sunk sunk' : Option (List ℕ)) (held bytes : List ℕ) (k a pulls max : ℕ)
-      → Standing turn s t left left' sunk sunk' held k a → Consumes left' left'' bytes → bytes ≡ [] → held ≢ []
+  pub Serving-truncated : (s t : ℕ → Table) (left left' left'' sunk sunk' : Option (List ℕ)) (held bytes : List ℕ) (k a r pulls max : ℕ)
+      → Standing turn s t left left' sunk sunk' held k a r → Consumes left' left'' bytes → bytes ≡ [] → held ≢ []
       → Serving turn (Err fault.TruncatedFrame) s t left left'' sunk sunk' pulls max
-  Serving-truncated s t left left' left'' sunk sunk' held bytes k a pulls max p gave none some =
-      ends_standing (Err fault.TruncatedFrame) s t left left' left'' sunk sunk' held bytes k a pulls max p gave none (λ frames written counts partial. (some, partial))
+  Serving-truncated s t left left' left'' sunk sunk' held bytes k a r pulls max p gave none some =
+      ends_standing (Err fault.TruncatedFrame) s t left left' left'' sunk sunk' held bytes k a r pulls max p gave none (λ frames written counts partial. (some, partial)) (λ e. absurd cc)
 
-  pub Serving-reads : (s t : ℕ → Table) (left left' sunk sunk' : Option (List ℕ)) (held : List ℕ) (k a pulls max : ℕ)
-      → Standing turn s t left left' sunk sunk' held k a → pulls ≡ max
+  pub Serving-reads : (s t : ℕ → Table) (left left' sunk sunk' : Option (List ℕ)) (held : List ℕ) (k a r pulls max : ℕ)
+      → Standing turn s t left left' sunk sunk' held k a r → pulls ≡ max → max ≡ r
       → Serving turn (Err fault.TooManyReads) s t left left' sunk sunk' pulls max
-  Serving-reads s t left left' sunk sunk' held k a pulls max p enough =
-      ends_standing (Err fault.TooManyReads) s t left left' left' sunk sunk' held [] k a pulls max p (Consumes-none left') refl (λ frames written counts partial. (partial, enough))
+  Serving-reads s t left left' sunk sunk' held k a r pulls max p enough all =
+      ends_standing (Err fault.TooManyReads) s t left left' left' sunk sunk' held [] k a r pulls max p (Consumes-none left') refl (λ frames written counts partial. (partial, enough)) (λ e. omega (arith, all))
 
   -- a read that failed, or for whose bytes there was no memory
-  pub Serving-unread : (f : ServeFault) (s t : ℕ → Table) (left left' left'' sunk sunk' : Option (List ℕ)) (held held' bytes : List ℕ) (k a : ℕ) (end failed : Bool) (pulls max : ℕ)
-      → Standing turn s t left left' sunk sunk' held k a → Consumes left' left'' bytes → ReadsMore (Err f) held held' bytes end failed
+  pub Serving-unread : (f : ServeFault) (s t : ℕ → Table) (left left' left'' sunk sunk' : Option (List ℕ)) (held held' bytes : List ℕ) (k a r : ℕ) (end failed : Bool) (pulls max : ℕ)
+      → Standing turn s t left left' sunk sunk' held k a r → Consumes left' left'' bytes → ReadsMore (Err f) held held' bytes end failed
       → Serving turn (Err f) s t left left'' sunk sunk' pulls max
-  Serving-unread fault.Read s t left left' left'' sunk sunk' held held' bytes k a end failed pulls max p gave why =
-      ends_standing (Err fault.Read) s t left left' left'' sunk sunk' held bytes k a pulls max p gave why.0 (λ frames written counts partial. partial)
-  Serving-unread fault.Memory s t left left' left'' sunk sunk' held held' bytes k a end failed pulls max p gave why =
+  Serving-unread fault.Read s t left left' left'' sunk sunk' held held' bytes k a r end failed pulls max p gave why =
+      ends_standing (Err fault.Read) s t left left' left'' sunk sunk' held bytes k a r pulls max p gave why.0 (λ frames written counts partial. partial) (λ e. absurd cc)
+  Serving-unread fault.Memory s t left left' left'' sunk sunk' held held' bytes k a r end failed pulls max p gave why =
       let e = cut-joined p.asked (held ++ bytes) p.fits in
       let front : p.given ++ bytes ≡ joined p.asked ++ (held ++ bytes) = ap (λ (x : List ℕ). x ++ bytes) p.front ∙ append_assoc (joined p.asked) held bytes in
       let all : messages_of (p.given ++ bytes) ≡ p.asked ++ messages_of (held ++ bytes) = ap messages_of front ∙ ap (λ (c : Cut). c.messages) e in
@@ -154,11 +159,12 @@ module _ {Table : Type 0} {turn : Turn Table} where
             (Progress-later turn s t p.asked [] (messages_of (held ++ bytes)) p.answered.written [] p.answered.wrote.ran);
         all = λ u. absurd u;
         ends = tt;
+        enough = λ e. absurd cc;
       }
-  Serving-unread fault.TruncatedFrame s t left left' left'' sunk sunk' held held' bytes k a end failed pulls max p gave why = absurd why
-  Serving-unread (fault.BadLength n) s t left left' left'' sunk sunk' held held' bytes k a end failed pulls max p gave why = absurd why
-  Serving-unread (fault.Write n) s t left left' left'' sunk sunk' held held' bytes k a end failed pulls max p gave why = absurd why
-  Serving-unread fault.TooManyReads s t left left' left'' sunk sunk' held held' bytes k a end failed pulls max p gave why = absurd why
+  Serving-unread fault.TruncatedFrame s t left left' left'' sunk sunk' held held' bytes k a r end failed pulls max p gave why = absurd why
+  Serving-unread (fault.BadLength n) s t left left' left'' sunk sunk' held held' bytes k a r end failed pulls max p gave why = absurd why
+  Serving-unread (fault.Write n) s t left left' left'' sunk sunk' held held' bytes k a r end failed pulls max p gave why = absurd why
+  Serving-unread fault.TooManyReads s t left left' left'' sunk sunk' held held' bytes k a r end failed pulls max p gave why = absurd why
 
   -- a run that broke off within what was held
   broken_off : (s u : ℕ → Table) (sunk sunk' : Option (List ℕ)) (given rest : List ℕ) (asked : List Message) (a : ℕ) (f : ServeFault) (failed : Bool) → given ≡ joined asked ++ rest → AllByRecursion FitsFrame asked
@@ -168,10 +174,10 @@ module _ {Table : Type 0} {turn : Turn Table} where
       subst (λ (ms : List Message). Progress turn s ms (b.later ++ messages_of rest) b.written b.unwritten u) (sym all)
       (Progress-later turn s u asked b.later (messages_of rest) b.written b.unwritten b.wrote.ran)
 
-  pub Serving-stops : (f : ServeFault) (s t u : ℕ → Table) (left left' left'' sunk sunk' sunk'' : Option (List ℕ)) (held held' bytes : List ℕ) (k a : ℕ) (failed : Bool) (pulls max : ℕ)
-      → Standing turn s t left left' sunk sunk' held k a → Consumes left' left'' bytes → held' ≡ held ++ bytes → Stopped turn f t sunk' sunk'' held' u a failed
+  pub Serving-stops : (f : ServeFault) (s t u : ℕ → Table) (left left' left'' sunk sunk' sunk'' : Option (List ℕ)) (held held' bytes : List ℕ) (k a r : ℕ) (failed : Bool) (pulls max : ℕ)
+      → Standing turn s t left left' sunk sunk' held k a r → Consumes left' left'' bytes → held' ≡ held ++ bytes → Stopped turn f t sunk' sunk'' held' u a failed
       → Serving turn (Err f) s u left left'' sunk sunk'' pulls max
-  Serving-stops (fault.BadLength n) s t u left left' left'' sunk sunk' sunk'' held held' bytes k a failed pulls max p gave more q =
+  Serving-stops (fault.BadLength n) s t u left left' left'' sunk sunk' sunk'' held held' bytes k a r failed pulls max p gave more q =
       let front = front_on p.given held held' bytes q.rest p.asked q.asked p.front more q.front in
       let answered = Answered-then s t u sunk sunk' sunk'' p.asked q.asked 0 a q.stops.0 p.answered q.stops.1 in
       let w = whole s u sunk sunk'' (p.given ++ bytes) q.rest (p.asked ++ q.asked) 0 q.stops.0 front (all-append p.asked q.asked p.fits q.fits) (rest_bad q.rest n q.stops.2) answered in
@@ -185,8 +191,9 @@ module _ {Table : Type 0} {turn : Turn Table} where
         ran = w.ran;
         all = λ u. w.all;
         ends = ap front_of w.same_rest ∙ q.stops.2;
+        enough = λ e. absurd cc;
       }
-  Serving-stops (fault.Write n) s t u left left' left'' sunk sunk' sunk'' held held' bytes k a failed pulls max p gave more q =
+  Serving-stops (fault.Write n) s t u left left' left'' sunk sunk' sunk'' held held' bytes k a r failed pulls max p gave more q =
       let front = front_on p.given held held' bytes q.rest p.asked q.asked p.front more q.front in
       let b = Broken-then s t u sunk sunk' sunk'' p.asked q.asked 0 a (fault.Write n) failed p.answered q.stops in
       record {
@@ -199,8 +206,9 @@ module _ {Table : Type 0} {turn : Turn Table} where
         ran = broken_off s u sunk sunk'' (p.given ++ bytes) q.rest (p.asked ++ q.asked) 0 (fault.Write n) failed front (all-append p.asked q.asked p.fits q.fits) b;
         all = λ u. absurd u;
         ends = from_none n (length b.written) b.why.0;
+        enough = λ e. absurd cc;
       }
-  Serving-stops fault.Memory s t u left left' left'' sunk sunk' sunk'' held held' bytes k a failed pulls max p gave more q =
+  Serving-stops fault.Memory s t u left left' left'' sunk sunk' sunk'' held held' bytes k a r failed pulls max p gave more q =
       let front = front_on p.given held held' bytes q.rest p.asked q.asked p.front more q.front in
       let b = Broken-then s t u sunk sunk' sunk'' p.asked q.asked 0 a fault.Memory failed p.answered q.stops in
       record {
@@ -213,10 +221,11 @@ module _ {Table : Type 0} {turn : Turn Table} where
         ran = broken_off s u sunk sunk'' (p.given ++ bytes) q.rest (p.asked ++ q.asked) 0 fault.Memory failed front (all-append p.asked q.asked p.fits q.fits) b;
         all = λ u. absurd u;
         ends = tt;
+        enough = λ e. absurd cc;
       }
-  Serving-stops fault.TruncatedFrame s t u left left' left'' sunk sunk' sunk'' held held' bytes k a failed pulls max p gave more q = absurd q.stops
-  Serving-stops fault.Read s t u left left' left'' sunk sunk' sunk'' held held' bytes k a failed pulls max p gave more q = absurd q.stops
-  Serving-stops fault.TooManyReads s t u left left' left'' sunk sunk' sunk'' held held' bytes k a failed pulls max p gave more q = absurd q.stops
+  Serving-stops fault.TruncatedFrame s t u left left' left'' sunk sunk' sunk'' held held' bytes k a r failed pulls max p gave more q = absurd q.stops
+  Serving-stops fault.Read s t u left left' left'' sunk sunk' sunk'' held held' bytes k a r failed pulls max p gave more q = absurd q.stops
+  Serving-stops fault.TooManyReads s t u left left' left'' sunk sunk' sunk'' held held' bytes k a r failed pulls max p gave more q = absurd q.stops
 
 -- what a read that came to the end, or didn't, says
 pub at_the_end : (more : Bool) (old new bytes : List ℕ) (end failed : Bool) → more ≡ false → ReadsMore (Ok more) old new bytes end failed
@@ -224,11 +233,11 @@ pub at_the_end : (more : Bool) (old new bytes : List ℕ) (end failed : Bool) �
 at_the_end true old new bytes end failed e r = absurd cc
 at_the_end false old new bytes end failed e r =
     let none = r.1 refl in
-    (none, r.0 ∙ ap (λ (x : List ℕ). old ++ x) none ∙ append-nil old, r.2, r.3)
+    (none, r.0 ∙ ap (λ (x : List ℕ). old ++ x) none ∙ append-nil old, r.3, r.4)
 
 pub before_the_end : (more : Bool) (old new bytes : List ℕ) (end failed : Bool) → more ≡ true → ReadsMore (Ok more) old new bytes end failed
-    → (new ≡ old ++ bytes) × (end ≡ false) × (failed ≡ false)
-before_the_end true old new bytes end failed e r = (r.0, r.2, r.3)
+    → (new ≡ old ++ bytes) × (end ≡ false) × (failed ≡ false) × (0 < length bytes)
+before_the_end true old new bytes end failed e r = (r.0, r.3, r.4, r.2 refl)
 before_the_end false old new bytes end failed e r = absurd cc
 
 -- what the source and the sink say after a read that broke serving off

@@ -120,3 +120,5 @@ pub record Serving {Table : Type 0} (turn : Turn Table) (result : Result Served 
   -- none is later and nothing is unwritten, if neither a write nor want of memory broke it off
   pub all : IsUnbroken (ending_of result) → IsAll given later unwritten
   pub ends : EndsWhere result (messages_of given) (rest_of given) written pulls max_reads
+  -- It gave up reading only where each of that many pulls brought a byte.
+  pub enough : result ≡ Err fault.TooManyReads → max_reads ≤ length given

@@ -1,6 +1,6 @@
 //! Serving by a world of one's own.
 
-ghost use Rattle.std.specs.Prelude.{◌≡◌, ℕ, List, false, IsTrue};
+ghost use Rattle.std.specs.Prelude.{◌≡◌, ◌≤◌, ℕ, List, false, IsTrue, Err, length};
 ghost use Rattle.cv_world.specs.Tables.{no_tables};
 ghost use Rattle.cv_world.specs.Turn.{turn};
 ghost use Rattle.cv_world.specs.declared.table.Table.{Table};
@@ -41,6 +41,7 @@ pub fn serve_new<R, S: Source, W: Sink>(
 /// Where writing into memory failed, memory lacked.
 fn in_memory(served: Result<Served, ServeFault>) -> Result<Served, ServeFault>
     ensures no_write { write_failed (ending_of result) ≡ false }
+    ensures too_many { result ≡ Err ServeFault.TooManyReads → served ≡ Err ServeFault.TooManyReads }
     ensures end { met_the_end (ending_of result) ≡ met_the_end (ending_of served) }
     ensures unbroken { IsUnbroken (ending_of result) → IsUnbroken (ending_of served) }
 {
@@ -60,6 +61,8 @@ pub fn serve_bytes<R>(
 ) -> (Result<Served, ServeFault>, Vec<u8>)
     // To the end, unless as many reads were made as may be or a length was bad.
     ensures headline { IsTrue (met_the_end (ending_of result.0)) → IsHeadline turn (ending_of result.0) no_tables frames.now result.1.items }
+    // It gave up reading only where the frames have a byte for each read.
+    ensures enough { result.0 ≡ Err ServeFault.TooManyReads → max_reads ≤ length frames.now }
     ensures no_write { write_failed (ending_of result.0) ≡ false }
 {
     let mut reader = FromReader::new(frames);

@@ -1,5 +1,5 @@
 -- What feeds come to doesn't depend on how the text and the room were cut.
-use Rattle.std.proofs.Common.{◌≡◌, ℕ, ◌+◌, ◌-◌, ◌<◌, ◌≤◌, List, [], ◌∷◌, ◌++◌, length, drop, refl, sym, ◌∙◌, ap, arith, add-zero, append_assoc}
+use Rattle.std.proofs.Common.{◌≡◌, ℕ, ◌+◌, ◌<◌, ◌≤◌, List, [], ◌∷◌, ◌++◌, length, drop, refl, sym, ◌∙◌, ap, arith, add-zero}
 use Rattle.std.proofs.lemmas.List.{drop-drop}
 use Rattle.cv_base.specs.Items.{Taken, ItemRelation, Begins, NoneStands}
 use Rattle.cv_base.specs.Codecs.{Writing, IsReadable}
@@ -8,7 +8,7 @@ use Rattle.cv_base.specs.declared.state.ReadState.{ReadState}
 use Rattle.cv_base.specs.declared.state.WriteState.{WriteState}
 use Rattle.cv_base.proofs.ChainLaws.{used_bytes-append, read_state-append, output_of-append, IsChain-append}
 use Rattle.cv_base.proofs.Front.{Begins-drop, item_stays, none_stays}
-use Rattle.cv_pivot.specs.Conversions.{StopsAt, Converted, IsConverted}
+use Rattle.cv_pivot.specs.Conversions.{StopsAt, IsConverted}
 use Rattle.cv_pivot.specs.Cuts.{Call, used_of, IsFeed, IsFed, Total, total, EndsIll, IsFront, DoesNotDependOnCuts}
 use Rattle.cv_pivot.specs.declared.outcome.States.{States}
 use Rattle.cv_pivot.specs.declared.outcome.Stop.TheVariants as stop

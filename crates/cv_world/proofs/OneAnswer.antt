@@ -8,14 +8,14 @@ use Rattle.cv_pivot.specs.declared.encoding.Encoding.{Encoding}
 use Rattle.cv_pivot.specs.declared.outcome.Stop.{Stop}
 use Rattle.cv_pivot.specs.declared.outcome.Stop.TheVariants as stop
 use Rattle.cv_pivot.proofs.Enough.{one_conversion}
-use Rattle.cv_machine.specs.Machine.{HasOneAnswer, IsOneAnswer, When, no_memory}
+use Rattle.cv_machine.specs.Machine.{IsOneAnswer, When, no_memory}
 use Rattle.cv_frame.specs.Status.{status_number}
 use Rattle.cv_frame.specs.declared.status.Status.TheVariants as status
 use Rattle.cv_machine.proofs.Outcomes.{same_outcome}
 use Rattle.cv_world.specs.Actions.{Action, Open, Conv, Reset, Close, Bad, action_of}
 use Rattle.cv_world.specs.Answers.{answer_code, answer_body, stop_status, most_room}
 use Rattle.cv_world.specs.Tables.{least_free, descriptor_at}
-use Rattle.cv_world.specs.Turn.{Does, Binds, Opens, IsConversion, Convs, Restarts, Resets, Closes, Acts, MayTurn, turn, with_states}
+use Rattle.cv_world.specs.Turn.{Does, Binds, Opens, IsConversion, Convs, Resets, Closes, Acts, turn, with_states}
 use Rattle.cv_world.specs.declared.answer.Answer.{Answer}
 use Rattle.cv_world.specs.declared.answer.Answer.TheVariants as answers
 use Rattle.cv_world.specs.declared.table.Table.{Table}

@@ -75,7 +75,8 @@ pub record Stopped {Table : Type 0} (turn : Turn Table) (f : ServeFault) (old : 
 
 -- what one read brought, and what the source says after it: whether its end was met, and whether it has failed
 abbrev pub ReadsMore : Result Bool ServeFault → List ℕ → List ℕ → List ℕ → Bool → Bool → Type 0
-ReadsMore (Ok more) old new bytes end failed = (new ≡ old ++ bytes) × (more ≡ false → bytes ≡ []) × (end ≡ not more) × (failed ≡ false)
+ReadsMore (Ok more) old new bytes end failed =
+    (new ≡ old ++ bytes) × (more ≡ false → bytes ≡ []) × (more ≡ true → 0 < length bytes) × (end ≡ not more) × (failed ≡ false)
 ReadsMore (Err fault.Read) old new bytes end failed = (bytes ≡ []) × (end ≡ false) × (failed ≡ true)
 ReadsMore (Err fault.Memory) old new bytes end failed = (end ≡ false) × (failed ≡ false)
 ReadsMore (Err fault.TruncatedFrame) old new bytes end failed = ⊥

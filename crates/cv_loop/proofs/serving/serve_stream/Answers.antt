@@ -24,7 +24,7 @@ returns-in_err-read_more g c =
     let b = c.in_err-read_more.ensures.bytes in
     let says = unread_says _ _ _ _ _ _ _ c.loop-read.invariant.writes b.2 in
     rw (p.1, p.2) (record {
-      serves = Serving-unread _ _ _ _ _ _ _ _ _ _ b.0 _ _ _ _ _ _ c.loop-read.invariant.stands b.1 b.2;
+      serves = Serving-unread _ _ _ _ _ _ _ _ _ _ b.0 _ _ _ _ _ _ _ c.loop-read.invariant.stands b.1 b.2;
       ends = record {
         met_end = says.0;
         none_left = λ t. absurd (differ (sym t ∙ says.3));
@@ -41,7 +41,7 @@ returns-then-is_empty g c =
     let e = at_the_end _ _ _ _ _ _ c.if-not-branch.true b.2 in
     let empty : c.read_more.new.self ≡ [] = nil_from_length _ (grind (arith, nat_tests)) in
     record {
-      serves = Serving-ok _ _ _ _ _ _ _ _ _ b.0 _ _ _ _ c.loop-read.invariant.stands b.1 e.0 (sym e.1 ∙ empty) refl;
+      serves = Serving-ok _ _ _ _ _ _ _ _ _ b.0 _ _ _ _ _ c.loop-read.invariant.stands b.1 e.0 (sym e.1 ∙ empty) refl;
       ends = record {
         met_end = e.2;
         none_left = λ t. c.in_ok-read_more.ensures.end c.if-not-branch.true;
@@ -58,7 +58,7 @@ returns-then-not-branch g c =
     let e = at_the_end _ _ _ _ _ _ c.if-not-branch.true b.2 in
     let some : c.loop-read.held ≢ [] = λ (h : c.loop-read.held ≡ []). let len : length c.read_more.new.self ≡ 0 = ap length (e.1 ∙ h) in grind (arith, nat_tests, len) in
     record {
-      serves = Serving-truncated _ _ _ _ _ _ _ _ b.0 _ _ _ _ c.loop-read.invariant.stands b.1 e.0 some;
+      serves = Serving-truncated _ _ _ _ _ _ _ _ b.0 _ _ _ _ _ c.loop-read.invariant.stands b.1 e.0 some;
       ends = record {
         met_end = e.2;
         none_left = λ t. c.in_ok-read_more.ensures.end c.if-not-branch.true;
@@ -76,7 +76,7 @@ returns-in_err-used g c =
     let more = before_the_end _ _ _ _ _ _ c.if-not-branch.false b.2 in
     let says = stopped_says _ _ _ _ _ _ _ _ _ _ more.1 more.2 c.in_err-used.ensures.err in
     rw (p.1, p.2) (record {
-      serves = Serving-stops _ _ _ _ _ _ _ _ _ _ _ _ b.0 _ _ _ _ _ c.loop-read.invariant.stands b.1 (c.as_slice-in-loop-read.ensures ∙ more.0) c.in_err-used.ensures.err;
+      serves = Serving-stops _ _ _ _ _ _ _ _ _ _ _ _ b.0 _ _ _ _ _ _ c.loop-read.invariant.stands b.1 (c.as_slice-in-loop-read.ensures ∙ more.0) c.in_err-used.ensures.err;
       ends = record {
         met_end = says.0;
         none_left = λ t. absurd (differ (sym t ∙ says.3));
@@ -97,8 +97,8 @@ loop-read-preserved g c =
       reads = more.2;
       writes = c.in_ok-used.ensures.works;
       ready = c.in_ok-used.ensures.ready;
-      stands = rw (c.forget.ensures, ← c.as_slice-in-loop-read.ensures) (Standing-more _ _ _ _ _ _ _ _ _ _ _ b.0 _ _ _ _ _ c.loop-read.invariant.stands b.1 (c.as_slice-in-loop-read.ensures ∙ more.0) c.in_ok-used.ensures.ok c.in_ok-used.ensures.end);
+      stands = rw (c.forget.ensures, ← c.as_slice-in-loop-read.ensures) (Standing-more _ _ _ _ _ _ _ _ _ _ _ b.0 _ _ _ _ _ _ c.loop-read.invariant.stands b.1 (c.as_slice-in-loop-read.ensures ∙ more.0) more.3 c.in_ok-used.ensures.ok c.in_ok-used.ensures.end);
     }
 
 pub returns-clause-serves : goal.returns-clause-serves
-returns-clause-serves g c = Serving-reads _ _ _ _ _ _ _ _ _ _ _ c.loop-read.invariant.stands (omega (arith, c.loop-read.invariant.pulls))
+returns-clause-serves g c = Serving-reads _ _ _ _ _ _ _ _ _ _ _ _ c.loop-read.invariant.stands (omega (arith, c.loop-read.invariant.pulls)) (omega arith)

@@ -1,5 +1,4 @@
-use Rattle.std.proofs.Common.{◌*◌, ◌≤◌, ◌<◌, arith, refl}
-use Rattle.std.proofs.lemmas.Nat.{mul-le}
+use Rattle.std.proofs.Common.{refl}
 use Rattle.cv_pivot.proofs.Enough.{most_output}
 use Rattle.cv_pivot.proofs.conversion.Conversion.most_output.Goals as goal
 

@@ -11,5 +11,5 @@ returns-clause-headline g c t =
 pub returns-clause-enough : goal.returns-clause-enough
 returns-clause-enough g c e =
     let s = c.serve_new-result.ensures.serves.1 in
-    let few : length s.given ≤ length c.args.frames.now = gave_few _ _ c.args.frames.now s.given c.new-reader.ensures.left s.gave in
+    let few : length s.given ≤ length c.args.frames.now = gave_few _ (Some c.serve_new-result.new.reader.reader.now) c.args.frames.now s.given c.new-reader.ensures.left s.gave in
     omega (arith, s.enough (c.in_memory.ensures.too_many e), few)

@@ -233,7 +233,8 @@ fn put_little(c: Scalar, out: &mut [u8], at: usize, next: WriteState) -> Put
 #[inline]
 fn put_marked(c: Scalar, out: &mut [u8], at: usize) -> Put
     requires { at ≤ length out.old }
-    ensures { PutsAt (Some (utf16.big_mark ++ utf16.big c, WriteState.Marked)) out.old at result out.new }
+    ensures { PutsAt (Some (utf16.big_mark ++ utf16.big c, WriteState.Marked))
+        out.old at result out.new }
 {
     let value = c.value();
     let room = out.len() - at;

@@ -181,7 +181,8 @@ fn put_little(c: Scalar, out: &mut [u8], at: usize, next: WriteState) -> Put
 #[inline]
 fn put_marked(c: Scalar, out: &mut [u8], at: usize) -> Put
     requires { at ≤ length out.old }
-    ensures { PutsAt (Some (utf32.big_mark ++ utf32.big c, WriteState.Marked)) out.old at result out.new }
+    ensures { PutsAt (Some (utf32.big_mark ++ utf32.big c, WriteState.Marked))
+        out.old at result out.new }
 {
     if out.len() - at < 8 {
         return Put::NoRoom;

@@ -4,12 +4,13 @@ use Rattle.cv_base.specs.Items.{taken, Begins, Stands, IsNext}
 use Rattle.cv_base.specs.declared.state.ReadState.{ReadState}
 use Rattle.cv_base.specs.declared.state.ReadState.TheVariants as read
 use Rattle.cv_base.specs.declared.item.Item.{Item}
+use Rattle.cv_utf.specs.Orders.{mark}
 use Rattle.cv_utf.specs.Private.AnyState.{always_gives, always_first}
 use Rattle.cv_utf.specs.Utf16.{utf16}
 use Rattle.cv_utf.proofs.First.{grows, first_from, big_mark_stands, little_mark_stands}
 
 -- the front of a mark is that of U+FEFF or U+FFFE
-like_big : (s t : ReadState) (x : List ℕ) → (Begins utf16.big_mark x → ⊥) → (Begins utf16.little_mark x → ⊥) → (i : Item) → IsNext (always_gives utf16.big read.Big) s x i → IsNext (always_first utf16) t x i
+like_big : (s t : ReadState) (x : List ℕ) → (Begins (utf16.big mark) x → ⊥) → (Begins (utf16.little mark) x → ⊥) → (i : Item) → IsNext (always_gives utf16.big read.Big) s x i → IsNext (always_first utf16) t x i
 like_big s t x big little = first_from utf16 s t x big little (grows utf16 s x 0xFEFF (omega arith, λ h. omega arith)) (grows utf16 s x 0xFFFE (omega arith, λ h. omega arith))
 
 begins_two : (a b : ℕ) (x : List ℕ) → Begins (a ∷ b ∷ []) x → (2 ≤ length x) × (get_or x 0 0 ≡ a) × (get_or x 1 0 ≡ b)

@@ -99,14 +99,11 @@ marks_apart : (text : List ℕ) → Begins (0xfe ∷ 0xff ∷ []) text → Begin
 marks_apart [] f g = f
 marks_apart (t ∷ text) f g = omega (arith, f.0, g.0)
 
--- UTF-16 is an encoding form: U+FEFF and U+FFFE are the characters that its marks would be
+-- UTF-16 is an encoding form: U+FFFE is the big-endian character that its little-endian mark would be
 pub utf16_is_form : IsForm utf16
 utf16_is_form = record {
   big_unique = big_is_unique;
   little_unique = little_is_unique;
-  big_some = omega arith;
-  little_some = omega arith;
   marks = marks_apart;
-  big_alone = λ text c s f g. ap (units big_unit) (big_is_unique.one text c 0xFEFF s (omega arith, λ h. omega arith) f g);
   little_alone = λ text c s f g. ap (units big_unit) (big_is_unique.one text c 0xFFFE s (omega arith, λ h. omega arith) f g);
 }

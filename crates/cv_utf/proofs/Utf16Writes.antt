@@ -8,7 +8,7 @@ use Rattle.cv_base.specs.declared.ascii_form.AsciiForm.TheVariants.{TwoBig, TwoL
 use Rattle.cv_base.specs.declared.state.ReadState.TheVariants as read
 use Rattle.cv_base.specs.declared.state.WriteState.TheVariants as write
 use Rattle.cv_utf.specs.declared.order.Order.TheVariants.{Be, Le, Marked}
-use Rattle.cv_utf.specs.Orders.{reads_in, writes_in}
+use Rattle.cv_utf.specs.Orders.{reads_in, writes_in, mark}
 use Rattle.cv_base.specs.Units.{high_unit, low_unit}
 use Rattle.cv_utf.specs.Utf16.{big_unit, little_unit, units, utf16}
 use Rattle.cv_utf.proofs.Utf16Laws.{one_unit, two_units}
@@ -20,7 +20,7 @@ units_few unit c two = elim (cases_lt c 0x10000) [
   | inr l ↦ rw (two_units unit c l) (omega (arith, two (high_unit c), two (low_unit c), length-append (unit (high_unit c)) (unit (low_unit c))))
 ]
 
-marked_few : (c : ℕ) → length (utf16.big_mark ++ utf16.big c) ≤ 6
+marked_few : (c : ℕ) → length (utf16.big mark ++ utf16.big c) ≤ 6
 marked_few c = omega (arith, units_few big_unit c (λ u. refl))
 
 -- in each order

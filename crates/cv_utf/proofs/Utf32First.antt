@@ -10,7 +10,7 @@ use Rattle.cv_base.specs.declared.state.ReadState.TheVariants as read
 use Rattle.cv_base.specs.declared.item.Item.{Item}
 use Rattle.cv_base.specs.declared.item.Item.TheVariants.{Incomplete}
 use Rattle.cv_base.proofs.Front.{Begins-agree, Begins-append}
-use Rattle.cv_utf.specs.Orders.{reads_first}
+use Rattle.cv_utf.specs.Orders.{reads_first, mark}
 use Rattle.cv_utf.specs.Private.AnyState.{always_gives, always_first}
 use Rattle.cv_utf.specs.Utf32.{utf32}
 use Rattle.cv_utf.proofs.First.{grows, first_from, big_mark_stands, little_mark_stands}
@@ -27,7 +27,7 @@ begins_test a b r e =
     (λ h. subst (λ w. Begins a w) (sym (both.0 h)) (Begins-append a (drop (length a) b)), λ h. both.1 (drop (length a) b) (append-Begins a b h))
 
 -- the front of the big-endian mark is that of U+FEFF
-like_big : (s t : ReadState) (x : List ℕ) → (Begins utf32.big_mark x → ⊥) → (Begins utf32.little_mark x → ⊥) → (Begins x utf32.little_mark → ⊥) → (i : Item) → IsNext (always_gives utf32.big read.Big) s x i → IsNext (always_first utf32) t x i
+like_big : (s t : ReadState) (x : List ℕ) → (Begins (utf32.big mark) x → ⊥) → (Begins (utf32.little mark) x → ⊥) → (Begins x (utf32.little mark) → ⊥) → (i : Item) → IsNext (always_gives utf32.big read.Big) s x i → IsNext (always_first utf32) t x i
 like_big s t x big little front = first_from utf32 s t x big little (grows utf32 s x 0xFEFF (omega arith, λ h. omega arith)) (λ f. absurd (front f))
 
 four_begin : (a b c d : ℕ) (x : List ℕ) → 4 ≤ length x → get_or x 0 0 ≡ a → get_or x 1 0 ≡ b → get_or x 2 0 ≡ c → get_or x 3 0 ≡ d → Begins (a ∷ b ∷ c ∷ d ∷ []) x
@@ -52,15 +52,15 @@ four_long w i h = elim h [
 ]
 
 -- the front of the little-endian mark
-pub front_incomplete : (s : ReadState) (x : List ℕ) → 0 < length x → length x < 4 → Begins x utf32.little_mark → IsNext (always_first utf32) s x Incomplete
+pub front_incomplete : (s : ReadState) (x : List ℕ) → 0 < length x → length x < 4 → Begins x (utf32.little mark) → IsNext (always_first utf32) s x Incomplete
 front_incomplete s x n l front = (
   n,
   λ i p. omega (arith, four_long p.bytes i p.is_item, (Begins-agree p.bytes x p.front).0),
-  record { bytes = utf32.little_mark; item = taken 4 None read.Little; is_item = inr (inl (refl, refl)); front = front },
+  record { bytes = (utf32.little mark); item = taken 4 None read.Little; is_item = inr (inl (refl, refl)); front = front },
 )
 
 -- where no mark stands
-pub short : (s t : ReadState) (x : List ℕ) (i : Item) → length x < 4 → (Begins x utf32.little_mark → ⊥) → IsNext (always_gives utf32.big read.Big) s x i → IsNext (always_first utf32) t x i
+pub short : (s t : ReadState) (x : List ℕ) (i : Item) → length x < 4 → (Begins x (utf32.little mark) → ⊥) → IsNext (always_gives utf32.big read.Big) s x i → IsNext (always_first utf32) t x i
 short s t x i l front = like_big s t x (λ f. omega (arith, (begins_four 0 0 0xfe 0xff x f).0)) (λ f. omega (arith, (begins_four 0xff 0xfe 0 0 x f).0)) front i
 
 pub no_mark : (s t : ReadState) (x : List ℕ) (i : Item) → 4 ≤ length x → (four_bytes (get_or x 0 0) (get_or x 1 0) (get_or x 2 0) (get_or x 3 0) ≡ 0xfeff → ⊥) → (four_bytes (get_or x 0 0) (get_or x 1 0) (get_or x 2 0) (get_or x 3 0) ≡ 0xfffe0000 → ⊥) → IsNext (always_gives utf32.big read.Big) s x i → IsNext (always_first utf32) t x i
@@ -68,7 +68,7 @@ no_mark s t x i l big little =
     like_big s t x
     (λ f. (let b = begins_four 0 0 0xfe 0xff x f in big (omega (arith, b.1, b.2, b.3, b.4))))
     (λ f. (let b = begins_four 0xff 0xfe 0 0 x f in little (omega (arith, b.1, b.2, b.3, b.4))))
-    (λ f. (let r = (Begins-agree x utf32.little_mark f).1 in little (omega (arith, r 0 (omega arith) (omega arith), r 1 (omega arith) (omega arith), r 2 (omega arith) (omega arith), r 3 (omega arith) (omega arith)))))
+    (λ f. (let r = (Begins-agree x (utf32.little mark) f).1 in little (omega (arith, r 0 (omega arith) (omega arith), r 1 (omega arith) (omega arith), r 2 (omega arith) (omega arith), r 3 (omega arith) (omega arith)))))
     i
 
 -- where a mark stands

@@ -4,6 +4,7 @@ use Rattle.cv_base.specs.Scalars.{IsScalar}
 use Rattle.cv_base.specs.Items.{Begins}
 use Rattle.cv_base.proofs.Front.{Begins-agree}
 use Rattle.cv_utf.specs.Private.Utf32Bytes.{IsThird}
+use Rattle.cv_utf.specs.Orders.{mark}
 use Rattle.cv_utf.specs.Utf32.{big_four, little_four, utf32}
 use Rattle.cv_utf.proofs.OrdersLaws.{IsUnique, IsForm}
 
@@ -50,20 +51,17 @@ first_byte a b w v [] f g = absurd f
 first_byte a b w v (t ∷ text) f g = f.0 ∙ sym g.0
 
 -- no scalar begins with the first byte of the little-endian mark
-not_little : (text : List ℕ) (c : ℕ) → IsScalar c → Begins (big_four c) text → Begins utf32.little_mark text → ⊥
+not_little : (text : List ℕ) (c : ℕ) → IsScalar c → Begins (big_four c) text → Begins (utf32.little mark) text → ⊥
 not_little text c s f g = omega (arith, s.0, first_byte (c / 0x1000000) 0xff (c / 0x10000 % 0x100 ∷ c / 0x100 % 0x100 ∷ c % 0x100 ∷ []) (0xfe ∷ 0 ∷ 0 ∷ []) text f g)
 
-marks_apart : (text : List ℕ) → Begins utf32.big_mark text → Begins utf32.little_mark text → ⊥
+marks_apart : (text : List ℕ) → Begins (utf32.big mark) text → Begins (utf32.little mark) text → ⊥
 marks_apart text f g = omega (arith, first_byte 0 0xff (0 ∷ 0xfe ∷ 0xff ∷ []) (0xfe ∷ 0 ∷ 0 ∷ []) text f g)
 
--- UTF-32 is an encoding form: U+FEFF is the character that its big-endian mark would be
+-- UTF-32 is an encoding form
 pub utf32_is_form : IsForm utf32
 utf32_is_form = record {
   big_unique = big_is_unique;
   little_unique = little_is_unique;
-  big_some = omega arith;
-  little_some = omega arith;
   marks = marks_apart;
-  big_alone = λ text c s f g. ap big_four (big_is_unique.one text c 0xFEFF s (omega arith, λ h. omega arith) f g);
   little_alone = λ text c s f g. absurd (not_little text c s f g);
 }

@@ -69,9 +69,10 @@ first_from form s t x big little grow grow_little End h = h
 pub grows : (form : Form) (s : ReadState) (x : List ℕ) (c : ℕ) → IsScalar c → Begins x (form.big c) → CanGrow (always_gives form.big read.Big) s x
 grows form s x c scalar front = record { bytes = form.big c; item = taken (length (form.big c)) (Some c) read.Big; is_item = (c, scalar, refl, refl); front = front }
 
--- the marks
+-- the big-endian mark stands
 pub big_mark_stands : (form : Form) (s : ReadState) (x : List ℕ) (n : ℕ) → Begins (form.big mark) x → length (form.big mark) ≡ n → Stands (always_first form) s x (taken n None read.Big)
 big_mark_stands form s x n front e = record { bytes = (form.big mark); is_item = inl (refl, ap (λ m. taken m None read.Big) (sym e)); front = front }
 
+-- the little-endian mark stands
 pub little_mark_stands : (form : Form) (s : ReadState) (x : List ℕ) (n : ℕ) → Begins (form.little mark) x → length (form.little mark) ≡ n → Stands (always_first form) s x (taken n None read.Little)
 little_mark_stands form s x n front e = record { bytes = (form.little mark); is_item = inr (inl (refl, ap (λ m. taken m None read.Little) (sym e))); front = front }

@@ -21,6 +21,7 @@ append-Begins [] b h = refl
 append-Begins (x ∷ a) [] h = absurd h
 append-Begins (x ∷ a) (y ∷ b) h = let e : b ≡ a ++ drop (length a) b = append-Begins a b h.1 in cc (h.0, e)
 
+-- the test is true just where the list begins the other
 pub begins_test : (a b : List ℕ) (r : Bool) → r ≡ pointwise nat_eq a (take (length a) b) → IsTrue r ↔ Begins a b
 begins_test a b r e =
     let both = starts_is Decides-eqb b a r e in
@@ -59,10 +60,11 @@ front_incomplete s x n l front = (
   record { bytes = (utf32.little mark); item = taken 4 None read.Little; is_item = inr (inl (refl, refl)); front = front },
 )
 
--- where no mark stands
+-- a text that is too short for a mark, and no front of one
 pub short : (s t : ReadState) (x : List ℕ) (i : Item) → length x < 4 → (Begins x (utf32.little mark) → ⊥) → IsNext (always_gives utf32.big read.Big) s x i → IsNext (always_first utf32) t x i
 short s t x i l front = like_big s t x (λ f. omega (arith, (begins_four 0 0 0xfe 0xff x f).0)) (λ f. omega (arith, (begins_four 0xff 0xfe 0 0 x f).0)) front i
 
+-- four bytes that are no mark
 pub no_mark : (s t : ReadState) (x : List ℕ) (i : Item) → 4 ≤ length x → (four_bytes (get_or x 0 0) (get_or x 1 0) (get_or x 2 0) (get_or x 3 0) ≡ 0xfeff → ⊥) → (four_bytes (get_or x 0 0) (get_or x 1 0) (get_or x 2 0) (get_or x 3 0) ≡ 0xfffe0000 → ⊥) → IsNext (always_gives utf32.big read.Big) s x i → IsNext (always_first utf32) t x i
 no_mark s t x i l big little =
     like_big s t x
@@ -71,11 +73,13 @@ no_mark s t x i l big little =
     (λ f. (let r = (Begins-agree x (utf32.little mark) f).1 in little (omega (arith, r 0 (omega arith) (omega arith), r 1 (omega arith) (omega arith), r 2 (omega arith) (omega arith), r 3 (omega arith) (omega arith)))))
     i
 
--- where a mark stands
+-- the big-endian mark
 pub a_big_mark : (t : ReadState) (x : List ℕ) → 4 ≤ length x → four_bytes (get_or x 0 0) (get_or x 1 0) (get_or x 2 0) (get_or x 3 0) ≡ 0xfeff → get_or x 1 0 < 256 → get_or x 2 0 < 256 → get_or x 3 0 < 256 → Stands (always_first utf32) t x (taken 4 None read.Big)
 a_big_mark t x n e p q r = big_mark_stands utf32 t x 4 (four_begin 0 0 0xfe 0xff x n (omega arith) (omega arith) (omega arith) (omega arith)) refl
 
+-- the little-endian mark
 pub a_little_mark : (t : ReadState) (x : List ℕ) → 4 ≤ length x → four_bytes (get_or x 0 0) (get_or x 1 0) (get_or x 2 0) (get_or x 3 0) ≡ 0xfffe0000 → get_or x 1 0 < 256 → get_or x 2 0 < 256 → get_or x 3 0 < 256 → Stands (always_first utf32) t x (taken 4 None read.Little)
 a_little_mark t x n e p q r = little_mark_stands utf32 t x 4 (four_begin 0xff 0xfe 0 0 x n (omega arith) (omega arith) (omega arith) (omega arith)) refl
 
+-- each return of `first_item`
 pub ruleset steps = (front_incomplete, short, no_mark, a_big_mark, a_little_mark)

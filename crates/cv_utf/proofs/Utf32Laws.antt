@@ -19,10 +19,11 @@ pub record IsFour (w : List ℕ) (h i j k c : ℕ) : Type 0 where
 third_of : (c : ℕ) → IsScalar c → IsThird (c / 0x10000 % 0x100) (c / 0x100 % 0x100)
 third_of c s e h = omega (arith, s.0, s.1 (omega (arith, s.0)))
 
--- the bytes of each scalar, by their places
+-- the bytes of each scalar by their places, the highest first
 pub big_is_four : (c : ℕ) → IsScalar c → IsFour (big_four c) 0 1 2 3 c
 big_is_four c s = record { size = refl; first = omega (arith, s.0); second = omega (arith, s.0); third = third_of c s; carries = omega (arith, s.0) }
 
+-- the bytes of each scalar by their places, the lowest first
 pub little_is_four : (c : ℕ) → IsScalar c → IsFour (little_four c) 3 2 1 0 c
 little_is_four c s = record { size = refl; first = omega (arith, s.0); second = omega (arith, s.0); third = third_of c s; carries = omega (arith, s.0) }
 

@@ -8,7 +8,7 @@ use Rattle.cv_utf.specs.Utf16.{utf16}
 use Rattle.cv_utf.proofs.Utf16Laws.{utf16_is_form}
 use Rattle.cv_utf.specs.Utf32.{utf32}
 use Rattle.cv_utf.proofs.Utf32Laws.{utf32_is_form}
-use Rattle.cv_utf7.specs.Utf7Laws.{utf7_readable, utf7_substitutable}
+use Rattle.cv_utf7.proofs.OneItem.{utf7_readable, utf7_substitutable}
 use Rattle.cv_pivot.specs.declared.encoding.Encoding.{Encoding}
 use Rattle.cv_pivot.specs.declared.encoding.Encoding.TheVariants.{Ascii, Latin1, Utf8, Utf16, Utf32, Utf7}
 use Rattle.cv_pivot.specs.Encodings.{encoding_reads, encoding_writes}

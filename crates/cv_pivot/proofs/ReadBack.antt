@@ -8,7 +8,7 @@ use Rattle.cv_utf.proofs.Utf8ReadBack.{utf8_reads_back}
 use Rattle.cv_pivot.specs.declared.encoding.Encoding.{Encoding}
 use Rattle.cv_pivot.specs.declared.encoding.Encoding.TheVariants.{Ascii, Latin1, Utf8, Utf16, Utf32, Utf7}
 use Rattle.cv_pivot.specs.Encodings.{encoding_reads, encoding_writes, encoding_closes}
-use Rattle.cv_pivot.proofs.Utf7ReadBack.{utf7_reads_back}
+use Rattle.cv_utf7.proofs.ReadBack.{utf7_reads_back}
 
 -- each by its own law
 pub encoding_reads_back : (encoding : Encoding) → ReadsBack (encoding_reads encoding) (encoding_writes encoding) (encoding_closes encoding)

@@ -16,13 +16,15 @@ use Rattle.cv_base.proofs.Front.{stands_within, Begins-take}
 use Rattle.cv_base.specs.declared.state.ReadState.TheVariants as read
 use Rattle.cv_base.specs.declared.state.Bits.{Bits}
 use Rattle.cv_utf7.specs.Sets.{may_be_direct, is_digit}
-use Rattle.cv_utf7.specs.UnitLaws.{AreDigits-at, get-take}
+use Rattle.cv_utf7.proofs.Digits.{AreDigits-at}
+use Rattle.std.proofs.lemmas.List.{get_or-take}
 use Rattle.cv_utf7.specs.Utf7.{plus, minus, EndsAt, utf7_reads}
-use Rattle.cv_utf7.proofs.Found.{front_none}
-use Rattle.cv_utf7.proofs.ShiftItems.{unit_length, char_stands, end_item}
+use Rattle.cv_utf7.proofs.FrontDigits.{front_none}
+use Rattle.cv_utf7.proofs.ShiftItems.{unit_length, char_stands}
+use Rattle.cv_utf7.proofs.FewDigits.{end_item}
 use Rattle.cv_utf7.proofs.StartItems.{start_shift}
-use Rattle.cv_utf7.specs.Utf7Laws.{utf7_readable}
-use Rattle.cv_utf7.specs.BlockSteps.{ReadsOn, IsLone}
+use Rattle.cv_utf7.proofs.OneItem.{utf7_readable}
+use Rattle.cv_utf7.specs.Private.BlockSteps.{ReadsOn, IsLone}
 use Rattle.cv_base.proofs.ChainLaws.{used_bytes-append, read_state-append, characters_of-append, IsChain-append}
 
 -- nothing is read
@@ -173,7 +175,7 @@ lone_first : (text : List ℕ) (at c : ℕ) (p : IsLone text at c) → at + 5 �
 lone_first text at c p h =
     let three = lone_digits text at c p in
     let d = AreDigits-at (take p.unit.n (drop (at + 1) text)) p.is_unit.are_digits 0 (simp (length-take, length-drop) (omega arith)) in
-    let g : get_or (take p.unit.n (drop (at + 1) text)) 0 0 ≡ get_or (drop (at + 1) text) 0 0 = get-take (drop (at + 1) text) p.unit.n 0 (omega arith) in
+    let g : get_or (take p.unit.n (drop (at + 1) text)) 0 0 ≡ get_or (drop (at + 1) text) 0 0 = get_or-take p.unit.n (drop (at + 1) text) 0 0 (omega arith) in
     let e : get_or (drop at text) 1 0 ≡ get_or (take p.unit.n (drop (at + 1) text)) 0 0 = rw (g, get_or-drop, get_or-drop) (ap (λ (k : ℕ). get_or text k 0) (omega arith)) in
     rw e d
 
@@ -281,3 +283,5 @@ put_more n i v before now bytes h l e p =
     let place : n + (i + 1) ≡ n + i + 1 = omega arith in
     ap (λ (k : ℕ). take k (set now (n + i) v)) place ∙ take_more_set now (n + i) v h ∙ ap (λ (x : List ℕ). x ++ v ∷ []) p ∙ append_assoc (take n before) (take i bytes) (v ∷ [])
     ∙ ap (λ (x : List ℕ). take n before ++ x) (ap (λ (w : ℕ). take i bytes ++ w ∷ []) e ∙ sym (take_more bytes i 0 l))
+
+pub ruleset lone_reads = (reads_lone, reads_lone_direct)

@@ -15,10 +15,11 @@ use Rattle.cv_base.specs.declared.state.WriteState.{WriteState}
 use Rattle.cv_base.specs.declared.state.WriteState.TheVariants as write
 use Rattle.cv_utf7.specs.Sets.{is_direct, is_set_d, is_blank}
 use Rattle.cv_utf7.specs.BitLists.{bits_of, character_bits, digits}
-use Rattle.cv_utf7.specs.BitLaws.{length-bits}
-use Rattle.cv_utf7.specs.UnitLaws.{one_unit, two_units, high_of, low_of}
+use Rattle.cv_utf7.proofs.BitStrings.{length-bits}
+use Rattle.cv_utf7.proofs.CodeUnits.{one_unit, two_units}
+use Rattle.cv_base.specs.Units.{high_unit, low_unit}
 use Rattle.cv_utf7.specs.Utf7.{plus, utf7_writes, writes_at_start, writes_in_shift}
-use Rattle.cv_utf7.specs.BlockSteps.{WritesOn}
+use Rattle.cv_utf7.specs.Private.BlockSteps.{WritesOn}
 use Rattle.std.specs.Int.{bit_at}
 use Rattle.cv_utf7.proofs.BlockReading.{front_of_put}
 use Rattle.cv_base.proofs.ChainLaws.{output_for-append}
@@ -54,7 +55,7 @@ some_digits (a ∷ b ∷ c ∷ d ∷ f ∷ g ∷ l) h = omega arith
 character_some : (c : ℕ) → 16 ≤ length (character_bits c)
 character_some c = elim (cases_lt c 0x10000) [
   | inl h ↦ rw (one_unit c h) (omega (arith, length-bits 16 c))
-  | inr h ↦ rw (two_units c h, length-append) (omega (arith, length-bits 16 (high_of c), length-bits 16 (low_of c)))
+  | inr h ↦ rw (two_units c h, length-append) (omega (arith, length-bits 16 (high_unit c), length-bits 16 (low_unit c)))
 ]
 
 starts_some : (c : ℕ) → 0 < length (writes_at_start c).0

@@ -8,7 +8,7 @@ use Rattle.std.proofs.lemmas.Nat.{and_le_r}
 use Rattle.std.proofs.lemmas.Simd.{Each1-all, Each1-weaker, Each1-zip2, Each2-splat, below_from_Fits, length-zip2, get_or-zip2, zip2_splat, swz_l, SwzOk, SwzOk-from_below, length-swz_l, get_or-swz_l_below, bitmask_splat, bit_mask_l}
 use lib.Lanes.{zip2, mask_l, top, Each1}
 use Rattle.cv_utf7.specs.Sets.{may_be_direct, is_direct, is_set_d, is_set_o, is_blank}
-use Rattle.cv_utf7.specs.ByteSets.{half_bits, is_in, all_below, repeats}
+use Rattle.cv_utf7.specs.Private.ByteSets.{half_bits, is_in, all_below, repeats}
 use Rattle.cv_utf7.specs.declared.byte_sets.TheConstants.{MAY_STAND, STANDS, HALF_BITS}
 
 abbrev pub IsWindow : List ℕ → Type 0

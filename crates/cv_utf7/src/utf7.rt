@@ -4,9 +4,9 @@ ghost use Rattle.cv_base.specs.Places.{PutsAt};
 ghost use Rattle.cv_utf7.specs.Utf7.{utf7_reads, utf7_writes, utf7_closes, writes_at_start};
 
 use crate::cut::Cut;
-use crate::reading::{NONE, item_at_start, item_in_shift};
+use crate::items::{NONE, item_at_start, item_in_shift};
 use crate::sets::stands;
-use crate::writing::{closing, put_closed, put_digits, put_first};
+use crate::shifted_bytes::{closing, put_closed, put_digits, put_first};
 use cv_base::place::write_slice;
 use cv_base::{Codec, Item, Piece, Put, ReadState, Scalar, WriteState};
 
@@ -48,7 +48,7 @@ impl Codec for Utf7 {
 
     ghost closes = { λ _. utf7_closes };
 
-    #[tactic(auto, using(crate::specs::Utf7Laws::utf7_readable, crate::specs::Utf7Laws::utf7_substitutable))]
+    #[tactic(auto, using(crate::proofs::OneItem::utf7_readable, crate::proofs::OneItem::utf7_substitutable))]
     fn assert_valid(&self) {}
 
     #[inline]

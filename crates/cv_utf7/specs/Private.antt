@@ -1,0 +1,4 @@
+pub mod BlockSteps
+pub mod ByteSets
+pub mod PendingBits
+pub mod Steps

@@ -1,6 +1,6 @@
 -- Characters that are spelled: more of them, one behind the other.
-use Rattle.std.proofs.Common.{◌≡◌, ℕ, ◌+◌, ◌*◌, ◌<◌, ◌≤◌, List, [], ◌∷◌, ◌++◌, length, take, drop, refl, sym, ◌∙◌, ap, arith, length-append, length-drop, length-take, append_assoc, append-nil, slice_set, get_or}
-use Rattle.std.proofs.Math.Seq.{drop-cons, take-add}
+use Rattle.std.proofs.Common.{◌≡◌, ℕ, ◌+◌, ◌*◌, ◌<◌, ◌≤◌, List, [], ◌∷◌, ◌++◌, length, take, drop, refl, sym, ◌∙◌, ap, arith, length-append, length-drop, length-take, append_assoc, append-nil, slice_set}
+use Rattle.std.proofs.Math.Seq.{take-add}
 use Rattle.std.specs.List.{flat_map}
 use Rattle.std.proofs.lemmas.List.{drop-drop, take_more_set, length-set}
 use Rattle.std.proofs.lemmas.Grind.{flat_map-append}
@@ -103,4 +103,3 @@ written_more bytes_of characters n before at m u mid k v place behind after p e 
       stand = ap (λ i. take i after) (let o : at + (u + v) ≡ place + v = omega (arith, e) in o) ∙ q.stand ∙ ap (λ (x : List ℕ). x ++ flat_map bytes_of d) (ap (λ i. take i mid) e ∙ p.stand) ∙ append_assoc (take at before) (flat_map bytes_of c) (flat_map bytes_of d) ∙ ap (λ (x : List ℕ). take at before ++ x) (sym bytes);
       size = q.size ∙ p.size;
     }
-

@@ -83,4 +83,5 @@ incomplete_3 next s (h ∷ k ∷ []) n l p never q r = absurd (omega arith)
 incomplete_3 next s (h ∷ k ∷ m ∷ j ∷ x) n l p never q r = absurd (omega arith)
 incomplete_3 next s (h ∷ k ∷ m ∷ []) n l p never q r = grown next s (h ∷ k ∷ m ∷ []) h k m p never q r (omega arith) (λ c scalar a. omega (arith, longer_than_two (h ∷ k ∷ m ∷ []) (omega arith) p c scalar a)) (refl, (refl, (refl, tt)))
 
+-- each return of `big_item`
 pub ruleset steps = (scalar_one, scalar_two, ill_first, ill_third, char_2, char_4, incomplete_1, incomplete_2, incomplete_3)

@@ -69,4 +69,5 @@ incomplete_2 next s (l ∷ h ∷ k ∷ m ∷ x) n j p never q t = absurd (omega 
 incomplete_2 next s (l ∷ h ∷ []) n j p never q t = grown next s (l ∷ h ∷ []) h l 0 p never q (omega arith) (omega arith) (λ c scalar a. omega (arith, longer_than_two (l ∷ h ∷ []) n p c scalar a)) (refl, (refl, tt))
 incomplete_2 next s (l ∷ h ∷ k ∷ []) n j p never q t = grown next s (l ∷ h ∷ k ∷ []) h l k p never q t (omega arith) (λ c scalar a. omega (arith, longer_than_two (l ∷ h ∷ k ∷ []) (omega arith) p c scalar a)) (refl, (refl, (refl, tt)))
 
+-- each return of `little_item`
 pub ruleset steps = (scalar_one, scalar_two, ill_second, ill_fourth, char_2, char_4, incomplete_1, incomplete_2)

@@ -34,18 +34,20 @@ char_4 next s (h ∷ i ∷ j ∷ k ∷ x) c e n f p t q r = rw e (char_from utf3
 grown : (next s : ReadState) (x : List ℕ) (i j : ℕ) → i ≤ 0x10 → IsThird i j → j < 256 → 0 < length x → length x < 4 → Begins x (0 ∷ i ∷ j ∷ 0 ∷ []) → IsNext (always_gives utf32.big next) s x Incomplete
 grown next s x i j p t q n l front = incomplete_from utf32.big next s x n (λ c scalar a. omega arith) (number i j 0) (scalar_four i j 0 (number i j 0) p t q (omega arith) refl) (rw (big_is i j 0 p q (omega arith)) front)
 
--- one, two and three bytes that fit
+-- one byte that fits
 pub incomplete_1 : (next s : ReadState) (x : List ℕ) → 0 < length x → length x < 2 → get_or x 0 0 ≡ 0 → IsNext (always_gives utf32.big next) s x Incomplete
 incomplete_1 next s [] n l e = absurd (omega arith)
 incomplete_1 next s (h ∷ i ∷ x) n l e = absurd (omega arith)
 incomplete_1 next s (h ∷ []) n l e = grown next s (h ∷ []) 0 0 (omega arith) (λ a b. absurd (omega arith)) (omega arith) n (omega arith) (e, tt)
 
+-- two bytes that fit
 pub incomplete_2 : (next s : ReadState) (x : List ℕ) → 2 ≤ length x → length x < 3 → get_or x 0 0 ≡ 0 → get_or x 1 0 ≤ 0x10 → IsNext (always_gives utf32.big next) s x Incomplete
 incomplete_2 next s [] n l e p = absurd (omega arith)
 incomplete_2 next s (h ∷ []) n l e p = absurd (omega arith)
 incomplete_2 next s (h ∷ i ∷ j ∷ x) n l e p = absurd (omega arith)
 incomplete_2 next s (h ∷ i ∷ []) n l e p = grown next s (h ∷ i ∷ []) i 0 p (λ a b. absurd (omega arith)) (omega arith) (omega arith) (omega arith) (e, (refl, tt))
 
+-- three bytes that fit
 pub incomplete_3 : (next s : ReadState) (x : List ℕ) → 3 ≤ length x → length x < 4 → get_or x 0 0 ≡ 0 → get_or x 1 0 ≤ 0x10 → IsThird (get_or x 1 0) (get_or x 2 0) → get_or x 2 0 < 256 → IsNext (always_gives utf32.big next) s x Incomplete
 incomplete_3 next s [] n l e p t q = absurd (omega arith)
 incomplete_3 next s (h ∷ []) n l e p t q = absurd (omega arith)
@@ -53,4 +55,5 @@ incomplete_3 next s (h ∷ i ∷ []) n l e p t q = absurd (omega arith)
 incomplete_3 next s (h ∷ i ∷ j ∷ k ∷ x) n l e p t q = absurd (omega arith)
 incomplete_3 next s (h ∷ i ∷ j ∷ []) n l e p t q = grown next s (h ∷ i ∷ j ∷ []) i j p t q (omega arith) (omega arith) (e, (refl, (refl, tt)))
 
+-- each return of `big_item`
 pub ruleset steps = (scalar_four, ill_first, ill_second, ill_third, char_4, incomplete_1, incomplete_2, incomplete_3)

@@ -52,4 +52,5 @@ incomplete_3 next s (k ∷ j ∷ []) n l p t r q = absurd (omega arith)
 incomplete_3 next s (k ∷ j ∷ i ∷ h ∷ x) n l p t r q = absurd (omega arith)
 incomplete_3 next s (k ∷ j ∷ i ∷ []) n l p t r q = grown next s (k ∷ j ∷ i ∷ []) i j k p t q r (omega arith) (omega arith) (refl, (refl, (refl, tt)))
 
+-- each return of `little_item`
 pub ruleset steps = (scalar_four, ill_first, ill_second, ill_third, char_4, incomplete_2, incomplete_3)

@@ -108,5 +108,6 @@ one_utf8 s text a b i j p q f g =
 uses_utf8 : (s : ReadState) (a : List ℕ) (i : Taken) → utf8_reads s a i → (0 < i.used) × (i.used ≤ length a)
 uses_utf8 s a i p = let m = sequence_of a p.0 p.1 in let e : i.used ≡ length a = ap (λ t. t.used) p.2 in (omega (arith, m.some), omega arith)
 
+-- UTF-8 is readable
 pub utf8_readable : IsReadable utf8_reads
 utf8_readable = record { one_item = one_utf8; uses = uses_utf8 }

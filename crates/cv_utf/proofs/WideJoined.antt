@@ -37,6 +37,7 @@ pub record IsPut (numbers before : List ℕ) (n k more : ℕ) (after : List ℕ)
   pub counts : more ≡ length (without_low (take k numbers))
   pub stand : take (n + more) after ≡ take n before ++ without_low (take k numbers)
 
+-- one number more is put, or passed over
 pub put_more : (numbers before now : List ℕ) (n k more : ℕ) (is_low : Bool) (c : ℕ) → k < length numbers → (IsTrue is_low ↔ (IsLowUnit (get_or numbers k 0))) → (is_low ≡ false → c ≡ get_or numbers k 0) → more ≤ k → more ≡ length (without_low (take k numbers))
     → take (n + more) now ≡ take n before ++ without_low (take k numbers) → n + more < length now → IsPut numbers before n (k + 1) (more + bool_byte (not is_low)) (slice_set now (n + more) c)
 put_more numbers before now n k more true c h low is few counts stand room =
@@ -169,9 +170,10 @@ little_one [] u v p q = absurd p
 little_one (a ∷ []) u v p q = absurd p.1
 little_one (a ∷ b ∷ text) u v p q = omega (arith, p.0, p.1.0, q.0, q.1.0)
 
--- in each order
+-- units of two bytes with the high one first
 pub big_paired : ArePaired utf16.big
 big_paired = paired big_unit (λ u. refl) big_one
 
+-- units of two bytes with the low one first
 pub little_paired : ArePaired utf16.little
 little_paired = paired little_unit (λ u. refl) little_one

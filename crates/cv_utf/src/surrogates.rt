@@ -39,7 +39,8 @@ fn joined(unit: u32, next: u32) -> u32
 fn joined_numbers<U: WideUnit>(text: &[u8]) -> Option<[u32; MANY]>
     requires size { U.unit_size ≡ 2 }
     requires long { 34 ≤ length text.now }
-    ensures { IfSome result (λ numbers. (length numbers ≡ 16) × AreJoined U.bytes_of text.now numbers 16) }
+    ensures { IfSome result
+        (λ numbers. (length numbers ≡ 16) × AreJoined U.bytes_of text.now numbers 16) }
 {
     let mut numbers = [0; MANY];
     let mut all = true;

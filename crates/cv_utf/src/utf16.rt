@@ -2,7 +2,7 @@
 ghost use Rattle.std.specs.Prelude.{◌≡◌, ◌+◌, ◌*◌, ◌<◌, ◌≤◌, ◌↔◌, IsTrue, ◌++◌, [], length, Some};
 ghost use Rattle.cv_base.specs.Items.{IsNext};
 ghost use Rattle.cv_base.specs.Places.{PutsAt};
-ghost use Rattle.cv_utf.specs.Orders.{reads_in, writes_in};
+ghost use Rattle.cv_utf.specs.Orders.{reads_in, writes_in, mark};
 ghost use Rattle.cv_utf.specs.Private.AnyState.{always_gives, always_first};
 ghost use Rattle.cv_base.specs.Units.{high_unit, low_unit};
 ghost use Rattle.cv_utf.specs.Utf16.{utf16};
@@ -233,7 +233,8 @@ fn put_little(c: Scalar, out: &mut [u8], at: usize, next: WriteState) -> Put
 #[inline]
 fn put_marked(c: Scalar, out: &mut [u8], at: usize) -> Put
     requires { at ≤ length out.old }
-    ensures { PutsAt (Some (utf16.big_mark ++ utf16.big c, WriteState.Marked)) out.old at result out.new }
+    ensures { PutsAt (Some (utf16.big mark ++ utf16.big c, WriteState.Marked))
+        out.old at result out.new }
 {
     let value = c.value();
     let room = out.len() - at;

@@ -2,7 +2,7 @@
 ghost use Rattle.std.specs.Prelude.{◌≡◌, ◌+◌, ◌*◌, ◌≤◌, ◌↔◌, IsTrue, ◌++◌, [], ◌∷◌, length, Some};
 ghost use Rattle.cv_base.specs.Items.{Begins, IsNext};
 ghost use Rattle.cv_base.specs.Places.{PutsAt};
-ghost use Rattle.cv_utf.specs.Orders.{reads_in, writes_in};
+ghost use Rattle.cv_utf.specs.Orders.{reads_in, writes_in, mark};
 ghost use Rattle.cv_utf.specs.Private.AnyState.{always_gives, always_first};
 ghost use Rattle.cv_utf.specs.Utf32.{utf32};
 ghost use Rattle.cv_utf.specs.Private.Utf32Bytes.{IsThird};
@@ -98,7 +98,7 @@ fn little_item(input: &[u8], next: ReadState) -> Item
 #[inline]
 #[tactic(auto, using(crate::proofs::Utf32First::begins_test))]
 fn begins_little_mark(bytes: &[u8]) -> bool
-    ensures { IsTrue result ↔ Begins bytes.now utf32.little_mark }
+    ensures { IsTrue result ↔ Begins bytes.now (utf32.little mark) }
 {
     let mark: &[u8] = &[0xff, 0xfe, 0x00, 0x00];
     mark.starts_with(bytes)
@@ -181,7 +181,8 @@ fn put_little(c: Scalar, out: &mut [u8], at: usize, next: WriteState) -> Put
 #[inline]
 fn put_marked(c: Scalar, out: &mut [u8], at: usize) -> Put
     requires { at ≤ length out.old }
-    ensures { PutsAt (Some (utf32.big_mark ++ utf32.big c, WriteState.Marked)) out.old at result out.new }
+    ensures { PutsAt (Some (utf32.big mark ++ utf32.big c, WriteState.Marked))
+        out.old at result out.new }
 {
     if out.len() - at < 8 {
         return Put::NoRoom;

@@ -152,6 +152,7 @@ impl Spelling for Big16 {
 
     const MANY_SIZE: usize = 0;
 
+    #[inline(always)]
     fn assert_short() {}
 
     #[inline(always)]
@@ -249,6 +250,7 @@ impl Spelling for Little16 {
 
     const MANY_SIZE: usize = 0;
 
+    #[inline(always)]
     fn assert_short() {}
 
     #[inline(always)]

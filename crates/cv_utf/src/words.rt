@@ -47,7 +47,8 @@ fn put_words<W: Words>(
     requires room { at + 64 ≤ length out.old }
     ensures few { result ≤ 64 }
     ensures bytes { result ≡ length (flat_map W.bytes_of values.now) }
-    ensures stand { take (at + result) out.new ≡ take at out.old ++ flat_map W.bytes_of values.now }
+    ensures stand { take (at + result) out.new
+        ≡ take at out.old ++ flat_map W.bytes_of values.now }
     ensures size { length out.new ≡ length out.old }
 {
     let mut used = 0;

@@ -3,11 +3,9 @@ use Rattle.std.proofs.Common.{◌≡◌, ℕ, zero, suc, ◌+◌, ◌*◌, ◌/�
 use Rattle.std.specs.Prelude.{◌==◌}
 use Rattle.std.proofs.lemmas.Bool.{cases_eq, eq-eqb, ne_eqb}
 use Rattle.std.proofs.lemmas.List.{length-append, length-replicate}
-use Rattle.std.proofs.lemmas.Nat.{pow_pos}
-use Rattle.std.proofs.Math.Nat.{mod-eq_of_lt}
-use Rattle.std.proofs.lemmas.Nat.{pow-add, mod-pow-add}
+use Rattle.std.proofs.lemmas.Nat.{pow_pos, pow-add, mod-pow-add}
+use Rattle.std.proofs.Math.Nat.{mod-eq_of_lt, pow-suc}
 use Rattle.cv_utf7.specs.BitLists.{bits, number}
-use Rattle.std.proofs.Math.Nat.{pow-suc}
 
 pub length-bits : (count n : ℕ) → length (bits count n) ≡ count
 unfolding bits

@@ -1,5 +1,5 @@
 -- Characters by their code units, and where these begin in strings of digits.
-use Rattle.std.proofs.Common.{◌≡◌, ℕ, ◌+◌, ◌-◌, ◌*◌, ◌/◌, ◌%◌, ◌^◌, ◌<◌, ◌≤◌, Bool, ◌⊎◌, List, ◌++◌, length, take, drop, sym, ◌∙◌, ap, arith, inl, inr}
+use Rattle.std.proofs.Common.{◌≡◌, ℕ, ◌+◌, ◌-◌, ◌*◌, ◌/◌, ◌%◌, ◌^◌, ◌<◌, ◌≤◌, Bool, ◌⊎◌, List, ◌++◌, length, take, drop, sym, ◌∙◌, ap, arith, inl, inr, Some}
 use Rattle.std.proofs.lemmas.Bool.{cases_lt, lt-ltb, le-ltb}
 use Rattle.std.proofs.lemmas.List.{length-append, append_assoc, append-nil}
 use Rattle.cv_base.specs.Scalars.{IsScalar}
@@ -9,7 +9,6 @@ use Rattle.cv_utf7.specs.BitLists.{bits, bits_of, character_bits, AreDigits, dig
 use Rattle.cv_base.specs.Units.{high_unit, low_unit}
 use Rattle.cv_utf7.proofs.Digits.{length-digits, digit_bits-cut}
 use Rattle.cv_utf7.proofs.BitStrings.{length-bits, mod-bits, bits-split, append-same}
-use Rattle.std.proofs.Common.{Some}
 use Rattle.cv_base.specs.declared.state.ReadState.TheVariants as read
 use Rattle.cv_utf7.specs.Utf7.{ReadsCharacter}
 
@@ -44,6 +43,13 @@ one_unit c h = rw (lt-ltb c 0x10000 h) (append-nil (bits 16 c))
 
 pub two_units : (c : ℕ) → 0x10000 ≤ c → character_bits c ≡ bits 16 (high_unit c) ++ bits 16 (low_unit c)
 two_units c h = rw (le-ltb c 0x10000 h) (ap (λ (t : List Bool). bits 16 (high_unit c) ++ t) (append-nil (bits 16 (low_unit c))))
+
+-- a character has sixteen or thirty-two bits
+pub character_length : (c : ℕ) → (length (character_bits c) ≡ 16) ⊎ (length (character_bits c) ≡ 32)
+character_length c = elim (cases_lt c 0x10000) [
+  | inl h ↦ inl (ap length (one_unit c h) ∙ length-bits 16 c)
+  | inr h ↦ inr (ap length (two_units c h) ∙ length-append (bits 16 (high_unit c)) (bits 16 (low_unit c)) ∙ (let a : length (bits 16 (high_unit c)) ≡ 16 = length-bits 16 (high_unit c) in let b : length (bits 16 (low_unit c)) ≡ 16 = length-bits 16 (low_unit c) in omega arith))
+]
 
 -- A character of a shifted sequence, by its first unit.
 pub record IsOne (pending : Bits) (w : List ℕ) (i : Taken) : Type 0 where

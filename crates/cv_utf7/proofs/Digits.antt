@@ -1,15 +1,11 @@
 -- The digits of bits, and the bits of digits.
-use Rattle.std.proofs.Common.{◌+◌, zero, suc, take, drop, get_or, append_assoc}
-use Rattle.std.proofs.lemmas.List.{length-append, take-append-drop}
-use Rattle.std.proofs.Common.{◌≡◌, ℕ, zero, suc, ◌*◌, ◌%◌, ◌^◌, ◌<◌, Bool, true, List, [], ◌∷◌, ◌++◌, length, refl, sym, ◌∙◌, ap, arith}
+use Rattle.std.proofs.Common.{◌≤◌, ◌+◌, zero, suc, take, drop, get_or, append_assoc, ◌≡◌, ℕ, ◌*◌, ◌%◌, ◌^◌, ◌<◌, Bool, true, List, [], ◌∷◌, ◌++◌, length, refl, sym, ◌∙◌, ap, arith, length-take, length-drop, get_or-drop}
+use Rattle.std.proofs.lemmas.List.{length-append, take-append-drop, get_or-take}
 use Rattle.std.proofs.Math.Nat.{mod-eq_of_lt}
-use Rattle.std.proofs.Common.{length-take, length-drop, get_or-drop}
-use Rattle.std.proofs.lemmas.List.{get_or-take}
 use Rattle.std.proofs.lemmas.List.Elements.{All-cons, All-append}
 use Rattle.cv_utf7.specs.Sets.{is_digit, value_of, digit_of}
 use Rattle.cv_utf7.specs.BitLists.{bits, number, AreDigits, digit_bits, digits}
-use Rattle.cv_utf7.proofs.BitStrings.{number_lt}
-use Rattle.cv_utf7.proofs.BitStrings.{length-bits, number-bits, same-bits}
+use Rattle.cv_utf7.proofs.BitStrings.{number_lt, length-bits, number-bits, same-bits}
 use Rattle.cv_utf7.proofs.SetMembers.{value-digit, digit-digit}
 
 -- six bits a digit
@@ -23,6 +19,16 @@ six l e =
     let h : number l < 2 ^ length l = number_lt l in
     let k : number l < 64 = omega (arith, ap (λ (n : ℕ). 2 ^ n) e) in
     (digit-digit (number l) k, same-bits (bits 6 (value_of (digit_of (number l)))) l (length-bits 6 (value_of (digit_of (number l))) ∙ sym e) (number-bits 6 (value_of (digit_of (number l))) ∙ ap (λ (v : ℕ). v % 2 ^ 6) (value-digit (number l) k) ∙ mod-eq_of_lt k))
+
+-- six bits or more have a digit
+pub some_digits : (l : List Bool) → 6 ≤ length l → 0 < length (digits l)
+some_digits [] h = absurd (omega arith)
+some_digits (a ∷ []) h = absurd (omega arith)
+some_digits (a ∷ b ∷ []) h = absurd (omega arith)
+some_digits (a ∷ b ∷ c ∷ []) h = absurd (omega arith)
+some_digits (a ∷ b ∷ c ∷ d ∷ []) h = absurd (omega arith)
+some_digits (a ∷ b ∷ c ∷ d ∷ f ∷ []) h = absurd (omega arith)
+some_digits (a ∷ b ∷ c ∷ d ∷ f ∷ g ∷ l) h = omega arith
 
 -- no bytes are digits
 pub no_digits : AreDigits []

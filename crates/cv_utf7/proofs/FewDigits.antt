@@ -1,31 +1,28 @@
 -- What stands next in a shifted sequence where too few digits for a code unit do: its end, or nothing that is well-formed.
 use Rattle.std.proofs.Common.{◌≡◌, ℕ, zero, suc, ◌+◌, ◌-◌, ◌*◌, ◌/◌, ◌%◌, ◌^◌, ◌<◌, ◌≤◌, Bool, true, false, List, [], ◌∷◌, ◌++◌, length, take, drop, get_or, replicate, refl, sym, ◌∙◌, ap, subst, arith, inl, inr, Some, None, zero-mul}
 use Rattle.std.proofs.lemmas.Bool.{true≢false, cases_lt, cases_order}
-use Rattle.std.proofs.lemmas.List.{append_assoc, length-take-le, take-take, take_more}
+use Rattle.std.proofs.lemmas.List.{append_assoc, length-take-le, take-take, take_more, get_or-take}
 use Rattle.std.proofs.lemmas.Nat.{pow_pos, pow-add, shr_split}
 use Rattle.std.proofs.Math.Nat.{mod-eq_of_lt, mod-lt, mul-le-mul_right}
 use Rattle.cv_base.specs.Items.{Taken, taken, Stands, IsNext}
-use Rattle.cv_base.proofs.Front.{Begins-take}
+use Rattle.cv_base.proofs.Front.{Begins-take, Agree}
 use Rattle.cv_base.specs.declared.item.Item.{Item}
 use Rattle.cv_base.specs.declared.item.Item.TheVariants as item
 use Rattle.cv_base.specs.declared.state.Bits.{Bits}
 use Rattle.cv_base.specs.declared.state.ReadState.TheVariants as read
 use Rattle.cv_utf7.specs.Sets.{is_digit}
 use Rattle.cv_utf7.specs.BitLists.{bits, number, bits_of, digit_bits}
-use Rattle.cv_utf7.proofs.BitStrings.{number-bits}
+use Rattle.cv_utf7.proofs.BitStrings.{number-bits, zero_bits}
 use Rattle.cv_utf7.specs.Utf7.{EndsAt, utf7_reads}
 use Rattle.cv_utf7.proofs.SetMembers.{direct_lt, minus_is_no_digit}
 use Rattle.cv_utf7.proofs.CodeUnits.{Leads, leads-long, leads-front}
 use Rattle.cv_base.specs.Units.{high_unit, low_unit}
-use Rattle.cv_base.proofs.Front.{Agree}
 use Rattle.cv_utf7.proofs.Agreement.{agree-take}
-use Rattle.std.proofs.lemmas.List.{get_or-take}
 use Rattle.cv_utf7.proofs.OneItem.{IsStop}
-use Rattle.cv_utf7.specs.Private.Steps.{IsFront, IsEnding}
+use Rattle.cv_utf7.specs.Private.ItemSteps.{IsFront, IsEnding}
 use Rattle.cv_utf7.proofs.FrontDigits.{front_none}
 use Rattle.cv_utf7.proofs.Digits.{digit_bits-cut, AreDigits-at}
 use Rattle.cv_utf7.proofs.ShiftItems.{ill_from}
-use Rattle.cv_utf7.proofs.BitStrings.{zero_bits}
 
 -- the digits that are too few for a unit
 quotient_lt : (f count : ℕ) → count ≤ 16 → f < 65536 → f / 2 ^ (16 - count) < 2 ^ count

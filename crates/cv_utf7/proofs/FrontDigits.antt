@@ -1,7 +1,7 @@
 -- The parts of the reader find what they say.
 use Rattle.std.proofs.Common.{◌≡◌, ℕ, ◌+◌, ◌-◌, ◌*◌, ◌/◌, ◌%◌, ◌^◌, ◌<◌, ◌≤◌, Bool, true, false, List, [], ◌∷◌, ◌++◌, length, take, get_or, refl, sym, ◌∙◌, ap, subst, arith, inl, inr}
 use Rattle.std.proofs.lemmas.Bool.{true≢false, cases_lt}
-use Rattle.std.proofs.lemmas.List.{append_assoc, append-nil, take_more, length-take}
+use Rattle.std.proofs.lemmas.List.{append_assoc, append-nil, take_more, length-take, get_or-take}
 use Rattle.std.proofs.lemmas.Nat.{pow_pos, pow-add, one_shl}
 use Rattle.std.proofs.Math.Nat.{mul-le-mul_right, pow-le-pow_right}
 use Rattle.cv_base.specs.declared.state.Bits.{Bits}
@@ -10,8 +10,7 @@ use Rattle.cv_utf7.specs.BitLists.{bits, bits_of, AreDigits, digit_bits}
 use Rattle.cv_utf7.proofs.BitStrings.{bits-digit, bits-split, bits-mod}
 use Rattle.cv_utf7.proofs.SetMembers.{value_lt}
 use Rattle.cv_utf7.proofs.Digits.{digit_bits-append, no_digits, AreDigits-cons, AreDigits-append, AreDigits-at}
-use Rattle.std.proofs.lemmas.List.{get_or-take}
-use Rattle.cv_utf7.specs.Private.Steps.{IsUnit, NoUnit, IsFront}
+use Rattle.cv_utf7.specs.Private.ItemSteps.{IsUnit, NoUnit, IsFront}
 use Rattle.cv_utf7.specs.declared.units.Unit.{Unit}
 
 two_digits : (p v a b : ℕ) → is_digit a ≡ true → is_digit b ≡ true → bits p v ++ (bits 6 (value_of a) ++ (bits 6 (value_of b) ++ [])) ≡ bits (p + 12) ((v * 64 + value_of a) * 64 + value_of b)

@@ -5,7 +5,7 @@ use Rattle.std.proofs.lemmas.List.{length-append, append_assoc, length-drop, tak
 use Rattle.std.proofs.lemmas.Nat.{pow_pos}
 use Rattle.cv_base.specs.Scalars.{IsScalar}
 use Rattle.cv_base.specs.Items.{taken, NoneStands, CanGrow, IsNext}
-use Rattle.cv_base.proofs.Front.{Begins-append}
+use Rattle.cv_base.proofs.Front.{Begins-append, Begins-agree, Begins-length}
 use Rattle.cv_base.specs.declared.item.Item.TheVariants as item
 use Rattle.cv_base.specs.declared.state.Bits.{Bits}
 use Rattle.cv_base.specs.declared.state.ReadState.TheVariants as read
@@ -15,8 +15,7 @@ use Rattle.cv_utf7.proofs.BitStrings.{length-bits, bits-split}
 use Rattle.cv_utf7.specs.Utf7.{utf7_reads}
 use Rattle.cv_utf7.proofs.CodeUnits.{leads-long, one_unit, two_units}
 use Rattle.cv_base.specs.Units.{high_unit, low_unit}
-use Rattle.cv_base.proofs.Front.{Begins-agree, Begins-length}
-use Rattle.cv_utf7.specs.Private.Steps.{IsUnit, IsFront}
+use Rattle.cv_utf7.specs.Private.ItemSteps.{IsUnit, IsFront}
 use Rattle.cv_utf7.specs.declared.units.Unit.{Unit}
 use Rattle.cv_utf7.proofs.Digits.{digits-bits, digit_bits-append, digit_bits-cut, AreDigits-append}
 use Rattle.cv_utf7.proofs.ShiftItems.{by_kind, unit_of, unit_no_stop, unit_some, one_in_range, pair_after, surrogate_ill}

@@ -1,7 +1,6 @@
 -- UTF-7 keeps what every codec keeps.
 use Rattle.std.proofs.Common.{◌≡◌, ℕ, ◌+◌, ◌*◌, ◌%◌, ◌^◌, ◌<◌, ◌≤◌, Bool, true, false, List, [], ◌∷◌, ◌++◌, length, take, get_or, replicate, refl, sym, ◌∙◌, ap, subst, arith, inl, inr, Some}
-use Rattle.std.proofs.lemmas.List.{length-append, length-replicate, take_at, take_all}
-use Rattle.std.proofs.lemmas.List.{length-take}
+use Rattle.std.proofs.lemmas.List.{length-append, length-replicate, take_at, take_all, length-take, get_or-take}
 use Rattle.std.proofs.lemmas.Bool.{cases_order, true≢false}
 use Rattle.cv_base.specs.Items.{Taken, taken, Begins}
 use Rattle.cv_base.specs.Codecs.{IsReadable, CanSubstitute}
@@ -19,7 +18,6 @@ use Rattle.cv_base.specs.Units.{high_unit, low_unit}
 use Rattle.cv_base.proofs.Front.{Agree}
 use Rattle.cv_utf7.proofs.Agreement.{agree-sym, agree-both, agree-take, agree-whole}
 use Rattle.cv_utf7.proofs.Digits.{AreDigits-at, length-digits}
-use Rattle.std.proofs.lemmas.List.{get_or-take}
 use Rattle.cv_utf7.proofs.PendingBits.{bits_of-same}
 
 -- The end of a shifted sequence, by the place of the byte that is no digit.

@@ -4,7 +4,7 @@ use Rattle.std.proofs.lemmas.Bool.{cases_lt}
 use Rattle.std.proofs.lemmas.List.{append_assoc, length-take-le, length-drop}
 use Rattle.cv_base.specs.Scalars.{IsScalar}
 use Rattle.cv_base.specs.Items.{Taken, taken, Stands, IsNext}
-use Rattle.cv_base.proofs.Front.{Begins-take}
+use Rattle.cv_base.proofs.Front.{Begins-take, Agree, Begins-agree}
 use Rattle.cv_base.specs.declared.item.Item.TheVariants as item
 use Rattle.cv_base.specs.declared.state.Bits.{Bits}
 use Rattle.cv_base.specs.declared.state.ReadState.TheVariants as read
@@ -13,10 +13,9 @@ use Rattle.cv_utf7.proofs.BitStrings.{length-bits}
 use Rattle.cv_utf7.specs.Utf7.{utf7_reads}
 use Rattle.cv_utf7.proofs.CodeUnits.{Leads, leads-long, leads-unit, one_unit, two_units, IsOne, IsPair, one_or_pair}
 use Rattle.cv_base.specs.Units.{high_unit, low_unit}
-use Rattle.cv_base.proofs.Front.{Agree, Begins-agree}
 use Rattle.cv_utf7.proofs.Agreement.{agree-sym, agree-take, agree-drop, agree-front}
 use Rattle.cv_utf7.proofs.OneItem.{IsStop, stop_of, leads-length, leads_stop}
-use Rattle.cv_utf7.specs.Private.Steps.{IsUnit}
+use Rattle.cv_utf7.specs.Private.ItemSteps.{IsUnit}
 use Rattle.cv_utf7.specs.declared.units.Unit.{Unit}
 use Rattle.cv_utf7.proofs.Digits.{digit_bits-append, AreDigits-append, AreDigits-drop}
 

@@ -38,6 +38,7 @@ direct_characters : (bytes : List ℕ) → characters_of (direct_items bytes) �
 direct_characters [] = refl
 direct_characters (x ∷ bytes) = ap (λ (l : List ℕ). x ∷ l) (direct_characters bytes)
 
+-- the front of a text is direct where each of its bytes is
 pub are_direct : (k : ℕ) (text : List ℕ) → ((i : ℕ) → i < k → i < length text → may_be_direct (get_or text i 0) ≡ true) → AreDirect (take k text)
 are_direct zero text h = tt
 are_direct (suc k) [] h = tt

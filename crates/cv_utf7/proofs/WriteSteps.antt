@@ -35,6 +35,7 @@ all_written write.Start c = refl
 all_written write.Marked c = refl
 all_written (write.Shifted p) c = refl
 
+-- they are six at most
 pub bytes_most : (t : WriteState) (c : ℕ) → length (bytes_in t c).0 ≤ 6
 unfolding bytes_in
 bytes_most write.Start c = starts_most c
@@ -53,6 +54,7 @@ shifts_some p c = elim (cases_Bool (is_direct c)) [
   | inr e ↦ rw e (some_digits (bits_of p ++ character_bits c) (rw length-append (omega (arith, character_length c))))
 ]
 
+-- they are one at least
 pub bytes_some : (t : WriteState) (c : ℕ) → 0 < length (bytes_in t c).0
 unfolding bytes_in
 bytes_some write.Start c = starts_some c

@@ -3,12 +3,11 @@ use Rattle.std.proofs.Common.{◌≡◌, ℕ, zero, suc, ◌+◌, ◌*◌, ◌/�
 use Rattle.std.specs.Prelude.{◌==◌}
 use Rattle.std.proofs.lemmas.Bool.{cases_eq, eq-eqb, ne_eqb}
 use Rattle.std.proofs.lemmas.List.{length-append, length-replicate}
-use Rattle.std.proofs.lemmas.Nat.{pow_pos}
-use Rattle.std.proofs.Math.Nat.{mod-eq_of_lt}
-use Rattle.std.proofs.lemmas.Nat.{pow-add, mod-pow-add}
+use Rattle.std.proofs.lemmas.Nat.{pow_pos, pow-add, mod-pow-add}
+use Rattle.std.proofs.Math.Nat.{mod-eq_of_lt, pow-suc}
 use Rattle.cv_utf7.specs.BitLists.{bits, number}
-use Rattle.std.proofs.Math.Nat.{pow-suc}
 
+-- so many bits are so many
 pub length-bits : (count n : ℕ) → length (bits count n) ≡ count
 unfolding bits
 length-bits zero n = refl
@@ -53,6 +52,7 @@ same-bits (false ∷ a) (true ∷ b) l e = let p : 2 ^ length a ≡ 2 ^ length b
 pub bits-mod : (count a b : ℕ) → a % 2 ^ count ≡ b % 2 ^ count → bits count a ≡ bits count b
 bits-mod count a b e = same-bits (bits count a) (bits count b) (length-bits count a ∙ sym (length-bits count b)) (number-bits count a ∙ e ∙ sym (number-bits count b))
 
+-- the low bits of two numbers of which so many bits are the same
 pub mod-bits : (count a b : ℕ) → bits count a ≡ bits count b → a % 2 ^ count ≡ b % 2 ^ count
 mod-bits count a b e = sym (number-bits count a) ∙ ap number e ∙ number-bits count b
 
@@ -86,5 +86,6 @@ pub number-zeros : (n : ℕ) → number (replicate n false) ≡ 0
 number-zeros zero = refl
 number-zeros (suc n) = omega (arith, number-zeros n)
 
+-- the bits of 0 are zero bits
 pub zero_bits : (n : ℕ) → bits n 0 ≡ replicate n false
 zero_bits n = same-bits (bits n 0) (replicate n false) (length-bits n 0 ∙ sym (length-replicate n false)) (number-bits n 0 ∙ mod-eq_of_lt (pow_pos n) ∙ sym (number-zeros n))

@@ -1,5 +1,5 @@
 -- Characters by their code units, and where these begin in strings of digits.
-use Rattle.std.proofs.Common.{◌≡◌, ℕ, ◌+◌, ◌-◌, ◌*◌, ◌/◌, ◌%◌, ◌^◌, ◌<◌, ◌≤◌, Bool, ◌⊎◌, List, ◌++◌, length, take, drop, sym, ◌∙◌, ap, arith, inl, inr}
+use Rattle.std.proofs.Common.{◌≡◌, ℕ, ◌+◌, ◌-◌, ◌*◌, ◌/◌, ◌%◌, ◌^◌, ◌<◌, ◌≤◌, Bool, ◌⊎◌, List, ◌++◌, length, take, drop, sym, ◌∙◌, ap, arith, inl, inr, Some}
 use Rattle.std.proofs.lemmas.Bool.{cases_lt, lt-ltb, le-ltb}
 use Rattle.std.proofs.lemmas.List.{length-append, append_assoc, append-nil}
 use Rattle.cv_base.specs.Scalars.{IsScalar}
@@ -9,7 +9,6 @@ use Rattle.cv_utf7.specs.BitLists.{bits, bits_of, character_bits, AreDigits, dig
 use Rattle.cv_base.specs.Units.{high_unit, low_unit}
 use Rattle.cv_utf7.proofs.Digits.{length-digits, digit_bits-cut}
 use Rattle.cv_utf7.proofs.BitStrings.{length-bits, mod-bits, bits-split, append-same}
-use Rattle.std.proofs.Common.{Some}
 use Rattle.cv_base.specs.declared.state.ReadState.TheVariants as read
 use Rattle.cv_utf7.specs.Utf7.{ReadsCharacter}
 
@@ -18,6 +17,7 @@ pub record Leads (pending : Bits) (bytes : List ℕ) (unit : ℕ) (rest : List B
   pub are_digits : AreDigits bytes
   pub same : bits_of pending ++ digit_bits bytes ≡ bits 16 unit ++ rest
 
+-- digits that begin with a code unit have its sixteen bits
 pub leads-long : (pending : Bits) (w : List ℕ) (u : ℕ) (rest : List Bool) → Leads pending w u rest → 16 ≤ pending.count + 6 * length w
 leads-long pending w u rest h =
     let e : length (bits_of pending ++ digit_bits w) ≡ length (bits 16 u ++ rest) = ap length h.same in
@@ -39,11 +39,20 @@ leads-front pending w u n count value rest h e l =
     ap (λ (t : List Bool). t ++ digit_bits (drop n w)) (sym e) ∙ append_assoc (bits_of pending) (digit_bits (take n w)) (digit_bits (drop n w)) ∙ ap (λ (t : List Bool). bits_of pending ++ t) (sym (digit_bits-cut n w)) ∙ h.same ∙ ap (λ (t : List Bool). t ++ rest) s ∙ append_assoc (bits count (u / 2 ^ (16 - count))) (bits (16 - count) u) rest in
     sym (mod-bits count value (u / 2 ^ (16 - count)) (append-same (bits count value) (bits count (u / 2 ^ (16 - count))) (digit_bits (drop n w)) (bits (16 - count) u ++ rest) f (length-bits count value ∙ sym (length-bits count (u / 2 ^ (16 - count))))).0)
 
+-- the bits of a character of one code unit
 pub one_unit : (c : ℕ) → c < 0x10000 → character_bits c ≡ bits 16 c
 one_unit c h = rw (lt-ltb c 0x10000 h) (append-nil (bits 16 c))
 
+-- the bits of a character of two code units
 pub two_units : (c : ℕ) → 0x10000 ≤ c → character_bits c ≡ bits 16 (high_unit c) ++ bits 16 (low_unit c)
 two_units c h = rw (le-ltb c 0x10000 h) (ap (λ (t : List Bool). bits 16 (high_unit c) ++ t) (append-nil (bits 16 (low_unit c))))
+
+-- a character has sixteen or thirty-two bits
+pub character_length : (c : ℕ) → (length (character_bits c) ≡ 16) ⊎ (length (character_bits c) ≡ 32)
+character_length c = elim (cases_lt c 0x10000) [
+  | inl h ↦ inl (ap length (one_unit c h) ∙ length-bits 16 c)
+  | inr h ↦ inr (ap length (two_units c h) ∙ length-append (bits 16 (high_unit c)) (bits 16 (low_unit c)) ∙ (let a : length (bits 16 (high_unit c)) ≡ 16 = length-bits 16 (high_unit c) in let b : length (bits 16 (low_unit c)) ≡ 16 = length-bits 16 (low_unit c) in omega arith))
+]
 
 -- A character of a shifted sequence, by its first unit.
 pub record IsOne (pending : Bits) (w : List ℕ) (i : Taken) : Type 0 where
@@ -54,6 +63,7 @@ pub record IsOne (pending : Bits) (w : List ℕ) (i : Taken) : Type 0 where
   pub leads : Leads pending w c (bits_of next)
   pub is : i ≡ taken (length w) (Some c) (read.Shifted next)
 
+-- A character of a shifted sequence, by its high surrogate and its low one.
 pub record IsPair (pending : Bits) (w : List ℕ) (i : Taken) : Type 0 where
   pub c : ℕ
   pub next : Bits
@@ -62,6 +72,7 @@ pub record IsPair (pending : Bits) (w : List ℕ) (i : Taken) : Type 0 where
   pub leads : Leads pending w (high_unit c) (bits 16 (low_unit c) ++ bits_of next)
   pub is : i ≡ taken (length w) (Some c) (read.Shifted next)
 
+-- a character of a shifted sequence is of one code unit or of a pair
 pub one_or_pair : (pending : Bits) (w : List ℕ) (i : Taken) → ReadsCharacter pending w i → IsOne pending w i ⊎ IsPair pending w i
 one_or_pair pending w i r = elim (cases_lt r.c 0x10000) [
   | inl l ↦ inl (record { c = r.c; next = r.next; scalar = r.scalar; small = l; leads = record { are_digits = r.are_digits; same = r.same_bits ∙ ap (λ (t : List Bool). t ++ bits_of r.next) (one_unit r.c l) }; is = r.is })

@@ -68,18 +68,22 @@ digits_none v = refl
 digits_1 : (v : ℕ) → digits (bits 6 v) ≡ digit_of (v / 1 % 64) ∷ []
 digits_1 v = digits_more 0 v ∙ ap (λ (w : List ℕ). digit_of (v / 1 % 64) ∷ w) (digits_none v)
 
+-- the digits of twelve bits
 pub digits_2 : (v : ℕ) → digits (bits 12 v) ≡ digit_of (v / 64 % 64) ∷ digit_of (v / 1 % 64) ∷ []
 digits_2 v = digits_more 6 v ∙ ap (λ (w : List ℕ). digit_of (v / 64 % 64) ∷ w) (digits_1 v)
 
+-- the digits of eighteen bits
 pub digits_3 : (v : ℕ) → digits (bits 18 v) ≡ digit_of (v / 4096 % 64) ∷ digit_of (v / 64 % 64) ∷ digit_of (v / 1 % 64) ∷ []
 digits_3 v = digits_more 12 v ∙ ap (λ (w : List ℕ). digit_of (v / 4096 % 64) ∷ w) (digits_2 v)
 
 digits_4 : (v : ℕ) → digits (bits 24 v) ≡ digit_of (v / 262144 % 64) ∷ digit_of (v / 4096 % 64) ∷ digit_of (v / 64 % 64) ∷ digit_of (v / 1 % 64) ∷ []
 digits_4 v = digits_more 18 v ∙ ap (λ (w : List ℕ). digit_of (v / 262144 % 64) ∷ w) (digits_3 v)
 
+-- the digits of thirty bits
 pub digits_5 : (v : ℕ) → digits (bits 30 v) ≡ digit_of (v / 16777216 % 64) ∷ digit_of (v / 262144 % 64) ∷ digit_of (v / 4096 % 64) ∷ digit_of (v / 64 % 64) ∷ digit_of (v / 1 % 64) ∷ []
 digits_5 v = digits_more 24 v ∙ ap (λ (w : List ℕ). digit_of (v / 16777216 % 64) ∷ w) (digits_4 v)
 
+-- the digits of thirty-six bits
 pub digits_6 : (v : ℕ) → digits (bits 36 v) ≡ digit_of (v / 1073741824 % 64) ∷ digit_of (v / 16777216 % 64) ∷ digit_of (v / 262144 % 64) ∷ digit_of (v / 4096 % 64) ∷ digit_of (v / 64 % 64) ∷ digit_of (v / 1 % 64) ∷ []
 digits_6 v = digits_more 30 v ∙ ap (λ (w : List ℕ). digit_of (v / 1073741824 % 64) ∷ w) (digits_5 v)
 
@@ -107,10 +111,12 @@ pair_behind pending c h k =
     let s : bits 32 (high_unit c * 65536 + low_unit c) ≡ bits 16 (high_unit c) ++ bits 16 (low_unit c) = bits-split 16 16 (high_unit c * 65536 + low_unit c) ∙ rw (g, j) refl in
     ap (λ (t : List Bool). bits_of pending ++ t) (two_units c h) ∙ sym (bits-split pending.count 32 (pending.value * 4294967296 + (high_unit c * 65536 + low_unit c)) ∙ rw (e, f, s) refl)
 
+-- a cut of a character of one code unit behind pending bits
 pub cut_unit : (pending : Bits) (c : ℕ) (cut : Cut) → c < 0x10000 → pending.count + 16 ≡ 6 * cut.n + cut.next.count → cut.value ≡ (pending.value * 65536 + c) / 2 ^ cut.next.count → cut.next.value ≡ (pending.value * 65536 + c) % 2 ^ cut.next.count
     → written_bits (bits_of pending ++ character_bits c) ≡ (digits (bits (6 * cut.n) cut.value), write.Shifted cut.next)
 cut_unit pending c cut h e v w = cut_is _ cut.n cut.next.count (pending.value * 65536 + c) cut.value cut.next (unit_behind pending c h ∙ ap (λ (k : ℕ). bits k (pending.value * 65536 + c)) e) refl v w
 
+-- a cut of a character of two code units behind pending bits
 pub cut_pair : (pending : Bits) (c : ℕ) (cut : Cut) → 0x10000 ≤ c → c < 0x110000 → pending.count + 32 ≡ 6 * cut.n + cut.next.count → cut.value ≡ (pending.value * 4294967296 + (high_unit c * 65536 + low_unit c)) / 2 ^ cut.next.count → cut.next.value ≡ (pending.value * 4294967296 + (high_unit c * 65536 + low_unit c)) % 2 ^ cut.next.count
     → written_bits (bits_of pending ++ character_bits c) ≡ (digits (bits (6 * cut.n) cut.value), write.Shifted cut.next)
 cut_pair pending c cut h k e v w = cut_is _ cut.n cut.next.count (pending.value * 4294967296 + (high_unit c * 65536 + low_unit c)) cut.value cut.next (pair_behind pending c h k ∙ ap (λ (m : ℕ). bits m (pending.value * 4294967296 + (high_unit c * 65536 + low_unit c))) e) refl v w
@@ -119,6 +125,7 @@ cut_pair pending c cut h k e v w = cut_is _ cut.n cut.next.count (pending.value 
 pub value_below : (pending : Bits) → pending.value < 16
 value_below pending = let e : 2 ^ pending.count ≤ 2 ^ 4 = pow-le-pow_right {n = 2} (omega arith) {i = pending.count} {j = 4} pending.few in omega (arith, pending.in_range)
 
+-- the value of two pending bits
 pub last_two : (pending : Bits) → pending.count ≡ 2 → pending.value < 4
 last_two pending e = subst (λ (k : ℕ). pending.value < 2 ^ k) e pending.in_range
 
@@ -138,6 +145,7 @@ last_digit_is l k e h =
     let n : number (l ++ replicate k false) ≡ number l * 2 ^ k = number-append l (replicate k false) ∙ rw (length-replicate k false, number-zeros k) (omega arith) in
     last_digit_six l k e h ∙ ap (λ (m : ℕ). digit_of m ∷ []) n
 
+-- what closes a sequence in which no bits are pending
 pub closing_none : (pending : Bits) → pending.count ≡ 0 → utf7_closes (write.Shifted pending) ≡ minus ∷ []
 unfolding bits
 closing_none pending e = ap (λ (k : ℕ). last_digit (bits k pending.value) ++ minus ∷ []) e
@@ -151,6 +159,7 @@ closing_of pending k d e h f =
 pub closing_two : (pending : Bits) (d : ℕ) → pending.count ≡ 2 → d ≡ digit_of (pending.value * 16) → last_digit (bits_of pending) ≡ d ∷ []
 closing_two pending d e f = closing_of pending 4 d (omega arith) (omega arith) f
 
+-- the closing digit of four bits
 pub closing_four : (pending : Bits) (d : ℕ) → 0 < pending.count → (pending.count ≡ 2 → ⊥) → d ≡ digit_of (pending.value * 4) → last_digit (bits_of pending) ≡ d ∷ []
 closing_four pending d h e f = let g : pending.count ≡ 4 = omega (arith, pending.few, pending.even) in closing_of pending 2 d (omega arith) h f
 
@@ -162,18 +171,18 @@ closing_some pending d e = ap (λ (w : List ℕ). w ++ minus ∷ []) e
 pub spell_2 : (cut : Cut) → cut.n ≡ 2 → digits (bits (6 * cut.n) cut.value) ≡ digit_of (cut.value / 64 % 64) ∷ digit_of (cut.value / 1 % 64) ∷ []
 spell_2 cut e = ap (λ (n : ℕ). digits (bits (6 * n) cut.value)) e ∙ digits_2 cut.value
 
+-- the digits of a cut of three
 pub spell_3 : (cut : Cut) → cut.n ≡ 3 → digits (bits (6 * cut.n) cut.value) ≡ digit_of (cut.value / 4096 % 64) ∷ digit_of (cut.value / 64 % 64) ∷ digit_of (cut.value / 1 % 64) ∷ []
 spell_3 cut e = ap (λ (n : ℕ). digits (bits (6 * n) cut.value)) e ∙ digits_3 cut.value
 
+-- the digits of a cut of five
 pub spell_5 : (cut : Cut) → cut.n ≡ 5 → digits (bits (6 * cut.n) cut.value) ≡ digit_of (cut.value / 16777216 % 64) ∷ digit_of (cut.value / 262144 % 64) ∷ digit_of (cut.value / 4096 % 64) ∷ digit_of (cut.value / 64 % 64) ∷ digit_of (cut.value / 1 % 64) ∷ []
 spell_5 cut e = ap (λ (n : ℕ). digits (bits (6 * n) cut.value)) e ∙ digits_5 cut.value
 
+-- a cut that is of no other number is of six, and its digits
 pub spell_6 : (cut : Cut) → (cut.n ≡ 2) ⊎ (cut.n ≡ 3) ⊎ (cut.n ≡ 5) ⊎ (cut.n ≡ 6) → (cut.n ≡ 2 → ⊥) → (cut.n ≡ 3 → ⊥) → (cut.n ≡ 5 → ⊥)
     → (cut.n ≡ 6) × (digits (bits (6 * cut.n) cut.value) ≡ digit_of (cut.value / 1073741824 % 64) ∷ digit_of (cut.value / 16777216 % 64) ∷ digit_of (cut.value / 262144 % 64) ∷ digit_of (cut.value / 4096 % 64) ∷ digit_of (cut.value / 64 % 64) ∷ digit_of (cut.value / 1 % 64) ∷ [])
 spell_6 cut o a b c = let e : cut.n ≡ 6 = elim o [ inl p ↦ absurd (a p) | inr o ↦ elim o [ inl p ↦ absurd (b p) | inr o ↦ elim o [ inl p ↦ absurd (c p) | inr p ↦ p ] ] ] in (e, ap (λ (n : ℕ). digits (bits (6 * n) cut.value)) e ∙ digits_6 cut.value)
-
-pub spell_five : (cut : Cut) → (cut.n ≡ 2) ⊎ (cut.n ≡ 5) → (cut.n ≡ 2 → ⊥) → (cut.n ≡ 5) × (digits (bits (6 * cut.n) cut.value) ≡ digit_of (cut.value / 16777216 % 64) ∷ digit_of (cut.value / 262144 % 64) ∷ digit_of (cut.value / 4096 % 64) ∷ digit_of (cut.value / 64 % 64) ∷ digit_of (cut.value / 1 % 64) ∷ [])
-spell_five cut o a = let e : cut.n ≡ 5 = elim o [ inl p ↦ absurd (a p) | inr p ↦ p ] in (e, spell_5 cut e)
 
 -- a cut has as many digits as it says
 pub spell_length : (cut : Cut) → length (digits (bits (6 * cut.n) cut.value)) ≡ cut.n

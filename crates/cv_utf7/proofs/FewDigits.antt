@@ -1,31 +1,28 @@
 -- What stands next in a shifted sequence where too few digits for a code unit do: its end, or nothing that is well-formed.
 use Rattle.std.proofs.Common.{◌≡◌, ℕ, zero, suc, ◌+◌, ◌-◌, ◌*◌, ◌/◌, ◌%◌, ◌^◌, ◌<◌, ◌≤◌, Bool, true, false, List, [], ◌∷◌, ◌++◌, length, take, drop, get_or, replicate, refl, sym, ◌∙◌, ap, subst, arith, inl, inr, Some, None, zero-mul}
 use Rattle.std.proofs.lemmas.Bool.{true≢false, cases_lt, cases_order}
-use Rattle.std.proofs.lemmas.List.{append_assoc, length-take-le, take-take, take_more}
+use Rattle.std.proofs.lemmas.List.{append_assoc, length-take-le, take-take, take_more, get_or-take}
 use Rattle.std.proofs.lemmas.Nat.{pow_pos, pow-add, shr_split}
 use Rattle.std.proofs.Math.Nat.{mod-eq_of_lt, mod-lt, mul-le-mul_right}
 use Rattle.cv_base.specs.Items.{Taken, taken, Stands, IsNext}
-use Rattle.cv_base.proofs.Front.{Begins-take}
+use Rattle.cv_base.proofs.Front.{Begins-take, Agree}
 use Rattle.cv_base.specs.declared.item.Item.{Item}
 use Rattle.cv_base.specs.declared.item.Item.TheVariants as item
 use Rattle.cv_base.specs.declared.state.Bits.{Bits}
 use Rattle.cv_base.specs.declared.state.ReadState.TheVariants as read
 use Rattle.cv_utf7.specs.Sets.{is_digit}
 use Rattle.cv_utf7.specs.BitLists.{bits, number, bits_of, digit_bits}
-use Rattle.cv_utf7.proofs.BitStrings.{number-bits}
+use Rattle.cv_utf7.proofs.BitStrings.{number-bits, zero_bits}
 use Rattle.cv_utf7.specs.Utf7.{EndsAt, utf7_reads}
 use Rattle.cv_utf7.proofs.SetMembers.{direct_lt, minus_is_no_digit}
 use Rattle.cv_utf7.proofs.CodeUnits.{Leads, leads-long, leads-front}
 use Rattle.cv_base.specs.Units.{high_unit, low_unit}
-use Rattle.cv_base.proofs.Front.{Agree}
 use Rattle.cv_utf7.proofs.Agreement.{agree-take}
-use Rattle.std.proofs.lemmas.List.{get_or-take}
 use Rattle.cv_utf7.proofs.OneItem.{IsStop}
-use Rattle.cv_utf7.specs.Private.Steps.{IsFront, IsEnding}
+use Rattle.cv_utf7.specs.Private.ItemSteps.{IsFront, IsEnding}
 use Rattle.cv_utf7.proofs.FrontDigits.{front_none}
 use Rattle.cv_utf7.proofs.Digits.{digit_bits-cut, AreDigits-at}
 use Rattle.cv_utf7.proofs.ShiftItems.{ill_from}
-use Rattle.cv_utf7.proofs.BitStrings.{zero_bits}
 
 -- the digits that are too few for a unit
 quotient_lt : (f count : ℕ) → count ≤ 16 → f < 65536 → f / 2 ^ (16 - count) < 2 ^ count
@@ -37,6 +34,7 @@ quotient_lt f count l s = elim (cases_lt (f / 2 ^ (16 - count)) (2 ^ count)) [
       omega (arith, shr_split f (16 - count)))
 ]
 
+-- a number between two multiples of a power has the quotient of the lower
 pub quotient_is : (u value k : ℕ) → value * 2 ^ k ≤ u → u < value * 2 ^ k + 2 ^ k → u / 2 ^ k ≡ value
 quotient_is u value k a b = elim (cases_order (u / 2 ^ k) value) [
   | inl e ↦ e
@@ -46,6 +44,7 @@ quotient_is u value k a b = elim (cases_order (u / 2 ^ k) value) [
   ]
 ]
 
+-- a code unit that begins with the bits so far lies between the least such and the greatest
 pub front_of : (p : Bits) (x : List ℕ) (n count value : ℕ) (w : List ℕ) (f : ℕ) (rest : List Bool) → IsFront p x n count value → Leads p w f rest → Agree w x → f < 65536 → (value * 2 ^ (16 - count) ≤ f) × (f < value * 2 ^ (16 - count) + 2 ^ (16 - count))
 front_of p x n count value w f rest h k a s =
     let l : n ≤ length w = omega (arith, leads-long p w f rest k, h.counts, h.few) in
@@ -64,6 +63,7 @@ stop_leads p x n count value w f rest h l d k a =
     let t = AreDigits-at w k.are_digits n m in
     (let same : true ≡ false = cc in true≢false same)
 
+-- each of the digits at the front is a digit
 pub front_at : (p : Bits) (x : List ℕ) (n count value k : ℕ) → IsFront p x n count value → k < n → is_digit (get_or x k 0) ≡ true
 front_at p x n count value k h l =
     let t = AreDigits-at (take n x) h.are_digits k (rw (length-take-le n x h.within) l) in
@@ -104,12 +104,14 @@ stop_zero p x n count value w i h s a l =
     ∙ s.zero_bits in
     sym (mod-eq_of_lt h.small) ∙ sym (number-bits count value) ∙ zero_front (bits count value) (digit_bits (drop n (take s.n w))) (p.count + 6 * s.n) e
 
+-- bits that are left and not zero, and a byte that is no digit: ill-formed
 pub few_ill : (p : Bits) (x : List ℕ) (n count value : ℕ) → IsFront p x n count value → n < length x → is_digit (get_or x n 0) ≡ false → (value ≡ 0 → ⊥) → IsNext utf7_reads (read.Shifted p) x item.Ill
 few_ill p x n count value h l d z = ill_from p x (omega arith)
     (λ w i m g. stop_leads p x n count value w m.c (bits_of m.next) h l d m.leads g)
     (λ w i m g. stop_leads p x n count value w (high_unit m.c) (bits 16 (low_unit m.c) ++ bits_of m.next) h l d m.leads g)
     (λ w i m g. z (stop_zero p x n count value w i h m g (omega (arith, stop_place p x n count value w i h l d m g))))
 
+-- zero bits that are left, and a byte that ends the sequence, are its end
 pub end_item : (p : Bits) (x : List ℕ) (n count value : ℕ) (i : Taken) → IsFront p x n count value → n < length x → value ≡ 0 → EndsAt (n + 1) (get_or x n 0) i → Stands utf7_reads (read.Shifted p) x i
 end_item p x n count value i h l z e = record {
   bytes = take (n + 1) x;
@@ -126,6 +128,7 @@ end_item p x n count value i h l z e = record {
   front = Begins-take (n + 1) x;
 }
 
+-- what stands next where zero bits are left is what the byte behind them ends
 pub few_ends : (p : Bits) (x : List ℕ) (n count value used : ℕ) (r : Item) → IsFront p x n count value → n < length x → is_digit (get_or x n 0) ≡ false → value ≡ 0 → used ≡ n + 1 → IsEnding (get_or x n 0) used r → IsNext utf7_reads (read.Shifted p) x r
 few_ends p x n count value used (item.Char c m next) h l d z u e = end_item p x n count value _ h l z (subst (λ (k : ℕ). EndsAt k (get_or x n 0) (taken m (Some c) next)) u e)
 few_ends p x n count value used (item.Shift m next) h l d z u e = end_item p x n count value _ h l z (subst (λ (k : ℕ). EndsAt k (get_or x n 0) (taken m None next)) u e)
@@ -140,6 +143,7 @@ few_ends p x n count value used item.Ill h l d z u e = ill_from p x (omega arith
     let f : m.n + 1 ≡ used = omega arith in
     e i (subst (λ (k : ℕ). EndsAt k (get_or x n 0) i) f (subst (λ (k : ℕ). EndsAt (m.n + 1) k i) b m.ends))))
 
+-- digits whose bits begin no code unit but low surrogates are ill-formed
 pub few_low : (p : Bits) (x : List ℕ) (n count value from to : ℕ) → IsFront p x n count value → length x ≤ n → 0 < length x → from ≡ value * 2 ^ (16 - count) → to ≡ value * 2 ^ (16 - count) + 2 ^ (16 - count) → 0xDC00 ≤ from → to ≤ 0xE000 → IsNext utf7_reads (read.Shifted p) x item.Ill
 few_low p x n count value from to h l some e f a b = ill_from p x some
     (λ w i m g. (let r = front_of p x n count value w m.c (bits_of m.next) h m.leads g m.small in omega (arith, m.scalar.1, r.0, r.1)))
@@ -160,6 +164,7 @@ few_low p x n count value from to h l some e f a b = ill_from p x some
 pub stop_ill : (p : Bits) (x : List ℕ) → 0 < length x → is_digit (get_or x 0 0) ≡ false → (p.value ≡ 0 → ⊥) → IsNext utf7_reads (read.Shifted p) x item.Ill
 stop_ill p x some d z = few_ill p x 0 p.count p.value (front_none p x p.count p.value refl refl) some d z
 
+-- what stands next where no digit does and no bits are pending
 pub stop_ends : (p : Bits) (x : List ℕ) (r : Item) → 0 < length x → is_digit (get_or x 0 0) ≡ false → p.value ≡ 0 → IsEnding (get_or x 0 0) 1 r → IsNext utf7_reads (read.Shifted p) x r
 stop_ends p x r some d z e = few_ends p x 0 p.count p.value 1 r (front_none p x p.count p.value refl refl) some d z (omega arith) e
 

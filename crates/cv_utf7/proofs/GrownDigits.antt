@@ -5,7 +5,7 @@ use Rattle.std.proofs.lemmas.List.{length-append, append_assoc, length-drop, tak
 use Rattle.std.proofs.lemmas.Nat.{pow_pos}
 use Rattle.cv_base.specs.Scalars.{IsScalar}
 use Rattle.cv_base.specs.Items.{taken, NoneStands, CanGrow, IsNext}
-use Rattle.cv_base.proofs.Front.{Begins-append}
+use Rattle.cv_base.proofs.Front.{Begins-append, Begins-agree, Begins-length}
 use Rattle.cv_base.specs.declared.item.Item.TheVariants as item
 use Rattle.cv_base.specs.declared.state.Bits.{Bits}
 use Rattle.cv_base.specs.declared.state.ReadState.TheVariants as read
@@ -15,8 +15,7 @@ use Rattle.cv_utf7.proofs.BitStrings.{length-bits, bits-split}
 use Rattle.cv_utf7.specs.Utf7.{utf7_reads}
 use Rattle.cv_utf7.proofs.CodeUnits.{leads-long, one_unit, two_units}
 use Rattle.cv_base.specs.Units.{high_unit, low_unit}
-use Rattle.cv_base.proofs.Front.{Begins-agree, Begins-length}
-use Rattle.cv_utf7.specs.Private.Steps.{IsUnit, IsFront}
+use Rattle.cv_utf7.specs.Private.ItemSteps.{IsUnit, IsFront}
 use Rattle.cv_utf7.specs.declared.units.Unit.{Unit}
 use Rattle.cv_utf7.proofs.Digits.{digits-bits, digit_bits-append, digit_bits-cut, AreDigits-append}
 use Rattle.cv_utf7.proofs.ShiftItems.{by_kind, unit_of, unit_no_stop, unit_some, one_in_range, pair_after, surrogate_ill}
@@ -93,9 +92,11 @@ few_none p x n count value h l i q = by_kind p q.bytes i ⊥ q.is_item
     let z = m.last in
     (let same : true ≡ false = cc in true≢false same)))
 
+-- digits whose bits begin a code unit below the low surrogates are incomplete
 pub few_below : (p : Bits) (x : List ℕ) (n count value from : ℕ) → IsFront p x n count value → length x ≤ n → 0 < length x → from ≡ value * 2 ^ (16 - count) → from < 0xDC00 → IsNext utf7_reads (read.Shifted p) x item.Incomplete
 few_below p x n count value from h l some e a = (some, few_none p x n count value h l, grow_unit p x n count value from h l (omega arith) (omega (arith, pow_pos (16 - count))) (omega arith) (inl a))
 
+-- digits whose bits begin a code unit above the low surrogates are incomplete
 pub few_above : (p : Bits) (x : List ℕ) (n count value to : ℕ) → IsFront p x n count value → length x ≤ n → 0 < length x → to ≡ value * 2 ^ (16 - count) + 2 ^ (16 - count) → to ≤ 65536 → 0xE000 < to → IsNext utf7_reads (read.Shifted p) x item.Incomplete
 few_above p x n count value to h l some e s a = (
   some,
@@ -110,9 +111,11 @@ few_above p x n count value to h l some e s a = (
 pub half_stop : (p : Bits) (x : List ℕ) (u : Unit) (n count value : ℕ) → IsUnit p x u → 0xD800 ≤ u.value → u.value < 0xDC00 → IsFront u.over (drop u.n x) n count value → n < length (drop u.n x) → is_digit (get_or (drop u.n x) n 0) ≡ false → IsNext utf7_reads (read.Shifted p) x item.Ill
 half_stop p x u n count value h a b k l d = surrogate_ill p x u h a (omega arith) (λ w c rest i j e m g. stop_leads u.over (drop u.n x) n count value w (low_unit c) rest k l d m g)
 
+-- no low surrogate begins with bits that are above all of them
 pub half_above : (p : Bits) (x : List ℕ) (u : Unit) (n count value from : ℕ) → IsUnit p x u → 0xD800 ≤ u.value → u.value < 0xDC00 → IsFront u.over (drop u.n x) n count value → from ≡ value * 2 ^ (16 - count) → 0xE000 ≤ from → IsNext utf7_reads (read.Shifted p) x item.Ill
 half_above p x u n count value from h a b k e l = surrogate_ill p x u h a (omega arith) (λ w c rest i j f m g. (let r = front_of u.over (drop u.n x) n count value w (low_unit c) rest k m g (omega arith) in omega (arith, r.0)))
 
+-- no low surrogate begins with bits that are below all of them
 pub half_below : (p : Bits) (x : List ℕ) (u : Unit) (n count value to : ℕ) → IsUnit p x u → 0xD800 ≤ u.value → u.value < 0xDC00 → IsFront u.over (drop u.n x) n count value → to ≡ value * 2 ^ (16 - count) + 2 ^ (16 - count) → to ≤ 0xDC00 → IsNext utf7_reads (read.Shifted p) x item.Ill
 half_below p x u n count value to h a b k e l = surrogate_ill p x u h a (omega arith) (λ w c rest i j f m g. (let r = front_of u.over (drop u.n x) n count value w (low_unit c) rest k m g (omega arith) in omega (arith, r.1)))
 
@@ -136,6 +139,7 @@ half_grow p x u n count value low h a b k l f g d e =
     (ap (λ (b : List Bool). b ++ bits (16 - count) low) all ∙ append_assoc (bits 16 u.value) (bits count value) (bits (16 - count) low) ∙ ap (λ (b : List Bool). bits 16 u.value ++ b) (in_front count value low k.few f g) ∙ sym (two_units (0x10000 + (u.value - 0xD800) * 1024 + (low - 0xDC00)) (omega arith) ∙ rw (high, lower) refl))
     (omega (arith, length-bits (16 - count) low, k.few, front_even u.over n count k.counts))
 
+-- a high surrogate and digits whose bits begin a low one are incomplete
 pub half_short : (p : Bits) (x : List ℕ) (u : Unit) (n count value from to : ℕ) → IsUnit p x u → 0xD800 ≤ u.value → u.value < 0xDC00 → IsFront u.over (drop u.n x) n count value → length (drop u.n x) ≤ n
     → from ≡ value * 2 ^ (16 - count) → to ≡ value * 2 ^ (16 - count) + 2 ^ (16 - count) → from < 0xE000 → 0xDC00 < to → IsNext utf7_reads (read.Shifted p) x item.Incomplete
 half_short p x u n count value from to h a b k l e f c d = (

@@ -1,7 +1,5 @@
 pub mod Agreement
 pub mod BitStrings
-pub mod BlockReading
-pub mod BlockWriting
 pub mod CodeUnits
 pub mod Cuts
 pub mod Digits
@@ -9,11 +7,17 @@ pub mod FewDigits
 pub mod FrontDigits
 pub mod GrownDigits
 pub mod Lanes
+pub mod LoneSequences
 pub mod OneItem
 pub mod PendingBits
 pub mod ReadBack
+pub mod ReadRuns
+pub mod ReadSteps
 pub mod SetMembers
 pub mod ShiftItems
 pub mod StartItems
 pub mod Tables
+pub mod WindowBits
+pub mod WriteRuns
+pub mod WriteSteps
 pub mod Writes

@@ -1,7 +1,6 @@
 -- UTF-7 keeps what every codec keeps.
 use Rattle.std.proofs.Common.{◌≡◌, ℕ, ◌+◌, ◌*◌, ◌%◌, ◌^◌, ◌<◌, ◌≤◌, Bool, true, false, List, [], ◌∷◌, ◌++◌, length, take, get_or, replicate, refl, sym, ◌∙◌, ap, subst, arith, inl, inr, Some}
-use Rattle.std.proofs.lemmas.List.{length-append, length-replicate, take_at, take_all}
-use Rattle.std.proofs.lemmas.List.{length-take}
+use Rattle.std.proofs.lemmas.List.{length-append, length-replicate, take_at, take_all, length-take, get_or-take}
 use Rattle.std.proofs.lemmas.Bool.{cases_order, true≢false}
 use Rattle.cv_base.specs.Items.{Taken, taken, Begins}
 use Rattle.cv_base.specs.Codecs.{IsReadable, CanSubstitute}
@@ -19,7 +18,6 @@ use Rattle.cv_base.specs.Units.{high_unit, low_unit}
 use Rattle.cv_base.proofs.Front.{Agree}
 use Rattle.cv_utf7.proofs.Agreement.{agree-sym, agree-both, agree-take, agree-whole}
 use Rattle.cv_utf7.proofs.Digits.{AreDigits-at, length-digits}
-use Rattle.std.proofs.lemmas.List.{get_or-take}
 use Rattle.cv_utf7.proofs.PendingBits.{bits_of-same}
 
 -- The end of a shifted sequence, by the place of the byte that is no digit.
@@ -36,9 +34,11 @@ get-last : (a : List ℕ) (b : ℕ) → get_or (a ++ b ∷ []) (length a) 0 ≡ 
 get-last [] b = refl
 get-last (x ∷ a) b = get-last a b
 
+-- what ends a shifted sequence is no digit
 pub ends_no_digit : (used b : ℕ) (i : Taken) → EndsAt used b i → is_digit b ≡ false
 ends_no_digit used b i e = elim e [ inl p ↦ rw p.0 minus_is_no_digit | inr p ↦ p.1 ]
 
+-- the end of a shifted sequence has its byte behind the digits
 pub stop_of : (pending : Bits) (w : List ℕ) (i : Taken) → ReadsEnd pending w i → IsStop pending w i
 stop_of pending w i r =
     let t : take (length r.front) w ≡ r.front = ap (take (length r.front)) r.whole ∙ take_at r.front (r.last ∷ []) (length r.front) refl in
@@ -56,6 +56,7 @@ stop_of pending w i r =
       ends = rw g ends;
     }
 
+-- how many bits digits have that begin with a code unit
 pub leads-length : (pending : Bits) (w : List ℕ) (u : ℕ) (rest : List Bool) → Leads pending w u rest → pending.count + 6 * length w ≡ 16 + length rest
 leads-length pending w u rest h =
     let e : length (bits_of pending ++ digit_bits w) ≡ length (bits 16 u ++ rest) = ap length h.same in
@@ -225,9 +226,11 @@ uses_utf7 read.Big a i p = uses_at_start a i p
 uses_utf7 read.Little a i p = uses_at_start a i p
 uses_utf7 (read.Shifted p) a i r = uses_in_shift p a i r
 
+-- UTF-7 is readable: one item stands at most, and it uses some bytes
 pub utf7_readable : IsReadable utf7_reads
 utf7_readable = record { one_item = one_utf7; uses = uses_utf7 }
 
+-- `?` is written in every state
 pub utf7_substitutable : CanSubstitute utf7_writes
 utf7_substitutable write.Start = refl
 utf7_substitutable write.Marked = refl

@@ -4,8 +4,7 @@ use Rattle.std.proofs.Math.Nat.{mod-eq_of_lt}
 use Rattle.std.proofs.Props.{props}
 use Rattle.cv_base.specs.declared.state.Bits.{Bits}
 use Rattle.cv_utf7.specs.BitLists.{bits, number, bits_of}
-use Rattle.cv_utf7.proofs.BitStrings.{number_lt}
-use Rattle.cv_utf7.proofs.BitStrings.{length-bits, number-bits, same-bits}
+use Rattle.cv_utf7.proofs.BitStrings.{number_lt, length-bits, number-bits, same-bits}
 use Rattle.cv_utf7.specs.Private.PendingBits.{pending_of}
 
 -- the fields of pending bits say all of them

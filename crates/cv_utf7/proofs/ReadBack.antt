@@ -1,6 +1,6 @@
 -- What is written is read back.
-use Rattle.std.proofs.Common.{◌≡◌, ℕ, ◌+◌, ◌-◌, ◌*◌, ◌/◌, ◌%◌, ◌<◌, ◌≤◌, Bool, true, false, ◌||◌, ◌⊎◌, List, [], ◌∷◌, ◌++◌, length, take, drop, replicate, refl, sym, ◌∙◌, ap, subst, arith, inl, inr, Some, None, option_to_list}
-use Rattle.std.proofs.lemmas.Bool.{cases_Bool, cases_lt, cases_eq, eq-eqb, or_cases}
+use Rattle.std.proofs.Common.{◌≡◌, ℕ, ◌+◌, ◌-◌, ◌*◌, ◌/◌, ◌%◌, ◌<◌, ◌≤◌, Bool, true, false, ◌||◌, List, [], ◌∷◌, ◌++◌, length, take, drop, replicate, refl, sym, ◌∙◌, ap, subst, arith, inl, inr, Some, None, option_to_list}
+use Rattle.std.proofs.lemmas.Bool.{cases_Bool, cases_eq, eq-eqb, or_cases}
 use Rattle.std.proofs.lemmas.List.{length-append, append_assoc, append-nil, length-take-le, length-replicate, take-append-drop, drop_at}
 use Rattle.cv_base.specs.Scalars.{IsScalar, AreScalars}
 use Rattle.cv_base.specs.Items.{Taken, taken}
@@ -10,19 +10,17 @@ use Rattle.cv_base.specs.declared.state.ReadState.{ReadState}
 use Rattle.cv_base.specs.declared.state.ReadState.TheVariants as read
 use Rattle.cv_base.specs.declared.state.WriteState.{WriteState}
 use Rattle.cv_base.specs.declared.state.WriteState.TheVariants as write
-use Rattle.cv_utf7.specs.Sets.{is_digit, is_direct, may_be_direct, is_set_d, is_set_o, is_blank}
-use Rattle.cv_utf7.specs.BitLists.{bits, number, bits_of, character_bits, AreDigits, digit_bits, digits, over}
+use Rattle.cv_utf7.specs.Sets.{is_digit, is_direct, may_be_direct, is_set_d, is_set_o, is_blank, digit_of}
+use Rattle.cv_utf7.specs.BitLists.{number, bits_of, character_bits, AreDigits, digit_bits, digits, over}
 use Rattle.cv_utf7.proofs.BitStrings.{length-bits}
-use Rattle.cv_utf7.proofs.CodeUnits.{one_unit, two_units}
-use Rattle.cv_base.specs.Units.{high_unit, low_unit}
+use Rattle.cv_utf7.proofs.CodeUnits.{character_length}
 use Rattle.cv_base.specs.Chains.{Output, output_for, written}
 use Rattle.cv_base.specs.ReadBack.{ReadsBack}
 use Rattle.cv_base.proofs.ReadBacks.{IsReadFrom}
+use Rattle.cv_utf7.proofs.Digits.{some_digits, six, length-digits, no_digits, AreDigits-cons, AreDigits-at, digit_bits-append, digit_bits-cut, AreDigits-append, AreDigits-take, AreDigits-drop}
 use Rattle.cv_utf7.specs.Utf7.{plus, minus, ReadsCharacter, written_bits, last_digit, utf7_reads, utf7_writes, utf7_closes, writes_at_start}
 use Rattle.cv_utf7.specs.Private.PendingBits.{pending_of}
-use Rattle.cv_utf7.specs.Sets.{digit_of}
 use Rattle.cv_utf7.proofs.Cuts.{last_digit_six}
-use Rattle.cv_utf7.proofs.Digits.{six, length-digits, no_digits, AreDigits-cons, AreDigits-at, digit_bits-append, digit_bits-cut, AreDigits-append, AreDigits-take, AreDigits-drop}
 use Rattle.cv_utf7.proofs.PendingBits.{pending_bits}
 use Rattle.cv_utf7.proofs.Writes.{start_direct, start_other, shift_direct, shift_other}
 
@@ -39,13 +37,6 @@ all_bits-snoc (o ∷ os) c = ap (λ (t : List Bool). character_bits o ++ t) (all
 AreScalars-snoc : (os : List ℕ) (c : ℕ) → AreScalars os → IsScalar c → AreScalars (os ++ c ∷ [])
 AreScalars-snoc [] c a s = (s, tt)
 AreScalars-snoc (o ∷ os) c a s = (a.0, AreScalars-snoc os c a.1 s)
-
--- a character has sixteen or thirty-two bits
-character_length : (c : ℕ) → (length (character_bits c) ≡ 16) ⊎ (length (character_bits c) ≡ 32)
-character_length c = elim (cases_lt c 0x10000) [
-  | inl h ↦ inl (ap length (one_unit c h) ∙ length-bits 16 c)
-  | inr h ↦ inr (ap length (two_units c h) ∙ length-append (bits 16 (high_unit c)) (bits 16 (low_unit c)) ∙ (let a : length (bits 16 (high_unit c)) ≡ 16 = length-bits 16 (high_unit c) in let b : length (bits 16 (low_unit c)) ≡ 16 = length-bits 16 (low_unit c) in omega arith))
-]
 
 all_even : (os : List ℕ) → length (all_bits os) % 2 ≡ 0
 unfolding all_bits
@@ -216,23 +207,11 @@ end_shift r p z os d s e =
     subst (λ (t : List ℕ). IsRead (read.Shifted r) t (os ++ [])) (append_assoc z (last_digit (bits_of p)) (minus ∷ []))
     (closed r p z os [] [] d s e (nothing_read read.Start))
 
-some_of : (l : List Bool) → 6 ≤ length l → 0 < length (digits l)
-some_of [] h = absurd (omega arith)
-some_of (a ∷ []) h = absurd (omega arith)
-some_of (a ∷ b ∷ []) h = absurd (omega arith)
-some_of (a ∷ b ∷ c ∷ []) h = absurd (omega arith)
-some_of (a ∷ b ∷ c ∷ d ∷ []) h = absurd (omega arith)
-some_of (a ∷ b ∷ c ∷ d ∷ f ∷ []) h = absurd (omega arith)
-some_of (a ∷ b ∷ c ∷ d ∷ f ∷ g ∷ l) h = omega arith
-
 start_sign : (c : ℕ) → is_direct c ≡ false → c ≡ plus → writes_at_start c ≡ (plus ∷ minus ∷ [], write.Start)
 start_sign c e f = rw (e, eq-eqb c plus f) refl
 
 regroup : (z l : List ℕ) (c : ℕ) (rest : List ℕ) → (z ++ l) ++ minus ∷ (c ∷ rest) ≡ z ++ (((l ++ minus ∷ []) ++ c ∷ []) ++ rest)
 regroup z l c rest = simp append_assoc
-
-some_digits : (c : ℕ) → 0 < length (digits (character_bits c))
-some_digits c = some_of (character_bits c) (elim (character_length c) [ inl e ↦ omega arith | inr e ↦ omega arith ])
 
 shift_on : (c : ℕ) (cs : List ℕ) → IsScalar c → FromShift cs → (r p : Bits) (z os : List ℕ) → AreDigits z → AreScalars os → (bits_of r ++ digit_bits z) ++ bits_of p ≡ all_bits os
     → IsRead (read.Shifted r) (z ++ (digits (bits_of p ++ character_bits c) ++ text_of (write.Shifted (pending_of (over (bits_of p ++ character_bits c)))) cs)) (os ++ c ∷ cs)
@@ -263,7 +242,7 @@ more_start c cs i a b = elim (cases_Bool (is_direct c)) [
         let k = cut_back (character_bits c) v in
         let g = b (pending_of []) (pending_of (over (character_bits c))) (digits (character_bits c)) (c ∷ []) k.0 (i, tt) (ap (λ (t : List Bool). (t ++ digit_bits (digits (character_bits c))) ++ bits_of (pending_of (over (character_bits c)))) none_bits ∙ k.1 ∙ sym (append-nil (character_bits c))) in
         subst (λ (n : List ℕ × WriteState). IsRead read.Start (n.0 ++ text_of n.1 cs) (c ∷ cs)) (sym (start_other c (character_bits c) (written_bits (character_bits c)) e f refl refl))
-        (plus_digits (digits (character_bits c)) (text_of (write.Shifted (pending_of (over (character_bits c)))) cs) (c ∷ cs) k.0 (some_digits c) g))
+        (plus_digits (digits (character_bits c)) (text_of (write.Shifted (pending_of (over (character_bits c)))) cs) (c ∷ cs) k.0 (some_digits (character_bits c) (elim (character_length c) [ inl e ↦ omega arith | inr e ↦ omega arith ])) g))
   ]
 ]
 

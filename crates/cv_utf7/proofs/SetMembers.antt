@@ -20,11 +20,12 @@ pub value_lt : (b : ℕ) → is_digit b ≡ true → value_of b < 64
 unfolding is_digit value_of base64
 value_lt b e = place_lt base64 b e
 
--- `+` is not direct, and `-` is no digit
+-- `+` is not direct
 pub plus_is_not_direct : may_be_direct 43 ≡ false
 unfolding may_be_direct is_set_d is_set_o is_blank
 plus_is_not_direct = refl
 
+-- `-` is no digit
 pub minus_is_no_digit : is_digit 45 ≡ false
 unfolding is_digit base64
 minus_is_no_digit = refl
@@ -34,6 +35,7 @@ pub value-digit : (v : ℕ) → v < 64 → value_of (digit_of v) ≡ v
 unfolding value_of digit_of base64
 value-digit v h = eqb-true _ _ (agree_below_at (λ v. nat_eq (value_of (digit_of v)) v) (λ v. true) 64 v refl h)
 
+-- the digit of a value is a digit
 pub digit-digit : (v : ℕ) → v < 64 → is_digit (digit_of v) ≡ true
 unfolding is_digit digit_of base64
 digit-digit v h = agree_below_at (λ v. is_digit (digit_of v)) (λ v. true) 64 v refl h
@@ -43,6 +45,7 @@ pub direct_lt : (b : ℕ) → may_be_direct b ≡ true → b < 128
 unfolding may_be_direct is_set_d is_set_o is_blank
 direct_lt b h = grind (arith, nat_tests)
 
+-- a character that is written as itself is ASCII
 pub written_lt : (c : ℕ) → is_direct c ≡ true → c < 128
 unfolding is_direct is_set_d is_blank
 written_lt c h = grind (arith, nat_tests)

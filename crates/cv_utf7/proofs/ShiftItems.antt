@@ -4,7 +4,7 @@ use Rattle.std.proofs.lemmas.Bool.{cases_lt}
 use Rattle.std.proofs.lemmas.List.{append_assoc, length-take-le, length-drop}
 use Rattle.cv_base.specs.Scalars.{IsScalar}
 use Rattle.cv_base.specs.Items.{Taken, taken, Stands, IsNext}
-use Rattle.cv_base.proofs.Front.{Begins-take}
+use Rattle.cv_base.proofs.Front.{Begins-take, Agree, Begins-agree}
 use Rattle.cv_base.specs.declared.item.Item.TheVariants as item
 use Rattle.cv_base.specs.declared.state.Bits.{Bits}
 use Rattle.cv_base.specs.declared.state.ReadState.TheVariants as read
@@ -13,10 +13,9 @@ use Rattle.cv_utf7.proofs.BitStrings.{length-bits}
 use Rattle.cv_utf7.specs.Utf7.{utf7_reads}
 use Rattle.cv_utf7.proofs.CodeUnits.{Leads, leads-long, leads-unit, one_unit, two_units, IsOne, IsPair, one_or_pair}
 use Rattle.cv_base.specs.Units.{high_unit, low_unit}
-use Rattle.cv_base.proofs.Front.{Agree, Begins-agree}
 use Rattle.cv_utf7.proofs.Agreement.{agree-sym, agree-take, agree-drop, agree-front}
 use Rattle.cv_utf7.proofs.OneItem.{IsStop, stop_of, leads-length, leads_stop}
-use Rattle.cv_utf7.specs.Private.Steps.{IsUnit}
+use Rattle.cv_utf7.specs.Private.ItemSteps.{IsUnit}
 use Rattle.cv_utf7.specs.declared.units.Unit.{Unit}
 use Rattle.cv_utf7.proofs.Digits.{digit_bits-append, AreDigits-append, AreDigits-drop}
 
@@ -27,6 +26,7 @@ by_kind p w i P r one pair stop = elim r [
   | inr e ↦ stop (stop_of p w i e)
 ]
 
+-- what agrees with no item is ill-formed
 pub ill_from : (p : Bits) (x : List ℕ) → 0 < length x → ((w : List ℕ) (i : Taken) → IsOne p w i → Agree w x → ⊥) → ((w : List ℕ) (i : Taken) → IsPair p w i → Agree w x → ⊥) → ((w : List ℕ) (i : Taken) → IsStop p w i → Agree w x → ⊥) → IsNext utf7_reads (read.Shifted p) x item.Ill
 ill_from p x n one pair stop =
     let never : (w : List ℕ) (i : Taken) → utf7_reads (read.Shifted p) w i → Agree w x → ⊥ = λ w i r a. by_kind p w i ⊥ r (λ m. one w i m a) (λ m. pair w i m a) (λ m. stop w i m a) in
@@ -36,6 +36,7 @@ ill_from p x n one pair stop =
 pub unit_leads : (p : Bits) (x : List ℕ) (u : Unit) → IsUnit p x u → Leads p (take u.n x) u.value (bits_of u.over)
 unit_leads p x u h = record { are_digits = h.are_digits; same = h.same }
 
+-- how many bits the digits of a code unit have
 pub unit_length : (p : Bits) (x : List ℕ) (u : Unit) → IsUnit p x u → p.count + 6 * u.n ≡ 16 + u.over.count
 unit_length p x u h = omega (arith, leads-length p (take u.n x) u.value (bits_of u.over) (unit_leads p x u h), length-take-le u.n x h.within, length-bits u.over.count u.over.value)
 
@@ -51,12 +52,15 @@ unit_of p x u w f rest h k a =
 pub unit_no_stop : (p : Bits) (x : List ℕ) (u : Unit) (w : List ℕ) (i : Taken) → IsUnit p x u → IsStop p w i → Agree w x → ⊥
 unit_no_stop p x u w i h s a = leads_stop p (take u.n x) w u.value (bits_of u.over) i (unit_leads p x u h) s (agree-front w x a u.n)
 
+-- a code unit stands in no empty text
 pub unit_some : (p : Bits) (x : List ℕ) (u : Unit) → IsUnit p x u → 0 < length x
 unit_some p x u h = omega (arith, unit_length p x u h, p.few, h.within)
 
+-- no scalar value is the code unit of a surrogate
 pub one_in_range : (c : ℕ) (u : ℕ) → c % 65536 ≡ u % 65536 → IsScalar c → c < 0x10000 → u < 0x10000 → 0xD800 ≤ u → u < 0xE000 → ⊥
 one_in_range c u e s l m a b = omega (arith, s.1)
 
+-- a code unit that is no surrogate stands as its character
 pub char_stands : (p : Bits) (x : List ℕ) (u : Unit) (c n : ℕ) (next : Bits) → IsUnit p x u → c ≡ u.value → n ≡ u.n → next ≡ u.over → ((0xD800 ≤ u.value) × (u.value < 0xE000) → ⊥) → Stands utf7_reads (read.Shifted p) x (taken n (Some c) (read.Shifted next))
 char_stands p x u c n next h e f g s =
     let l : length (take u.n x) ≡ u.n = length-take-le u.n x h.within in
@@ -74,6 +78,7 @@ char_stands p x u c n next h e f g s =
       front = Begins-take u.n x;
     }
 
+-- a code unit that is no surrogate is a scalar value
 pub scalar_unit : (p : Bits) (x : List ℕ) (u : Unit) → IsUnit p x u → ((0xD800 ≤ u.value) × (u.value < 0xE000) → ⊥) → IsScalar u.value
 scalar_unit p x u h s = (omega (arith, h.small), λ k. elim (cases_lt u.value 0xE000) [ inl m ↦ absurd (s (k, m)) | inr m ↦ m ])
 
@@ -84,30 +89,36 @@ take-two (suc a) zero [] = ap (λ (n : ℕ). let l : List ℕ = [] in take n l) 
 take-two (suc a) (suc b) [] = ap (λ (n : ℕ). let l : List ℕ = [] in take n l) (let e : suc a + suc b ≡ suc (a + suc b) = omega arith in e)
 take-two (suc a) b (y ∷ x) = ap (λ (n : ℕ). take n (y ∷ x)) (let e : suc a + b ≡ suc (a + b) = omega arith in e) ∙ ap (λ (t : List ℕ). y ∷ t) (take-two a b x)
 
+-- behind the code unit of a high surrogate a pair goes on with its low one
 pub pair_after : (p : Bits) (x : List ℕ) (u : Unit) (w : List ℕ) (i : Taken) → IsUnit p x u → (m : IsPair p w i) → Agree w x → (high_unit m.c ≡ u.value) × Leads u.over (drop u.n w) (low_unit m.c) (bits_of m.next) × Agree (drop u.n w) (drop u.n x)
 pair_after p x u w i h m a =
     let e = unit_of p x u w (high_unit m.c) (bits 16 (low_unit m.c) ++ bits_of m.next) h m.leads a in
     (omega (arith, e.1, m.in_range, m.large, h.small), record { are_digits = AreDigits-drop u.n w m.leads.are_digits; same = sym e.2 }, agree-drop w x a u.n)
 
+-- a surrogate is ill-formed where no low one can follow
 pub surrogate_ill : (p : Bits) (x : List ℕ) (u : Unit) → IsUnit p x u → 0xD800 ≤ u.value → u.value < 0xE000 → ((w : List ℕ) (c : ℕ) (rest : List Bool) → c < 0x110000 → 0x10000 ≤ c → high_unit c ≡ u.value → Leads u.over w (low_unit c) rest → Agree w (drop u.n x) → ⊥) → IsNext utf7_reads (read.Shifted p) x item.Ill
 surrogate_ill p x u h a b pair = ill_from p x (unit_some p x u h)
     (λ w i m g. one_in_range m.c u.value (unit_of p x u w m.c (bits_of m.next) h m.leads g).1 m.scalar m.small h.small a b)
     (λ w i m g. (let e = pair_after p x u w i h m g in pair (drop u.n w) m.c (bits_of m.next) m.in_range m.large e.0 e.1 e.2))
     (λ w i m g. unit_no_stop p x u w i h m g)
 
+-- a low surrogate that comes first is ill-formed
 pub low_first : (p : Bits) (x : List ℕ) (u : Unit) → IsUnit p x u → 0xDC00 ≤ u.value → u.value < 0xE000 → IsNext utf7_reads (read.Shifted p) x item.Ill
 low_first p x u h a b = surrogate_ill p x u h (omega arith) b (λ w c rest i l e k g. omega arith)
 
-pub no_low : (p : Bits) (x : List ℕ) (u v : Unit) → IsUnit p x u → 0xD800 ≤ u.value → u.value < 0xE000 → IsUnit u.over (drop u.n x) v → (v.value < 0xDC00) ⊎ (0xE000 ≤ v.value) → IsNext utf7_reads (read.Shifted p) x item.Ill
+no_low : (p : Bits) (x : List ℕ) (u v : Unit) → IsUnit p x u → 0xD800 ≤ u.value → u.value < 0xE000 → IsUnit u.over (drop u.n x) v → (v.value < 0xDC00) ⊎ (0xE000 ≤ v.value) → IsNext utf7_reads (read.Shifted p) x item.Ill
 no_low p x u v h a b k o = surrogate_ill p x u h a b (λ w c rest i l e m g.
     (let f = (unit_of u.over (drop u.n x) v w (low_unit c) rest k m g).1 in elim o [ inl q ↦ omega (arith, k.small) | inr q ↦ omega (arith, k.small) ]))
 
+-- a high surrogate before a code unit below the low ones is ill-formed
 pub no_low_below : (p : Bits) (x : List ℕ) (u v : Unit) → IsUnit p x u → 0xD800 ≤ u.value → u.value < 0xDC00 → IsUnit u.over (drop u.n x) v → v.value < 0xDC00 → IsNext utf7_reads (read.Shifted p) x item.Ill
 no_low_below p x u v h a b k o = no_low p x u v h a (omega arith) k (inl o)
 
+-- a high surrogate before a code unit above the low ones is ill-formed
 pub no_low_above : (p : Bits) (x : List ℕ) (u v : Unit) → IsUnit p x u → 0xD800 ≤ u.value → u.value < 0xDC00 → IsUnit u.over (drop u.n x) v → 0xE000 ≤ v.value → IsNext utf7_reads (read.Shifted p) x item.Ill
 no_low_above p x u v h a b k o = no_low p x u v h a (omega arith) k (inr o)
 
+-- a high surrogate and a low one stand as their character
 pub pair_stands : (p : Bits) (x : List ℕ) (u v : Unit) (c n : ℕ) (next : Bits) → IsUnit p x u → IsUnit u.over (drop u.n x) v → 0xD800 ≤ u.value → u.value < 0xDC00 → 0xDC00 ≤ v.value → v.value < 0xE000
     → c ≡ 0x10000 + (u.value - 0xD800) * 1024 + (v.value - 0xDC00) → n ≡ u.n + v.n → next ≡ v.over → Stands utf7_reads (read.Shifted p) x (taken n (Some c) (read.Shifted next))
 pair_stands p x u v c n next h k a b d e f g j =

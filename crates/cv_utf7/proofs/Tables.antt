@@ -20,26 +20,33 @@ value_at : (b : ℕ) → b < 256 → is_digit b ≡ true → get_or VALUES b 0 �
 unfolding value_agrees
 value_at b l d = eqb-true _ _ (rw d at (agrees_at b l))
 
+-- a byte with a value below 64 is a digit, and that is its value
 pub digit_some : (b : ℕ) → b < 256 → get_or VALUES b 0 < 64 → (is_digit b ≡ true) × (get_or VALUES b 0 ≡ value_of b)
 digit_some b l h = let d : is_digit b ≡ true = sym (is_digit_at b l) ∙ lt-ltb _ _ h in (d, value_at b l d)
 
+-- a byte with no value is no digit
 pub digit_none : (b : ℕ) → b < 256 → 64 ≤ get_or VALUES b 0 → is_digit b ≡ false
 digit_none b l h = sym (is_digit_at b l) ∙ le-ltb _ _ h
 
+-- the table of digits
 pub digit_at : (v : ℕ) → v < 64 → get_or DIGITS v 0 ≡ digit_of v
 unfolding digit_of base64
 digit_at v l = eqb-true _ _ (agree_below_at (λ v. nat_eq (get_or DIGITS v 0) (digit_of v)) (λ v. true) 64 v refl l)
 
+-- the table of what may be direct
 pub direct_at : (b : ℕ) → b < 128 → not (nat_eq (get_or DIRECT b 0) 0) ≡ may_be_direct b
 unfolding may_be_direct is_set_d is_set_o is_blank
 direct_at b l = agree_below_at (λ b. not (nat_eq (get_or DIRECT b 0) 0)) may_be_direct 128 b refl l
 
+-- the table of what is written as itself
 pub written_at : (b : ℕ) → b < 128 → nat_eq (get_or DIRECT b 0) 3 ≡ is_direct b
 unfolding is_direct is_set_d is_set_o is_blank
 written_at b l = agree_below_at (λ b. nat_eq (get_or DIRECT b 0) 3) is_direct 128 b refl l
 
+-- no byte above ASCII may be direct
 pub direct_above : (b : ℕ) → 128 ≤ b → nat_lt b 128 ≡ may_be_direct b
 direct_above b l = elim (cases_Bool (may_be_direct b)) [ inl e ↦ absurd (omega (arith, direct_lt b e)) | inr e ↦ le-ltb b 128 l ∙ sym e ]
 
+-- no character above ASCII is written as itself
 pub written_above : (b : ℕ) → 128 ≤ b → nat_lt b 128 ≡ is_direct b
 written_above b l = elim (cases_Bool (is_direct b)) [ inl e ↦ absurd (omega (arith, written_lt b e)) | inr e ↦ le-ltb b 128 l ∙ sym e ]

@@ -1,4 +1,5 @@
-pub mod BlockSteps
 pub mod ByteSets
+pub mod ItemSteps
 pub mod PendingBits
-pub mod Steps
+pub mod ReadSteps
+pub mod WriteSteps

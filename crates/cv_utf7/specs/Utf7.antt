@@ -12,10 +12,11 @@ use Rattle.cv_utf7.specs.Sets.{may_be_direct, is_direct, is_digit}
 use Rattle.cv_utf7.specs.BitLists.{bits_of, character_bits, AreDigits, digit_bits, digits, over}
 use Rattle.cv_utf7.specs.Private.PendingBits.{pending_of}
 
--- `+` and `-`
+-- `+`
 abbrev pub plus : ℕ
 plus = 43
 
+-- `-`
 abbrev pub minus : ℕ
 minus = 45
 

@@ -127,9 +127,9 @@ impl Cut {
     /// The last five digits.
     #[inline(always)]
     pub(crate) fn last_five(self) -> [u8; 5]
-        ensures { result ≡ digit_of (self.value / 16777216 % 64) ∷ digit_of (self.value / 262144 % 64)
-            ∷ digit_of (self.value / 4096 % 64) ∷ digit_of (self.value / 64 % 64)
-            ∷ digit_of (self.value / 1 % 64) ∷ [] }
+        ensures { result ≡ digit_of (self.value / 16777216 % 64)
+            ∷ digit_of (self.value / 262144 % 64) ∷ digit_of (self.value / 4096 % 64)
+            ∷ digit_of (self.value / 64 % 64) ∷ digit_of (self.value / 1 % 64) ∷ [] }
     {
         [
             self.digit(4),

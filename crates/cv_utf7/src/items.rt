@@ -3,7 +3,7 @@ ghost use Rattle.std.specs.Prelude.{◌≡◌, ◌↔◌, IsTrue, false, drop, �
 ghost use Rattle.cv_utf7.specs.Sets.{is_digit};
 ghost use Rattle.cv_base.specs.Items.{IsNext};
 ghost use Rattle.cv_utf7.specs.Utf7.{utf7_reads};
-ghost use Rattle.cv_utf7.specs.Private.Steps.{IsUnit, NoUnit, IsEnding};
+ghost use Rattle.cv_utf7.specs.Private.ItemSteps.{IsUnit, NoUnit, IsEnding};
 
 use crate::sets::{digit, may_stand};
 use crate::units::{Front, Unit};

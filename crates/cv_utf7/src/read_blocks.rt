@@ -1,6 +1,6 @@
 //! Blocks of characters that are read.
 ghost use Rattle.std.specs.Prelude.{◌≡◌, ◌≤◌, ◌<◌, ◌+◌, MatchOption, IfSome, length};
-ghost use Rattle.cv_utf7.specs.Private.BlockSteps.{ReadsOn, Continues};
+ghost use Rattle.cv_utf7.specs.Private.ReadSteps.{place, ReadsOn};
 
 use crate::byte_sets::{WINDOW, not_direct};
 use crate::read_runs::{FEW_READ, MANY_READ, read_direct, read_run};
@@ -16,8 +16,7 @@ const REACH: usize = WINDOW + MANY_READ + 5;
 fn read_window(input: &[u8], base: usize, buffer: &mut [Scalar], n: usize) -> ReadBlock
     requires within { base + 85 ≤ length input.now }
     requires room { n + 10 ≤ length buffer.old }
-    ensures more { ReadsOn input.now ReadState.Start base n buffer.old result.next result.used
-        result.n buffer.new }
+    ensures more { ReadsOn input.now (place ReadState.Start base n) buffer.old result buffer.new }
     ensures on { base ≤ result.used }
 {
     let stops = not_direct(input, base);
@@ -57,8 +56,7 @@ fn read_window(input: &[u8], base: usize, buffer: &mut [Scalar], n: usize) -> Re
 fn read_outside(input: &[u8], start: usize, buffer: &mut [Scalar], n: usize) -> ReadBlock
     requires within { start ≤ length input.now }
     requires room { n ≤ length buffer.old }
-    ensures { ReadsOn input.now ReadState.Start start n buffer.old result.next result.used result.n
-        buffer.new }
+    ensures { ReadsOn input.now (place ReadState.Start start n) buffer.old result buffer.new }
 {
     let mut used = start;
     let mut count = n;
@@ -85,7 +83,7 @@ fn read_outside(input: &[u8], start: usize, buffer: &mut [Scalar], n: usize) -> 
 pub(crate) fn read_on(input: &[u8], buffer: &mut [Scalar], from: ReadBlock) -> ReadBlock
     requires within { from.used ≤ length input.now }
     requires room { from.n ≤ length buffer.old }
-    ensures { Continues input.now from buffer.old result buffer.new }
+    ensures { ReadsOn input.now from buffer.old result buffer.new }
 {
     match from.next {
         ReadState::Start => read_outside(input, from.used, buffer, from.n),
@@ -100,7 +98,7 @@ pub(crate) fn read_one(input: &[u8], buffer: &mut [Scalar], from: ReadBlock) -> 
     requires within { from.used ≤ length input.now }
     requires room { from.n ≤ length buffer.old }
     ensures one { IfSome result
-        (λ to. Continues input.now from buffer.old to buffer.new × (from.used < to.used)) }
+        (λ to. ReadsOn input.now from buffer.old to buffer.new × (from.used < to.used)) }
     ensures none { MatchOption result (buffer.new ≡ buffer.old)
         (λ _. length buffer.new ≡ length buffer.old) }
 {

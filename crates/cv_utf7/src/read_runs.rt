@@ -2,7 +2,7 @@
 ghost use Rattle.std.specs.Prelude.{◌≡◌, ◌≤◌, ◌<◌, ◌+◌, ◌++◌, ℕ, true, IsTrue, length, take, drop, get_or};
 ghost use Rattle.std.specs.Int.{bit_at};
 ghost use Rattle.cv_utf7.specs.Sets.{may_be_direct};
-ghost use Rattle.cv_utf7.specs.Private.BlockSteps.{ReadsOn};
+ghost use Rattle.cv_utf7.specs.Private.ReadSteps.{place, ReadsOn};
 
 use crate::byte_sets::run_at;
 use crate::sets::may_stand;
@@ -17,12 +17,12 @@ pub(crate) const FEW_READ: usize = 8;
 
 /// Reads direct characters, and answers how many they are.
 #[inline(always)]
-#[tactic(auto, using(crate::proofs::BlockReading::reads_direct))]
+#[tactic(auto, using(crate::proofs::ReadRuns::reads_direct))]
 pub(crate) fn read_direct(input: &[u8], used: usize, buffer: &mut [Scalar], n: usize) -> usize
     requires within { used ≤ length input.now }
     requires room { n ≤ length buffer.old }
-    ensures { ReadsOn input.now ReadState.Start used n buffer.old ReadState.Start (used + result)
-        (n + result) buffer.new }
+    ensures { ReadsOn input.now (place ReadState.Start used n) buffer.old
+        (place ReadState.Start (used + result) (n + result)) buffer.new }
 {
     let most = (input.len() - used).min(buffer.len() - n);
     let mut run = 0;
@@ -93,8 +93,8 @@ pub(crate) fn read_run(
     requires place { (base ≤ used) × (used < base + 64) }
     requires within { used + 16 ≤ length input.now }
     requires room { n + 10 ≤ length buffer.old }
-    ensures run { ReadsOn input.now ReadState.Start used n buffer.old ReadState.Start
-        (used + result.0) (n + result.0) buffer.new }
+    ensures run { ReadsOn input.now (place ReadState.Start used n) buffer.old
+        (place ReadState.Start (used + result.0) (n + result.0)) buffer.new }
     ensures most { result.0 ≤ 16 }
     ensures on { IsTrue result.1 → 0 < result.0 }
     ensures fits { n + result.0 + 2 ≤ length buffer.old }

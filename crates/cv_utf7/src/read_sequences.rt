@@ -1,6 +1,6 @@
 //! Shifted sequences that are read by blocks.
 ghost use Rattle.std.specs.Prelude.{◌≡◌, ◌≤◌, ◌<◌, ◌+◌, ◌↔◌, IsTrue, IfSome, length};
-ghost use Rattle.cv_utf7.specs.Private.BlockSteps.{ReadsOn, Ends, IsLone};
+ghost use Rattle.cv_utf7.specs.Private.ReadSteps.{place, ReadsOn, Ends, IsLone};
 
 use crate::items::{NONE, is_surrogate, item_at_start, item_in_shift};
 use crate::sets::{digit, may_stand};
@@ -40,12 +40,12 @@ fn lone(input: &[u8], at: usize) -> Option<Scalar>
 /// Reads a shifted sequence of one character, and the direct character that ends it if `-` does not.
 /// Answers how many characters they are: none if no such sequence stands here.
 #[inline(always)]
-#[tactic(auto, using(crate::proofs::BlockReading::lone_reads))]
+#[tactic(auto, using(crate::proofs::LoneSequences::lone_reads))]
 pub(crate) fn read_lone(input: &[u8], used: usize, buffer: &mut [Scalar], n: usize) -> usize
     requires within { used + 5 ≤ length input.now }
     requires room { n + 2 ≤ length buffer.old }
-    ensures some { 0 < result → ReadsOn input.now ReadState.Start used n buffer.old ReadState.Start
-        (used + 5) (n + result) buffer.new }
+    ensures some { 0 < result → ReadsOn input.now (place ReadState.Start used n) buffer.old
+        (place ReadState.Start (used + 5) (n + result)) buffer.new }
     ensures none { result ≡ 0 → buffer.new ≡ buffer.old }
 {
     let Some(c) = lone(input, used) else {
@@ -68,8 +68,8 @@ pub(crate) fn read_inside(
 ) -> ReadBlock
     requires within { used ≤ length input.now }
     requires room { n ≤ length buffer.old }
-    ensures { ReadsOn input.now (ReadState.Shifted pending) used n buffer.old result.next
-        result.used result.n buffer.new }
+    ensures { ReadsOn input.now (place (ReadState.Shifted pending) used n) buffer.old result
+        buffer.new }
 {
     let mut bits = pending;
     let mut at = used;
@@ -113,8 +113,7 @@ pub(crate) fn read_inside(
 pub(crate) fn read_sequence(input: &[u8], used: usize, buffer: &mut [Scalar], n: usize) -> ReadBlock
     requires within { used ≤ length input.now }
     requires room { n < length buffer.old }
-    ensures more { ReadsOn input.now ReadState.Start used n buffer.old result.next result.used
-        result.n buffer.new }
+    ensures more { ReadsOn input.now (place ReadState.Start used n) buffer.old result buffer.new }
     ensures on { used ≤ result.used }
 {
     match item_at_start(&input[used..]) {

@@ -75,7 +75,8 @@ pub(crate) fn put_digits(cut: Cut, out: &mut [u8], at: usize) -> Put
 pub(crate) fn put_first(cut: Cut, out: &mut [u8], at: usize) -> Put
     requires place { at ≤ length out.old }
     requires count { (cut.n ≡ 2) ⊎ (cut.n ≡ 5) }
-    ensures { PutsAt (Some (plus ∷ digits (bits (6 * cut.n) cut.value), WriteState.Shifted cut.next))
+    ensures { PutsAt
+        (Some (plus ∷ digits (bits (6 * cut.n) cut.value), WriteState.Shifted cut.next))
         out.old at result out.new }
 {
     let n = cut.n + 1;
@@ -100,7 +101,8 @@ pub(crate) fn put_first(cut: Cut, out: &mut [u8], at: usize) -> Put
 #[tactic(auto, using(crate::proofs::Cuts::closings))]
 pub(crate) fn put_closed(pending: Bits, byte: u8, out: &mut [u8], at: usize) -> Put
     requires { at ≤ length out.old }
-    ensures { PutsAt (Some (utf7_closes (WriteState.Shifted pending) ++ byte ∷ [], WriteState.Start))
+    ensures { PutsAt
+        (Some (utf7_closes (WriteState.Shifted pending) ++ byte ∷ [], WriteState.Start))
         out.old at result out.new }
 {
     let room = out.len() - at;

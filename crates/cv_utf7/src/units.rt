@@ -21,7 +21,7 @@ pub(crate) struct Front {
 }
 
 impl Unit {
-    ghost use Rattle.cv_utf7.specs.Private.Steps.{IsUnit, NoUnit};
+    ghost use Rattle.cv_utf7.specs.Private.ItemSteps.{IsUnit, NoUnit};
 
     /// The code unit at the front of a text, if there are digits enough.
     #[inline(always)]
@@ -68,7 +68,7 @@ impl Unit {
 }
 
 impl Front {
-    ghost use Rattle.cv_utf7.specs.Private.Steps.{NoUnit, IsFront};
+    ghost use Rattle.cv_utf7.specs.Private.ItemSteps.{NoUnit, IsFront};
     ghost use Rattle.cv_utf7.specs.Sets.{is_digit};
 
     /// The digits at the front of a text.

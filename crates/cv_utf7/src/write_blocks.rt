@@ -1,6 +1,6 @@
 //! Blocks of characters that are written.
 ghost use Rattle.std.specs.Prelude.{◌≤◌, ◌<◌, ◌+◌, ◌-◌, ◌*◌, length};
-ghost use Rattle.cv_utf7.specs.Private.BlockSteps.{WritesOn};
+ghost use Rattle.cv_utf7.specs.Private.WriteSteps.{place, WritesOn};
 
 use crate::byte_sets::{WINDOW, not_written_direct};
 use crate::write_runs::{MANY_WRITTEN, narrowed, write_direct, write_run};
@@ -21,8 +21,7 @@ fn write_window(
     requires place { (base ≤ from) × (from < base + 64) }
     requires many { from + 16 ≤ length characters.now }
     requires room { at + 8 * (length characters.now - from) ≤ length out.old }
-    ensures more { WritesOn characters.now WriteState.Start from at out.old result.next result.n
-        result.end out.new }
+    ensures more { WritesOn characters.now (place WriteState.Start from at) out.old result out.new }
     ensures on { from < result.n }
 {
     let bytes = narrowed(characters, base);
@@ -57,8 +56,7 @@ fn write_window(
 fn write_outside(characters: &[Scalar], from: usize, out: &mut [u8], at: usize) -> Reached
     requires some { from < length characters.now }
     requires room { at + 8 * (length characters.now - from) ≤ length out.old }
-    ensures more { WritesOn characters.now WriteState.Start from at out.old result.next result.n
-        result.end out.new }
+    ensures more { WritesOn characters.now (place WriteState.Start from at) out.old result out.new }
     ensures on { from < result.n }
 {
     let len = characters.len();
@@ -81,8 +79,7 @@ fn write_outside(characters: &[Scalar], from: usize, out: &mut [u8], at: usize) 
 pub(crate) fn write_on(characters: &[Scalar], from: Reached, out: &mut [u8]) -> Reached
     requires some { from.n < length characters.now }
     requires room { from.end + 8 * (length characters.now - from.n) ≤ length out.old }
-    ensures more { WritesOn characters.now from.next from.n from.end out.old result.next result.n
-        result.end out.new }
+    ensures more { WritesOn characters.now from out.old result out.new }
     ensures on { from.n < result.n }
 {
     match from.next {

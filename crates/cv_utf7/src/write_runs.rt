@@ -2,7 +2,7 @@
 ghost use Rattle.std.specs.Prelude.{◌≡◌, ◌≤◌, ◌<◌, ◌+◌, ◌-◌, ◌*◌, ◌++◌, ℕ, true, false, IsTrue, length, take, drop, get_or};
 ghost use Rattle.std.specs.Int.{bit_at};
 ghost use Rattle.cv_utf7.specs.Sets.{is_direct};
-ghost use Rattle.cv_utf7.specs.Private.BlockSteps.{WritesOn};
+ghost use Rattle.cv_utf7.specs.Private.WriteSteps.{place, WritesOn};
 
 use crate::byte_sets::{WINDOW, run_at};
 use crate::sets::stands;
@@ -19,8 +19,8 @@ const PADDED_WINDOW: usize = WINDOW + MANY_WRITTEN;
 pub(crate) fn write_direct(characters: &[Scalar], n: usize, out: &mut [u8], at: usize) -> usize
     requires within { n ≤ length characters.now }
     requires room { at + 8 * (length characters.now - n) ≤ length out.old }
-    ensures { WritesOn characters.now WriteState.Start n at out.old WriteState.Start (n + result)
-        (at + result) out.new }
+    ensures { WritesOn characters.now (place WriteState.Start n at) out.old
+        (place WriteState.Start (n + result) (at + result)) out.new }
 {
     let mut run = 0;
     while n + run < characters.len() {
@@ -85,8 +85,8 @@ pub(crate) fn write_run(
     requires place { (base ≤ n) × (n < base + 64) }
     requires many { n + 16 ≤ length characters.now }
     requires room { at + 16 ≤ length out.old }
-    ensures run { WritesOn characters.now WriteState.Start n at out.old WriteState.Start
-        (n + result.0) (at + result.0) out.new }
+    ensures run { WritesOn characters.now (place WriteState.Start n at) out.old
+        (place WriteState.Start (n + result.0) (at + result.0)) out.new }
     ensures few { result.0 ≤ 16 }
     ensures on { IsTrue result.1 → 0 < result.0 }
     ensures stops { result.1 ≡ false → result.0 < 16 }

@@ -1,6 +1,6 @@
 //! Shifted sequences that are written by blocks.
 ghost use Rattle.std.specs.Prelude.{◌≡◌, ◌≤◌, ◌<◌, ◌+◌, ◌-◌, ◌*◌, length};
-ghost use Rattle.cv_utf7.specs.Private.BlockSteps.{WritesOn};
+ghost use Rattle.cv_utf7.specs.Private.WriteSteps.{place, WritesOn};
 
 use crate::utf7::Utf7;
 use cv_base::{Bits, Codec, Put, Scalar, WriteState};
@@ -18,8 +18,7 @@ pub(crate) struct Reached {
 pub(crate) fn write_one(characters: &[Scalar], from: Reached, out: &mut [u8]) -> Reached
     requires some { from.n < length characters.now }
     requires room { from.end + 8 ≤ length out.old }
-    ensures one { WritesOn characters.now from.next from.n from.end out.old result.next result.n
-        result.end out.new }
+    ensures one { WritesOn characters.now from out.old result out.new }
     ensures counts { result.n ≡ from.n + 1 }
 {
     match Utf7.put_at(from.next, characters[from.n], out, from.end) {
@@ -43,8 +42,8 @@ pub(crate) fn write_inside(
 ) -> Reached
     requires some { n < length characters.now }
     requires room { at + 8 * (length characters.now - n) ≤ length out.old }
-    ensures more { WritesOn characters.now (WriteState.Shifted pending) n at out.old result.next
-        result.n result.end out.new }
+    ensures more { WritesOn characters.now (place (WriteState.Shifted pending) n at) out.old result
+        out.new }
     ensures on { n < result.n }
 {
     let mut bits = pending;
@@ -76,8 +75,7 @@ pub(crate) fn write_inside(
 pub(crate) fn write_sequence(characters: &[Scalar], n: usize, out: &mut [u8], at: usize) -> Reached
     requires some { n < length characters.now }
     requires room { at + 8 * (length characters.now - n) ≤ length out.old }
-    ensures more { WritesOn characters.now WriteState.Start n at out.old result.next result.n
-        result.end out.new }
+    ensures more { WritesOn characters.now (place WriteState.Start n at) out.old result out.new }
     ensures on { n < result.n }
 {
     let start = Reached {

@@ -1,4 +1,4 @@
--- Sets of bytes by the halves of each byte: helpers of the proofs of reading and writing blocks, which no public contract cites.
+-- Sets of bytes by the halves of each byte.
 use Rattle.std.specs.Prelude.{ℕ, zero, suc, ◌+◌, ◌*◌, ◌/◌, Bool, true, not, ◌&&◌, List, [], ◌∷◌, get_or, nat_eq, bit_and}
 
 -- the bit of each higher half

@@ -1,4 +1,4 @@
-use Rattle.cv_utf7.proofs.BlockReading.{run_within, run_clear, run_all_clear}
+use Rattle.cv_utf7.proofs.WindowBits.{run_within, run_clear, run_all_clear}
 use Rattle.cv_utf7.proofs.byte_sets.run_at.Goals as goal
 
 pub returns-then-rest-eq0-clause-clear : goal.returns-then-rest-eq0-clause-clear

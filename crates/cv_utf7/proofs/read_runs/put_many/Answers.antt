@@ -1,6 +1,6 @@
 use Rattle.std.proofs.Common.{sym, ◌∙◌, arith, length-drop, get_or-drop}
 use Rattle.std.proofs.lemmas.Simd.{get_or-chunk}
-use Rattle.cv_utf7.proofs.BlockReading.{put_more}
+use Rattle.cv_utf7.proofs.ReadRuns.{put_more}
 use Rattle.cv_utf7.proofs.read_runs.put_many.Goals as goal
 
 pub loop-i-preserved : goal.loop-i-preserved

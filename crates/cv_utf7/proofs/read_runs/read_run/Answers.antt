@@ -1,5 +1,5 @@
 use Rattle.std.proofs.Common.{arith}
-use Rattle.cv_utf7.proofs.BlockReading.{reads_run}
+use Rattle.cv_utf7.proofs.ReadRuns.{reads_run}
 use Rattle.cv_utf7.proofs.read_runs.read_run.Goals as goal
 
 pub returns-then-run-most-clause-run : goal.returns-then-run-most-clause-run

@@ -1,6 +1,6 @@
 use Rattle.std.proofs.Common.{arith, ◌∙◌, length-set}
 use Rattle.std.proofs.lemmas.List.{get_or_read}
-use Rattle.cv_utf7.proofs.BlockWriting.{narrow_more}
+use Rattle.cv_utf7.proofs.WriteRuns.{narrow_more}
 use Rattle.cv_utf7.proofs.write_runs.narrowed.Goals as goal
 
 pub loop-i-preserved : goal.loop-i-preserved

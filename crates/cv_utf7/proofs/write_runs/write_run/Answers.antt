@@ -1,5 +1,5 @@
 use Rattle.std.proofs.Common.{arith}
-use Rattle.cv_utf7.proofs.BlockWriting.{writes_run}
+use Rattle.cv_utf7.proofs.WriteRuns.{writes_run}
 use Rattle.cv_utf7.proofs.write_runs.write_run.Goals as goal
 
 pub returns-then-run-ge-MANY_WRITTEN-clause-run : goal.returns-then-run-ge-MANY_WRITTEN-clause-run

@@ -1,5 +1,5 @@
 use Rattle.std.proofs.lemmas.List.{get_or_read}
-use Rattle.cv_utf7.proofs.BlockWriting.{always_put, writes_put}
+use Rattle.cv_utf7.proofs.WriteSteps.{always_put, writes_put}
 use Rattle.cv_utf7.proofs.write_sequences.write_one.Goals as goal
 
 pub unreachable-requires : goal.unreachable-requires
@@ -8,4 +8,4 @@ unreachable-requires c = always_put c.args.from.next c.index-characters-from.res
 pub returns-clause-one : goal.returns-clause-one
 returns-clause-one c =
     let e = get_or_read c.args.characters.now c.args.from.n c.index-characters-from.result c.requires.some c.index-characters-from.is 0 in
-    writes_put c.args.characters.now c.args.from.next c.args.from.n c.args.from.end _ c.args.out.now _ _ c.requires.some (rw e at c.in-Wrote.ensures)
+    writes_put c.args.characters.now c.args.from _ c.args.out.now _ _ c.requires.some (rw e at c.in-Wrote.ensures)

@@ -1,4 +1,4 @@
--- What the parts of the reader find in a text.
+-- What the steps of finding the next item find in a text.
 use Rattle.std.specs.Prelude.{◌≡◌, ℕ, ◌+◌, ◌*◌, ◌^◌, ◌<◌, ◌≤◌, List, ◌++◌, length, take, Some, None}
 use Rattle.cv_base.specs.Items.{Taken, taken}
 use Rattle.cv_base.specs.declared.item.Item.{Item}

@@ -1,11 +1,12 @@
 -- What was read or written of a spelling is a block.
-use Rattle.std.proofs.Common.{◌≡◌, ℕ, ◌+◌, ◌≤◌, ◌<◌, suc, get_or, get_or-take, length-take, List, [], ◌∷◌, ◌++◌, length, take, drop, refl, sym, ◌∙◌, ap, arith, Some, length-append, zero-add}
+use Rattle.std.proofs.Common.{◌≡◌, ℕ, ◌≤◌, ◌<◌, suc, get_or, get_or-take, length-take, List, [], ◌∷◌, length, take, drop, refl, sym, ◌∙◌, ap, arith, Some, length-append, zero-add}
 use Rattle.std.specs.List.{flat_map}
 use Rattle.cv_base.specs.Items.{Taken, taken, ItemRelation, Begins}
 use Rattle.cv_base.specs.Codecs.{Writing}
-use Rattle.cv_base.specs.Chains.{IsChain, used_bytes, read_state, characters_of, Output, output, output_for}
+use Rattle.cv_base.specs.Chains.{IsChain, used_bytes, read_state, characters_of, output, output_for}
 use Rattle.cv_base.specs.Blocks.{IsReadBlock, IsWrittenBlock}
-use Rattle.cv_base.specs.Spelled.{BytesOf, AreScalars, ReadsSpelled, WritesSpelled, IsSpelledRead, IsSpelledWritten}
+use Rattle.cv_base.specs.Scalars.{IsScalar, AreScalars}
+use Rattle.cv_base.specs.Spelled.{BytesOf, IsSpelledRead, IsSpelledWritten}
 use Rattle.cv_base.specs.declared.block.ReadBlock.{ReadBlock}
 use Rattle.cv_base.specs.declared.block.WrittenBlock.{WrittenBlock}
 use Rattle.cv_base.specs.declared.state.ReadState.{ReadState}
@@ -13,6 +14,14 @@ use Rattle.cv_base.specs.declared.state.WriteState.{WriteState}
 use Rattle.cv_base.specs.SingleBytes.{byte_reads}
 use Rattle.cv_base.specs.declared.state.ReadState.TheVariants as read
 use Rattle.cv_base.proofs.Front.{Begins-front, Begins-back, Begins-take}
+
+-- In this state the bytes of each character read as it, and the state stays.
+abbrev pub ReadsSpelled : ItemRelation → ReadState → BytesOf → Type 0
+ReadsSpelled reads s bytes_of = (c : ℕ) → IsScalar c → reads s (bytes_of c) (taken (length (bytes_of c)) (Some c) s)
+
+-- In this state each character is written as its bytes, and the state stays.
+abbrev pub WritesSpelled : Writing → WriteState → BytesOf → Type 0
+WritesSpelled writes t bytes_of = (c : ℕ) → writes t c ≡ Some (bytes_of c, t)
 
 -- the items of characters that are spelled
 abbrev pub items_for : ReadState → BytesOf → List ℕ → List Taken
@@ -74,15 +83,7 @@ output_spelled writes t bytes_of w (c ∷ characters) = rw (w c) (rw (output_spe
 
 -- a block that was written in a spelling
 pub spelled_written : (writes : Writing) (t : WriteState) (bytes_of : BytesOf) → WritesSpelled writes t bytes_of → (characters before : List ℕ) (at : ℕ) (block : WrittenBlock) (after : List ℕ) → IsSpelledWritten bytes_of t characters before at block after → IsWrittenBlock writes t characters before at block after
-spelled_written writes t bytes_of w characters before at block after p =
-    let o = output_spelled writes t bytes_of w characters in
-    record {
-      wrote = p.0 ∙ sym (ap (λ (x : Output). length x.bytes) o);
-      counts = p.1 ∙ sym (ap (λ (x : Output). x.count) o);
-      next = p.2 ∙ sym (ap (λ (x : Output). x.next) o);
-      fits = p.3;
-      out = p.4 ∙ ap (λ (x : Output). take at before ++ x.bytes ++ drop (at + block.wrote) before) (sym o);
-    }
+spelled_written writes t bytes_of w characters before at block after p = rw (output_spelled writes t bytes_of w characters) p
 
 -- no item was read
 pub nothing_read : (reads : ItemRelation) (s : ReadState) (text buffer : List ℕ) → IsReadBlock reads s text (record { n = 0; used = 0; next = s }) buffer

@@ -1,8 +1,8 @@
 -- What stands at the front of a text.
-use Rattle.std.proofs.Common.{◌≡◌, ℕ, ◌<◌, ◌≤◌, List, [], ◌∷◌, ◌++◌, length, take, drop, zero, suc, refl, sym, ◌∙◌, ap, arith, inl, inr}
+use Rattle.std.proofs.Common.{◌≡◌, ℕ, ◌<◌, ◌≤◌, List, [], ◌∷◌, ◌++◌, length, get_or, take, drop, zero, suc, refl, sym, ◌∙◌, ap, arith, inl, inr}
 use Rattle.std.proofs.lemmas.Bool.{cases_lt}
 use Rattle.cv_base.specs.Items.{Taken, ItemRelation, Begins, Stands, NoneStands, CanGrow}
-use Rattle.cv_base.specs.Codecs.{IsReadable, StaysWhenBytesFollow, OneIsNext}
+use Rattle.cv_base.specs.Codecs.{IsReadable, StaysWhenBytesFollow, OneIsNext, UsesSome}
 use Rattle.cv_base.specs.declared.state.ReadState.{ReadState}
 use Rattle.cv_base.specs.declared.item.Item.TheVariants as item
 
@@ -26,12 +26,14 @@ Begins-length [] b h = omega arith
 Begins-length (x ∷ a) [] h = absurd h
 Begins-length (x ∷ a) (y ∷ b) h = omega (arith, Begins-length a b h.1)
 
+-- a list that begins another does so behind as many of their bytes
 pub Begins-drop : (n : ℕ) (a b : List ℕ) → Begins a b → Begins (drop n a) (drop n b)
 Begins-drop zero a b p = p
 Begins-drop (suc n) [] b p = tt
 Begins-drop (suc n) (x ∷ a) [] p = absurd p
 Begins-drop (suc n) (x ∷ a) (y ∷ b) p = Begins-drop n a b p.1
 
+-- the front of a text begins it
 pub Begins-take : (n : ℕ) (text : List ℕ) → Begins (take n text) text
 Begins-take zero text = tt
 Begins-take (suc n) [] = tt
@@ -49,14 +51,35 @@ Begins-front [] b text p = tt
 Begins-front (x ∷ a) b [] p = absurd p
 Begins-front (x ∷ a) b (t ∷ text) p = (p.0, Begins-front a b text p.1)
 
+-- what follows the front stands behind it
 pub Begins-back : (a b text : List ℕ) → Begins (a ++ b) text → Begins b (drop (length a) text)
 Begins-back [] b text p = p
 Begins-back (x ∷ a) b [] p = absurd p
 Begins-back (x ∷ a) b (t ∷ text) p = Begins-back a b text p.1
 
+-- a list begins itself
+pub Begins-refl : (a : List ℕ) → Begins a a
+Begins-refl [] = tt
+Begins-refl (x ∷ a) = (refl, Begins-refl a)
+
+-- a list begins itself with more behind it
 pub Begins-append : (a b : List ℕ) → Begins a (a ++ b)
 Begins-append [] b = tt
 Begins-append (x ∷ a) b = (refl, Begins-append a b)
+
+-- Two lists agree where both have a byte.
+abbrev pub Agree : List ℕ → List ℕ → Type 0
+Agree w x = (k : ℕ) → k < length w → k < length x → get_or w k 0 ≡ get_or x k 0
+
+Agree-cons : (b c : ℕ) (w x : List ℕ) → b ≡ c → Agree w x → Agree (b ∷ w) (c ∷ x)
+Agree-cons b c w x e a zero l m = e
+Agree-cons b c w x e a (suc k) l m = a k (omega arith) (omega arith)
+
+-- a list that begins another is no longer, and agrees with it
+pub Begins-agree : (w x : List ℕ) → Begins w x → (length w ≤ length x) × Agree w x
+Begins-agree [] x h = (omega arith, λ k l m. absurd (omega arith))
+Begins-agree (b ∷ w) [] h = absurd h
+Begins-agree (b ∷ w) (c ∷ x) h = let rest = Begins-agree w x h.1 in (omega (arith, rest.0), Agree-cons b c w x h.0 rest.1)
 
 -- an item stays when bytes follow
 pub item_stays : (reads : ItemRelation) (s : ReadState) (text more : List ℕ) (i : Taken) → Begins text more → Stands reads s text i → Stands reads s more i
@@ -70,6 +93,7 @@ none_stays reads s text more b none grow i p =
       | inr l ↦ grow (record { bytes = p.bytes; item = i; is_item = p.is_item; front = Begins-meet text p.bytes more b p.front l })
     ]
 
+-- what stands next stays when bytes follow
 pub stays : (reads : ItemRelation) → StaysWhenBytesFollow reads
 stays reads = record {
   item = item_stays reads;
@@ -81,7 +105,7 @@ pub same_item : (reads : ItemRelation) → IsReadable reads → (s : ReadState) 
 same_item reads r s text i j p q = r.one_item s text p.bytes q.bytes i j p.is_item q.is_item p.front q.front
 
 -- an item that stands uses some bytes, and not more than there are
-pub stands_within : (reads : ItemRelation) → IsReadable reads → (s : ReadState) (text : List ℕ) (i : Taken) → Stands reads s text i → (0 < i.used) × (i.used ≤ length text)
+pub stands_within : (reads : ItemRelation) → IsReadable reads → UsesSome reads
 stands_within reads r s text i p = let u = r.uses s p.bytes i p.is_item in let l = Begins-length p.bytes text p.front in (u.0, omega (arith, u.1, l))
 
 -- one thing stands next

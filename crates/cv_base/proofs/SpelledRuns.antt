@@ -1,13 +1,15 @@
 -- Characters that are spelled: more of them, one behind the other.
-use Rattle.std.proofs.Common.{◌≡◌, ℕ, ◌+◌, ◌*◌, ◌<◌, ◌≤◌, List, [], ◌∷◌, ◌++◌, length, take, drop, refl, sym, ◌∙◌, ap, arith, length-append, length-drop, length-take, append_assoc, append-nil, slice_set, get_or}
-use Rattle.std.proofs.Math.Seq.{drop-cons, take-add}
+use Rattle.std.proofs.Common.{◌≡◌, ℕ, ◌+◌, ◌*◌, ◌<◌, ◌≤◌, List, [], ◌∷◌, ◌++◌, length, take, drop, refl, sym, ◌∙◌, ap, arith, length-append, length-drop, length-take, append_assoc, append-nil, slice_set}
+use Rattle.std.proofs.Math.Seq.{take-add}
 use Rattle.std.specs.List.{flat_map}
 use Rattle.std.proofs.lemmas.List.{drop-drop, take_more_set, length-set}
 use Rattle.std.proofs.lemmas.Grind.{flat_map-append}
-use Rattle.cv_base.specs.Spelled.{BytesOf, AreScalars, IsSpelledAt, IsReadSpelled, IsWrittenSpelled}
+use Rattle.cv_base.specs.Scalars.{AreScalars}
+use Rattle.cv_base.specs.Spelled.{BytesOf, HasFourAtMost, IsSpelledAt, IsReadSpelled, IsWrittenSpelled}
 use Rattle.cv_base.specs.declared.spelling.Spelled.{Spelled}
 use Rattle.cv_base.proofs.Front.{Begins-length, Begins-join}
 
+-- so many characters that have so many bytes
 abbrev pub spelled : ℕ → ℕ → Spelled
 spelled n used = record { n = n; used = used }
 
@@ -39,6 +41,26 @@ read_more bytes_of text at before n m u mid k v place behind after p e f q =
       size = q.size ∙ p.size;
     }
 
+nothing : (c : List ℕ) → 0 ≡ length c → c ≡ []
+nothing [] e = refl
+nothing (x ∷ c) e = absurd (omega arith)
+
+-- some, where none was read before them
+pub read_after_none : (bytes_of : BytesOf) (text : List ℕ) (at : ℕ) (before : List ℕ) (n : ℕ) (none : Spelled) (mid : List ℕ) (run : Spelled) (after : List ℕ) → none.n ≡ 0
+    → IsReadSpelled bytes_of text at before n none mid → IsReadSpelled bytes_of text at mid n run after → IsReadSpelled bytes_of text at before n run after
+read_after_none bytes_of text at before n none mid run after z p q =
+    let stayed : take n mid ≡ take n before = ap (λ i. take i mid) (let o : n ≡ n + none.n = omega arith in o) ∙ p.stand ∙ ap (λ (x : List ℕ). take n before ++ x) (nothing p.characters (sym z ∙ p.counts)) ∙ append-nil (take n before) in
+    record {
+      characters = q.characters;
+      scalars = q.scalars;
+      begins = q.begins;
+      uses = q.uses;
+      counts = q.counts;
+      stand = q.stand ∙ ap (λ (x : List ℕ). x ++ q.characters) stayed;
+      fits = omega (arith, q.fits, p.size);
+      size = q.size ∙ p.size;
+    }
+
 -- one more, behind what was read
 pub read_one_more : (bytes_of : BytesOf) (text : List ℕ) (at : ℕ) (before : List ℕ) (n m u : ℕ) (mid : List ℕ) (c k : ℕ) → IsReadSpelled bytes_of text at before n (spelled m u) mid
     → n + m < length before → IsSpelledAt bytes_of text (at + u) c k → IsReadSpelled bytes_of text at before n (spelled (m + 1) (u + k)) (slice_set mid (n + m) c)
@@ -55,12 +77,12 @@ read_one_more bytes_of text at before n m u mid c k p h q =
     })
 
 -- the bytes of characters that each have at most four
-pub short_all : (bytes_of : BytesOf) → ((c : ℕ) → length (bytes_of c) ≤ 4) → (characters : List ℕ) → length (flat_map bytes_of characters) ≤ 4 * length characters
+pub short_all : (bytes_of : BytesOf) → HasFourAtMost bytes_of → (characters : List ℕ) → length (flat_map bytes_of characters) ≤ 4 * length characters
 short_all bytes_of short [] = omega arith
 short_all bytes_of short (c ∷ characters) = omega (arith, length-append (bytes_of c) (flat_map bytes_of characters), short c, short_all bytes_of short characters)
 
 -- no more than four bytes a character
-pub written_few : (bytes_of : BytesOf) → ((c : ℕ) → length (bytes_of c) ≤ 4) → (characters : List ℕ) (n : ℕ) (before : List ℕ) (at : ℕ) (run : Spelled) (after : List ℕ) → IsWrittenSpelled bytes_of characters n before at run after → run.used ≤ 4 * run.n
+pub written_few : (bytes_of : BytesOf) → HasFourAtMost bytes_of → (characters : List ℕ) (n : ℕ) (before : List ℕ) (at : ℕ) (run : Spelled) (after : List ℕ) → IsWrittenSpelled bytes_of characters n before at run after → run.used ≤ 4 * run.n
 written_few bytes_of short characters n before at run after p =
     let front : List ℕ = take run.n (drop n characters) in
     omega (arith, p.uses, p.within, short_all bytes_of short front, length-take run.n (drop n characters), length-drop n characters)
@@ -81,19 +103,3 @@ written_more bytes_of characters n before at m u mid k v place behind after p e 
       stand = ap (λ i. take i after) (let o : at + (u + v) ≡ place + v = omega (arith, e) in o) ∙ q.stand ∙ ap (λ (x : List ℕ). x ++ flat_map bytes_of d) (ap (λ i. take i mid) e ∙ p.stand) ∙ append_assoc (take at before) (flat_map bytes_of c) (flat_map bytes_of d) ∙ ap (λ (x : List ℕ). take at before ++ x) (sym bytes);
       size = q.size ∙ p.size;
     }
-
--- one more, behind what was written
-pub written_one_more : (bytes_of : BytesOf) (characters : List ℕ) (n : ℕ) (before : List ℕ) (at m u : ℕ) (mid : List ℕ) (k : ℕ) (after : List ℕ) → IsWrittenSpelled bytes_of characters n before at (spelled m u) mid
-    → n + m < length characters → at + u + k ≤ length mid → k ≡ length (bytes_of (get_or characters (n + m) 0)) → take (at + u + k) after ≡ take (at + u) mid ++ bytes_of (get_or characters (n + m) 0) → length after ≡ length mid
-    → IsWrittenSpelled bytes_of characters n before at (spelled (m + 1) (u + k)) after
-written_one_more bytes_of characters n before at m u mid k after p h fits long stand size =
-    let c = get_or characters (n + m) 0 in
-    let one : take 1 (drop (n + m) characters) ≡ c ∷ [] = ap (λ (x : List ℕ). take 1 x) (drop-cons characters (n + m) 0 h) in
-    let bytes : flat_map bytes_of (take 1 (drop (n + m) characters)) ≡ bytes_of c = ap (flat_map bytes_of) one ∙ append-nil (bytes_of c) in
-    written_more bytes_of characters n before at m u mid 1 k (at + u) (n + m) after p refl refl (record {
-      within = omega arith;
-      uses = long ∙ ap length (sym bytes);
-      fits = fits;
-      stand = stand ∙ ap (λ (x : List ℕ). take (at + u) mid ++ x) (sym bytes);
-      size = size;
-    })

@@ -6,6 +6,7 @@ use Rattle.std.proofs.lemmas.List.{drop-drop, take_all}
 use Rattle.cv_base.specs.Scalars.{question}
 use Rattle.cv_base.specs.Codecs.{Writing, WritesAtMost}
 use Rattle.cv_base.specs.Chains.{Output, written, put_or, substituted, followed, output_for}
+use Rattle.cv_base.specs.Places.{IsOutput}
 use Rattle.cv_base.specs.Blocks.{IsWrittenBlock}
 use Rattle.cv_base.specs.declared.state.WriteState.{WriteState}
 use Rattle.cv_base.proofs.ChainLaws.{output_for-append, output_for-one}
@@ -16,6 +17,7 @@ put_or-count t a (Some (x, y)) = omega arith
 put_or-count t (Some (x, y)) None = omega arith
 put_or-count t None None = omega arith
 
+-- `?` stands for a character at most once
 pub written-count : (writes : Writing) (t : WriteState) (c : ℕ) → (written writes t (Some c)).count ≤ 1
 written-count writes t c = put_or-count t (writes t question) (writes t c)
 
@@ -46,6 +48,7 @@ pub record WrittenSoFar (writes : Writing) (t : WriteState) (characters before :
   pub holds : out ≡ (take at before ++ (output_for writes t (take k characters)).bytes) ++ drop end before
   pub size : length out ≡ length before
 
+-- no character is written at first
 pub none_written : (writes : Writing) (t : WriteState) (characters before : List ℕ) (at : ℕ) → at ≤ length before → WrittenSoFar writes t characters before at 0 at 0 t before
 none_written writes t characters before at h = record {
   wrote = omega arith;
@@ -60,27 +63,26 @@ none_written writes t characters before at h = record {
 
 -- one more
 pub one_more_written : (most : ℕ) (writes : Writing) (t : WriteState) (characters before : List ℕ) (at k end count : ℕ) (now : WriteState) (out : List ℕ) → WrittenSoFar writes t characters before at k end count now out
-    → most ≤ 8 → WritesAtMost most writes → k < length characters → (n m : ℕ) (next : WriteState) (after : List ℕ) → (c : ℕ) → c ≡ get_or characters k c
-    → n ≡ length (written writes now (Some c)).bytes → m ≡ (written writes now (Some c)).count → next ≡ (written writes now (Some c)).next → end + n ≤ length out → after ≡ take end out ++ (written writes now (Some c)).bytes ++ drop (end + n) out
+    → most ≤ 8 → WritesAtMost most writes → k < length characters → (n m : ℕ) (next : WriteState) (after : List ℕ) → (c : ℕ) → c ≡ get_or characters k c → IsOutput (written writes now (Some c)) out end n m next after
     → WrittenSoFar writes t characters before at (k + 1) (end + n) (count + m) next after
-one_more_written most writes t characters before at k end count now out p small m_most h n m next after c is e f g room put =
+one_more_written most writes t characters before at k end count now out p small m_most h n m next after c is put =
     let o = output_for writes t (take k characters) in
     let w = written writes now (Some c) in
     let one : take (k + 1) characters ≡ take k characters ++ c ∷ [] = take-add k 1 characters ∙ ap (λ (x : List ℕ). take k characters ++ x) (ap (λ (x : List ℕ). take 1 x) (drop-cons characters k c h) ∙ ap (λ (d : ℕ). d ∷ []) (sym is)) in
     let all : output_for writes t (take (k + 1) characters) ≡ followed o w = ap (output_for writes t) one ∙ output_for-append writes t (take k characters) (c ∷ []) ∙ ap (followed o) (output_for-one writes o.next c ∙ ap (λ (u : WriteState). written writes u (Some c)) (sym p.next)) in
     let front : List ℕ = take at before ++ o.bytes in
     let long : end ≡ length front = omega (arith, p.wrote, length-append (take at before) o.bytes, length-take at before, p.fits) in
-    let behind : take end out ++ w.bytes ++ drop (end + n) out ≡ (front ++ w.bytes) ++ drop (end + n) before = rw p.holds (rw e (out_more front w.bytes before end long)) in
+    let behind : take end out ++ w.bytes ++ drop (end + n) out ≡ (front ++ w.bytes) ++ drop (end + n) before = rw p.holds (rw put.bytes.wrote (out_more front w.bytes before end long)) in
     let same : (front ++ w.bytes) ++ drop (end + n) before ≡ (take at before ++ (o.bytes ++ w.bytes)) ++ drop (end + n) before = ap (λ (x : List ℕ). x ++ drop (end + n) before) (append_assoc (take at before) o.bytes w.bytes) in
     record {
-      wrote = rw all (omega (arith, length-append o.bytes w.bytes, p.wrote, e));
-      counts = rw all (omega (arith, p.counts, f));
-      few = omega (arith, p.few, f, put_or-count now (writes now question) (writes now c));
-      next = g ∙ sym (ap (λ (x : Output). x.next) all);
-      short = omega (arith, p.short, e, written-most most writes m_most now c);
-      fits = omega (arith, room, p.size);
-      holds = rw all (put ∙ behind ∙ same);
-      size = ap length put ∙ simp (length-append, length-take, length-drop) (omega (arith, e, room, p.size));
+      wrote = rw all (omega (arith, length-append o.bytes w.bytes, p.wrote, put.bytes.wrote));
+      counts = rw all (omega (arith, p.counts, put.counts));
+      few = omega (arith, p.few, put.counts, put_or-count now (writes now question) (writes now c));
+      next = put.next ∙ sym (ap (λ (x : Output). x.next) all);
+      short = omega (arith, p.short, put.bytes.wrote, written-most most writes m_most now c);
+      fits = omega (arith, put.bytes.fits, p.size);
+      holds = rw all (put.bytes.out ∙ behind ∙ same);
+      size = ap length put.bytes.out ∙ simp (length-append, length-take, length-drop) (omega (arith, put.bytes.wrote, put.bytes.fits, p.size));
     }
 
 -- all are written
@@ -92,9 +94,7 @@ all_written writes t characters before at k end count now out p h =
     let q : end ≡ at + length o.bytes = rw all at p.wrote in
     let e : at + (end - at) ≡ end = omega (arith, q) in
     record {
-      wrote = omega (arith, q);
+      bytes = record { wrote = omega (arith, q); fits = omega (arith, p.fits, q); out = rw e (rw all at p.holds) };
       counts = rw all at p.counts;
       next = rw all at p.next;
-      fits = omega (arith, p.fits, q);
-      out = rw e (rw all at p.holds);
     }

@@ -29,6 +29,10 @@ pub record StaysWhenBytesFollow (reads : ItemRelation) : Type 0 where
   pub item : (s : ReadState) (text more : List ℕ) (i : Taken) → Begins text more → Stands reads s text i → Stands reads s more i
   pub ill : (s : ReadState) (text more : List ℕ) → Begins text more → IsNext reads s text Ill → IsNext reads s more Ill
 
+-- What stands next uses some bytes, and no more than there are.
+abbrev pub UsesSome : ItemRelation → Type 0
+UsesSome reads = (s : ReadState) (text : List ℕ) (i : Taken) → Stands reads s text i → (0 < i.used) × (i.used ≤ length text)
+
 -- One thing stands next.
 abbrev pub OneIsNext : ItemRelation → Type 0
 OneIsNext reads = (s : ReadState) (text : List ℕ) (a b : Item) → IsNext reads s text a → IsNext reads s text b → a ≡ b

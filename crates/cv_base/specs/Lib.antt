@@ -1,11 +1,12 @@
 pub mod Scalars
+pub mod Units
 pub mod Items
 pub mod Codecs
-pub mod Ascii
-pub mod SingleBytes
-pub mod SingleByteLaws
-pub mod Places
-pub mod Names
 pub mod Chains
+pub mod ReadBack
+pub mod SingleBytes
+pub mod Names
+pub mod Ascii
+pub mod Places
 pub mod Blocks
 pub mod Spelled

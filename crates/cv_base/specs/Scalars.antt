@@ -1,9 +1,14 @@
 -- Characters (Unicode 3.9, D76).
-use Rattle.std.specs.Prelude.{ℕ, ◌<◌, ◌≤◌}
+use Rattle.std.specs.Prelude.{ℕ, ◌<◌, ◌≤◌, List, [], ◌∷◌}
 
 -- A Unicode scalar value: a number to 10FFFF that is no surrogate.
 abbrev pub IsScalar : ℕ → Type 0
 IsScalar n = (n < 0x110000) × (0xD800 ≤ n → 0xE000 ≤ n)
+
+-- Each number is a scalar value.
+abbrev pub AreScalars : List ℕ → Type 0
+AreScalars [] = Unit {0}
+AreScalars (c ∷ characters) = IsScalar c × AreScalars characters
 
 -- `?`, which stands in for a character that the target lacks
 abbrev pub question : ℕ

@@ -1,9 +1,10 @@
 -- Spellings: encodings, or states of them, in which each character has its bytes whatever stands around it. They serve blocks.
-use Rattle.std.specs.Prelude.{◌≡◌, ℕ, ◌+◌, ◌≤◌, List, [], ◌∷◌, ◌++◌, take, drop, length, Some}
+use Rattle.std.specs.Prelude.{◌≡◌, ℕ, ◌+◌, ◌≤◌, List, ◌++◌, take, drop, length}
 use Rattle.std.specs.List.{flat_map}
-use Rattle.cv_base.specs.Scalars.{IsScalar}
-use Rattle.cv_base.specs.Items.{taken, ItemRelation, Begins}
-use Rattle.cv_base.specs.Codecs.{Writing}
+use Rattle.cv_base.specs.Scalars.{IsScalar, AreScalars}
+use Rattle.cv_base.specs.Items.{Begins}
+use Rattle.cv_base.specs.Chains.{output}
+use Rattle.cv_base.specs.Places.{IsOutput}
 use Rattle.cv_base.specs.declared.block.ReadBlock.{ReadBlock}
 use Rattle.cv_base.specs.declared.block.WrittenBlock.{WrittenBlock}
 use Rattle.cv_base.specs.declared.spelling.Spelled.{Spelled}
@@ -14,17 +15,9 @@ use Rattle.cv_base.specs.declared.state.WriteState.{WriteState}
 abbrev pub BytesOf : Type 0
 BytesOf = ℕ → List ℕ
 
-abbrev pub AreScalars : List ℕ → Type 0
-AreScalars [] = Unit {0}
-AreScalars (c ∷ characters) = IsScalar c × AreScalars characters
-
--- In this state the bytes of each character read as it, and the state stays.
-abbrev pub ReadsSpelled : ItemRelation → ReadState → BytesOf → Type 0
-ReadsSpelled reads s bytes_of = (c : ℕ) → IsScalar c → reads s (bytes_of c) (taken (length (bytes_of c)) (Some c) s)
-
--- In this state each character is written as its bytes, and the state stays.
-abbrev pub WritesSpelled : Writing → WriteState → BytesOf → Type 0
-WritesSpelled writes t bytes_of = (c : ℕ) → writes t c ≡ Some (bytes_of c, t)
+-- Each character has four bytes at most.
+abbrev pub HasFourAtMost : BytesOf → Type 0
+HasFourAtMost bytes_of = (c : ℕ) → length (bytes_of c) ≤ 4
 
 -- The bytes of a character stand at a place of a text.
 abbrev pub IsSpelledAt : BytesOf → List ℕ → ℕ → ℕ → ℕ → Type 0
@@ -51,10 +44,10 @@ pub record IsWrittenSpelled (bytes_of : BytesOf) (characters : List ℕ) (n : �
 
 -- A block of characters that are spelled was read in a state that it keeps.
 abbrev pub IsSpelledRead : BytesOf → ReadState → List ℕ → List ℕ → ReadBlock → List ℕ → Type 0
-IsSpelledRead bytes_of s text before block after = IsReadSpelled bytes_of text 0 before 0 (record { n = block.n; used = block.used }) after × (block.next ≡ s)
+IsSpelledRead bytes_of s text before block after =
+    IsReadSpelled bytes_of text 0 before 0 (record { n = block.n; used = block.used }) after × (block.next ≡ s)
 
--- A block of characters was spelled at a place in a state that it keeps.
+-- The bytes of a block of characters were put at a place in a state that they keep.
 abbrev pub IsSpelledWritten : BytesOf → WriteState → List ℕ → List ℕ → ℕ → WrittenBlock → List ℕ → Type 0
 IsSpelledWritten bytes_of t characters before at block after =
-    (block.wrote ≡ length (flat_map bytes_of characters)) × (block.count ≡ 0) × (block.next ≡ t) × (at + block.wrote ≤ length before)
-    × (after ≡ take at before ++ flat_map bytes_of characters ++ drop (at + block.wrote) before)
+    IsOutput (output (flat_map bytes_of characters) 0 t) before at block.wrote block.count block.next after

@@ -1,8 +1,6 @@
 //! US-ASCII.
 ghost use Rattle.std.specs.Prelude.{[]};
-ghost use Rattle.std.proofs.Common.{rules};
 ghost use Rattle.cv_base.specs.SingleBytes.{byte_reads, byte_writes};
-ghost use Rattle.cv_base.specs.SingleByteLaws.{byte_readable};
 
 use crate::ascii_form::AsciiForm;
 use crate::block::{ReadBlock, WrittenBlock};
@@ -11,7 +9,7 @@ use crate::bytes::{read_bytes, write_bytes};
 use crate::codec::Codec;
 use crate::item::Item;
 use crate::piece::Piece;
-use crate::place::{Put, write_one};
+use crate::place::{Put, write_slice};
 use crate::placing::write_each;
 use crate::scalar::Scalar;
 use crate::state::{ReadState, WriteState};
@@ -21,14 +19,13 @@ use crate::state::{ReadState, WriteState};
 pub struct Ascii;
 
 impl Codec for Ascii {
-    ghost is_valid = { λ _. Unit {0} };
-
     ghost reads = { λ _. byte_reads 128 };
 
     ghost writes = { λ _. byte_writes 128 };
 
     ghost closes = { λ _ _. [] };
 
+    #[tactic(auto, using(crate::proofs::SingleByteLaws::byte_readable))]
     fn assert_valid(&self) {}
 
     #[inline]
@@ -46,16 +43,6 @@ impl Codec for Ascii {
     }
 
     #[inline]
-    fn put(&self, _state: WriteState, c: Scalar) -> Option<(Piece, WriteState)> {
-        let value = c.value();
-        if value < 128 {
-            Some((Piece::one(value as u8), WriteState::Start))
-        } else {
-            None
-        }
-    }
-
-    #[inline]
     fn put_at(&self, _state: WriteState, c: Scalar, out: &mut [u8], at: usize) -> Put {
         let value = c.value();
         if value >= 128 {
@@ -64,7 +51,7 @@ impl Codec for Ascii {
         if out.len() - at < 1 {
             return Put::NoRoom;
         }
-        write_one(out, at, value as u8);
+        write_slice(out, at, &[value as u8]);
         Put::Wrote {
             n: 1,
             next: WriteState::Start,
@@ -89,10 +76,6 @@ impl Codec for Ascii {
     fn writes_ascii(&self, state: WriteState) -> Option<AsciiForm> {
         (state == WriteState::Start).then_some(AsciiForm::Byte)
     }
-
-    ghost readable = { λ _ _. byte_readable 128 };
-
-    ghost substitutable = { λ _ _ _. Prim.search rules };
 }
 
 impl BlockCodec for Ascii {

@@ -15,9 +15,6 @@ use crate::state::{ReadState, WriteState};
 
 /// An encoding that can be read and written.
 pub trait Codec {
-    /// What every value of the type keeps.
-    ghost is_valid: { Self → Type 0 };
-
     /// The item relation.
     ghost reads: { Self → ItemRelation };
 
@@ -29,33 +26,29 @@ pub trait Codec {
 
     /// States that the value keeps what its type promises, for callers that need a law of the codec. It does nothing.
     fn assert_valid(&self)
-        ensures { is_valid self.now };
+        ensures readable { IsReadable (reads self.now) }
+        ensures substitutable { CanSubstitute (writes self.now) };
 
     /// What stands next in the input.
     fn item(&self, state: ReadState, input: &[u8]) -> Item
         ensures { IsNext (reads self.now) state input.now result };
 
-    /// The bytes of a character and the state after them, or `None` where the encoding lacks the character.
-    fn put(&self, state: WriteState, c: Scalar) -> Option<(Piece, WriteState)>
-        ensures { result ≡ writes self.now state c };
-
     /// Writes a character at a place of a slice. Bytes of the slice around it stay.
-    #[inline]
     fn put_at(&self, state: WriteState, c: Scalar, out: &mut [u8], at: usize) -> Put
         requires { at ≤ length out.old }
-        ensures { PutsAt (writes self.now state c) out.old at result out.new }
+        ensures { PutsAt (writes self.now state c) out.old at result out.new };
+
+    /// The bytes of a character and the state after them, or `None` where the encoding lacks the character.
+    fn put(&self, state: WriteState, c: Scalar) -> Option<(Piece, WriteState)>
+        ensures { result ≡ writes self.now state c }
     {
-        match self.put(state, c) {
-            Some((piece, next)) => {
-                let bytes = piece.as_slice();
-                let n = bytes.len();
-                if n > out.len() - at {
-                    return Put::NoRoom;
-                }
-                out[at..at + n].copy_from_slice(bytes);
-                Put::Wrote { n, next }
-            }
-            None => Put::Lacks,
+        let mut buffer = [0; 8];
+        // No character has more bytes than the buffer.
+        let _most = self.most_bytes();
+        match self.put_at(state, c, &mut buffer, 0) {
+            Put::Wrote { n, next } => Some((Piece::of(&buffer[..n]), next)),
+            Put::Lacks => None,
+            Put::NoRoom => unreachable!(),
         }
     }
 
@@ -83,10 +76,4 @@ pub trait Codec {
     {
         None
     }
-
-    /// One item stands at most.
-    ghost readable: { (codec : Self) → is_valid codec → IsReadable (reads codec) };
-
-    /// The substitute can be written.
-    ghost substitutable: { (codec : Self) → is_valid codec → CanSubstitute (writes codec) };
 }

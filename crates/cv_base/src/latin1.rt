@@ -1,8 +1,6 @@
 //! ISO-8859-1.
 ghost use Rattle.std.specs.Prelude.{[]};
-ghost use Rattle.std.proofs.Common.{rules};
 ghost use Rattle.cv_base.specs.SingleBytes.{byte_reads, byte_writes};
-ghost use Rattle.cv_base.specs.SingleByteLaws.{byte_readable};
 
 use crate::ascii_form::AsciiForm;
 use crate::block::{ReadBlock, WrittenBlock};
@@ -11,7 +9,7 @@ use crate::bytes::{read_bytes, write_bytes};
 use crate::codec::Codec;
 use crate::item::Item;
 use crate::piece::Piece;
-use crate::place::{Put, write_one};
+use crate::place::{Put, write_slice};
 use crate::placing::write_each;
 use crate::scalar::Scalar;
 use crate::state::{ReadState, WriteState};
@@ -21,14 +19,13 @@ use crate::state::{ReadState, WriteState};
 pub struct Latin1;
 
 impl Codec for Latin1 {
-    ghost is_valid = { λ _. Unit {0} };
-
     ghost reads = { λ _. byte_reads 256 };
 
     ghost writes = { λ _. byte_writes 256 };
 
     ghost closes = { λ _ _. [] };
 
+    #[tactic(auto, using(crate::proofs::SingleByteLaws::byte_readable))]
     fn assert_valid(&self) {}
 
     #[inline]
@@ -45,16 +42,6 @@ impl Codec for Latin1 {
     }
 
     #[inline]
-    fn put(&self, _state: WriteState, c: Scalar) -> Option<(Piece, WriteState)> {
-        let value = c.value();
-        if value < 256 {
-            Some((Piece::one(value as u8), WriteState::Start))
-        } else {
-            None
-        }
-    }
-
-    #[inline]
     fn put_at(&self, _state: WriteState, c: Scalar, out: &mut [u8], at: usize) -> Put {
         let value = c.value();
         if value >= 256 {
@@ -63,7 +50,7 @@ impl Codec for Latin1 {
         if out.len() - at < 1 {
             return Put::NoRoom;
         }
-        write_one(out, at, value as u8);
+        write_slice(out, at, &[value as u8]);
         Put::Wrote {
             n: 1,
             next: WriteState::Start,
@@ -88,10 +75,6 @@ impl Codec for Latin1 {
     fn writes_ascii(&self, state: WriteState) -> Option<AsciiForm> {
         (state == WriteState::Start).then_some(AsciiForm::Byte)
     }
-
-    ghost readable = { λ _ _. byte_readable 256 };
-
-    ghost substitutable = { λ _ _ _. Prim.search rules };
 }
 
 impl BlockCodec for Latin1 {

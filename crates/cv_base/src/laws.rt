@@ -1,13 +1,15 @@
-//! Laws of what stands next, for every codec.
-ghost use Rattle.cv_base.specs.Codecs.{OneIsNext, StaysWhenBytesFollow};
+//! Laws that every codec keeps.
+ghost use Rattle.cv_base.specs.Codecs.{CanSubstitute, OneIsNext, StaysWhenBytesFollow, UsesSome};
 
 use crate::codec::Codec;
 
-/// What stands next stays when bytes follow, and nothing else stands there.
+/// What stands next stays when bytes follow, nothing else stands there, and it uses some of the bytes; `?` can be written.
 #[tactic(auto, using(crate::proofs::Front::stays, crate::proofs::Front::one_next))]
 pub fn next<C: Codec>(codec: &C)
     ensures stays { StaysWhenBytesFollow (C.reads codec.now) }
     ensures one { OneIsNext (C.reads codec.now) }
+    ensures uses { UsesSome (C.reads codec.now) }
+    ensures substitutes { CanSubstitute (C.writes codec.now) }
 {
     codec.assert_valid();
 }

@@ -1,7 +1,9 @@
 //! Writing a character, or `?` in its place.
-ghost use Rattle.std.specs.Prelude.{◌≡◌, ◌≤◌, ◌+◌, ◌*◌, length};
-ghost use Rattle.cv_base.specs.Chains.{put_or, substituted};
-ghost use Rattle.cv_base.specs.Blocks.{Places, IsWrittenBlock};
+ghost use Rattle.std.specs.Prelude.{◌≤◌, ◌+◌, ◌*◌, length, Some};
+ghost use Rattle.cv_base.specs.Scalars.{question};
+ghost use Rattle.cv_base.specs.Chains.{substituted, written};
+ghost use Rattle.cv_base.specs.Places.{Places};
+ghost use Rattle.cv_base.specs.Blocks.{IsWrittenBlock};
 
 use crate::block::WrittenBlock;
 use crate::codec::Codec;
@@ -32,7 +34,7 @@ pub fn put_or_substitute<T: Codec>(
     at: usize,
 ) -> Placed
     requires { at ≤ length out.old }
-    ensures { Places (put_or (substituted state (T.writes to.now state 63)) (T.writes to.now state c)) out.old at result out.new }
+    ensures { Places (written (T.writes to.now) state (Some c)) out.old at result out.new }
 {
     match to.put_at(state, c, out, at) {
         Put::Wrote { n, next } => Placed::Wrote { n, count: 0, next },
@@ -46,7 +48,8 @@ pub fn put_or_substitute<T: Codec>(
 #[inline(never)]
 fn put_substitute<T: Codec>(to: &T, state: WriteState, out: &mut [u8], at: usize) -> Placed
     requires { at ≤ length out.old }
-    ensures { Places (substituted state (T.writes to.now state 63)) out.old at result out.new }
+    ensures { Places (substituted state (T.writes to.now state question))
+        out.old at result out.new }
 {
     to.assert_valid();
     match to.put_at(state, Scalar::substitute(), out, at) {
@@ -68,6 +71,7 @@ pub fn write_each<C: Codec>(
     requires { at + 8 * length characters.now ≤ length out.old }
     ensures { IsWrittenBlock (C.writes codec.now) state characters.now out.old at result out.new }
 {
+    // Each character has at most eight bytes, so there is room for all.
     let _most = codec.most_bytes();
     let mut end = at;
     let mut lacking = 0;

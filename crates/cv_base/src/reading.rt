@@ -51,11 +51,7 @@ fn read_some<S: Spelling>(input: &[u8], at: usize, buffer: &mut [Scalar], n: usi
     if many.n > 0 {
         return many;
     }
-    let few = read_few::<S>(input, at + many.used, buffer, n + many.n, MANY - many.n);
-    Spelled {
-        n: many.n + few.n,
-        used: many.used + few.used,
-    }
+    read_few::<S>(input, at, buffer, n, MANY)
 }
 
 /// Reads the characters at the front of a text into the front of a buffer.

@@ -1,6 +1,6 @@
 //! Spellings: encodings, or states of them, in which each character has its bytes whatever stands around it.
-ghost use Rattle.std.specs.Prelude.{◌≡◌, ◌≤◌, ◌+◌, ◌++◌, ℕ, length, take, IfSome};
-ghost use Rattle.cv_base.specs.Spelled.{BytesOf, IsSpelledAt, IsReadSpelled, IsWrittenSpelled};
+ghost use Rattle.std.specs.Prelude.{◌≡◌, ◌≤◌, ◌+◌, ◌++◌, length, take, IfSome};
+ghost use Rattle.cv_base.specs.Spelled.{BytesOf, HasFourAtMost, IsSpelledAt, IsReadSpelled, IsWrittenSpelled};
 
 use crate::scalar::Scalar;
 
@@ -19,6 +19,10 @@ pub struct Spelled {
 /// A spelling of all characters. Its type is known when the code is compiled, so that each has loops of its own.
 pub trait Spelling {
     ghost bytes_of: { BytesOf };
+
+    /// States how many bytes a character has, for callers that need it. It does nothing.
+    fn assert_short()
+        ensures { HasFourAtMost bytes_of };
 
     /// How many bytes a character has behind which many may stand that are read at once, or 0. It decides speed alone.
     const MANY_SIZE: usize;
@@ -48,7 +52,4 @@ pub trait Spelling {
         requires room { at + 64 ≤ length out.old }
         ensures many { result.n ≤ 16 }
         ensures written { IsWrittenSpelled bytes_of characters.now n out.old at result out.new };
-
-    /// A character has at most four bytes.
-    ghost short: { (c : ℕ) → length (bytes_of c) ≤ 4 };
 }

@@ -19,8 +19,10 @@ fn write_few<S: Spelling>(
 ) -> usize
     requires within { n + few ≤ length characters.now }
     requires room { at + 4 * few ≤ length out.old }
-    ensures { IsWrittenSpelled S.bytes_of characters.now n out.old at (record { n = few; used = result }) out.new }
+    ensures { IsWrittenSpelled S.bytes_of characters.now n out.old at
+        (record { n = few; used = result }) out.new }
 {
+    S::assert_short();
     let mut used = 0;
     for k in 0..few {
         used += S::write_at(characters[n + k], out, at + used);
@@ -47,6 +49,7 @@ fn write_some<S: Spelling>(characters: &[Scalar], n: usize, out: &mut [u8], at: 
     ensures some { n < length characters.now → 0 < result.n }
     ensures bytes { IsWrittenSpelled S.bytes_of characters.now n out.old at result out.new }
 {
+    S::assert_short();
     let left = characters.len() - n;
     if left < MANY {
         let used = write_few::<S>(characters, n, left, out, at);
@@ -69,8 +72,10 @@ fn write_some<S: Spelling>(characters: &[Scalar], n: usize, out: &mut [u8], at: 
 fn write_front<S: Spelling>(characters: &[Scalar], out: &mut [u8]) -> usize
     requires { 4 * length characters.now ≤ length out.old }
     ensures few { result ≤ 4 * length characters.now }
-    ensures bytes { IsWrittenSpelled S.bytes_of characters.now 0 out.old 0 (record { n = length characters.now; used = result }) out.new }
+    ensures bytes { IsWrittenSpelled S.bytes_of characters.now 0 out.old 0
+        (record { n = length characters.now; used = result }) out.new }
 {
+    S::assert_short();
     let mut n = 0;
     let mut used = 0;
     while n < characters.len() {

@@ -1,7 +1,4 @@
 pub mod Spelled
 pub mod Cuts
-pub mod Runs
-pub mod Isolation
-pub mod Answers
-pub mod Prefixes
+pub mod RestFronts
 pub mod ReadBack

@@ -3,14 +3,16 @@ use Rattle.std.specs.Prelude.{ℕ, ◌≤◌, List, length}
 use Rattle.cv_frame.specs.Message.{Message}
 use Rattle.cv_frame.specs.Bodies.{open_body, conv_body, number_body, reset_body}
 use Rattle.cv_frame.specs.declared.ask.Ask.{Ask}
+use Rattle.cv_frame.specs.declared.ops.TheConstants.{OPEN, CONV, RESET, CLOSE}
+use Rattle.cv_frame.specs.declared.sizes.TheConstants.{MOST_BODY}
 use Rattle.cv_frame.specs.declared.ask.Ask.TheVariants.{Open, Conv, Reset, Close, Raw}
 
 -- the number of its op
 abbrev pub ask_code : Ask → ℕ
-ask_code (Open to from) = 3
-ask_code (Conv number room input) = 4
-ask_code (Reset number room) = 5
-ask_code (Close number) = 6
+ask_code (Open to from) = OPEN
+ask_code (Conv number room input) = CONV
+ask_code (Reset number room) = RESET
+ask_code (Close number) = CLOSE
 ask_code (Raw op body) = op
 
 -- its body
@@ -36,4 +38,4 @@ NamesFit (Raw op body) = Unit {0}
 -- It has a frame: each name has at most 255 bytes, and the body at most 1,048,567.
 pub record AskFits (ask : Ask) : Type 0 where
   pub names : NamesFit ask
-  pub body : length (ask_body ask) ≤ 1048567
+  pub body : length (ask_body ask) ≤ MOST_BODY

@@ -2,7 +2,7 @@
 use Rattle.std.specs.Prelude.{◌≡◌, ℕ, ◌<◌, ◌≤◌, ◌^◌, List, [], ◌∷◌, ◌++◌, length, take, drop, nat_lt, ◌==◌, Option, Some, None, if◌then◌else◌}
 use Rattle.std.specs.Int.{w32, to_be_bytes}
 use Rattle.std.specs.Option.{option_and_then}
-use Rattle.cv_frame.specs.Cut.{number_at}
+use Rattle.cv_frame.specs.Cut.{number_at, IsBytes}
 
 -- ---- how bodies are spelled
 
@@ -53,11 +53,15 @@ reset_of body = if length body == 8 then Some (number_at body, number_at (drop 4
 unfoldable pub number_of : List ℕ → Option ℕ
 number_of body = if length body == 4 then Some (number_at body) else None
 
--- ---- what is spelled is read
+-- ---- what is spelled is read, and nothing else
 
--- Bodies that are spelled of names of at most 255 bytes, and of numbers of 32 bits, are read as those.
+-- Bodies that are spelled of names of at most 255 bytes, and of numbers of 32 bits, are read as those; and a body that is read was spelled so.
 pub record ReadBack : Type 0 where
   pub opens : (to from : List ℕ) → length to ≤ 255 → length from ≤ 255 → open_of (open_body to from) ≡ Some (to, from)
   pub converts : (number room : ℕ) (input : List ℕ) → number < 2 ^ 32 → room < 2 ^ 32 → conv_of (conv_body number room input) ≡ Some (number, room, input)
   pub resets : (number room : ℕ) → number < 2 ^ 32 → room < 2 ^ 32 → reset_of (reset_body number room) ≡ Some (number, room)
   pub closes : (number : ℕ) → number < 2 ^ 32 → number_of (number_body number) ≡ Some number
+  pub opens_only : (body to from : List ℕ) → open_of body ≡ Some (to, from) → body ≡ open_body to from
+  pub converts_only : (body : List ℕ) (number room : ℕ) (input : List ℕ) → IsBytes body → conv_of body ≡ Some (number, room, input) → body ≡ conv_body number room input
+  pub resets_only : (body : List ℕ) (number room : ℕ) → IsBytes body → reset_of body ≡ Some (number, room) → body ≡ reset_body number room
+  pub closes_only : (body : List ℕ) (number : ℕ) → IsBytes body → number_of body ≡ Some number → body ≡ number_body number

@@ -1,9 +1,10 @@
 -- The one cut of a byte string: whole frames, and then a rest. The format of frames is this project's own.
-use Rattle.std.specs.Prelude.{◌≡◌, ℕ, zero, suc, ◌+◌, ◌-◌, List, [], ◌∷◌, ◌++◌, length, take, drop, nat_lt, ◌||◌, slice_index, if◌then◌else◌, get_or, ◌<◌}
+use Rattle.std.specs.Prelude.{◌≡◌, ℕ, zero, suc, ◌+◌, ◌-◌, List, [], ◌∷◌, ◌++◌, length, take, drop, nat_lt, ◌||◌, slice_index, if◌then◌else◌, get_or, ◌<◌, ◌≤◌, ◌↔◌}
 use Rattle.std.specs.Int.{w32, from_be_bytes}
 use Rattle.std.specs.List.{AllByRecursion}
 use Rattle.cv_frame.specs.Message.{Message, joined, FitsFrame}
 use Rattle.cv_frame.specs.declared.reading.Frame.{Frame}
+use Rattle.cv_frame.specs.declared.sizes.TheConstants.{LEAST_LENGTH, MOST_LENGTH}
 use Rattle.cv_frame.specs.declared.reading.Frame.TheVariants.{Whole, Partial, Bad}
 use Rattle.cv_frame.specs.declared.reading.ReplyFrame.{ReplyFrame}
 use Rattle.cv_frame.specs.declared.reading.ReplyFrame.TheVariants as reply
@@ -25,7 +26,7 @@ message_at n bytes = record {
 unfoldable pub front_of : List ℕ → Frame
 front_of bytes =
     if nat_lt (length bytes) 4 then Partial else
-    if nat_lt (number_at bytes) 9 || nat_lt 1048576 (number_at bytes) then Bad (number_at bytes) else
+    if nat_lt (number_at bytes) LEAST_LENGTH || nat_lt MOST_LENGTH (number_at bytes) then Bad (number_at bytes) else
     if nat_lt (length bytes) (4 + number_at bytes) then Partial else
     Whole (message_at (number_at bytes) (drop 4 bytes)) (4 + number_at bytes)
 
@@ -85,10 +86,25 @@ pub record IsCut (bytes : List ℕ) (messages : List Message) (rest : List ℕ) 
 abbrev pub IsBytes : List ℕ → Type 0
 IsBytes bytes = (i : ℕ) → get_or bytes i 0 < 256
 
--- Every byte string has a cut, and no other one.
-abbrev pub OneCut : Type 0
-OneCut = (bytes : List ℕ) → (IsBytes bytes → IsCut bytes (messages_of bytes) (rest_of bytes))
-    × ((messages : List Message) (rest : List ℕ) → IsCut bytes messages rest → (messages_of bytes ≡ messages) × (rest_of bytes ≡ rest))
+-- More bytes make a whole frame of it.
+pub record CanBeWhole (bytes : List ℕ) : Type 0 where
+  pub more : List ℕ
+  pub message : Message
+  pub n : ℕ
+  pub is_whole : front_of (bytes ++ more) ≡ Whole message n
+
+-- What the front of a rest is. Fewer than four bytes are a part of a frame. Four have its length: a part is what more bytes make whole, and a length is bad
+-- where none do.
+pub record IsFrontOfRest (bytes : List ℕ) : Type 0 where
+  pub short : length bytes < 4 → front_of bytes ≡ Partial
+  pub part : 4 ≤ length bytes → (front_of bytes ≡ Partial) ↔ CanBeWhole bytes
+  pub bad : 4 ≤ length bytes → ((n : ℕ) × (front_of bytes ≡ Bad n)) ↔ ¬ CanBeWhole bytes
+
+-- Every byte string has a cut, and no other one; and what the front of its rest is says whether more bytes make a frame of it.
+pub record OneCut : Type 0 where
+  pub some : (bytes : List ℕ) → IsBytes bytes → IsCut bytes (messages_of bytes) (rest_of bytes)
+  pub one : (bytes : List ℕ) (messages : List Message) (rest : List ℕ) → IsCut bytes messages rest → (messages_of bytes ≡ messages) × (rest_of bytes ≡ rest)
+  pub rest : (bytes : List ℕ) → IsRest bytes → IsFrontOfRest bytes
 
 -- The cut of joined frames is the frames, and then the cut of what follows.
 abbrev pub CutOfJoined : Type 0

@@ -3,5 +3,3 @@ pub mod Status
 pub mod Cut
 pub mod Bodies
 pub mod Asks
-pub mod Machine
-pub mod Isolation

@@ -5,9 +5,11 @@ mod ask;
 mod bodies;
 mod bytes;
 pub mod laws;
+pub mod ops;
 mod reading;
 mod reply;
 mod request;
+mod sizes;
 mod status;
 mod writing;
 
@@ -17,6 +19,7 @@ pub use bytes::Bytes;
 pub use reading::{Frame, ReplyFrame, next_reply, next_request};
 pub use reply::Reply;
 pub use request::Request;
+pub use sizes::{LEAST_LENGTH, MOST_BODY, MOST_LENGTH};
 pub use status::Status;
 pub use writing::{write_reply, write_request};
 

@@ -4,6 +4,7 @@ ghost use Rattle.std.specs.Prelude.{◌≡◌, ◌≤◌, length};
 ghost use Rattle.cv_frame.specs.Cut.{front_of, front_of_reply, number_at};
 
 use crate::request::Request;
+use crate::sizes::{LEAST_LENGTH, MOST_LENGTH};
 
 /// What stands at the front of bytes that a client sent.
 #[derive(Debug, Drop)]
@@ -52,7 +53,7 @@ pub fn next_request(bytes: &[u8]) -> Frame<'_>
         return Frame::Partial;
     }
     let length = number(bytes);
-    if length < 9 || length > 1_048_576 {
+    if length < LEAST_LENGTH || length > MOST_LENGTH {
         return Frame::Bad { length };
     }
     let n = 4 + length as usize;

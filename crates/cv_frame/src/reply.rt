@@ -5,6 +5,7 @@ ghost use Rattle.cv_frame.specs.Status.{status_number};
 ghost use Rattle.cv_frame.specs.Message.{FitsFrame};
 
 use crate::bytes::Bytes;
+use crate::sizes::MOST_BODY;
 use crate::status::Status;
 use cv_base::Piece;
 use std::marker::Model;
@@ -22,6 +23,7 @@ pub struct Reply {
 impl Model for Reply {
     ghost use Rattle.std.specs.Prelude.{◌≤◌, ◌+◌, ◌++◌, length};
     ghost use Rattle.cv_frame.specs.Message.{Message};
+    ghost use Rattle.cv_frame.specs.declared.sizes.TheConstants.{MOST_BODY};
 
     ghost Value = { Message };
 
@@ -29,13 +31,13 @@ impl Model for Reply {
 
     ghost view = { λ r. record { caller = r.caller; tag = r.tag; code = status_number r.status; body = r.head ++ r.tail } };
 
-    ghost invariant = { λ r. length r.head + length r.tail ≤ 1048567 };
+    ghost invariant = { λ r. length r.head + length r.tail ≤ MOST_BODY };
 }
 
 impl Reply {
     /// A reply to the request of this caller and tag.
     pub fn new(caller: u32, tag: u32, status: Status, head: Piece, tail: Bytes) -> Self
-        requires { length head + length tail ≤ 1048567 }
+        requires { length head + length tail ≤ MOST_BODY }
         ensures value { result ≡ record { caller = caller; tag = tag; code = status_number status; body = head ++ tail } }
         ensures fits { FitsFrame result }
     {

@@ -14,10 +14,11 @@ pub struct Request<'a> {
 impl<'a> Model for Request<'a> {
     ghost use Rattle.std.specs.Prelude.{◌≤◌, length};
     ghost use Rattle.cv_frame.specs.Message.{Message};
+    ghost use Rattle.cv_frame.specs.declared.sizes.TheConstants.{MOST_BODY};
 
     ghost Value = { Message };
 
     ghost view = { λ r. record { caller = r.caller; tag = r.tag; code = r.op; body = r.body.now } };
 
-    ghost invariant = { λ r. length r.body.now ≤ 1048567 };
+    ghost invariant = { λ r. length r.body.now ≤ MOST_BODY };
 }

@@ -6,7 +6,9 @@ ghost use Rattle.cv_frame.specs.Bodies.{name_body};
 ghost use Rattle.cv_frame.specs.Asks.{AskFits, request_of};
 
 use crate::ask::Ask;
+use crate::ops::{CLOSE, CONV, OPEN, RESET};
 use crate::reply::Reply;
+use crate::sizes::MOST_BODY;
 use cv_base::Memory;
 
 /// Appends bytes for which there is room.
@@ -33,7 +35,7 @@ fn append_name(out: &mut Vec<u8>, name: &[u8])
 
 /// Begins a frame: makes room for all of it, and appends what stands before its body of n bytes.
 fn begin_frame(out: &mut Vec<u8>, caller: u32, tag: u32, code: u8, n: usize) -> Result<(), Memory>
-    requires { n ≤ 1048567 }
+    requires { n ≤ MOST_BODY }
     ensures begins { OnOk result ((body : List ℕ) → length body ≡ n → out.new.items ++ body ≡ out.old.items ++
         spelling (record { caller = caller; tag = tag; code = code; body = body })) }
     ensures room { OnOk result (vec_len out.new + n ≤ vec_capacity out.new) }
@@ -72,7 +74,7 @@ pub fn write_request(out: &mut Vec<u8>, caller: u32, tag: u32, ask: &Ask<'_>) ->
 {
     match *ask {
         Ask::Open { to, from } => {
-            begin_frame(out, caller, tag, 3, 2 + to.len() + from.len())?;
+            begin_frame(out, caller, tag, OPEN, 2 + to.len() + from.len())?;
             append_name(out, to);
             append_name(out, from);
             Ok(())
@@ -82,20 +84,20 @@ pub fn write_request(out: &mut Vec<u8>, caller: u32, tag: u32, ask: &Ask<'_>) ->
             room,
             input,
         } => {
-            begin_frame(out, caller, tag, 4, 8 + input.len())?;
+            begin_frame(out, caller, tag, CONV, 8 + input.len())?;
             append(out, &number.to_be_bytes());
             append(out, &room.to_be_bytes());
             append(out, input);
             Ok(())
         }
         Ask::Reset { number, room } => {
-            begin_frame(out, caller, tag, 5, 8)?;
+            begin_frame(out, caller, tag, RESET, 8)?;
             append(out, &number.to_be_bytes());
             append(out, &room.to_be_bytes());
             Ok(())
         }
         Ask::Close(number) => {
-            begin_frame(out, caller, tag, 6, 4)?;
+            begin_frame(out, caller, tag, CLOSE, 4)?;
             append(out, &number.to_be_bytes());
             Ok(())
         }

@@ -1,15 +1,13 @@
 -- What serving says where the source and the sink tell their bytes.
-use Rattle.std.proofs.Common.{◌≡◌, ℕ, List, [], ◌++◌, Option, Some, Result, sym, subst}
-use Rattle.std.proofs.lemmas.List.{append_cancel_right, append_cancel_left}
+use Rattle.std.proofs.Common.{◌≡◌, ◌≤◌, None, length, length-append, arith, ℕ, List, [], ◌++◌, Option, Some, Result, refl, sym, ap, ◌∙◌, subst}
+use Rattle.std.proofs.lemmas.List.{append-nil, append_cancel_right, append_cancel_left}
 use Rattle.std.specs.Io.KnownBytes.{Appends, Consumes}
 use Rattle.cv_frame.specs.Message.{Message}
 use Rattle.cv_frame.specs.Cut.{messages_of}
-use Rattle.cv_frame.specs.Machine.{Progress, NoneLacks, AnswersFirst}
-use Rattle.cv_frame.proofs.Isolation.{headline, none_only}
-use Rattle.cv_frame.proofs.Prefixes.{first_answered}
-use Rattle.cv_world.specs.Turn.{turn}
-use Rattle.cv_world.specs.declared.table.Table.{Table}
-use Rattle.cv_loop.specs.Serving.{Serving, Gave, Took, IsUnbroken, IsAll, AnswersEach, ServesEach}
+use Rattle.cv_machine.specs.Machine.{Turn, IsSomeAnswer, Progress, NoneLacks, BeginsAnswer}
+use Rattle.cv_machine.proofs.Isolation.{headline, none_only}
+use Rattle.cv_machine.proofs.Begun.{begins_answer}
+use Rattle.cv_loop.specs.Serving.{Serving, Gave, Took, Ending, ending_of, IsUnbroken, IsAll, AnswersEach, ServesEach, IsHeadline}
 use Rattle.cv_loop.specs.declared.serving.Served.{Served}
 use Rattle.cv_loop.specs.declared.fault.ServeFault.{ServeFault}
 
@@ -25,31 +23,66 @@ same_written held held' w w' p q =
     let b : Appends (Some p.0) (Some (p.0 ++ w)) w' = subst (λ (o : Option (List ℕ)). Appends (Some p.0) o w') p.2 a in
     append_cancel_left p.0 w w' b
 
-all_answered : (old new : ℕ → Table) (given written : List ℕ) (later : List Message) (unwritten : List ℕ) → IsAll given later unwritten
-    → Progress turn old (messages_of given) later written unwritten new → AnswersEach old given written
-all_answered old new given written later unwritten w p =
-    let a : Progress turn old (messages_of given) [] written unwritten new = subst (λ (ms : List Message). Progress turn old (messages_of given) ms written unwritten new) w.ran p in
-    let b : Progress turn old (messages_of given) [] written [] new = subst (λ (x : List ℕ). Progress turn old (messages_of given) [] written x new) w.wrote a in
-    let h = headline turn old new given written w.fits b in
-    record { all = h.0; each = h.1 }
+module _ {Table : Type 0} {turn : Turn Table} where
+  all_answered : (old new : ℕ → Table) (given written : List ℕ) (later : List Message) (unwritten : List ℕ) → IsAll given later unwritten
+      → Progress turn old (messages_of given) later written unwritten new → AnswersEach turn old given written
+  all_answered old new given written later unwritten w p =
+      let a : Progress turn old (messages_of given) [] written unwritten new = subst (λ (ms : List Message). Progress turn old (messages_of given) ms written unwritten new) w.ran p in
+      let b : Progress turn old (messages_of given) [] written [] new = subst (λ (x : List ℕ). Progress turn old (messages_of given) [] written x new) w.wrote a in
+      let h = headline turn old new given written w.fits b in
+      record { all = h.0; each = h.1 }
 
-pub answered : (result : Result Served ServeFault) (old new : ℕ → Table) (left left' held held' : Option (List ℕ)) (pulls max : ℕ)
-    → Serving result old new left left' held held' pulls max
-    → (given written : List ℕ) → Gave left left' given → Took held held' written → IsUnbroken result → AnswersEach old given written
-answered result old new left left' held held' pulls max s given written gave took unbroken =
-    let g : given ≡ s.given = same_given left left' given s.given gave s.gave in
-    let w : written ≡ s.written = same_written held held' written s.written took s.took in
-    let h = all_answered old new s.given s.written s.later s.unwritten (s.all unbroken) s.ran in
-    subst (λ (x : List ℕ). AnswersEach old x written) (sym g) (subst (λ (x : List ℕ). AnswersEach old s.given x) (sym w) h)
+  answered : (result : Result Served ServeFault) (old new : ℕ → Table) (left left' held held' : Option (List ℕ)) (pulls max : ℕ)
+      → Serving turn result old new left left' held held' pulls max
+      → (given written : List ℕ) → Gave left left' given → Took held held' written → IsUnbroken (ending_of result) → AnswersEach turn old given written
+  answered result old new left left' held held' pulls max s given written gave took unbroken =
+      let g : given ≡ s.given = same_given left left' given s.given gave s.gave in
+      let w : written ≡ s.written = same_written held held' written s.written took s.took in
+      let h = all_answered old new s.given s.written s.later s.unwritten (s.all unbroken) s.ran in
+      subst (λ (x : List ℕ). AnswersEach turn old x written) (sym g) (subst (λ (x : List ℕ). AnswersEach turn old s.given x) (sym w) h)
 
--- where no reply says that memory lacked
-pub all_served : (old : ℕ → Table) (given written : List ℕ) → AnswersEach old given written → NoneLacks (messages_of written) → ServesEach old given written
-all_served old given written p none = record { all = (p.all, none); each = λ c. (p.each c, none_only turn old c given written p.all none) }
+  -- where no reply says that memory lacked
+  all_served : (old : ℕ → Table) (given written : List ℕ) → AnswersEach turn old given written → NoneLacks (messages_of written) → ServesEach turn old given written
+  all_served old given written p none = record { all = (p.all, none); each = λ c. (p.each c, none_only turn old c given written p.all none) }
 
-pub first : (result : Result Served ServeFault) (old new : ℕ → Table) (left left' held held' : Option (List ℕ)) (pulls max : ℕ)
-    → Serving result old new left left' held held' pulls max → (given written : List ℕ) → Gave left left' given → Took held held' written → AnswersFirst turn old given written
-first result old new left left' held held' pulls max s given written gave took =
-    let g : given ≡ s.given = same_given left left' given s.given gave s.gave in
-    let w : written ≡ s.written = same_written held held' written s.written took s.took in
-    subst (λ (x : List ℕ). AnswersFirst turn old x written) (sym g) (subst (λ (x : List ℕ). AnswersFirst turn old s.given x) (sym w)
-    (first_answered turn old new s.given s.later s.written s.unwritten s.ran))
+  begun : IsSomeAnswer turn → (result : Result Served ServeFault) (old new : ℕ → Table) (left left' held held' : Option (List ℕ)) (pulls max : ℕ)
+      → Serving turn result old new left left' held held' pulls max → (given written : List ℕ) → Gave left left' given → Took held held' written → BeginsAnswer turn old given written
+  begun law result old new left left' held held' pulls max s given written gave took =
+      let g : given ≡ s.given = same_given left left' given s.given gave s.gave in
+      let w : written ≡ s.written = same_written held held' written s.written took s.took in
+      subst (λ (x : List ℕ). BeginsAnswer turn old x written) (sym g) (subst (λ (x : List ℕ). BeginsAnswer turn old s.given x) (sym w)
+      (begins_answer turn law old new s.given s.later s.written s.unwritten s.ran))
+
+  -- What serving did is what the headline says.
+  pub is_headline : IsSomeAnswer turn → (result : Result Served ServeFault) (old new : ℕ → Table) (left left' held held' : Option (List ℕ)) (pulls max : ℕ)
+      → Serving turn result old new left left' held held' pulls max → (given written : List ℕ) → Gave left left' given → Took held held' written
+      → IsHeadline turn (ending_of result) old given written
+  is_headline law result old new left left' held held' pulls max s given written gave took = record {
+    answered = answered result old new left left' held held' pulls max s given written gave took;
+    served = λ unbroken none. all_served old given written (answered result old new left left' held held' pulls max s given written gave took unbroken) none;
+    begun = begun law result old new left left' held held' pulls max s given written gave took;
+  }
+
+  -- It holds for any other ending that is broken where this one is.
+  pub other_ending : (e f : Ending) (tables : ℕ → Table) (given written : List ℕ) → (IsUnbroken f → IsUnbroken e) → IsHeadline turn e tables given written → IsHeadline turn f tables given written
+  other_ending e f tables given written unbroken h = record {
+    answered = λ u. h.answered (unbroken u);
+    served = λ u none. h.served (unbroken u) none;
+    begun = h.begun;
+  }
+
+-- A source that has no bytes left gave all that it had.
+pub all_gave : (left : Option (List ℕ)) (bytes rest : List ℕ) → left ≡ Some bytes → rest ≡ [] → Gave left (Some rest) bytes
+all_gave left bytes rest is end = (rest, is ∙ ap Some (sym (append-nil bytes) ∙ ap (λ (x : List ℕ). bytes ++ x) (sym end)), refl)
+
+-- A source gives no more than it had.
+pub gave_few : (left left' : Option (List ℕ)) (bytes given : List ℕ) → left ≡ Some bytes → Consumes left left' given → length given ≤ length bytes
+gave_few None left' bytes given is p = absurd cc
+gave_few (Some b) None bytes given is p = absurd p
+gave_few (Some b) (Some rest) bytes given is p =
+    let same : b ≡ bytes = cc in
+    omega (arith, ap length p, ap length same, length-append given rest)
+
+-- A sink that began with nothing took all that it holds.
+pub all_took : (began held : Option (List ℕ)) (bytes : List ℕ) → began ≡ Some [] → Some bytes ≡ held → Took began held bytes
+all_took began held bytes none is = ([], none, sym is)

@@ -4,3 +4,4 @@ pub mod OneBatch
 pub mod Flows
 pub mod Streams
 pub mod Headline
+mod Ranges

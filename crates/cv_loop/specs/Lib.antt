@@ -1,3 +1,3 @@
 pub mod Ends
 pub mod Serving
-pub mod Steps
+pub mod Private

@@ -1,13 +1,11 @@
 -- What serving a stream of frames does: which bytes answer which, which result comes where, and what is left then.
-use Rattle.std.specs.Prelude.{◌≡◌, ◌≢◌, ℕ, ◌-◌, ◌^◌, min, true, false, List, [], ◌++◌, length, Option, Some, Bool, Result, Ok, Err}
-use Rattle.std.specs.Io.KnownBytes.{Appends, Consumes}
+use Rattle.std.specs.Prelude.{◌≡◌, ◌≢◌, ℕ, ◌-◌, ◌^◌, ◌≤◌, min, true, false, IsTrue, List, [], ◌++◌, length, Option, Some, Bool, Result, Ok, Err}
+use Rattle.std.specs.Io.KnownBytes.{Appends, Consumes, IsAtEnd}
 use Rattle.std.specs.List.{AllByRecursion}
 use Rattle.cv_frame.specs.Message.{Message, FitsFrame}
 use Rattle.cv_frame.specs.Cut.{front_of, messages_of, rest_of}
-use Rattle.cv_frame.specs.Machine.{Progress, Answers, IsServed, only}
+use Rattle.cv_machine.specs.Machine.{Turn, Progress, Answers, IsServed, BeginsAnswer, NoneLacks, only}
 use Rattle.cv_frame.specs.declared.reading.Frame.TheVariants as front
-use Rattle.cv_world.specs.Turn.{turn}
-use Rattle.cv_world.specs.declared.table.Table.{Table}
 use Rattle.cv_loop.specs.declared.fault.ServeFault.{ServeFault}
 use Rattle.cv_loop.specs.declared.fault.ServeFault.TheVariants as fault
 use Rattle.cv_loop.specs.declared.serving.Served.{Served}
@@ -23,56 +21,61 @@ abbrev pub Took : Option (List ℕ) → Option (List ℕ) → List ℕ → Type 
 Took held held' written = (before : List ℕ) × (held ≡ Some before) × (held' ≡ Some (before ++ written))
 
 -- The written bytes answer the given ones, and to each caller its frames alone.
-pub record AnswersEach (tables : ℕ → Table) (given written : List ℕ) : Type 0 where
+pub record AnswersEach {Table : Type 0} (turn : Turn Table) (tables : ℕ → Table) (given written : List ℕ) : Type 0 where
   pub all : Answers turn tables given written
   pub each : (caller : ℕ) → Answers turn tables (only caller given) (only caller written)
 
 -- They answer them, to each caller its frames alone, and memory never lacked.
-pub record ServesEach (tables : ℕ → Table) (given written : List ℕ) : Type 0 where
+pub record ServesEach {Table : Type 0} (turn : Turn Table) (tables : ℕ → Table) (given written : List ℕ) : Type 0 where
   pub all : IsServed turn tables given written
   pub each : (caller : ℕ) → IsServed turn tables (only caller given) (only caller written)
 
 -- ---- which result comes where
 
--- Serving came to the end of the stream.
-abbrev pub met_the_end : Result Served ServeFault → Bool
-met_the_end (Ok served) = true
-met_the_end (Err fault.TruncatedFrame) = true
-met_the_end (Err (fault.BadLength n)) = false
-met_the_end (Err fault.Read) = false
-met_the_end (Err (fault.Write n)) = false
-met_the_end (Err fault.TooManyReads) = false
-met_the_end (Err fault.Memory) = false
+-- How serving ended: the stream did; a read failed; a write failed, or took nothing; memory lacked; or it gave up, at a bad length or since as many reads as
+-- may be were made.
+pub data Ending : Type 0 where
+  StreamEnded : Ending
+  ReadFailed : Ending
+  WriteFailed : Ending
+  MemoryLacked : Ending
+  GaveUp : Ending
 
--- Serving ended since a read failed.
-abbrev pub read_failed : Result Served ServeFault → Bool
-read_failed (Ok served) = false
-read_failed (Err fault.TruncatedFrame) = false
-read_failed (Err (fault.BadLength n)) = false
-read_failed (Err fault.Read) = true
-read_failed (Err (fault.Write n)) = false
-read_failed (Err fault.TooManyReads) = false
-read_failed (Err fault.Memory) = false
+abbrev pub ending_of : Result Served ServeFault → Ending
+ending_of (Ok served) = StreamEnded
+ending_of (Err fault.TruncatedFrame) = StreamEnded
+ending_of (Err (fault.BadLength n)) = GaveUp
+ending_of (Err fault.Read) = ReadFailed
+ending_of (Err (fault.Write n)) = WriteFailed
+ending_of (Err fault.TooManyReads) = GaveUp
+ending_of (Err fault.Memory) = MemoryLacked
 
--- Serving ended since a write failed, or took nothing.
-abbrev pub write_failed : Result Served ServeFault → Bool
-write_failed (Ok served) = false
-write_failed (Err fault.TruncatedFrame) = false
-write_failed (Err (fault.BadLength n)) = false
-write_failed (Err fault.Read) = false
-write_failed (Err (fault.Write n)) = true
-write_failed (Err fault.TooManyReads) = false
-write_failed (Err fault.Memory) = false
+abbrev pub met_the_end : Ending → Bool
+met_the_end StreamEnded = true
+met_the_end other = false
+
+abbrev pub read_failed : Ending → Bool
+read_failed ReadFailed = true
+read_failed other = false
+
+abbrev pub write_failed : Ending → Bool
+write_failed WriteFailed = true
+write_failed other = false
 
 -- Neither a write nor want of memory broke serving off.
-abbrev pub IsUnbroken : Result Served ServeFault → Type 0
-IsUnbroken (Ok served) = Unit {0}
-IsUnbroken (Err fault.TruncatedFrame) = Unit {0}
-IsUnbroken (Err (fault.BadLength n)) = Unit {0}
-IsUnbroken (Err fault.Read) = Unit {0}
-IsUnbroken (Err (fault.Write n)) = ⊥
-IsUnbroken (Err fault.TooManyReads) = Unit {0}
-IsUnbroken (Err fault.Memory) = ⊥
+abbrev pub IsUnbroken : Ending → Type 0
+IsUnbroken WriteFailed = ⊥
+IsUnbroken MemoryLacked = ⊥
+IsUnbroken other = Unit {0}
+
+-- What the source and the sink say then: that the end was met, a read failed, a write failed, just where that ended it; that no byte is left at the end, in a
+-- source that tells its bytes; and that no more pulls were made than may be.
+pub record EndsSay (ending : Ending) (end reading writing : Bool) (left : Option (List ℕ)) (pulls max_reads : ℕ) : Type 0 where
+  pub met_end : end ≡ met_the_end ending
+  pub none_left : IsTrue (met_the_end ending) → IsAtEnd left
+  pub read_failed : reading ≡ read_failed ending
+  pub write_failed : writing ≡ write_failed ending
+  pub reads : pulls ≤ max_reads
 
 -- A count in a u64, which stays at its greatest value.
 abbrev pub counted : ℕ → ℕ
@@ -88,6 +91,14 @@ EndsWhere (Err (fault.Write n)) frames rest written pulls max_reads = n ≡ coun
 EndsWhere (Err fault.TooManyReads) frames rest written pulls max_reads = (front_of rest ≡ front.Partial) × (pulls ≡ max_reads)
 EndsWhere (Err fault.Memory) frames rest written pulls max_reads = Unit {0}
 
+-- The headline, of the bytes that were given and those that were written: unless a write or want of memory broke serving off, these answer those, to each
+-- caller its frames alone; where besides no reply says that memory lacked, they are what is served for them; and however serving ended, they begin an answer to
+-- all that was given.
+pub record IsHeadline {Table : Type 0} (turn : Turn Table) (ending : Ending) (tables : ℕ → Table) (given written : List ℕ) : Type 0 where
+  pub answered : IsUnbroken ending → AnswersEach turn tables given written
+  pub served : IsUnbroken ending → NoneLacks (messages_of written) → ServesEach turn tables given written
+  pub begun : BeginsAnswer turn tables given written
+
 -- All whole frames of what was given ran, and all of their replies was written.
 pub record IsAll (given : List ℕ) (later : List Message) (unwritten : List ℕ) : Type 0 where
   pub ran : later ≡ []
@@ -95,7 +106,7 @@ pub record IsAll (given : List ℕ) (later : List Message) (unwritten : List ℕ
   pub fits : AllByRecursion FitsFrame (messages_of given)
 
 -- What serving a stream did, from the tables old to new.
-pub record Serving (result : Result Served ServeFault) (old new : ℕ → Table) (left left' held held' : Option (List ℕ)) (pulls max_reads : ℕ) : Type 0 where
+pub record Serving {Table : Type 0} (turn : Turn Table) (result : Result Served ServeFault) (old new : ℕ → Table) (left left' held held' : Option (List ℕ)) (pulls max_reads : ℕ) : Type 0 where
   -- what the source gave
   pub given : List ℕ
   pub gave : Consumes left left' given
@@ -107,5 +118,7 @@ pub record Serving (result : Result Served ServeFault) (old new : ℕ → Table)
   pub unwritten : List ℕ
   pub ran : Progress turn old (messages_of given) later written unwritten new
   -- none is later and nothing is unwritten, if neither a write nor want of memory broke it off
-  pub all : IsUnbroken result → IsAll given later unwritten
+  pub all : IsUnbroken (ending_of result) → IsAll given later unwritten
   pub ends : EndsWhere result (messages_of given) (rest_of given) written pulls max_reads
+  -- It gave up reading only where each of that many pulls brought a byte.
+  pub enough : result ≡ Err fault.TooManyReads → max_reads ≤ length given

@@ -2,7 +2,7 @@
 
 ghost use Rattle.std.specs.Prelude.{◌≡◌, ◌-◌, ◌^◌, false, length, min, IfOk, IfErr, OnOk};
 ghost use Rattle.cv_frame.specs.Message.{joined};
-ghost use Rattle.cv_loop.specs.Steps.{Answered, Broken};
+ghost use Rattle.cv_loop.specs.Private.Draining.{Answered, Broken};
 
 use crate::ends::Sink;
 use crate::engine::Engine;
@@ -51,10 +51,10 @@ pub fn answer<R, E: Engine<R>, W: Sink>(
     requires ready { E.ready engine.old }
     requires works { W.has_failed writer.old ≡ false }
     ensures ready { E.ready engine.new }
-    ensures ok { OnOk result (Answered (E.tables engine.old) (W.held writer.old) (W.held writer.new) requests.now
+    ensures ok { OnOk result (Answered E.turn (E.tables engine.old) (W.held writer.old) (W.held writer.new) requests.now
         (E.tables engine.new) written.old written.new) }
     ensures works { OnOk result (W.has_failed writer.new ≡ false) }
-    ensures err { IfErr result (λ f. Broken (E.tables engine.old) (W.held writer.old) (W.held writer.new) requests.now
+    ensures err { IfErr result (λ f. Broken E.turn (E.tables engine.old) (W.held writer.old) (W.held writer.new) requests.now
         (E.tables engine.new) written.old f (W.has_failed writer.new)) }
 {
     let before = *written;

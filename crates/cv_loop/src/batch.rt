@@ -3,7 +3,7 @@
 ghost use Rattle.std.specs.Prelude.{◌≡◌, ◌≤◌, ◌++◌, IfOk, length, drop};
 ghost use Rattle.std.specs.List.{AllByRecursion};
 ghost use Rattle.cv_frame.specs.Message.{joined, FitsFrame};
-ghost use Rattle.cv_loop.specs.Steps.{EndsBatch};
+ghost use Rattle.cv_loop.specs.Private.Draining.{EndsBatch};
 
 use cv_base::Memory;
 use cv_frame::{Frame, Request, next_request};

@@ -1,19 +1,15 @@
 //! What answers requests.
 
-ghost use Rattle.std.specs.Prelude.{◌≡◌, ℕ, IfOk, OnErr};
-ghost use Rattle.cv_frame.specs.Machine.{Runs};
-ghost use Rattle.cv_world.specs.Turn.{turn};
-ghost use Rattle.cv_world.specs.declared.table.Table.{Table};
+ghost use Rattle.std.specs.Prelude.{◌≡◌, IfOk, OnErr};
+ghost use Rattle.cv_machine.specs.Machine.{Runs};
 
 use cv_base::Memory;
 use cv_frame::{Reply, Request};
+use cv_machine::Machine;
 use std::alloc::Global;
 
 /// Answers requests, in their order. `R` is the runtime that it may use.
-pub trait Engine<R> {
-    /// Each caller's table.
-    ghost tables: { Self → ℕ → Table };
-
+pub trait Engine<R>: Machine {
     /// What a batch needs of the engine and of the runtime, as that threads can share it.
     ghost ready: { Self → Type 0 } = { λ _. Unit {0} };
 
@@ -21,6 +17,6 @@ pub trait Engine<R> {
     fn batch(&mut self, rt: &R, alloc: Global, requests: &[Request]) -> Result<Vec<Reply>, Memory>
         requires { ready self.old }
         ensures ready { ready self.new }
-        ensures runs { IfOk result (λ replies. Runs turn (tables self.old) requests.now replies.items (tables self.new)) }
-        ensures err { OnErr result (tables self.new ≡ tables self.old) };
+        ensures runs { IfOk result (λ replies. Runs Self.turn (Self.tables self.old) requests.now replies.items (Self.tables self.new)) }
+        ensures err { OnErr result (Self.tables self.new ≡ Self.tables self.old) };
 }

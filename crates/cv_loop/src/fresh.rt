@@ -1,17 +1,15 @@
 //! Serving by a world of one's own.
 
-ghost use Rattle.std.specs.Prelude.{◌≡◌, ◌≤◌, ℕ, List, false, IsTrue};
-ghost use Rattle.std.specs.Io.KnownBytes.{IsAtEnd};
-ghost use Rattle.cv_frame.specs.Cut.{messages_of};
-ghost use Rattle.cv_frame.specs.Machine.{NoneLacks, AnswersFirst};
+ghost use Rattle.std.specs.Prelude.{◌≡◌, ◌≤◌, ℕ, List, false, IsTrue, Err, length};
 ghost use Rattle.cv_world.specs.Tables.{no_tables};
 ghost use Rattle.cv_world.specs.Turn.{turn};
 ghost use Rattle.cv_world.specs.declared.table.Table.{Table};
-ghost use Rattle.cv_loop.specs.Serving.{Serving, Gave, Took, IsUnbroken, AnswersEach, ServesEach, met_the_end, read_failed, write_failed};
+ghost use Rattle.cv_loop.specs.Serving.{Serving, Gave, Took, IsHeadline, EndsSay, IsUnbroken, ending_of, met_the_end, write_failed};
 
 use crate::ends::{Sink, Source};
 use crate::fault::ServeFault;
 use crate::serving::{Served, serve};
+use crate::std_ends::{FromReader, ToWriter};
 use cv_world::World;
 use std::alloc::Global;
 
@@ -28,23 +26,47 @@ pub fn serve_new<R, S: Source, W: Sink>(
     requires fresh_reader { (S.met_end reader.old ≡ false) × (S.has_failed reader.old ≡ false) }
     requires fresh_writer { W.has_failed writer.old ≡ false }
 
-    // The clauses of `serve`, from the tables of callers who never asked.
-    ensures answered { (given written : List ℕ) → Gave (S.left reader.old) (S.left reader.new) given
-        → Took (W.held writer.old) (W.held writer.new) written → IsUnbroken result → AnswersEach no_tables given written }
-    ensures served { (given written : List ℕ) → Gave (S.left reader.old) (S.left reader.new) given
-        → Took (W.held writer.old) (W.held writer.new) written → IsUnbroken result → NoneLacks (messages_of written)
-        → ServesEach no_tables given written }
-    ensures first { (given written : List ℕ) → Gave (S.left reader.old) (S.left reader.new) given
-        → Took (W.held writer.old) (W.held writer.new) written → AnswersFirst turn no_tables given written }
-
-    ensures serves { (tables : ℕ → Table) × Serving result no_tables tables (S.left reader.old) (S.left reader.new)
+    // As `serve`, from the tables of callers who never asked.
+    ensures headline { (given written : List ℕ) → Gave (S.left reader.old) (S.left reader.new) given
+        → Took (W.held writer.old) (W.held writer.new) written → IsHeadline turn (ending_of result) no_tables given written }
+    ensures serves { (tables : ℕ → Table) × Serving turn result no_tables tables (S.left reader.old) (S.left reader.new)
         (W.held writer.old) (W.held writer.new) (S.pulls reader.new) max_reads }
-    ensures met_end { S.met_end reader.new ≡ met_the_end result }
-    ensures none_left { IsTrue (met_the_end result) → IsAtEnd (S.left reader.new) }
-    ensures read_failed { S.has_failed reader.new ≡ read_failed result }
-    ensures write_failed { W.has_failed writer.new ≡ write_failed result }
-    ensures reads { S.pulls reader.new ≤ max_reads }
+    ensures ends { EndsSay (ending_of result) (S.met_end reader.new) (S.has_failed reader.new) (W.has_failed writer.new)
+        (S.left reader.new) (S.pulls reader.new) max_reads }
 {
     let mut world = World::new(alloc);
     serve(&mut world, rt, alloc, reader, writer, max_reads)
+}
+
+/// Where writing into memory failed, memory lacked.
+fn in_memory(served: Result<Served, ServeFault>) -> Result<Served, ServeFault>
+    ensures no_write { write_failed (ending_of result) ≡ false }
+    ensures too_many { result ≡ Err ServeFault.TooManyReads → served ≡ Err ServeFault.TooManyReads }
+    ensures end { met_the_end (ending_of result) ≡ met_the_end (ending_of served) }
+    ensures unbroken { IsUnbroken (ending_of result) → IsUnbroken (ending_of served) }
+{
+    match served {
+        Err(ServeFault::Write { .. }) => Err(ServeFault::Memory),
+        other => other,
+    }
+}
+
+/// Serves frames in memory by a new world, and gives what was written with the result. `Write` isn't among the results: memory that can't
+/// grow is want of memory.
+pub fn serve_bytes<R>(
+    rt: &R,
+    alloc: Global,
+    frames: &[u8],
+    max_reads: u64,
+) -> (Result<Served, ServeFault>, Vec<u8>)
+    // To the end, unless as many reads were made as may be or a length was bad.
+    ensures headline { IsTrue (met_the_end (ending_of result.0)) → IsHeadline turn (ending_of result.0) no_tables frames.now result.1.items }
+    // It gave up reading only where the frames have a byte for each read.
+    ensures enough { result.0 ≡ Err ServeFault.TooManyReads → max_reads ≤ length frames.now }
+    ensures no_write { write_failed (ending_of result.0) ≡ false }
+{
+    let mut reader = FromReader::new(frames);
+    let mut writer = ToWriter::new(Vec::new(alloc));
+    let result = serve_new(rt, alloc, &mut reader, &mut writer, max_reads);
+    (in_memory(result), writer.into_inner())
 }

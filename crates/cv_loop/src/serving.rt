@@ -1,17 +1,13 @@
 //! Serving a stream of frames.
 
-ghost use Rattle.std.specs.Prelude.{◌≡◌, ◌≤◌, ℕ, List, false, IsTrue};
-ghost use Rattle.std.specs.Io.KnownBytes.{IsAtEnd};
-ghost use Rattle.cv_frame.specs.Cut.{messages_of};
-ghost use Rattle.cv_frame.specs.Machine.{NoneLacks, AnswersFirst};
-ghost use Rattle.cv_world.specs.Turn.{turn};
-ghost use Rattle.cv_loop.specs.Serving.{Serving, Gave, Took, IsUnbroken, AnswersEach, ServesEach, met_the_end, read_failed, write_failed};
+ghost use Rattle.std.specs.Prelude.{◌≡◌, ℕ, List, false};
+ghost use Rattle.cv_loop.specs.Serving.{Serving, Gave, Took, IsHeadline, EndsSay, ending_of};
 
 use crate::draining::{Counts, drain};
 use crate::ends::{Sink, Source};
 use crate::engine::Engine;
 use crate::fault::ServeFault;
-use crate::reading::{forget, read_buffer, read_more};
+use crate::held::Held;
 use std::alloc::Global;
 
 /// A stream was served to its end.
@@ -33,37 +29,33 @@ fn serve_stream<R, E: Engine<R>, S: Source, W: Sink>(
     requires fresh_reader { (S.met_end reader.old ≡ false) × (S.has_failed reader.old ≡ false) }
     requires fresh_writer { W.has_failed writer.old ≡ false }
     requires ready { E.ready engine.old }
-    ensures serves { Serving result (E.tables engine.old) (E.tables engine.new) (S.left reader.old) (S.left reader.new)
+    ensures serves { Serving E.turn result (E.tables engine.old) (E.tables engine.new) (S.left reader.old) (S.left reader.new)
         (W.held writer.old) (W.held writer.new) (S.pulls reader.new) max_reads }
-    ensures met_end { S.met_end reader.new ≡ met_the_end result }
-    ensures none_left { IsTrue (met_the_end result) → IsAtEnd (S.left reader.new) }
-    ensures read_failed { S.has_failed reader.new ≡ read_failed result }
-    ensures write_failed { W.has_failed writer.new ≡ write_failed result }
-    ensures reads { S.pulls reader.new ≤ max_reads }
+    ensures ends { EndsSay (ending_of result) (S.met_end reader.new) (S.has_failed reader.new) (W.has_failed writer.new)
+        (S.left reader.new) (S.pulls reader.new) max_reads }
     ensures ready { E.ready engine.new }
 {
-    let mut buffer = read_buffer(alloc)?;
-    let mut held = Vec::new(alloc);
+    let mut held = Held::new(alloc);
     let mut counts = Counts {
         requests: 0,
         written: 0,
     };
     for _read in 0..max_reads {
-        if !read_more(reader, &mut buffer, &mut held)? {
-            if held.is_empty() {
+        if !held.read_more(reader)? {
+            if held.as_slice().is_empty() {
                 let requests = counts.requests;
                 return Ok(Served { requests });
             }
             return Err(ServeFault::TruncatedFrame);
         }
-        let used = drain(engine, rt, alloc, writer, &held, &mut counts)?;
-        forget(&mut held, used);
+        let used = drain(engine, rt, alloc, writer, held.as_slice(), &mut counts)?;
+        held.forget(used);
     }
     Err(ServeFault::TooManyReads)
 }
 
 /// Serves the frames that a source gives, and writes the replies to a sink, in batches of 64 requests at most. It makes at
-/// most `max_reads` reads, of 65,536 bytes at most, and holds one frame and one read at most.
+/// most `max_reads` reads, of 65,536 bytes at most.
 ///
 /// After a fault the engine is where the requests so far left it, and the replies before the fault have been written.
 pub fn serve<R, E: Engine<R>, S: Source, W: Sink>(
@@ -80,32 +72,20 @@ pub fn serve<R, E: Engine<R>, S: Source, W: Sink>(
     requires fresh_writer { W.has_failed writer.old ≡ false }
     requires ready { E.ready engine.old }
 
-    // What was written answers what was given, and to each caller its frames alone.
-    ensures answered { (given written : List ℕ) → Gave (S.left reader.old) (S.left reader.new) given
-        → Took (W.held writer.old) (W.held writer.new) written → IsUnbroken result → AnswersEach (E.tables engine.old) given written }
-
-    // Where no reply says that memory lacked, it is what is served for it, and to each caller what is served for its frames alone.
-    ensures served { (given written : List ℕ) → Gave (S.left reader.old) (S.left reader.new) given
-        → Took (W.held writer.old) (W.held writer.new) written → IsUnbroken result → NoneLacks (messages_of written)
-        → ServesEach (E.tables engine.old) given written }
-
-    // Whatever the result, the replies that were wholly written answer the first of what was given.
-    ensures first { (given written : List ℕ) → Gave (S.left reader.old) (S.left reader.new) given
-        → Took (W.held writer.old) (W.held writer.new) written → AnswersFirst turn (E.tables engine.old) given written }
+    // What was written answers what was given, and each caller for its frames alone.
+    ensures headline { (given written : List ℕ) → Gave (S.left reader.old) (S.left reader.new) given
+        → Took (W.held writer.old) (W.held writer.new) written → IsHeadline E.turn (ending_of result) (E.tables engine.old) given written }
 
     // Which result comes where, what was written, and where it left the engine.
-    ensures serves { Serving result (E.tables engine.old) (E.tables engine.new) (S.left reader.old) (S.left reader.new)
+    ensures serves { Serving E.turn result (E.tables engine.old) (E.tables engine.new) (S.left reader.old) (S.left reader.new)
         (W.held writer.old) (W.held writer.new) (S.pulls reader.new) max_reads }
 
-    // `Ok` and `TruncatedFrame` come where the stream ended, with no byte left in a source that tells them; `Read` where a
-    // read failed; `Write` where a write failed; and nowhere else.
-    ensures met_end { S.met_end reader.new ≡ met_the_end result }
-    ensures none_left { IsTrue (met_the_end result) → IsAtEnd (S.left reader.new) }
-    ensures read_failed { S.has_failed reader.new ≡ read_failed result }
-    ensures write_failed { W.has_failed writer.new ≡ write_failed result }
+    // `Ok` and `TruncatedFrame` come where the stream ended; `Read` where a read failed; `Write` where a write failed; and nowhere else.
+    ensures ends { EndsSay (ending_of result) (S.met_end reader.new) (S.has_failed reader.new) (W.has_failed writer.new)
+        (S.left reader.new) (S.pulls reader.new) max_reads }
 
-    ensures reads { S.pulls reader.new ≤ max_reads }
     ensures ready { E.ready engine.new }
 {
+    engine.assert_valid();
     serve_stream(engine, rt, alloc, reader, writer, max_reads)
 }

@@ -1,7 +1,5 @@
 //! A world as an engine.
 
-ghost use Rattle.cv_world.specs.Worlds.{world_tables};
-
 use crate::engine::Engine;
 use cv_base::Memory;
 use cv_frame::{Reply, Request};
@@ -9,8 +7,6 @@ use cv_world::World;
 use std::alloc::Global;
 
 impl<R> Engine<R> for World {
-    ghost tables = { λ w. world_tables w };
-
     fn batch(
         &mut self,
         _rt: &R,

@@ -1,6 +1,6 @@
 //! One descriptor's conversion.
-ghost use Rattle.std.specs.Prelude.{◌≡◌, ◌≤◌, ◌<◌, [], length, IsErr};
-ghost use Rattle.cv_pivot.specs.Conversions.{Converts, start};
+ghost use Rattle.std.specs.Prelude.{◌≡◌, ◌≤◌, ◌<◌, ◌*◌, ◌^◌, [], length, IsErr};
+ghost use Rattle.cv_pivot.specs.Conversions.{Converts, IsMostOutput, start};
 ghost use Rattle.cv_pivot.specs.Encodings.{encoding_reads, encoding_writes, encoding_closes};
 
 use crate::convert::run;
@@ -42,6 +42,15 @@ impl Conversion {
         ensures size { length out.new ≡ length out.old }
     {
         run(&self.from, &self.to, &mut self.states, input, out)
+    }
+
+    /// How many bytes so many bytes of input are written as at most.
+    pub fn most_output(&self, len: usize) -> usize
+        requires { 8 * len < 2 ^ 64 }
+        ensures { IsMostOutput (encoding_reads self.now.from) (encoding_writes self.now.to) len result }
+    {
+        self.from.assert_valid();
+        self.to.most_bytes() * len
     }
 
     /// Goes back to the start. With room 0 it gives both states up and writes nothing; with room above 0 it answers the bytes

@@ -1,7 +1,6 @@
 //! The encodings that are built in.
 ghost use Rattle.std.specs.Prelude.{◌≡◌};
 ghost use Rattle.cv_pivot.specs.Encodings.{builtin_of, encoding_reads, encoding_writes, encoding_closes};
-ghost use Rattle.cv_pivot.specs.EncodingLaws.{encoding_readable, encoding_substitutable};
 
 use cv_base::{
     Ascii, AsciiForm, BlockCodec, Codec, Item, Latin1, Piece, Put, ReadBlock, ReadState, Scalar,
@@ -59,14 +58,13 @@ pub fn builtin(name: &[u8]) -> Option<Encoding>
 }
 
 impl Codec for Encoding {
-    ghost is_valid = { λ _. Unit {0} };
-
     ghost reads = { encoding_reads };
 
     ghost writes = { encoding_writes };
 
     ghost closes = { encoding_closes };
 
+    #[tactic(auto, using(crate::proofs::EncodingLaws::encoding_readable, crate::proofs::EncodingLaws::encoding_substitutable))]
     fn assert_valid(&self) {}
 
     fn item(&self, state: ReadState, input: &[u8]) -> Item {
@@ -77,17 +75,6 @@ impl Codec for Encoding {
             Encoding::Utf16(order) => Utf16(*order).item(state, input),
             Encoding::Utf32(order) => Utf32(*order).item(state, input),
             Encoding::Utf7 => Utf7.item(state, input),
-        }
-    }
-
-    fn put(&self, state: WriteState, c: Scalar) -> Option<(Piece, WriteState)> {
-        match self {
-            Encoding::Ascii => Ascii.put(state, c),
-            Encoding::Latin1 => Latin1.put(state, c),
-            Encoding::Utf8 => Utf8.put(state, c),
-            Encoding::Utf16(order) => Utf16(*order).put(state, c),
-            Encoding::Utf32(order) => Utf32(*order).put(state, c),
-            Encoding::Utf7 => Utf7.put(state, c),
         }
     }
 
@@ -145,10 +132,6 @@ impl Codec for Encoding {
             Encoding::Utf7 => Utf7.writes_ascii(state),
         }
     }
-
-    ghost readable = { λ encoding _. encoding_readable encoding };
-
-    ghost substitutable = { λ encoding _. encoding_substitutable encoding };
 }
 
 impl BlockCodec for Encoding {

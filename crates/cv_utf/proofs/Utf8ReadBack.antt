@@ -5,9 +5,9 @@ use Rattle.cv_base.specs.Scalars.{IsScalar}
 use Rattle.cv_base.specs.declared.state.ReadState.TheVariants as read
 use Rattle.cv_base.specs.declared.state.WriteState.TheVariants as write
 use Rattle.cv_utf.specs.Utf8.{table, carried, IsOfOne, utf8_reads, utf8_bytes, utf8_writes}
-use Rattle.cv_utf.specs.ReadBack.{IsReadAs, ReadsBack, BothAt}
 use Rattle.cv_utf.proofs.Utf8Items.{row_2, row_3, row_4}
-use Rattle.cv_utf.proofs.ReadBacks.{one_item, same_written}
+use Rattle.cv_base.specs.ReadBack.{ReadsBack}
+use Rattle.cv_base.proofs.ReadBacks.{IsReadFrom, EachReadsBack, one_item, same_written, no_closing, texts_back}
 
 is_one : (c : ℕ) → c < 0x80 → IsOfOne table (c ∷ []) c
 is_one c h = inl (((omega arith, omega arith), tt), (omega arith, omega arith), refl)
@@ -28,7 +28,7 @@ is_four c s h =
     subst (λ n. IsOfOne table ((0xf0 + c / 262144) ∷ (0x80 + c / 4096 % 64) ∷ (0x80 + c / 64 % 64) ∷ (0x80 + c % 64) ∷ []) n) e (row_4 (0xf0 + c / 262144) (0x80 + c / 4096 % 64) (0x80 + c / 64 % 64) (0x80 + c % 64) (omega arith) (omega (arith, s.0)) (omega arith, omega arith, λ f. absurd (omega arith), λ f. absurd (omega arith), λ f. omega arith, λ f. omega (arith, s.0)) (omega arith, omega arith) (omega arith, omega arith))
 
 -- the bytes of a scalar are a sequence of the table
-is_in_table : (c : ℕ) → IsScalar c → IsOfOne table (utf8_bytes c) c
+pub is_in_table : (c : ℕ) → IsScalar c → IsOfOne table (utf8_bytes c) c
 is_in_table c s = elim (cases_lt c 0x80) [
   | inl l ↦ rw (lt-ltb c 0x80 l) (is_one c l)
   | inr l ↦ elim (cases_lt c 0x800) [
@@ -40,5 +40,9 @@ is_in_table c s = elim (cases_lt c 0x80) [
   ]
 ]
 
-pub utf8_reads_back : ReadsBack utf8_reads utf8_writes BothAt
-utf8_reads_back t s c bytes next m scalar e = same_written (λ w u. IsReadAs utf8_reads s w c (BothAt u)) (utf8_bytes c) bytes write.Start next (one_item utf8_reads s read.Start (utf8_bytes c) c (BothAt write.Start) (c, is_in_table c scalar, refl) refl) e
+each_back : EachReadsBack utf8_reads utf8_writes (λ t s. Unit {0})
+each_back t s c bytes next m scalar e = same_written (λ w u. IsReadFrom utf8_reads s w (c ∷ []) (λ r. Unit {0})) (utf8_bytes c) bytes write.Start next (one_item utf8_reads s read.Start (utf8_bytes c) c (λ r. Unit {0}) (c, is_in_table c scalar, refl) tt) e
+
+-- UTF-8 reads back the texts that it writes
+pub utf8_reads_back : ReadsBack utf8_reads utf8_writes (λ t. [])
+utf8_reads_back = texts_back utf8_reads utf8_writes (λ t. []) (λ t s. Unit {0}) each_back (no_closing utf8_reads (λ t s. Unit {0})) tt

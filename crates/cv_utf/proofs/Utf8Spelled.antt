@@ -1,6 +1,6 @@
 -- The spelling of UTF-8: ASCII, sixteen bytes that are tested at once, a word that is written, and the codec.
-use Rattle.std.proofs.Common.{◌≡◌, ℕ, ◌+◌, ◌%◌, ◌^◌, ◌<◌, ◌≤◌, Bool, cond, eqb, not, lit≤, List, [], ◌∷◌, ◌++◌, length, take, drop, get_or, map, refl, sym, ◌∙◌, ap, subst, arith, zero, suc, Some, w8, length-append, length-take, length-drop, get_or-take, get_or-drop, append_assoc}
-use Rattle.std.specs.Prelude.{replicate, option_to_list}
+use Rattle.std.proofs.Common.{◌≡◌, ℕ, ◌+◌, ◌%◌, ◌^◌, ◌<◌, ◌≤◌, Bool, cond, eqb, not, lit≤, List, [], ◌∷◌, ◌++◌, length, take, drop, get_or, map, refl, sym, ◌∙◌, ap, subst, arith, zero, suc, w8, length-append, length-take, length-drop, get_or-take, get_or-drop, append_assoc}
+use Rattle.std.specs.Prelude.{replicate}
 use Rattle.std.specs.List.{flat_map, prefix_len}
 use Rattle.std.specs.Int.Count.{count_trailing_zeros}
 use Rattle.std.specs.Simd.Lanes.{mask_l, top, zip2}
@@ -10,16 +10,16 @@ use Rattle.std.proofs.lemmas.Bool.{lt-ltb, leb-false}
 use Rattle.std.proofs.lemmas.List.{take_at, take-take, length-map}
 use Rattle.std.proofs.lemmas.Simd.{tops_compared, zip2_splat_left, mask_l-mod, run_in_chunk_le, run_in_chunk_fails, length-chunk, first_set_mask_l}
 use borrow.Rule.Slice.PartMut.{put_mid, post_of}
-use Rattle.cv_base.specs.Items.{Taken, taken, Begins}
-use Rattle.cv_base.specs.Spelled.{AreScalars, IsReadSpelled, IsWrittenSpelled, ReadsSpelled, WritesSpelled}
+use Rattle.cv_base.specs.Items.{Begins}
+use Rattle.cv_base.specs.Scalars.{AreScalars}
+use Rattle.cv_base.specs.Spelled.{IsReadSpelled, IsWrittenSpelled}
+use Rattle.cv_base.proofs.BlockLaws.{ReadsSpelled, WritesSpelled}
 use Rattle.cv_base.specs.declared.spelling.Spelled.{Spelled}
 use Rattle.cv_base.specs.declared.state.ReadState.TheVariants as read
 use Rattle.cv_base.specs.declared.state.WriteState.TheVariants as write
-use Rattle.cv_utf.specs.Utf8.{table, IsOfOne, utf8_reads, utf8_bytes, utf8_writes}
-use Rattle.cv_utf.specs.BeginsLaws.{Begins-refl}
-use Rattle.cv_base.specs.Chains.{characters_of}
-use Rattle.cv_utf.specs.ReadBack.{AreItems}
-use Rattle.cv_utf.proofs.Utf8ReadBack.{utf8_reads_back}
+use Rattle.cv_utf.specs.Utf8.{utf8_reads, utf8_bytes, utf8_writes}
+use Rattle.cv_base.proofs.Front.{Begins-refl}
+use Rattle.cv_utf.proofs.Utf8ReadBack.{is_in_table}
 
 -- the list that begins a text, and what is behind it
 split : (a text : List ℕ) → Begins a text → text ≡ a ++ drop (length a) text
@@ -128,31 +128,10 @@ ascii_before bytes at front room e =
     let first : front ≡ prefix_len (λ x. not (is_other x)) xs = e ∙ ap (λ m. cond (eqb m 0) 16 (count_trailing_zeros 64 m)) (others_mask xs long) ∙ first_set_mask_l is_other xs 16 long (lit≤ tt) in
     (run_in_chunk_le is_other bytes at 16 front 0 room first, λ k h. leb-false 128 (get_or bytes (at + k) 0) (run_in_chunk_fails is_other bytes at 16 front 0 room first (at + k) (omega arith) (omega arith)))
 
-same_bytes : (a text : List ℕ) → Begins a text → drop (length a) text ≡ [] → a ≡ text
-same_bytes [] text p e = cc
-same_bytes (x ∷ a) [] p e = absurd p
-same_bytes (x ∷ a) (t ∷ text) p e = rw (p.0) (ap (λ (y : List ℕ). t ∷ y) (same_bytes a text p.1 e))
-
--- bytes that read as one character are one item
-one_item : (bytes : List ℕ) (c : ℕ) (items : List Taken) → AreItems utf8_reads read.Start bytes items → characters_of items ≡ c ∷ [] → IsOfOne table bytes c
-one_item bytes c [] p e = cc
-one_item bytes c (item ∷ []) p e =
-    let is = p.0.is_item.2 in
-    let gives : characters_of (taken (length p.0.bytes) (Some p.0.is_item.0) read.Start ∷ []) ≡ c ∷ [] = subst (λ (i : Taken). characters_of (i ∷ []) ≡ c ∷ []) is e in
-    let all : drop (length p.0.bytes) bytes ≡ [] = subst (λ (i : Taken). drop i.used bytes ≡ []) is p.1 in
-    let same : p.0.is_item.0 ≡ c = cc in
-    subst (λ (w : List ℕ). IsOfOne table w c) (same_bytes p.0.bytes bytes p.0.front all) (subst (λ (n : ℕ). IsOfOne table p.0.bytes n) same p.0.is_item.1)
-one_item bytes c (item ∷ other ∷ items) p e =
-    let first = p.0.is_item in
-    let second = p.1.0.is_item in
-    let one : characters_of (taken (length p.0.bytes) (Some first.0) read.Start ∷ other ∷ items) ≡ c ∷ [] = subst (λ (i : Taken). characters_of (i ∷ other ∷ items) ≡ c ∷ []) first.2 e in
-    let two : first.0 ∷ second.0 ∷ characters_of items ≡ c ∷ [] = subst (λ (i : Taken). first.0 ∷ (option_to_list i.gives ++ characters_of items) ≡ c ∷ []) second.2 one in
-    cc
-
+-- the bytes of each scalar read as it
 pub utf8_reads_spelled : ReadsSpelled utf8_reads read.Start utf8_bytes
-utf8_reads_spelled c scalar =
-    let back = utf8_reads_back write.Start read.Start c (utf8_bytes c) write.Start refl scalar refl in
-    (c, one_item (utf8_bytes c) c back.items back.are_items back.gives, refl)
+utf8_reads_spelled c scalar = (c, is_in_table c scalar, refl)
 
+-- each scalar is written as its bytes
 pub utf8_writes_spelled : WritesSpelled utf8_writes write.Start utf8_bytes
 utf8_writes_spelled c = refl

@@ -2,14 +2,15 @@
 ghost use Rattle.std.specs.Prelude.{◌≡◌, ◌+◌, ◌*◌, ◌<◌, ◌≤◌, ◌↔◌, IsTrue, ◌++◌, [], length, Some};
 ghost use Rattle.cv_base.specs.Items.{IsNext};
 ghost use Rattle.cv_base.specs.Places.{PutsAt};
-ghost use Rattle.cv_utf.specs.Orders.{gives, reads_first, reads_in, writes_in};
-ghost use Rattle.cv_utf.specs.OrdersLaws.{in_readable, in_substitutable};
-ghost use Rattle.cv_utf.specs.Utf16.{utf16, high_unit, low_unit};
-ghost use Rattle.cv_utf.specs.Utf16Laws.{IsSurrogate, IsLow, utf16_is_form};
+ghost use Rattle.cv_utf.specs.Orders.{reads_in, writes_in, mark};
+ghost use Rattle.cv_utf.specs.Private.AnyState.{always_gives, always_first};
+ghost use Rattle.cv_base.specs.Units.{high_unit, low_unit};
+ghost use Rattle.cv_utf.specs.Utf16.{utf16};
+ghost use Rattle.cv_utf.specs.Private.Surrogates.{IsSurrogate, IsLow, IsPair};
 
 use crate::character::character;
 use crate::order::Order;
-use cv_base::place::{write_four, write_two};
+use cv_base::place::write_slice;
 use cv_base::{AsciiForm, Codec, Item, Piece, Put, ReadState, Scalar, WriteState};
 
 /// UTF-16 (Unicode 3.9, D91; 3.10, D96 to D98) in an order of bytes: two or four bytes for each character. By `Marked`
@@ -40,7 +41,7 @@ pub(crate) fn joined(high: u32, low: u32) -> u32
     requires high_to { high < 0xdc00 }
     requires low_from { 0xdc00 ≤ low }
     requires low_to { low < 0xe000 }
-    ensures { result + (0xd800 * 0x400 + 0xdc00) ≡ 0x10000 + high * 0x400 + low }
+    ensures { IsPair high low result }
 {
     0x1_0000 + (high - 0xd800) * 0x400 + (low - 0xdc00)
 }
@@ -78,7 +79,7 @@ fn unit(high: u8, low: u8) -> u32
 #[inline]
 #[tactic(auto, using(crate::proofs::Utf16Big::steps))]
 fn big_item(input: &[u8], next: ReadState) -> Item
-    ensures { IsNext (gives utf16.big next) next input.now result }
+    ensures { IsNext (always_gives utf16.big next) next input.now result }
 {
     if input.is_empty() {
         return Item::End;
@@ -111,7 +112,7 @@ fn big_item(input: &[u8], next: ReadState) -> Item
 #[inline]
 #[tactic(auto, using(crate::proofs::Utf16Little::steps))]
 fn little_item(input: &[u8], next: ReadState) -> Item
-    ensures { IsNext (gives utf16.little next) next input.now result }
+    ensures { IsNext (always_gives utf16.little next) next input.now result }
 {
     if input.is_empty() {
         return Item::End;
@@ -141,7 +142,7 @@ fn little_item(input: &[u8], next: ReadState) -> Item
 #[inline]
 #[tactic(auto, using(crate::proofs::Utf16First::steps))]
 fn first_item(input: &[u8]) -> Item
-    ensures { (state : ReadState) → IsNext (reads_first utf16) state input.now result }
+    ensures { (state : ReadState) → IsNext (always_first utf16) state input.now result }
 {
     if input.len() < 2 {
         return big_item(input, ReadState::Big);
@@ -162,65 +163,6 @@ fn first_item(input: &[u8]) -> Item
     big_item(input, ReadState::Big)
 }
 
-/// Adds the bytes of a character, the high byte of each unit first.
-#[inline]
-fn push_big(piece: &mut Piece, c: Scalar)
-    requires { length piece.old ≤ 4 }
-    ensures { piece.new ≡ piece.old ++ utf16.big c }
-{
-    let value = c.value();
-    if value < 0x1_0000 {
-        piece.push((value / 256) as u8);
-        piece.push((value % 256) as u8);
-        return;
-    }
-    let high = high_of(value);
-    let low = low_of(value);
-    piece.push((high / 256) as u8);
-    piece.push((high % 256) as u8);
-    piece.push((low / 256) as u8);
-    piece.push((low % 256) as u8);
-}
-
-/// The bytes of a character, the high byte of each unit first.
-#[inline]
-fn big_piece(c: Scalar) -> Piece
-    ensures { result ≡ utf16.big c }
-{
-    let mut piece = Piece::new();
-    push_big(&mut piece, c);
-    piece
-}
-
-/// The big-endian mark and the bytes of a character behind it.
-#[inline]
-fn marked_piece(c: Scalar) -> Piece
-    ensures { result ≡ utf16.big_mark ++ utf16.big c }
-{
-    let mut piece = Piece::two(0xfe, 0xff);
-    push_big(&mut piece, c);
-    piece
-}
-
-/// The bytes of a character, the low byte of each unit first.
-#[inline]
-fn little_piece(c: Scalar) -> Piece
-    ensures { result ≡ utf16.little c }
-{
-    let value = c.value();
-    if value < 0x1_0000 {
-        return Piece::two((value % 256) as u8, (value / 256) as u8);
-    }
-    let high = high_of(value);
-    let low = low_of(value);
-    Piece::four(
-        (high % 256) as u8,
-        (high / 256) as u8,
-        (low % 256) as u8,
-        (low / 256) as u8,
-    )
-}
-
 /// Writes a character at a place, the high byte of each unit first.
 #[inline]
 fn put_big(c: Scalar, out: &mut [u8], at: usize, next: WriteState) -> Put
@@ -233,7 +175,7 @@ fn put_big(c: Scalar, out: &mut [u8], at: usize, next: WriteState) -> Put
         if room < 2 {
             return Put::NoRoom;
         }
-        write_two(out, at, (value / 256) as u8, (value % 256) as u8);
+        write_slice(out, at, &[(value / 256) as u8, (value % 256) as u8]);
         return Put::Wrote { n: 2, next };
     }
     if room < 4 {
@@ -241,13 +183,15 @@ fn put_big(c: Scalar, out: &mut [u8], at: usize, next: WriteState) -> Put
     }
     let high = high_of(value);
     let low = low_of(value);
-    write_four(
+    write_slice(
         out,
         at,
-        (high / 256) as u8,
-        (high % 256) as u8,
-        (low / 256) as u8,
-        (low % 256) as u8,
+        &[
+            (high / 256) as u8,
+            (high % 256) as u8,
+            (low / 256) as u8,
+            (low % 256) as u8,
+        ],
     );
     Put::Wrote { n: 4, next }
 }
@@ -264,7 +208,7 @@ fn put_little(c: Scalar, out: &mut [u8], at: usize, next: WriteState) -> Put
         if room < 2 {
             return Put::NoRoom;
         }
-        write_two(out, at, (value % 256) as u8, (value / 256) as u8);
+        write_slice(out, at, &[(value % 256) as u8, (value / 256) as u8]);
         return Put::Wrote { n: 2, next };
     }
     if room < 4 {
@@ -272,13 +216,15 @@ fn put_little(c: Scalar, out: &mut [u8], at: usize, next: WriteState) -> Put
     }
     let high = high_of(value);
     let low = low_of(value);
-    write_four(
+    write_slice(
         out,
         at,
-        (high % 256) as u8,
-        (high / 256) as u8,
-        (low % 256) as u8,
-        (low / 256) as u8,
+        &[
+            (high % 256) as u8,
+            (high / 256) as u8,
+            (low % 256) as u8,
+            (low / 256) as u8,
+        ],
     );
     Put::Wrote { n: 4, next }
 }
@@ -287,7 +233,8 @@ fn put_little(c: Scalar, out: &mut [u8], at: usize, next: WriteState) -> Put
 #[inline]
 fn put_marked(c: Scalar, out: &mut [u8], at: usize) -> Put
     requires { at ≤ length out.old }
-    ensures { PutsAt (Some (utf16.big_mark ++ utf16.big c, WriteState.Marked)) out.old at result out.new }
+    ensures { PutsAt (Some (utf16.big mark ++ utf16.big c, WriteState.Marked))
+        out.old at result out.new }
 {
     let value = c.value();
     let room = out.len() - at;
@@ -296,13 +243,10 @@ fn put_marked(c: Scalar, out: &mut [u8], at: usize) -> Put
         if room < 4 {
             return Put::NoRoom;
         }
-        write_four(
+        write_slice(
             out,
             at,
-            0xfe,
-            0xff,
-            (value / 256) as u8,
-            (value % 256) as u8,
+            &[0xfe, 0xff, (value / 256) as u8, (value % 256) as u8],
         );
         return Put::Wrote { n: 4, next };
     }
@@ -311,26 +255,29 @@ fn put_marked(c: Scalar, out: &mut [u8], at: usize) -> Put
     }
     let high = high_of(value);
     let low = low_of(value);
-    out[at..at + 6].copy_from_slice(&[
-        0xfe,
-        0xff,
-        (high / 256) as u8,
-        (high % 256) as u8,
-        (low / 256) as u8,
-        (low % 256) as u8,
-    ]);
+    write_slice(
+        out,
+        at,
+        &[
+            0xfe,
+            0xff,
+            (high / 256) as u8,
+            (high % 256) as u8,
+            (low / 256) as u8,
+            (low % 256) as u8,
+        ],
+    );
     Put::Wrote { n: 6, next }
 }
 
 impl Codec for Utf16 {
-    ghost is_valid = { λ _. Unit {0} };
-
     ghost reads = { λ codec. reads_in utf16 codec.0 };
 
     ghost writes = { λ codec. writes_in utf16 codec.0 };
 
     ghost closes = { λ _ _. [] };
 
+    #[tactic(auto, using(crate::proofs::OrdersLaws::in_readable, crate::proofs::OrdersLaws::in_substitutable, crate::proofs::Utf16Laws::utf16_is_form))]
     fn assert_valid(&self) {}
 
     #[inline]
@@ -343,16 +290,6 @@ impl Codec for Utf16 {
             (Order::Marked, ReadState::Start) => first_item(input),
             (Order::Marked, ReadState::Shifted(_)) => first_item(input),
         }
-    }
-
-    #[inline]
-    fn put(&self, state: WriteState, c: Scalar) -> Option<(Piece, WriteState)> {
-        Some(match (self.0, state) {
-            (Order::Be, _) => (big_piece(c), WriteState::Start),
-            (Order::Le, _) => (little_piece(c), WriteState::Start),
-            (Order::Marked, WriteState::Marked) => (big_piece(c), WriteState::Marked),
-            (Order::Marked, _) => (marked_piece(c), WriteState::Marked),
-        })
     }
 
     #[inline]
@@ -399,8 +336,4 @@ impl Codec for Utf16 {
             _ => None,
         }
     }
-
-    ghost readable = { λ codec _. in_readable utf16 utf16_is_form codec.0 };
-
-    ghost substitutable = { λ codec _. in_substitutable utf16 codec.0 };
 }

@@ -2,14 +2,14 @@
 ghost use Rattle.std.specs.Prelude.{◌≡◌, ◌+◌, ◌*◌, ◌≤◌, ◌↔◌, IsTrue, ◌++◌, [], ◌∷◌, length, Some};
 ghost use Rattle.cv_base.specs.Items.{Begins, IsNext};
 ghost use Rattle.cv_base.specs.Places.{PutsAt};
-ghost use Rattle.cv_utf.specs.Orders.{gives, reads_first, reads_in, writes_in};
-ghost use Rattle.cv_utf.specs.OrdersLaws.{in_readable, in_substitutable};
+ghost use Rattle.cv_utf.specs.Orders.{reads_in, writes_in, mark};
+ghost use Rattle.cv_utf.specs.Private.AnyState.{always_gives, always_first};
 ghost use Rattle.cv_utf.specs.Utf32.{utf32};
-ghost use Rattle.cv_utf.specs.Utf32Laws.{IsThird, utf32_is_form};
+ghost use Rattle.cv_utf.specs.Private.Utf32Bytes.{IsThird};
 
 use crate::character::character;
 use crate::order::Order;
-use cv_base::place::write_four;
+use cv_base::place::write_slice;
 use cv_base::{AsciiForm, Codec, Item, Piece, Put, ReadState, Scalar, WriteState};
 
 /// UTF-32 (Unicode 3.9, D90; 3.10, D99 to D101) in an order of bytes: four bytes for each character. By `Marked` the
@@ -37,7 +37,7 @@ fn fits_third(second: u8, third: u8) -> bool
 #[inline]
 #[tactic(auto, using(crate::proofs::Utf32Big::steps))]
 fn big_item(input: &[u8], next: ReadState) -> Item
-    ensures { IsNext (gives utf32.big next) next input.now result }
+    ensures { IsNext (always_gives utf32.big next) next input.now result }
 {
     if input.is_empty() {
         return Item::End;
@@ -69,7 +69,7 @@ fn big_item(input: &[u8], next: ReadState) -> Item
 #[inline]
 #[tactic(auto, using(crate::proofs::Utf32Little::steps))]
 fn little_item(input: &[u8], next: ReadState) -> Item
-    ensures { IsNext (gives utf32.little next) next input.now result }
+    ensures { IsNext (always_gives utf32.little next) next input.now result }
 {
     if input.is_empty() {
         return Item::End;
@@ -98,7 +98,7 @@ fn little_item(input: &[u8], next: ReadState) -> Item
 #[inline]
 #[tactic(auto, using(crate::proofs::Utf32First::begins_test))]
 fn begins_little_mark(bytes: &[u8]) -> bool
-    ensures { IsTrue result ↔ Begins bytes.now utf32.little_mark }
+    ensures { IsTrue result ↔ Begins bytes.now (utf32.little mark) }
 {
     let mark: &[u8] = &[0xff, 0xfe, 0x00, 0x00];
     mark.starts_with(bytes)
@@ -108,7 +108,7 @@ fn begins_little_mark(bytes: &[u8]) -> bool
 #[inline]
 #[tactic(auto, using(crate::proofs::Utf32First::steps))]
 fn first_item(input: &[u8]) -> Item
-    ensures { (state : ReadState) → IsNext (reads_first utf32) state input.now result }
+    ensures { (state : ReadState) → IsNext (always_first utf32) state input.now result }
 {
     if input.is_empty() {
         return Item::End;
@@ -149,38 +149,6 @@ fn bytes_of(c: Scalar) -> (u8, u8, u8)
     )
 }
 
-/// The bytes of a character, the highest first.
-#[inline]
-fn big_piece(c: Scalar) -> Piece
-    ensures { result ≡ utf32.big c }
-{
-    let (second, third, fourth) = bytes_of(c);
-    Piece::four(0, second, third, fourth)
-}
-
-/// The big-endian mark and the bytes of a character behind it.
-#[inline]
-fn marked_piece(c: Scalar) -> Piece
-    ensures { result ≡ utf32.big_mark ++ utf32.big c }
-{
-    let (second, third, fourth) = bytes_of(c);
-    let mut piece = Piece::four(0x00, 0x00, 0xfe, 0xff);
-    piece.push(0);
-    piece.push(second);
-    piece.push(third);
-    piece.push(fourth);
-    piece
-}
-
-/// The bytes of a character, the lowest first.
-#[inline]
-fn little_piece(c: Scalar) -> Piece
-    ensures { result ≡ utf32.little c }
-{
-    let (second, third, fourth) = bytes_of(c);
-    Piece::four(fourth, third, second, 0)
-}
-
 /// Writes a character at a place, the highest byte first.
 #[inline]
 fn put_big(c: Scalar, out: &mut [u8], at: usize, next: WriteState) -> Put
@@ -191,7 +159,7 @@ fn put_big(c: Scalar, out: &mut [u8], at: usize, next: WriteState) -> Put
         return Put::NoRoom;
     }
     let (second, third, fourth) = bytes_of(c);
-    write_four(out, at, 0, second, third, fourth);
+    write_slice(out, at, &[0, second, third, fourth]);
     Put::Wrote { n: 4, next }
 }
 
@@ -205,7 +173,7 @@ fn put_little(c: Scalar, out: &mut [u8], at: usize, next: WriteState) -> Put
         return Put::NoRoom;
     }
     let (second, third, fourth) = bytes_of(c);
-    write_four(out, at, fourth, third, second, 0);
+    write_slice(out, at, &[fourth, third, second, 0]);
     Put::Wrote { n: 4, next }
 }
 
@@ -213,13 +181,14 @@ fn put_little(c: Scalar, out: &mut [u8], at: usize, next: WriteState) -> Put
 #[inline]
 fn put_marked(c: Scalar, out: &mut [u8], at: usize) -> Put
     requires { at ≤ length out.old }
-    ensures { PutsAt (Some (utf32.big_mark ++ utf32.big c, WriteState.Marked)) out.old at result out.new }
+    ensures { PutsAt (Some (utf32.big mark ++ utf32.big c, WriteState.Marked))
+        out.old at result out.new }
 {
     if out.len() - at < 8 {
         return Put::NoRoom;
     }
     let (second, third, fourth) = bytes_of(c);
-    out[at..at + 8].copy_from_slice(&[0x00, 0x00, 0xfe, 0xff, 0, second, third, fourth]);
+    write_slice(out, at, &[0x00, 0x00, 0xfe, 0xff, 0, second, third, fourth]);
     Put::Wrote {
         n: 8,
         next: WriteState::Marked,
@@ -227,14 +196,13 @@ fn put_marked(c: Scalar, out: &mut [u8], at: usize) -> Put
 }
 
 impl Codec for Utf32 {
-    ghost is_valid = { λ _. Unit {0} };
-
     ghost reads = { λ codec. reads_in utf32 codec.0 };
 
     ghost writes = { λ codec. writes_in utf32 codec.0 };
 
     ghost closes = { λ _ _. [] };
 
+    #[tactic(auto, using(crate::proofs::OrdersLaws::in_readable, crate::proofs::OrdersLaws::in_substitutable, crate::proofs::Utf32Laws::utf32_is_form))]
     fn assert_valid(&self) {}
 
     #[inline]
@@ -247,16 +215,6 @@ impl Codec for Utf32 {
             (Order::Marked, ReadState::Start) => first_item(input),
             (Order::Marked, ReadState::Shifted(_)) => first_item(input),
         }
-    }
-
-    #[inline]
-    fn put(&self, state: WriteState, c: Scalar) -> Option<(Piece, WriteState)> {
-        Some(match (self.0, state) {
-            (Order::Be, _) => (big_piece(c), WriteState::Start),
-            (Order::Le, _) => (little_piece(c), WriteState::Start),
-            (Order::Marked, WriteState::Marked) => (big_piece(c), WriteState::Marked),
-            (Order::Marked, _) => (marked_piece(c), WriteState::Marked),
-        })
     }
 
     #[inline]
@@ -303,8 +261,4 @@ impl Codec for Utf32 {
             _ => None,
         }
     }
-
-    ghost readable = { λ codec _. in_readable utf32 utf32_is_form codec.0 };
-
-    ghost substitutable = { λ codec _. in_substitutable utf32 codec.0 };
 }

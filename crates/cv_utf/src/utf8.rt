@@ -1,12 +1,11 @@
 //! UTF-8.
 ghost use Rattle.std.specs.Prelude.{◌≡◌, ◌+◌, ◌%◌, ◌<◌, ◌≤◌, ◌↔◌, IsTrue, [], length, get_or};
-ghost use Rattle.std.proofs.Common.{rules};
 ghost use Rattle.cv_base.specs.Items.{IsNext};
 ghost use Rattle.cv_utf.specs.Utf8.{utf8_reads, utf8_writes};
-ghost use Rattle.cv_utf.specs.Utf8Laws.{IsTail, IsSecond, utf8_readable};
+ghost use Rattle.cv_utf.specs.Private.Utf8Bytes.{IsTail, IsSecond};
 
 use crate::character::character;
-use cv_base::place::{write_four, write_one, write_three, write_two};
+use cv_base::place::write_slice;
 use cv_base::{AsciiForm, Codec, Item, Piece, Put, ReadState, Scalar, WriteState};
 
 /// UTF-8 (Unicode 3.9, D92): one to four bytes for each character. It has no mark: an initial U+FEFF is a character.
@@ -86,14 +85,13 @@ fn tail(bits: u32) -> u8
 }
 
 impl Codec for Utf8 {
-    ghost is_valid = { λ _. Unit {0} };
-
     ghost reads = { λ _. utf8_reads };
 
     ghost writes = { λ _. utf8_writes };
 
     ghost closes = { λ _ _. [] };
 
+    #[tactic(auto, using(crate::proofs::Utf8Laws::utf8_readable))]
     fn assert_valid(&self) {}
 
     #[inline]
@@ -127,23 +125,6 @@ impl Codec for Utf8 {
     }
 
     #[inline]
-    fn put(&self, _state: WriteState, c: Scalar) -> Option<(Piece, WriteState)> {
-        let value = c.value();
-        let piece = if value < 0x80 {
-            Piece::one(value as u8)
-        } else if value < 0x800 {
-            Piece::two((0xc0 + value / 64) as u8, tail(value))
-        } else if value < 0x1_0000 {
-            let first = (0xe0 + value / 4096) as u8;
-            Piece::three(first, tail(value / 64), tail(value))
-        } else {
-            let first = (0xf0 + value / 262144) as u8;
-            Piece::four(first, tail(value / 4096), tail(value / 64), tail(value))
-        };
-        Some((piece, WriteState::Start))
-    }
-
-    #[inline]
     fn put_at(&self, _state: WriteState, c: Scalar, out: &mut [u8], at: usize) -> Put {
         let value = c.value();
         let room = out.len() - at;
@@ -152,14 +133,14 @@ impl Codec for Utf8 {
             if room < 1 {
                 return Put::NoRoom;
             }
-            write_one(out, at, value as u8);
+            write_slice(out, at, &[value as u8]);
             return Put::Wrote { n: 1, next };
         }
         if value < 0x800 {
             if room < 2 {
                 return Put::NoRoom;
             }
-            write_two(out, at, (0xc0 + value / 64) as u8, tail(value));
+            write_slice(out, at, &[(0xc0 + value / 64) as u8, tail(value)]);
             return Put::Wrote { n: 2, next };
         }
         if value < 0x1_0000 {
@@ -167,7 +148,7 @@ impl Codec for Utf8 {
                 return Put::NoRoom;
             }
             let first = (0xe0 + value / 4096) as u8;
-            write_three(out, at, first, tail(value / 64), tail(value));
+            write_slice(out, at, &[first, tail(value / 64), tail(value)]);
             return Put::Wrote { n: 3, next };
         }
         if room < 4 {
@@ -175,7 +156,7 @@ impl Codec for Utf8 {
         }
         let first = (0xf0 + value / 262144) as u8;
         let second = tail(value / 4096);
-        write_four(out, at, first, second, tail(value / 64), tail(value));
+        write_slice(out, at, &[first, second, tail(value / 64), tail(value)]);
         Put::Wrote { n: 4, next }
     }
 
@@ -204,8 +185,4 @@ impl Codec for Utf8 {
             _ => None,
         }
     }
-
-    ghost readable = { λ _ _. utf8_readable };
-
-    ghost substitutable = { λ _ _ _. Prim.search rules };
 }

@@ -1,16 +1,16 @@
 //! UTF-16 as a spelling, in each order of bytes.
 ghost use Rattle.std.specs.Prelude.{◌≡◌, ◌<◌, ◌≤◌, length};
 ghost use Rattle.cv_base.specs.Items.{Begins};
-ghost use Rattle.cv_utf.specs.Utf16.{utf16, high_unit, low_unit};
-ghost use Rattle.cv_utf.specs.Wide.{AreScalarsBelow};
-ghost use Rattle.cv_utf.specs.Words.{AreWords, AreSizes};
-ghost use Rattle.cv_utf.specs.WideLaws.{big_16_few, little_16_few};
+ghost use Rattle.cv_base.specs.Units.{high_unit, low_unit};
+ghost use Rattle.cv_utf.specs.Utf16.{utf16};
+ghost use Rattle.cv_utf.specs.Private.Wide.{AreScalarsBelow};
+ghost use Rattle.cv_utf.specs.Private.Words.{AreWords, AreSizes};
 
 use crate::surrogates::read_joined;
 use crate::utf16::joined;
 use crate::wide::{WideUnit, read_units, write_units};
 use crate::words::{Words, write_words};
-use cv_base::place::write_two;
+use cv_base::place::write_slice;
 use cv_base::{MANY, Scalar, Spelled, Spelling};
 use std::simd::prelude::*;
 
@@ -129,7 +129,7 @@ impl WideUnit for Big16 {
 
     #[inline(always)]
     fn write(out: &mut [u8], at: usize, value: u32) {
-        write_two(out, at, (value / 256) as u8, (value % 256) as u8);
+        write_slice(out, at, &[(value / 256) as u8, (value % 256) as u8]);
     }
 }
 
@@ -145,8 +145,6 @@ impl Words for Big16 {
     fn sizes(values: &[u32; MANY]) -> [u32; MANY] {
         sizes(u32x16::from_array(*values)).to_array()
     }
-
-    ghost short = { big_16_few };
 }
 
 impl Spelling for Big16 {
@@ -154,7 +152,8 @@ impl Spelling for Big16 {
 
     const MANY_SIZE: usize = 0;
 
-    ghost short = { big_16_few };
+    #[inline(always)]
+    fn assert_short() {}
 
     #[inline(always)]
     fn read_at(input: &[u8], at: usize) -> Option<(Scalar, usize)> {
@@ -228,7 +227,7 @@ impl WideUnit for Little16 {
 
     #[inline(always)]
     fn write(out: &mut [u8], at: usize, value: u32) {
-        write_two(out, at, (value % 256) as u8, (value / 256) as u8);
+        write_slice(out, at, &[(value % 256) as u8, (value / 256) as u8]);
     }
 }
 
@@ -244,8 +243,6 @@ impl Words for Little16 {
     fn sizes(values: &[u32; MANY]) -> [u32; MANY] {
         sizes(u32x16::from_array(*values)).to_array()
     }
-
-    ghost short = { little_16_few };
 }
 
 impl Spelling for Little16 {
@@ -253,7 +250,8 @@ impl Spelling for Little16 {
 
     const MANY_SIZE: usize = 0;
 
-    ghost short = { little_16_few };
+    #[inline(always)]
+    fn assert_short() {}
 
     #[inline(always)]
     fn read_at(input: &[u8], at: usize) -> Option<(Scalar, usize)> {

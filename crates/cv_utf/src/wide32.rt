@@ -1,9 +1,8 @@
 //! UTF-32 as a spelling, in each order of bytes.
 ghost use Rattle.cv_utf.specs.Utf32.{utf32};
-ghost use Rattle.cv_utf.specs.WideLaws.{big_32_few, little_32_few};
 
 use crate::wide::{WideUnit, read_units, write_units};
-use cv_base::place::write_four;
+use cv_base::place::write_slice;
 use cv_base::{Scalar, Spelled, Spelling};
 
 /// UTF-32 with the highest byte of each unit first.
@@ -32,13 +31,15 @@ impl WideUnit for Big32 {
 
     #[inline(always)]
     fn write(out: &mut [u8], at: usize, value: u32) {
-        write_four(
+        write_slice(
             out,
             at,
-            (value / 0x100_0000) as u8,
-            (value / 0x1_0000 % 0x100) as u8,
-            (value / 0x100 % 0x100) as u8,
-            (value % 0x100) as u8,
+            &[
+                (value / 0x100_0000) as u8,
+                (value / 0x1_0000 % 0x100) as u8,
+                (value / 0x100 % 0x100) as u8,
+                (value % 0x100) as u8,
+            ],
         );
     }
 }
@@ -48,7 +49,8 @@ impl Spelling for Big32 {
 
     const MANY_SIZE: usize = 4;
 
-    ghost short = { big_32_few };
+    #[inline(always)]
+    fn assert_short() {}
 
     #[inline(always)]
     fn read_at(input: &[u8], at: usize) -> Option<(Scalar, usize)> {
@@ -102,13 +104,15 @@ impl WideUnit for Little32 {
 
     #[inline(always)]
     fn write(out: &mut [u8], at: usize, value: u32) {
-        write_four(
+        write_slice(
             out,
             at,
-            (value % 0x100) as u8,
-            (value / 0x100 % 0x100) as u8,
-            (value / 0x1_0000 % 0x100) as u8,
-            (value / 0x100_0000) as u8,
+            &[
+                (value % 0x100) as u8,
+                (value / 0x100 % 0x100) as u8,
+                (value / 0x1_0000 % 0x100) as u8,
+                (value / 0x100_0000) as u8,
+            ],
         );
     }
 }
@@ -118,7 +122,8 @@ impl Spelling for Little32 {
 
     const MANY_SIZE: usize = 4;
 
-    ghost short = { little_32_few };
+    #[inline(always)]
+    fn assert_short() {}
 
     #[inline(always)]
     fn read_at(input: &[u8], at: usize) -> Option<(Scalar, usize)> {

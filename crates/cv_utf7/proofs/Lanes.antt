@@ -8,12 +8,14 @@ use Rattle.std.proofs.lemmas.Nat.{and_le_r}
 use Rattle.std.proofs.lemmas.Simd.{Each1-all, Each1-weaker, Each1-zip2, Each2-splat, below_from_Fits, length-zip2, get_or-zip2, zip2_splat, swz_l, SwzOk, SwzOk-from_below, length-swz_l, get_or-swz_l_below, bitmask_splat, bit_mask_l}
 use lib.Lanes.{zip2, mask_l, top, Each1}
 use Rattle.cv_utf7.specs.Sets.{may_be_direct, is_direct, is_set_d, is_set_o, is_blank}
-use Rattle.cv_utf7.specs.ByteSets.{half_bits, is_in, all_below, repeats}
+use Rattle.cv_utf7.specs.Private.ByteSets.{half_bits, is_in, all_below, repeats}
 use Rattle.cv_utf7.specs.declared.byte_sets.TheConstants.{MAY_STAND, STANDS, HALF_BITS}
 
+-- A window: 64 bytes.
 abbrev pub IsWindow : List ℕ → Type 0
 IsWindow v = (length v ≡ 64) × Each1 (Fits w8) v
 
+-- each byte of a window is a byte
 pub lane_fits : (v : List ℕ) (i : ℕ) → Each1 (Fits w8) v → get_or v i 0 < 256
 lane_fits [] i h = omega arith
 lane_fits (x ∷ xs) zero h = h.0.fits
@@ -28,15 +30,18 @@ every_below p (suc n) h i l =
       | inr e ↦ every_below p n b.1 i (omega arith)
     ]
 
+-- a number without its low bits
 abbrev pub down : ℕ → ℕ → ℕ
 down a b = a / 2 ^ b
 
+-- higher halves are places of a table of sixteen
 pub high_ok : (v : List ℕ) → IsWindow v → SwzOk w8 16 64 0 (zip2 down v (replicate 64 4))
 high_ok v fits =
     let small = Each1-weaker (λ a. a < 256) (λ a. a / 16 < 16) (λ a h. omega arith) v (below_from_Fits w8 v fits.1) in
     SwzOk-from_below w8 16 4 64 0 (zip2 down v (replicate 64 4)) refl (omega (arith, length-zip2 down v (replicate 64 4) fits.0))
     (Each1-zip2 down (λ j. j < 16) v (replicate 64 4) (Each2-splat (λ a b. down a b < 16) v 64 4 small))
 
+-- lower halves are places of a table of sixteen
 pub low_ok : (v : List ℕ) → IsWindow v → SwzOk w8 16 64 0 (zip2 bit_and v (replicate 64 15))
 low_ok v fits =
     let small = Each1-all (λ a. bit_and a 15 < 16) (λ a. omega (arith, and_le_r a 15)) v in
@@ -84,6 +89,7 @@ pub may_stand_in : (b : ℕ) → b < 256 → is_in MAY_STAND b ≡ may_be_direct
 unfolding is_in may_be_direct is_set_d is_set_o is_blank
 may_stand_in b l = agree_below_at (is_in MAY_STAND) may_be_direct 256 b refl l
 
+-- the set of what is written as itself is the table's
 pub stands_in : (b : ℕ) → b < 256 → is_in STANDS b ≡ is_direct b
 unfolding is_in is_direct is_set_d is_set_o is_blank
 stands_in b l = agree_below_at (is_in STANDS) is_direct 256 b refl l
@@ -103,5 +109,6 @@ same_entries (b ∷ v) h =
 pub lower_half : (set v : List ℕ) → IsWindow v → repeats set ≡ true → swz_l w8 16 set 0 (zip2 bit_and v (replicate 64 15)) ≡ map (λ b. get_or set (bit_and b 15) 0) v
 lower_half set v fits copies = looked_up set (λ x. bit_and x 15) v _ fits (zip2_splat bit_and v 64 15 fits.0) (λ x h. omega (arith, and_le_r x 15)) copies
 
+-- the look-up by the higher half
 pub higher_half : (v : List ℕ) → IsWindow v → swz_l w8 16 HALF_BITS 0 (zip2 down v (replicate 64 4)) ≡ map (λ b. get_or half_bits (b / 16) 0) v
 higher_half v fits = looked_up HALF_BITS (λ x. x / 16) v _ fits (zip2_splat down v 64 4 fits.0) (λ x h. omega arith) refl ∙ same_entries v fits.1

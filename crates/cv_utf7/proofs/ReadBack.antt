@@ -1,10 +1,8 @@
 -- What is written is read back.
-use Rattle.std.proofs.Common.{◌≡◌, ℕ, ◌+◌, ◌-◌, ◌*◌, ◌/◌, ◌%◌, ◌<◌, ◌≤◌, Bool, true, false, ◌||◌, ◌⊎◌, List, [], ◌∷◌, ◌++◌, length, take, drop, replicate, refl, sym, ◌∙◌, ap, subst, arith, inl, inr, Some, None}
-use Rattle.std.proofs.lemmas.Bool.{cases_Bool, cases_lt, cases_eq, eq-eqb, or_cases}
-use Rattle.std.proofs.Math.Nat.{mod-eq_of_lt}
-use Rattle.cv_utf7.specs.BitNumbers.{number_lt}
+use Rattle.std.proofs.Common.{◌≡◌, ℕ, ◌+◌, ◌-◌, ◌*◌, ◌/◌, ◌%◌, ◌<◌, ◌≤◌, Bool, true, false, ◌||◌, List, [], ◌∷◌, ◌++◌, length, take, drop, replicate, refl, sym, ◌∙◌, ap, subst, arith, inl, inr, Some, None, option_to_list}
+use Rattle.std.proofs.lemmas.Bool.{cases_Bool, cases_eq, eq-eqb, or_cases}
 use Rattle.std.proofs.lemmas.List.{length-append, append_assoc, append-nil, length-take-le, length-replicate, take-append-drop, drop_at}
-use Rattle.cv_base.specs.Scalars.{IsScalar}
+use Rattle.cv_base.specs.Scalars.{IsScalar, AreScalars}
 use Rattle.cv_base.specs.Items.{Taken, taken}
 use Rattle.cv_base.proofs.Front.{Begins-append}
 use Rattle.cv_base.specs.declared.state.Bits.{Bits}
@@ -12,13 +10,18 @@ use Rattle.cv_base.specs.declared.state.ReadState.{ReadState}
 use Rattle.cv_base.specs.declared.state.ReadState.TheVariants as read
 use Rattle.cv_base.specs.declared.state.WriteState.{WriteState}
 use Rattle.cv_base.specs.declared.state.WriteState.TheVariants as write
-use Rattle.cv_utf7.specs.Sets.{is_digit, is_direct, may_be_direct, is_set_d, is_set_o, is_blank}
-use Rattle.cv_utf7.specs.BitLists.{bits, number, bits_of, character_bits, AreDigits, digit_bits, digits, over}
-use Rattle.cv_utf7.specs.BitLaws.{length-bits, length-digits, number-bits, same-bits}
-use Rattle.cv_utf7.specs.UnitLaws.{digit_bits-append, digit_bits-cut, AreDigits-append, AreDigits-take, AreDigits-drop, one_unit, two_units, high_of, low_of}
-use Rattle.cv_utf7.specs.Utf7.{plus, minus, ReadsCharacter, pending_of, written_bits, last_digit, utf7_reads, utf7_writes, utf7_closes, writes_at_start}
-use Rattle.cv_utf7.specs.ReadBack.{AreScalars, text_of, given, IsReadAs, IsReadBack}
-use Rattle.cv_utf7.proofs.Digits.{six}
+use Rattle.cv_utf7.specs.Sets.{is_digit, is_direct, may_be_direct, is_set_d, is_set_o, is_blank, digit_of}
+use Rattle.cv_utf7.specs.BitLists.{number, bits_of, character_bits, AreDigits, digit_bits, digits, over}
+use Rattle.cv_utf7.proofs.BitStrings.{length-bits}
+use Rattle.cv_utf7.proofs.CodeUnits.{character_length}
+use Rattle.cv_base.specs.Chains.{Output, output_for, written}
+use Rattle.cv_base.specs.ReadBack.{ReadsBack}
+use Rattle.cv_base.proofs.ReadBacks.{IsReadFrom}
+use Rattle.cv_utf7.proofs.Digits.{some_digits, six, length-digits, no_digits, AreDigits-cons, AreDigits-at, digit_bits-append, digit_bits-cut, AreDigits-append, AreDigits-take, AreDigits-drop}
+use Rattle.cv_utf7.specs.Utf7.{plus, minus, ReadsCharacter, written_bits, last_digit, utf7_reads, utf7_writes, utf7_closes, writes_at_start}
+use Rattle.cv_utf7.specs.Private.PendingBits.{pending_of}
+use Rattle.cv_utf7.proofs.Cuts.{last_digit_six}
+use Rattle.cv_utf7.proofs.PendingBits.{pending_bits}
 use Rattle.cv_utf7.proofs.Writes.{start_direct, start_other, shift_direct, shift_other}
 
 -- the bits of characters
@@ -34,13 +37,6 @@ all_bits-snoc (o ∷ os) c = ap (λ (t : List Bool). character_bits o ++ t) (all
 AreScalars-snoc : (os : List ℕ) (c : ℕ) → AreScalars os → IsScalar c → AreScalars (os ++ c ∷ [])
 AreScalars-snoc [] c a s = (s, tt)
 AreScalars-snoc (o ∷ os) c a s = (a.0, AreScalars-snoc os c a.1 s)
-
--- a character has sixteen or thirty-two bits
-character_length : (c : ℕ) → (length (character_bits c) ≡ 16) ⊎ (length (character_bits c) ≡ 32)
-character_length c = elim (cases_lt c 0x10000) [
-  | inl h ↦ inl (ap length (one_unit c h) ∙ length-bits 16 c)
-  | inr h ↦ inr (ap length (two_units c h) ∙ length-append (bits 16 (high_of c)) (bits 16 (low_of c)) ∙ (let a : length (bits 16 (high_of c)) ≡ 16 = length-bits 16 (high_of c) in let b : length (bits 16 (low_of c)) ≡ 16 = length-bits 16 (low_of c) in omega arith))
-]
 
 all_even : (os : List ℕ) → length (all_bits os) % 2 ≡ 0
 unfolding all_bits
@@ -60,29 +56,22 @@ cut_list (x ∷ a) b (y ∷ c) d e l =
     let r = cut_list a b c d t (omega arith) in
     (r.0, cc (h, r.1), r.2)
 
-number-two : (a b : Bool) → number (bits 2 (number (a ∷ b ∷ []))) ≡ number (a ∷ b ∷ [])
-number-two a b = number-bits 2 (number (a ∷ b ∷ [])) ∙ mod-eq_of_lt (number_lt (a ∷ b ∷ []))
+-- From a state these bytes are a chain that gives these characters.
+abbrev IsRead : ReadState → List ℕ → List ℕ → Type 0
+IsRead s text characters = IsReadFrom utf7_reads s text characters (λ next. Unit {0})
 
-number-four : (a b c d : Bool) → number (bits 4 (number (a ∷ b ∷ c ∷ d ∷ []))) ≡ number (a ∷ b ∷ c ∷ d ∷ [])
-number-four a b c d = number-bits 4 (number (a ∷ b ∷ c ∷ d ∷ [])) ∙ mod-eq_of_lt (number_lt (a ∷ b ∷ c ∷ d ∷ []))
-
--- two or four bits, or none, are those of their pending bits
-pending_bits : (q : List Bool) → length q < 6 → length q % 2 ≡ 0 → bits_of (pending_of q) ≡ q
-unfolding bits
-pending_bits [] l e = refl
-pending_bits (a ∷ []) l e = absurd (omega arith)
-pending_bits (a ∷ b ∷ []) l e = same-bits (bits 2 (number (a ∷ b ∷ []))) (a ∷ b ∷ []) (length-bits 2 (number (a ∷ b ∷ []))) (number-two a b)
-pending_bits (a ∷ b ∷ c ∷ []) l e = absurd (omega arith)
-pending_bits (a ∷ b ∷ c ∷ d ∷ []) l e = same-bits (bits 4 (number (a ∷ b ∷ c ∷ d ∷ []))) (a ∷ b ∷ c ∷ d ∷ []) (length-bits 4 (number (a ∷ b ∷ c ∷ d ∷ []))) (number-four a b c d)
-pending_bits (a ∷ b ∷ c ∷ d ∷ f ∷ []) l e = absurd (omega arith)
-pending_bits (a ∷ b ∷ c ∷ d ∷ f ∷ g ∷ q) l e = absurd (omega arith)
+-- nothing gives no characters
+nothing_read : (s : ReadState) → IsRead s [] []
+nothing_read s = record { chain = []; is_chain = tt; whole = refl; gives = refl; after = tt }
 
 -- an item in front of what is read
-front_item : (s : ReadState) (w rest : List ℕ) (i : Taken) (characters : List ℕ) → utf7_reads s w i → i.used ≡ length w → IsReadAs utf7_reads i.next rest characters → IsReadAs utf7_reads s (w ++ rest) (given i.gives characters)
+front_item : (s : ReadState) (w rest : List ℕ) (i : Taken) (characters : List ℕ) → utf7_reads s w i → i.used ≡ length w → IsRead i.next rest characters → IsRead s (w ++ rest) (option_to_list i.gives ++ characters)
 front_item s w rest i characters r u h = record {
-  items = i ∷ h.items;
-  are_items = (record { bytes = w; is_item = r; front = Begins-append w rest }, rw (drop_at w rest i.used (sym u)) h.are_items);
-  gives = ap (given i.gives) h.gives;
+  chain = i ∷ h.chain;
+  is_chain = (record { bytes = w; is_item = r; front = Begins-append w rest }, rw (drop_at w rest i.used (sym u)) h.is_chain);
+  whole = omega (arith, h.whole, length-append w rest);
+  gives = ap (λ (l : List ℕ). option_to_list i.gives ++ l) h.gives;
+  after = tt;
 }
 
 -- the first character of digits
@@ -119,37 +108,38 @@ split c r w tail d s e =
 
 -- The digits of characters, closed, are read as them.
 deliver : (os : List ℕ) (r : Bits) (w : List ℕ) (k : ℕ) (rest characters : List ℕ) → AreDigits w → AreScalars os → k < 6 → bits_of r ++ digit_bits w ≡ all_bits os ++ replicate k false
-    → IsReadAs utf7_reads read.Start rest characters → IsReadAs utf7_reads (read.Shifted r) (w ++ minus ∷ rest) (os ++ characters)
+    → IsRead read.Start rest characters → IsRead (read.Shifted r) (w ++ minus ∷ rest) (os ++ characters)
 unfolding all_bits
 deliver [] r w k rest characters d s l e h =
     let x : utf7_reads (read.Shifted r) (w ++ minus ∷ []) (taken (length (w ++ minus ∷ [])) None read.Start) = inr (record { front = w; last = minus; left = k; are_digits = d; few = omega arith; zero_bits = e; whole = refl; ends = inl (refl, refl) }) in
-    subst (λ (t : List ℕ). IsReadAs utf7_reads (read.Shifted r) t characters) (append_assoc w (minus ∷ []) rest) (front_item (read.Shifted r) (w ++ minus ∷ []) rest (taken (length (w ++ minus ∷ [])) None read.Start) characters x refl h)
+    subst (λ (t : List ℕ). IsRead (read.Shifted r) t characters) (append_assoc w (minus ∷ []) rest) (front_item (read.Shifted r) (w ++ minus ∷ []) rest (taken (length (w ++ minus ∷ [])) None read.Start) characters x refl h)
 deliver (c ∷ os) r w k rest characters d s l e h =
     let p = split c r w (all_bits os ++ replicate k false) d s.0 (e ∙ append_assoc (character_bits c) (all_bits os) (replicate k false)) in
-    let t : IsReadAs utf7_reads (read.Shifted p.next) (drop p.n w ++ minus ∷ rest) (os ++ characters) = deliver os p.next (drop p.n w) k rest characters (AreDigits-drop p.n w d) s.1 l p.after h in
-    subst (λ (t : List ℕ). IsReadAs utf7_reads (read.Shifted r) t (c ∷ (os ++ characters))) (sym (append_assoc (take p.n w) (drop p.n w) (minus ∷ rest)) ∙ ap (λ (u : List ℕ). u ++ minus ∷ rest) (take-append-drop p.n w))
+    let t : IsRead (read.Shifted p.next) (drop p.n w ++ minus ∷ rest) (os ++ characters) = deliver os p.next (drop p.n w) k rest characters (AreDigits-drop p.n w d) s.1 l p.after h in
+    subst (λ (t : List ℕ). IsRead (read.Shifted r) t (c ∷ (os ++ characters))) (sym (append_assoc (take p.n w) (drop p.n w) (minus ∷ rest)) ∙ ap (λ (u : List ℕ). u ++ minus ∷ rest) (take-append-drop p.n w))
     (front_item (read.Shifted r) (take p.n w) (drop p.n w ++ minus ∷ rest) (taken (length (take p.n w)) (Some c) (read.Shifted p.next)) (os ++ characters) (inl p.reads) refl t)
 
 -- digits and what is over are the bits
 cut_back : (l : List Bool) → length l % 2 ≡ 0 → AreDigits (digits l) × (digit_bits (digits l) ++ bits_of (pending_of (over l)) ≡ l)
-cut_back [] e = (tt, pending_bits [] (omega arith) refl)
+cut_back [] e = (no_digits, pending_bits [] (omega arith) refl)
 cut_back (a ∷ []) e = absurd (omega arith)
-cut_back (a ∷ b ∷ []) e = (tt, pending_bits (a ∷ b ∷ []) (omega arith) refl)
+cut_back (a ∷ b ∷ []) e = (no_digits, pending_bits (a ∷ b ∷ []) (omega arith) refl)
 cut_back (a ∷ b ∷ c ∷ []) e = absurd (omega arith)
-cut_back (a ∷ b ∷ c ∷ d ∷ []) e = (tt, pending_bits (a ∷ b ∷ c ∷ d ∷ []) (omega arith) refl)
+cut_back (a ∷ b ∷ c ∷ d ∷ []) e = (no_digits, pending_bits (a ∷ b ∷ c ∷ d ∷ []) (omega arith) refl)
 cut_back (a ∷ b ∷ c ∷ d ∷ f ∷ []) e = absurd (omega arith)
 cut_back (a ∷ b ∷ c ∷ d ∷ f ∷ g ∷ l) e =
     let s = six (a ∷ b ∷ c ∷ d ∷ f ∷ g ∷ []) refl in
     let r = cut_back l (omega arith) in
-    ((s.0, r.0), ap (λ (t : List Bool). (t ++ digit_bits (digits l)) ++ bits_of (pending_of (over l))) s.1 ∙ ap (λ (t : List Bool). a ∷ b ∷ c ∷ d ∷ f ∷ g ∷ t) r.1)
+    (AreDigits-cons _ _ s.0 r.0, ap (λ (t : List Bool). (t ++ digit_bits (digits l)) ++ bits_of (pending_of (over l))) s.1 ∙ ap (λ (t : List Bool). a ∷ b ∷ c ∷ d ∷ f ∷ g ∷ t) r.1)
 
 -- the closing digit is the pending bits followed by zero bits
 last_back : (l : List Bool) → length l < 6 → (k : ℕ) × (k < 6) × AreDigits (last_digit l) × (digit_bits (last_digit l) ≡ l ++ replicate k false)
-last_back [] h = (0, omega arith, tt, refl)
+last_back [] h = (0, omega arith, no_digits, refl)
 last_back (a ∷ l) h =
     let e : length ((a ∷ l) ++ replicate (5 - length l) false) ≡ 6 = length-append (a ∷ l) (replicate (5 - length l) false) ∙ omega (arith, length-replicate (5 - length l) false) in
     let s = six ((a ∷ l) ++ replicate (5 - length l) false) e in
-    (5 - length l, omega arith, (s.0, tt), append-nil _ ∙ s.1)
+    let d : last_digit (a ∷ l) ≡ digit_of (number ((a ∷ l) ++ replicate (5 - length l) false)) ∷ [] = last_digit_six (a ∷ l) (5 - length l) (omega arith) (omega arith) in
+    (5 - length l, omega arith, subst AreDigits (sym d) (AreDigits-cons _ [] s.0 no_digits), ap digit_bits d ∙ append-nil _ ∙ s.1)
 
 or_true : (b : Bool) → (b || true) ≡ true
 or_true true = refl
@@ -163,36 +153,46 @@ may_of c e = elim (or_cases (is_set_d c) (is_blank c) e) [
 ]
 
 -- a direct character in front
-direct_front : (c : ℕ) (rest characters : List ℕ) → is_direct c ≡ true → IsReadAs utf7_reads read.Start rest characters → IsReadAs utf7_reads read.Start (c ∷ rest) (c ∷ characters)
+direct_front : (c : ℕ) (rest characters : List ℕ) → is_direct c ≡ true → IsRead read.Start rest characters → IsRead read.Start (c ∷ rest) (c ∷ characters)
 direct_front c rest characters e h = front_item read.Start (c ∷ []) rest (taken 1 (Some c) read.Start) characters (may_of c e, refl) refl h
 
-no_pending : Bits
-no_pending = record { count = 0; value = 0; few = omega arith; even = refl; in_range = omega arith }
-
-none_bits : bits_of no_pending ≡ []
-unfolding bits no_pending
-none_bits = refl
+none_bits : bits_of (pending_of []) ≡ []
+none_bits = pending_bits [] (omega arith) refl
 
 -- `+` in front of digits
-plus_front : (d : ℕ) (rest characters : List ℕ) → is_digit d ≡ true → IsReadAs utf7_reads (read.Shifted no_pending) (d ∷ rest) characters → IsReadAs utf7_reads read.Start (plus ∷ d ∷ rest) characters
+plus_front : (d : ℕ) (rest characters : List ℕ) → is_digit d ≡ true → IsRead (read.Shifted (pending_of [])) (d ∷ rest) characters → IsRead read.Start (plus ∷ d ∷ rest) characters
 plus_front d rest characters e h = record {
-  items = taken 1 None (read.Shifted no_pending) ∷ h.items;
-  are_items = (record { bytes = plus ∷ d ∷ []; is_item = inr (refl, e, no_pending, none_bits, refl); front = (refl, (refl, tt)) }, h.are_items);
+  chain = taken 1 None (read.Shifted (pending_of [])) ∷ h.chain;
+  is_chain = (record { bytes = plus ∷ d ∷ []; is_item = inr (refl, e, refl); front = (refl, (refl, tt)) }, h.is_chain);
+  whole = omega (arith, h.whole);
   gives = h.gives;
+  after = tt;
 }
 
-plus_digits : (w rest characters : List ℕ) → AreDigits w → 0 < length w → IsReadAs utf7_reads (read.Shifted no_pending) (w ++ rest) characters → IsReadAs utf7_reads read.Start (plus ∷ w ++ rest) characters
+plus_digits : (w rest characters : List ℕ) → AreDigits w → 0 < length w → IsRead (read.Shifted (pending_of [])) (w ++ rest) characters → IsRead read.Start (plus ∷ w ++ rest) characters
 plus_digits [] rest characters d l h = absurd (omega arith)
-plus_digits (b ∷ w) rest characters d l h = plus_front b (w ++ rest) characters d.0 h
+plus_digits (b ∷ w) rest characters d l h = plus_front b (w ++ rest) characters (AreDigits-at (b ∷ w) d 0 l) h
+
+-- what is written of characters from a state, and closed
+abbrev text_of : WriteState → List ℕ → List ℕ
+text_of t [] = utf7_closes t
+text_of t (c ∷ characters) = (written utf7_writes t (Some c)).bytes ++ text_of (written utf7_writes t (Some c)).next characters
+
+text_is : (t : WriteState) (characters : List ℕ) → (let o : Output = output_for utf7_writes t characters in o.bytes ++ utf7_closes o.next ≡ text_of t characters)
+text_is t [] = refl
+text_is t (c ∷ characters) =
+    let first : Output = written utf7_writes t (Some c) in
+    let rest : Output = output_for utf7_writes first.next characters in
+    append_assoc first.bytes rest.bytes (utf7_closes rest.next) ∙ ap (λ (x : List ℕ). first.bytes ++ x) (text_is first.next characters)
 
 -- from either state of the writer
 abbrev FromStart : List ℕ → Type 0
-FromStart cs = IsReadAs utf7_reads read.Start (text_of utf7_writes utf7_closes write.Start cs) cs
+FromStart cs = IsRead read.Start (text_of write.Start cs) cs
 
 abbrev FromShift : List ℕ → Type 0
-FromShift cs = (r p : Bits) (z os : List ℕ) → AreDigits z → AreScalars os → (bits_of r ++ digit_bits z) ++ bits_of p ≡ all_bits os → IsReadAs utf7_reads (read.Shifted r) (z ++ text_of utf7_writes utf7_closes (write.Shifted p) cs) (os ++ cs)
+FromShift cs = (r p : Bits) (z os : List ℕ) → AreDigits z → AreScalars os → (bits_of r ++ digit_bits z) ++ bits_of p ≡ all_bits os → IsRead (read.Shifted r) (z ++ text_of (write.Shifted p) cs) (os ++ cs)
 
-closed : (r p : Bits) (z os rest characters : List ℕ) → AreDigits z → AreScalars os → (bits_of r ++ digit_bits z) ++ bits_of p ≡ all_bits os → IsReadAs utf7_reads read.Start rest characters → IsReadAs utf7_reads (read.Shifted r) ((z ++ last_digit (bits_of p)) ++ minus ∷ rest) (os ++ characters)
+closed : (r p : Bits) (z os rest characters : List ℕ) → AreDigits z → AreScalars os → (bits_of r ++ digit_bits z) ++ bits_of p ≡ all_bits os → IsRead read.Start rest characters → IsRead (read.Shifted r) ((z ++ last_digit (bits_of p)) ++ minus ∷ rest) (os ++ characters)
 closed r p z os rest characters d s e h =
     let k = last_back (bits_of p) (omega (arith, length-bits p.count p.value, p.few)) in
     deliver os r (z ++ last_digit (bits_of p)) k.0 rest characters (AreDigits-append z (last_digit (bits_of p)) d k.2) s k.1
@@ -204,17 +204,8 @@ closed r p z os rest characters d s e h =
 
 end_shift : FromShift []
 end_shift r p z os d s e =
-    subst (λ (t : List ℕ). IsReadAs utf7_reads (read.Shifted r) t (os ++ [])) (append_assoc z (last_digit (bits_of p)) (minus ∷ []))
-    (closed r p z os [] [] d s e (record { items = []; are_items = refl; gives = refl }))
-
-some_of : (l : List Bool) → 6 ≤ length l → 0 < length (digits l)
-some_of [] h = absurd (omega arith)
-some_of (a ∷ []) h = absurd (omega arith)
-some_of (a ∷ b ∷ []) h = absurd (omega arith)
-some_of (a ∷ b ∷ c ∷ []) h = absurd (omega arith)
-some_of (a ∷ b ∷ c ∷ d ∷ []) h = absurd (omega arith)
-some_of (a ∷ b ∷ c ∷ d ∷ f ∷ []) h = absurd (omega arith)
-some_of (a ∷ b ∷ c ∷ d ∷ f ∷ g ∷ l) h = omega arith
+    subst (λ (t : List ℕ). IsRead (read.Shifted r) t (os ++ [])) (append_assoc z (last_digit (bits_of p)) (minus ∷ []))
+    (closed r p z os [] [] d s e (nothing_read read.Start))
 
 start_sign : (c : ℕ) → is_direct c ≡ false → c ≡ plus → writes_at_start c ≡ (plus ∷ minus ∷ [], write.Start)
 start_sign c e f = rw (e, eq-eqb c plus f) refl
@@ -222,11 +213,8 @@ start_sign c e f = rw (e, eq-eqb c plus f) refl
 regroup : (z l : List ℕ) (c : ℕ) (rest : List ℕ) → (z ++ l) ++ minus ∷ (c ∷ rest) ≡ z ++ (((l ++ minus ∷ []) ++ c ∷ []) ++ rest)
 regroup z l c rest = simp append_assoc
 
-some_digits : (c : ℕ) → 0 < length (digits (character_bits c))
-some_digits c = some_of (character_bits c) (elim (character_length c) [ inl e ↦ omega arith | inr e ↦ omega arith ])
-
 shift_on : (c : ℕ) (cs : List ℕ) → IsScalar c → FromShift cs → (r p : Bits) (z os : List ℕ) → AreDigits z → AreScalars os → (bits_of r ++ digit_bits z) ++ bits_of p ≡ all_bits os
-    → IsReadAs utf7_reads (read.Shifted r) (z ++ (digits (bits_of p ++ character_bits c) ++ text_of utf7_writes utf7_closes (write.Shifted (pending_of (over (bits_of p ++ character_bits c)))) cs)) (os ++ c ∷ cs)
+    → IsRead (read.Shifted r) (z ++ (digits (bits_of p ++ character_bits c) ++ text_of (write.Shifted (pending_of (over (bits_of p ++ character_bits c)))) cs)) (os ++ c ∷ cs)
 shift_on c cs i h r p z os d s e =
     let b : List Bool = bits_of p ++ character_bits c in
     let v : length (bits_of p ++ character_bits c) % 2 ≡ 0 = (let a : length (bits_of p) ≡ p.count = length-bits p.count p.value in elim (character_length c) [ inl z ↦ rw length-append (omega (arith, p.even)) | inr z ↦ rw length-append (omega (arith, p.even)) ]) in
@@ -239,36 +227,39 @@ shift_on c cs i h r p z os d s e =
     ∙ sym (append_assoc (bits_of r ++ digit_bits z) (bits_of p) (character_bits c))
     ∙ ap (λ (t : List Bool). t ++ character_bits c) e
     ∙ sym (all_bits-snoc os c)) in
-    subst (λ (t : List ℕ). IsReadAs utf7_reads (read.Shifted r) (z ++ (digits (bits_of p ++ character_bits c) ++ text_of utf7_writes utf7_closes (write.Shifted (pending_of (over (bits_of p ++ character_bits c)))) cs)) t) (append_assoc os (c ∷ []) cs)
-    (subst (λ (t : List ℕ). IsReadAs utf7_reads (read.Shifted r) t ((os ++ c ∷ []) ++ cs)) (append_assoc z (digits (bits_of p ++ character_bits c)) (text_of utf7_writes utf7_closes (write.Shifted (pending_of (over (bits_of p ++ character_bits c)))) cs)) g)
+    subst (λ (t : List ℕ). IsRead (read.Shifted r) (z ++ (digits (bits_of p ++ character_bits c) ++ text_of (write.Shifted (pending_of (over (bits_of p ++ character_bits c)))) cs)) t) (append_assoc os (c ∷ []) cs)
+    (subst (λ (t : List ℕ). IsRead (read.Shifted r) t ((os ++ c ∷ []) ++ cs)) (append_assoc z (digits (bits_of p ++ character_bits c)) (text_of (write.Shifted (pending_of (over (bits_of p ++ character_bits c)))) cs)) g)
 
 more_start : (c : ℕ) (cs : List ℕ) → IsScalar c → FromStart cs → FromShift cs → FromStart (c ∷ cs)
 unfolding all_bits
 more_start c cs i a b = elim (cases_Bool (is_direct c)) [
-  | inl e ↦ subst (λ (n : List ℕ × WriteState). IsReadAs utf7_reads read.Start (n.0 ++ text_of utf7_writes utf7_closes n.1 cs) (c ∷ cs)) (sym (start_direct c e)) (direct_front c (text_of utf7_writes utf7_closes write.Start cs) cs e a)
+  | inl e ↦ subst (λ (n : List ℕ × WriteState). IsRead read.Start (n.0 ++ text_of n.1 cs) (c ∷ cs)) (sym (start_direct c e)) (direct_front c (text_of write.Start cs) cs e a)
   | inr e ↦ elim (cases_eq c plus) [
-    | inl f ↦ subst (λ (n : List ℕ × WriteState). IsReadAs utf7_reads read.Start (n.0 ++ text_of utf7_writes utf7_closes n.1 cs) (c ∷ cs)) (sym (start_sign c e f)) (
-        subst (λ (d : ℕ). IsReadAs utf7_reads read.Start (plus ∷ minus ∷ text_of utf7_writes utf7_closes write.Start cs) (d ∷ cs)) (sym f) (front_item read.Start (plus ∷ minus ∷ []) (text_of utf7_writes utf7_closes write.Start cs) (taken 2 (Some plus) read.Start) cs (inl (refl, refl, refl)) refl a))
+    | inl f ↦ subst (λ (n : List ℕ × WriteState). IsRead read.Start (n.0 ++ text_of n.1 cs) (c ∷ cs)) (sym (start_sign c e f)) (
+        subst (λ (d : ℕ). IsRead read.Start (plus ∷ minus ∷ text_of write.Start cs) (d ∷ cs)) (sym f) (front_item read.Start (plus ∷ minus ∷ []) (text_of write.Start cs) (taken 2 (Some plus) read.Start) cs (inl (refl, refl, refl)) refl a))
     | inr f ↦ (
         let v : length (character_bits c) % 2 ≡ 0 = elim (character_length c) [ inl z ↦ omega arith | inr z ↦ omega arith ] in
         let k = cut_back (character_bits c) v in
-        let g = b no_pending (pending_of (over (character_bits c))) (digits (character_bits c)) (c ∷ []) k.0 (i, tt) (ap (λ (t : List Bool). (t ++ digit_bits (digits (character_bits c))) ++ bits_of (pending_of (over (character_bits c)))) none_bits ∙ k.1 ∙ sym (append-nil (character_bits c))) in
-        subst (λ (n : List ℕ × WriteState). IsReadAs utf7_reads read.Start (n.0 ++ text_of utf7_writes utf7_closes n.1 cs) (c ∷ cs)) (sym (start_other c (character_bits c) (written_bits (character_bits c)) e f refl refl))
-        (plus_digits (digits (character_bits c)) (text_of utf7_writes utf7_closes (write.Shifted (pending_of (over (character_bits c)))) cs) (c ∷ cs) k.0 (some_digits c) g))
+        let g = b (pending_of []) (pending_of (over (character_bits c))) (digits (character_bits c)) (c ∷ []) k.0 (i, tt) (ap (λ (t : List Bool). (t ++ digit_bits (digits (character_bits c))) ++ bits_of (pending_of (over (character_bits c)))) none_bits ∙ k.1 ∙ sym (append-nil (character_bits c))) in
+        subst (λ (n : List ℕ × WriteState). IsRead read.Start (n.0 ++ text_of n.1 cs) (c ∷ cs)) (sym (start_other c (character_bits c) (written_bits (character_bits c)) e f refl refl))
+        (plus_digits (digits (character_bits c)) (text_of (write.Shifted (pending_of (over (character_bits c)))) cs) (c ∷ cs) k.0 (some_digits (character_bits c) (elim (character_length c) [ inl e ↦ omega arith | inr e ↦ omega arith ])) g))
   ]
 ]
 
 more_shift : (c : ℕ) (cs : List ℕ) → IsScalar c → FromStart cs → FromShift cs → FromShift (c ∷ cs)
 more_shift c cs i a b r p z os d s e = elim (cases_Bool (is_direct c)) [
-  | inl f ↦ subst (λ (n : List ℕ × WriteState). IsReadAs utf7_reads (read.Shifted r) (z ++ (n.0 ++ text_of utf7_writes utf7_closes n.1 cs)) (os ++ c ∷ cs)) (sym (shift_direct p c f))
-      (subst (λ (t : List ℕ). IsReadAs utf7_reads (read.Shifted r) t (os ++ c ∷ cs)) (regroup z (last_digit (bits_of p)) c (text_of utf7_writes utf7_closes write.Start cs))
-      (closed r p z os (c ∷ text_of utf7_writes utf7_closes write.Start cs) (c ∷ cs) d s e (direct_front c (text_of utf7_writes utf7_closes write.Start cs) cs f a)))
-  | inr f ↦ subst (λ (n : List ℕ × WriteState). IsReadAs utf7_reads (read.Shifted r) (z ++ (n.0 ++ text_of utf7_writes utf7_closes n.1 cs)) (os ++ c ∷ cs)) (sym (shift_other p c f)) (shift_on c cs i b r p z os d s e)
+  | inl f ↦ subst (λ (n : List ℕ × WriteState). IsRead (read.Shifted r) (z ++ (n.0 ++ text_of n.1 cs)) (os ++ c ∷ cs)) (sym (shift_direct p c f))
+      (subst (λ (t : List ℕ). IsRead (read.Shifted r) t (os ++ c ∷ cs)) (regroup z (last_digit (bits_of p)) c (text_of write.Start cs))
+      (closed r p z os (c ∷ text_of write.Start cs) (c ∷ cs) d s e (direct_front c (text_of write.Start cs) cs f a)))
+  | inr f ↦ subst (λ (n : List ℕ × WriteState). IsRead (read.Shifted r) (z ++ (n.0 ++ text_of n.1 cs)) (os ++ c ∷ cs)) (sym (shift_other p c f)) (shift_on c cs i b r p z os d s e)
 ]
 
 both : (cs : List ℕ) → AreScalars cs → FromStart cs × FromShift cs
-both [] s = (record { items = []; are_items = refl; gives = refl }, end_shift)
+both [] s = (nothing_read read.Start, end_shift)
 both (c ∷ cs) s = let h = both cs s.1 in (more_start c cs s.0 h.0 h.1, more_shift c cs s.0 h.0 h.1)
 
-pub reads_back : IsReadBack utf7_reads utf7_writes utf7_closes
-reads_back cs s = (both cs s).0
+-- whole texts are read back
+pub utf7_reads_back : ReadsBack utf7_reads utf7_writes utf7_closes
+utf7_reads_back characters scalars e =
+    let text = rw (← text_is write.Start characters) at (both characters scalars).0 in
+    record { chain = text.chain; is_chain = text.is_chain; whole = text.whole; gives = text.gives }

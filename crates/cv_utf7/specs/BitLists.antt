@@ -1,5 +1,7 @@
 -- Strings of bits, the highest first.
-use Rattle.std.specs.Prelude.{◌≡◌, ℕ, zero, suc, ◌+◌, ◌-◌, ◌*◌, ◌/◌, ◌%◌, ◌^◌, Bool, true, List, [], ◌∷◌, ◌++◌, length, ◌==◌, nat_lt, if◌then◌else◌}
+use Rattle.std.specs.Prelude.{◌≡◌, ℕ, zero, suc, ◌+◌, ◌*◌, ◌/◌, ◌%◌, ◌^◌, Bool, true, List, [], ◌∷◌, ◌++◌, length, ◌==◌, if◌then◌else◌}
+use Rattle.std.specs.List.{All, flat_map}
+use Rattle.cv_base.specs.Units.{units_of}
 use Rattle.cv_base.specs.declared.state.Bits.{Bits}
 use Rattle.cv_utf7.specs.Sets.{is_digit, value_of, digit_of}
 
@@ -17,28 +19,17 @@ number (bit ∷ rest) = (if bit then 1 else 0) * 2 ^ length rest + number rest
 abbrev pub bits_of : Bits → List Bool
 bits_of pending = bits pending.count pending.value
 
--- the code units of a character (Unicode 3.9, D91): one, or a high and a low surrogate
-unfoldable pub units_of : ℕ → List ℕ
-units_of c = if nat_lt c 0x10000 then c ∷ [] else (0xD800 + (c - 0x10000) / 1024) ∷ (0xDC00 + (c - 0x10000) % 1024) ∷ []
-
--- the sixteen bits of each code unit
-abbrev pub unit_bits : List ℕ → List Bool
-unit_bits [] = []
-unit_bits (unit ∷ units) = bits 16 unit ++ unit_bits units
-
--- the bits of a character
+-- the bits of a character: sixteen for each of its code units
 abbrev pub character_bits : ℕ → List Bool
-character_bits c = unit_bits (units_of c)
+character_bits c = flat_map (bits 16) (units_of c)
 
 -- Each byte is a digit.
 abbrev pub AreDigits : List ℕ → Type 0
-AreDigits [] = Unit {0}
-AreDigits (b ∷ bytes) = (is_digit b ≡ true) × AreDigits bytes
+AreDigits bytes = All (λ b. is_digit b ≡ true) bytes
 
 -- the six bits of each digit
 abbrev pub digit_bits : List ℕ → List Bool
-digit_bits [] = []
-digit_bits (b ∷ bytes) = bits 6 (value_of b) ++ digit_bits bytes
+digit_bits digits = flat_map (λ b. bits 6 (value_of b)) digits
 
 -- a digit for each six bits
 abbrev pub digits : List Bool → List ℕ

@@ -1,12 +1,4 @@
-pub mod ByteSets
-pub mod BlockSteps
 pub mod Sets
 pub mod BitLists
-pub mod BitNumbers
-pub mod BitLaws
 pub mod Utf7
-pub mod SetLaws
-pub mod UnitLaws
-pub mod Utf7Laws
-pub mod Steps
-pub mod ReadBack
+pub mod Private

@@ -1,6 +1,6 @@
 -- UTF-7 (RFC 2152, "UTF-7 Definition", rules 1 to 3).
-use Rattle.std.specs.Prelude.{◌≡◌, ℕ, ◌-◌, ◌<◌, Bool, true, false, ◌⊎◌, List, [], ◌∷◌, ◌++◌, length, Option, Some, None, ◌==◌, if◌then◌else◌, replicate, refl}
-use Rattle.std.proofs.Common.{lit≤}
+-- `pending_of` makes pending bits of two or four bits, or of none: they are the bits that it is given (`laws::pending_bits`).
+use Rattle.std.specs.Prelude.{◌≡◌, ℕ, ◌<◌, Bool, true, false, ◌⊎◌, List, [], ◌∷◌, ◌++◌, length, Option, Some, None, ◌==◌, if◌then◌else◌, replicate}
 use Rattle.cv_base.specs.Scalars.{IsScalar}
 use Rattle.cv_base.specs.Items.{Taken, taken}
 use Rattle.cv_base.specs.declared.state.Bits.{Bits}
@@ -8,25 +8,25 @@ use Rattle.cv_base.specs.declared.state.ReadState.{ReadState}
 use Rattle.cv_base.specs.declared.state.ReadState.TheVariants as read
 use Rattle.cv_base.specs.declared.state.WriteState.{WriteState}
 use Rattle.cv_base.specs.declared.state.WriteState.TheVariants as write
-use Rattle.cv_utf7.specs.Sets.{may_be_direct, is_direct, is_digit, digit_of}
-use Rattle.cv_utf7.specs.BitLists.{number, bits_of, character_bits, AreDigits, digit_bits, digits, over}
-use Rattle.cv_utf7.specs.BitNumbers.{number_lt}
+use Rattle.cv_utf7.specs.Sets.{may_be_direct, is_direct, is_digit}
+use Rattle.cv_utf7.specs.BitLists.{bits_of, character_bits, AreDigits, digit_bits, digits, over}
+use Rattle.cv_utf7.specs.Private.PendingBits.{pending_of}
 
--- `+` and `-`
+-- `+`
 abbrev pub plus : ℕ
 plus = 43
 
+-- `-`
 abbrev pub minus : ℕ
 minus = 45
 
 -- Outside a shifted sequence a direct byte is its character (rules 1 and 3), `+-` is U+002B, and `+` before a digit begins a sequence (rule 2).
-abbrev pub reads_at_start : List ℕ → Taken → Type 0
-reads_at_start [] item = ⊥
-reads_at_start (b ∷ []) item = (may_be_direct b ≡ true) × (item ≡ taken 1 (Some b) read.Start)
-reads_at_start (b ∷ d ∷ []) item =
+abbrev pub ReadsAtStart : List ℕ → Taken → Type 0
+ReadsAtStart (b ∷ []) item = (may_be_direct b ≡ true) × (item ≡ taken 1 (Some b) read.Start)
+ReadsAtStart (b ∷ d ∷ []) item =
     ((b ≡ plus) × (d ≡ minus) × (item ≡ taken 2 (Some plus) read.Start))
-    ⊎ ((b ≡ plus) × (is_digit d ≡ true) × (next : Bits) × (bits_of next ≡ []) × (item ≡ taken 1 None (read.Shifted next)))
-reads_at_start (b ∷ d ∷ e ∷ bytes) item = ⊥
+    ⊎ ((b ≡ plus) × (is_digit d ≡ true) × (item ≡ taken 1 None (read.Shifted (pending_of []))))
+ReadsAtStart other item = ⊥
 
 -- A character of a shifted sequence: the pending bits and those of the digits are those of the character and of the next pending ones, which are too few for a digit (rule 2).
 pub record ReadsCharacter (pending : Bits) (bytes : List ℕ) (item : Taken) : Type 0 where
@@ -54,49 +54,38 @@ pub record ReadsEnd (pending : Bits) (bytes : List ℕ) (item : Taken) : Type 0 
   pub whole : bytes ≡ front ++ last ∷ []
   pub ends : EndsAt (length bytes) last item
 
--- The whole byte string is an item.
+-- The whole byte string is an item, of a shifted sequence or outside one.
 abbrev pub utf7_reads : ReadState → List ℕ → Taken → Type 0
-utf7_reads read.Start bytes item = reads_at_start bytes item
-utf7_reads read.Big bytes item = reads_at_start bytes item
-utf7_reads read.Little bytes item = reads_at_start bytes item
 utf7_reads (read.Shifted pending) bytes item = ReadsCharacter pending bytes item ⊎ ReadsEnd pending bytes item
-
--- two or four bits, or none, as the bits that are pending
-abbrev pub pending_of : List Bool → Bits
-pending_of (a ∷ b ∷ []) = record { count = 2; value = number (a ∷ b ∷ []); few = lit≤ tt; even = refl; in_range = number_lt (a ∷ b ∷ []) }
-pending_of (a ∷ b ∷ c ∷ d ∷ []) = record { count = 4; value = number (a ∷ b ∷ c ∷ d ∷ []); few = lit≤ tt; even = refl; in_range = number_lt (a ∷ b ∷ c ∷ d ∷ []) }
-pending_of other = record { count = 0; value = 0; few = lit≤ tt; even = refl; in_range = number_lt [] }
+utf7_reads other bytes item = ReadsAtStart bytes item
 
 -- the digits of bits; what is over is pending
 abbrev pub written_bits : List Bool → List ℕ × WriteState
 written_bits all = (digits all, write.Shifted (pending_of (over all)))
 
--- the digit of the pending bits followed by zero bits, if there are any
+-- the closing digit: the pending bits followed by zero bits, or no digit where none are pending
 abbrev pub last_digit : List Bool → List ℕ
-last_digit [] = []
-last_digit (bit ∷ rest) = digit_of (number ((bit ∷ rest) ++ replicate (5 - length rest) false)) ∷ []
+last_digit few = digits (few ++ replicate 5 false)
 
--- What closes a shifted sequence.
+-- what closes a shifted sequence: the closing digit and `-`; nothing outside one
 abbrev pub utf7_closes : WriteState → List ℕ
-utf7_closes write.Start = []
-utf7_closes write.Marked = []
 utf7_closes (write.Shifted pending) = last_digit (bits_of pending) ++ minus ∷ []
+utf7_closes other = []
 
--- a character outside a shifted sequence: itself, `+-`, or `+` and digits
+-- a character outside a shifted sequence: itself, `+-`, or `+` and the digits of its bits
 abbrev pub writes_at_start : ℕ → List ℕ × WriteState
 writes_at_start c =
     if is_direct c then (c ∷ [], write.Start)
     else if c == plus then (plus ∷ minus ∷ [], write.Start)
-    else (let shifted : List ℕ × WriteState = written_bits (character_bits c) in (plus ∷ shifted.0, shifted.1))
+    else (plus ∷ digits (character_bits c), write.Shifted (pending_of (over (character_bits c))))
 
--- a character in a shifted sequence: the closing bytes and itself, or digits
+-- a character in a shifted sequence: what closes it and itself, or the digits of the pending bits and its own
 abbrev pub writes_in_shift : Bits → ℕ → List ℕ × WriteState
 writes_in_shift pending c =
     if is_direct c then (utf7_closes (write.Shifted pending) ++ c ∷ [], write.Start)
     else written_bits (bits_of pending ++ character_bits c)
 
--- Every character is written.
+-- Every character is written, in a shifted sequence or outside one.
 abbrev pub utf7_writes : WriteState → ℕ → Option (List ℕ × WriteState)
-utf7_writes write.Start c = Some (writes_at_start c)
-utf7_writes write.Marked c = Some (writes_at_start c)
 utf7_writes (write.Shifted pending) c = Some (writes_in_shift pending c)
+utf7_writes other c = Some (writes_at_start c)

@@ -1,12 +1,25 @@
 //! UTF-7 by blocks.
 
+use crate::read_blocks::{read_on, read_one};
 use crate::utf7::Utf7;
-use crate::{block_reading, block_writing};
+use crate::write_blocks::write_on;
+use crate::write_sequences::Reached;
 use cv_base::{BlockCodec, ReadBlock, ReadState, Scalar, WriteState, WrittenBlock};
 
 impl BlockCodec for Utf7 {
     fn read_block(&self, state: ReadState, input: &[u8], buffer: &mut [Scalar]) -> ReadBlock {
-        block_reading::read_block(state, input, buffer)
+        let mut block = ReadBlock {
+            n: 0,
+            used: 0,
+            next: state,
+        };
+        loop {
+            let run = read_on(input, buffer, block);
+            match read_one(input, buffer, run) {
+                Some(next) => block = next,
+                None => return run,
+            }
+        }
     }
 
     fn write_block(
@@ -16,6 +29,18 @@ impl BlockCodec for Utf7 {
         out: &mut [u8],
         at: usize,
     ) -> WrittenBlock {
-        block_writing::write_block(state, characters, out, at)
+        let mut reached = Reached {
+            n: 0,
+            end: at,
+            next: state,
+        };
+        while reached.n < characters.len() {
+            reached = write_on(characters, reached, out);
+        }
+        WrittenBlock {
+            wrote: reached.end - at,
+            count: 0,
+            next: reached.next,
+        }
     }
 }

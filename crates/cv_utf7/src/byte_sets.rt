@@ -1,32 +1,44 @@
-//! Sets of bytes, against which 64 bytes are held at once.
+//! Sets of bytes, against which a window of 64 bytes is held at once.
 ghost use Rattle.std.specs.Prelude.{◌≡◌, ◌+◌, ◌≤◌, ◌<◌, ◌/◌, ℕ, true, IsTrue, map, length, get_or, bit_and};
 ghost use Rattle.std.specs.Int.{bit_at};
-ghost use Rattle.cv_utf7.specs.ByteSets.{half_bits, is_in, repeats};
+ghost use Rattle.cv_utf7.specs.Private.ByteSets.{half_bits, is_in, repeats};
 ghost use Rattle.cv_utf7.specs.Sets.{may_be_direct, is_direct};
 
 use std::simd::prelude::*;
 
-// For each lower half of a byte a bit for each higher half with which it may be direct, four times.
+/// How many bytes are held against a set at once.
+pub(crate) const WINDOW: usize = 64;
+
+// A set has an entry for each lower half of a byte, from 0 to 15, and the entry has a bit for each higher half: byte 16 * h + l is in
+// the set where entry l has bit h. So entry 9 of `MAY_STAND`, 0xFD, has the tab (09), `)` (29), `9`, `I`, `Y`, `i` and `y`, and
+// lacks 19, a control; entry 11, 0xF8, has `;`, `K`, `[`, `k` and `{`, and lacks `+` (2B). No byte from 80 on is in a set. A vector is
+// looked up by sixteen bytes, so that each table stands four times.
+
+// What may be direct in a text that is read.
+#[rattlefmt::skip]
 const MAY_STAND: [u8; 64] = [
-    252, 252, 252, 252, 252, 252, 252, 252, 252, 253, 253, 248, 220, 253, 124, 124, 252, 252, 252,
-    252, 252, 252, 252, 252, 252, 253, 253, 248, 220, 253, 124, 124, 252, 252, 252, 252, 252, 252,
-    252, 252, 252, 253, 253, 248, 220, 253, 124, 124, 252, 252, 252, 252, 252, 252, 252, 252, 252,
-    253, 253, 248, 220, 253, 124, 124,
+    0xFC, 0xFC, 0xFC, 0xFC, 0xFC, 0xFC, 0xFC, 0xFC, 0xFC, 0xFD, 0xFD, 0xF8, 0xDC, 0xFD, 0x7C, 0x7C,
+    0xFC, 0xFC, 0xFC, 0xFC, 0xFC, 0xFC, 0xFC, 0xFC, 0xFC, 0xFD, 0xFD, 0xF8, 0xDC, 0xFD, 0x7C, 0x7C,
+    0xFC, 0xFC, 0xFC, 0xFC, 0xFC, 0xFC, 0xFC, 0xFC, 0xFC, 0xFD, 0xFD, 0xF8, 0xDC, 0xFD, 0x7C, 0x7C,
+    0xFC, 0xFC, 0xFC, 0xFC, 0xFC, 0xFC, 0xFC, 0xFC, 0xFC, 0xFD, 0xFD, 0xF8, 0xDC, 0xFD, 0x7C, 0x7C,
 ];
 
-// The same for what is written as itself.
+// What is written as itself.
+#[rattlefmt::skip]
 const STANDS: [u8; 64] = [
-    172, 248, 248, 248, 248, 248, 248, 252, 252, 253, 249, 80, 84, 85, 84, 92, 172, 248, 248, 248,
-    248, 248, 248, 252, 252, 253, 249, 80, 84, 85, 84, 92, 172, 248, 248, 248, 248, 248, 248, 252,
-    252, 253, 249, 80, 84, 85, 84, 92, 172, 248, 248, 248, 248, 248, 248, 252, 252, 253, 249, 80,
-    84, 85, 84, 92,
+    0xAC, 0xF8, 0xF8, 0xF8, 0xF8, 0xF8, 0xF8, 0xFC, 0xFC, 0xFD, 0xF9, 0x50, 0x54, 0x55, 0x54, 0x5C,
+    0xAC, 0xF8, 0xF8, 0xF8, 0xF8, 0xF8, 0xF8, 0xFC, 0xFC, 0xFD, 0xF9, 0x50, 0x54, 0x55, 0x54, 0x5C,
+    0xAC, 0xF8, 0xF8, 0xF8, 0xF8, 0xF8, 0xF8, 0xFC, 0xFC, 0xFD, 0xF9, 0x50, 0x54, 0x55, 0x54, 0x5C,
+    0xAC, 0xF8, 0xF8, 0xF8, 0xF8, 0xF8, 0xF8, 0xFC, 0xFC, 0xFD, 0xF9, 0x50, 0x54, 0x55, 0x54, 0x5C,
 ];
 
-// The bit of each higher half, four times.
+// The bit of each higher half. From 8 on a half has none.
+#[rattlefmt::skip]
 const HALF_BITS: [u8; 64] = [
-    1, 2, 4, 8, 16, 32, 64, 128, 0, 0, 0, 0, 0, 0, 0, 0, 1, 2, 4, 8, 16, 32, 64, 128, 0, 0, 0, 0,
-    0, 0, 0, 0, 1, 2, 4, 8, 16, 32, 64, 128, 0, 0, 0, 0, 0, 0, 0, 0, 1, 2, 4, 8, 16, 32, 64, 128,
-    0, 0, 0, 0, 0, 0, 0, 0,
+    0x01, 0x02, 0x04, 0x08, 0x10, 0x20, 0x40, 0x80, 0x00, 0x00, 0x00, 0x00, 0x00, 0x00, 0x00, 0x00,
+    0x01, 0x02, 0x04, 0x08, 0x10, 0x20, 0x40, 0x80, 0x00, 0x00, 0x00, 0x00, 0x00, 0x00, 0x00, 0x00,
+    0x01, 0x02, 0x04, 0x08, 0x10, 0x20, 0x40, 0x80, 0x00, 0x00, 0x00, 0x00, 0x00, 0x00, 0x00, 0x00,
+    0x01, 0x02, 0x04, 0x08, 0x10, 0x20, 0x40, 0x80, 0x00, 0x00, 0x00, 0x00, 0x00, 0x00, 0x00, 0x00,
 ];
 
 /// What a set has for the lower half of each byte.
@@ -60,7 +72,8 @@ fn outside(set: [u8; 64], bytes: u8x64) -> u64
 #[inline(always)]
 pub(crate) fn not_direct(input: &[u8], at: usize) -> u64
     requires { at + 64 ≤ length input.now }
-    ensures { (i : ℕ) → i < 64 → bit_at result i ≡ 0 → may_be_direct (get_or input.now (at + i) 0) ≡ true }
+    ensures { (i : ℕ) → i < 64 → bit_at result i ≡ 0
+        → may_be_direct (get_or input.now (at + i) 0) ≡ true }
 {
     outside(MAY_STAND, u8x64::from_slice(&input[at..]))
 }
@@ -71,4 +84,18 @@ pub(crate) fn not_written_direct(bytes: u8x64) -> u64
     ensures { (i : ℕ) → i < 64 → bit_at result i ≡ 0 → is_direct (get_or bytes i 0) ≡ true }
 {
     outside(STANDS, bytes)
+}
+
+/// How many bytes from a place of a window on are direct, as far as the window goes.
+#[inline(always)]
+pub(crate) fn run_at(stops: u64, place: usize) -> usize
+    requires { place < 64 }
+    ensures within { place + result ≤ 64 }
+    ensures clear { (i : ℕ) → i < result → bit_at stops (place + i) ≡ 0 }
+{
+    let rest = stops >> place;
+    if rest == 0 {
+        return WINDOW - place;
+    }
+    rest.trailing_zeros() as usize
 }

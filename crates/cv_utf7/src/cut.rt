@@ -22,7 +22,8 @@ impl Cut {
     /// The digits of a character behind pending bits.
     #[inline(always)]
     pub(crate) fn of(pending: Bits, c: Scalar) -> Cut
-        ensures same { written_bits (bits_of pending ++ character_bits c) ≡ (digits (bits (6 * result.n) result.value), write.Shifted result.next) }
+        ensures same { written_bits (bits_of pending ++ character_bits c)
+            ≡ (digits (bits (6 * result.n) result.value), write.Shifted result.next) }
         ensures count { (result.n ≡ 2) ⊎ (result.n ≡ 3) ⊎ (result.n ≡ 5) ⊎ (result.n ≡ 6) }
         ensures first { pending.count ≡ 0 → (result.n ≡ 2) ⊎ (result.n ≡ 5) }
     {
@@ -39,7 +40,8 @@ impl Cut {
     #[tactic(auto, using(crate::proofs::Cuts::units))]
     fn of_unit(pending: Bits, value: u32) -> Cut
         requires { value < 0x10000 }
-        ensures same { written_bits (bits_of pending ++ character_bits value) ≡ (digits (bits (6 * result.n) result.value), write.Shifted result.next) }
+        ensures same { written_bits (bits_of pending ++ character_bits value)
+            ≡ (digits (bits (6 * result.n) result.value), write.Shifted result.next) }
         ensures count { (result.n ≡ 2) ⊎ (result.n ≡ 3) }
         ensures first { pending.count ≡ 0 → result.n ≡ 2 }
     {
@@ -77,7 +79,8 @@ impl Cut {
     fn of_pair(pending: Bits, value: u32) -> Cut
         requires large { 0x10000 ≤ value }
         requires in_range { value < 0x110000 }
-        ensures same { written_bits (bits_of pending ++ character_bits value) ≡ (digits (bits (6 * result.n) result.value), write.Shifted result.next) }
+        ensures same { written_bits (bits_of pending ++ character_bits value)
+            ≡ (digits (bits (6 * result.n) result.value), write.Shifted result.next) }
         ensures count { (result.n ≡ 5) ⊎ (result.n ≡ 6) }
         ensures first { pending.count ≡ 0 → result.n ≡ 5 }
     {
@@ -124,7 +127,9 @@ impl Cut {
     /// The last five digits.
     #[inline(always)]
     pub(crate) fn last_five(self) -> [u8; 5]
-        ensures { result ≡ digit_of (self.value / 16777216 % 64) ∷ digit_of (self.value / 262144 % 64) ∷ digit_of (self.value / 4096 % 64) ∷ digit_of (self.value / 64 % 64) ∷ digit_of (self.value / 1 % 64) ∷ [] }
+        ensures { result ≡ digit_of (self.value / 16777216 % 64)
+            ∷ digit_of (self.value / 262144 % 64) ∷ digit_of (self.value / 4096 % 64)
+            ∷ digit_of (self.value / 64 % 64) ∷ digit_of (self.value / 1 % 64) ∷ [] }
     {
         [
             self.digit(4),

@@ -1,11 +1,23 @@
-//! The law *read back*.
+//! Laws of UTF-7.
+ghost use Rattle.std.specs.Prelude.{◌≡◌, ◌≤◌, ◌%◌, Bool, List, length};
+ghost use Rattle.cv_base.specs.ReadBack.{ReadsBack};
+ghost use Rattle.cv_utf7.specs.BitLists.{bits_of};
+ghost use Rattle.cv_utf7.specs.Private.PendingBits.{pending_of};
 ghost use Rattle.cv_utf7.specs.Utf7.{utf7_reads, utf7_writes, utf7_closes};
-ghost use Rattle.cv_utf7.specs.ReadBack.{IsReadBack};
+
+/// Pending bits that are made of two or four bits, or of none, are these bits.
+#[tactic(auto, using(crate::proofs::PendingBits::pending_bits))]
+pub fn pending_bits()
+    ensures { (few : List Bool) → length few ≤ 4 → length few % 2 ≡ 0
+        → bits_of (pending_of few) ≡ few }
+{
+    // The contract is the law; nothing runs.
+}
 
 /// A text that is written from the start and closed is read from the start as the same characters, to its end.
-#[tactic(auto, using(crate::proofs::ReadBack::reads_back))]
+#[tactic(auto, using(crate::proofs::ReadBack::utf7_reads_back))]
 pub fn read_back()
-    ensures { IsReadBack utf7_reads utf7_writes utf7_closes }
+    ensures { ReadsBack utf7_reads utf7_writes utf7_closes }
 {
     // The contract is the law; nothing runs.
 }

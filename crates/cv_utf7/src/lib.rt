@@ -1,18 +1,22 @@
 //! UTF-7 (RFC 2152).
 #![tactic(auto)]
 
-mod block_reading;
-mod block_writing;
 mod blocks;
 mod byte_sets;
 mod cut;
+mod items;
 pub mod laws;
-mod reading;
+mod read_blocks;
+mod read_runs;
+mod read_sequences;
 mod sets;
+mod shifted_bytes;
 #[cfg(test)]
 mod tests;
 mod units;
 mod utf7;
-mod writing;
+mod write_blocks;
+mod write_runs;
+mod write_sequences;
 
 pub use utf7::Utf7;

@@ -42,7 +42,8 @@ static DIRECT: [u8; 128] = [
 /// The value of a digit.
 #[inline(always)]
 pub(crate) fn digit(b: u8) -> Option<u32>
-    ensures { MatchOption result (is_digit b ≡ false) (λ v. (is_digit b ≡ true) × (v ≡ value_of b)) }
+    ensures { MatchOption result (is_digit b ≡ false)
+        (λ v. (is_digit b ≡ true) × (v ≡ value_of b)) }
 {
     let value = VALUES[b as usize];
     if value < 64 { Some(value as u32) } else { None }

@@ -21,11 +21,11 @@ pub(crate) struct Front {
 }
 
 impl Unit {
-    ghost use Rattle.cv_utf7.specs.Steps.{IsUnit, NoUnit};
+    ghost use Rattle.cv_utf7.specs.Private.ItemSteps.{IsUnit, NoUnit};
 
     /// The code unit at the front of a text, if there are digits enough.
     #[inline(always)]
-    #[tactic(auto, using(crate::proofs::Found::units))]
+    #[tactic(auto, using(crate::proofs::FrontDigits::units))]
     pub(crate) fn next(pending: Bits, input: &[u8]) -> Option<Unit>
         ensures { MatchOption result (NoUnit pending input.now) (λ u. IsUnit pending input.now u) }
     {
@@ -68,15 +68,16 @@ impl Unit {
 }
 
 impl Front {
-    ghost use Rattle.cv_utf7.specs.Steps.{NoUnit, IsFront};
+    ghost use Rattle.cv_utf7.specs.Private.ItemSteps.{NoUnit, IsFront};
     ghost use Rattle.cv_utf7.specs.Sets.{is_digit};
 
     /// The digits at the front of a text.
-    #[tactic(auto, using(crate::proofs::Found::fronts))]
+    #[tactic(auto, using(crate::proofs::FrontDigits::fronts))]
     pub(crate) fn of(pending: Bits, input: &[u8]) -> Front
         requires { NoUnit pending input.now }
         ensures front { IsFront pending input.now result.n result.count result.value }
-        ensures stop { result.n < length input.now → is_digit (get_or input.now result.n 0) ≡ false }
+        ensures stop { result.n < length input.now
+            → is_digit (get_or input.now result.n 0) ≡ false }
     {
         let mut count = pending.count as u32;
         let mut value = pending.value as u32;
@@ -95,7 +96,7 @@ impl Front {
     }
 
     /// The least code unit that begins with these bits, and the number above the greatest.
-    #[tactic(auto, using(crate::proofs::Found::ranges))]
+    #[tactic(auto, using(crate::proofs::FrontDigits::ranges))]
     pub(crate) fn range(self) -> (u32, u32)
         requires few { self.count < 16 }
         requires small { self.value < 2 ^ self.count }

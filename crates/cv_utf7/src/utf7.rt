@@ -2,34 +2,17 @@
 ghost use Rattle.std.specs.Prelude.{◌≡◌, ◌≤◌, length, Some};
 ghost use Rattle.cv_base.specs.Places.{PutsAt};
 ghost use Rattle.cv_utf7.specs.Utf7.{utf7_reads, utf7_writes, utf7_closes, writes_at_start};
-ghost use Rattle.cv_utf7.specs.Utf7Laws.{utf7_readable, utf7_substitutable};
 
 use crate::cut::Cut;
-use crate::reading::{NONE, item_at_start, item_in_shift};
+use crate::items::{NONE, item_at_start, item_in_shift};
 use crate::sets::stands;
-use crate::writing::{closing, first_piece, piece_of, put_closed, put_digits, put_first};
-use cv_base::place::{write_one, write_two};
+use crate::shifted_bytes::{closing, put_closed, put_digits, put_first};
+use cv_base::place::write_slice;
 use cv_base::{Codec, Item, Piece, Put, ReadState, Scalar, WriteState};
 
 /// UTF-7. What it writes has no optional direct character.
 #[derive(Clone, Copy, Debug, PartialEq, Eq)]
 pub struct Utf7;
-
-/// A character outside a shifted sequence, and the state after it.
-#[tactic(auto, using(crate::proofs::Writes::starts))]
-fn spell_at_start(c: Scalar) -> (Piece, WriteState)
-    ensures { result ≡ writes_at_start c }
-{
-    let value = c.value();
-    if stands(value) {
-        return (Piece::one(value as u8), WriteState::Start);
-    }
-    if value == b'+' as u32 {
-        return (Piece::two(b'+', b'-'), WriteState::Start);
-    }
-    let cut = Cut::of(NONE, c);
-    (first_piece(cut), WriteState::Shifted(cut.next))
-}
 
 /// Writes a character outside a shifted sequence.
 #[inline(always)]
@@ -45,28 +28,27 @@ fn put_at_start(c: Scalar, out: &mut [u8], at: usize) -> Put
         if room < 1 {
             return Put::NoRoom;
         }
-        write_one(out, at, value as u8);
+        write_slice(out, at, &[value as u8]);
         return Put::Wrote { n: 1, next };
     }
     if value == b'+' as u32 {
         if room < 2 {
             return Put::NoRoom;
         }
-        write_two(out, at, b'+', b'-');
+        write_slice(out, at, &[b'+', b'-']);
         return Put::Wrote { n: 2, next };
     }
     put_first(Cut::of(NONE, c), out, at)
 }
 
 impl Codec for Utf7 {
-    ghost is_valid = { λ _. Unit {0} };
-
     ghost reads = { λ _. utf7_reads };
 
     ghost writes = { λ _. utf7_writes };
 
     ghost closes = { λ _. utf7_closes };
 
+    #[tactic(auto, using(crate::proofs::OneItem::utf7_readable, crate::proofs::OneItem::utf7_substitutable))]
     fn assert_valid(&self) {}
 
     #[inline]
@@ -78,21 +60,6 @@ impl Codec for Utf7 {
             ReadState::Big => item_at_start(input),
             ReadState::Little => item_at_start(input),
         }
-    }
-
-    #[tactic(auto, using(crate::proofs::Writes::writes))]
-    fn put(&self, state: WriteState, c: Scalar) -> Option<(Piece, WriteState)> {
-        let value = c.value();
-        let WriteState::Shifted(pending) = state else {
-            return Some(spell_at_start(c));
-        };
-        if stands(value) {
-            let mut piece = closing(pending);
-            piece.push(value as u8);
-            return Some((piece, WriteState::Start));
-        }
-        let cut = Cut::of(pending, c);
-        Some((piece_of(cut), WriteState::Shifted(cut.next)))
     }
 
     #[inline(always)]
@@ -120,8 +87,4 @@ impl Codec for Utf7 {
     fn most_bytes(&self) -> usize {
         6
     }
-
-    ghost readable = { λ _ _. utf7_readable };
-
-    ghost substitutable = { λ _ _. utf7_substitutable };
 }

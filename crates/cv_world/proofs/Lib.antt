@@ -2,4 +2,5 @@ mod Buffers
 mod Changes
 mod Emptiness
 mod OneAnswer
+mod SomeAnswer
 mod Stepping

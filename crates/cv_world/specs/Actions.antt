@@ -1,6 +1,8 @@
 -- What a request asks for, by its op and its body.
 use Rattle.std.specs.Prelude.{ℕ, ◌≤◌, List, length, ◌==◌, Option, Some, None, if◌then◌else◌}
 use Rattle.cv_frame.specs.Bodies.{open_of, conv_of, reset_of, number_of}
+use Rattle.cv_frame.specs.declared.ops.TheConstants.{OPEN, CONV, RESET, CLOSE}
+use Rattle.cv_frame.specs.declared.sizes.TheConstants.{MOST_BODY}
 use Rattle.cv_world.specs.declared.op.Op.{Op}
 use Rattle.cv_world.specs.declared.op.Op.TheVariants as op
 
@@ -35,10 +37,10 @@ close_action None = Bad
 -- what the op and the body of a request ask for
 abbrev pub action_of : ℕ → List ℕ → Action
 action_of code body =
-    if code == 3 then open_action (open_of body) else
-    if code == 4 then conv_action (conv_of body) else
-    if code == 5 then reset_action (reset_of body) else
-    if code == 6 then close_action (number_of body) else Bad
+    if code == OPEN then open_action (open_of body) else
+    if code == CONV then conv_action (conv_of body) else
+    if code == RESET then reset_action (reset_of body) else
+    if code == CLOSE then close_action (number_of body) else Bad
 
 -- what a value of the program asks for
 abbrev pub asked : Op → Action
@@ -51,7 +53,7 @@ asked op.Bad = Bad
 -- the input is no longer than the body of a frame
 abbrev pub InputFits : Op → Type 0
 InputFits (op.Open to from) = Unit {0}
-InputFits (op.Conv number room input) = length input.now ≤ 1048567
+InputFits (op.Conv number room input) = length input.now ≤ MOST_BODY
 InputFits (op.Reset number room) = Unit {0}
 InputFits (op.Close number) = Unit {0}
 InputFits op.Bad = Unit {0}

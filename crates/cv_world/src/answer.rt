@@ -2,8 +2,7 @@
 ghost use Rattle.std.specs.Prelude.{◌≡◌, ◌++◌};
 ghost use Rattle.std.specs.Int.{w32, to_be_bytes};
 ghost use Rattle.cv_frame.specs.Message.{FitsFrame};
-ghost use Rattle.cv_world.specs.Answers.{answer_code, answer_body, AnswerFits};
-ghost use Rattle.cv_world.specs.Turn.{stop_status};
+ghost use Rattle.cv_world.specs.Answers.{answer_code, answer_body, stop_status, AnswerFits};
 
 use cv_base::Piece;
 use cv_frame::{Bytes, Reply, Status};

@@ -2,7 +2,8 @@
 ghost use Rattle.std.specs.Prelude.{◌≡◌, ◌≤◌, length};
 ghost use Rattle.cv_world.specs.Actions.{action_of, asked, InputFits};
 
-use cv_frame::{read_conv, read_number, read_open, read_reset};
+use cv_frame::ops::{CLOSE, CONV, OPEN, RESET};
+use cv_frame::{MOST_BODY, read_conv, read_number, read_open, read_reset};
 
 /// What a request asks of its caller's table.
 #[derive(Clone, Copy, Debug)]
@@ -29,61 +30,33 @@ pub enum Op<'a> {
     Bad,
 }
 
-fn read_op_open(body: &[u8]) -> Op<'_>
-    ensures asks { asked result ≡ action_of 3 body.now }
-    ensures fits { length body.now ≤ 1048567 → InputFits result }
-{
-    match read_open(body) {
-        Some((to, from)) => Op::Open { to, from },
-        None => Op::Bad,
-    }
-}
-
-fn read_op_conv(body: &[u8]) -> Op<'_>
-    ensures asks { asked result ≡ action_of 4 body.now }
-    ensures fits { length body.now ≤ 1048567 → InputFits result }
-{
-    match read_conv(body) {
-        Some((number, room, input)) => Op::Conv {
-            number,
-            room,
-            input,
-        },
-        None => Op::Bad,
-    }
-}
-
-fn read_op_reset(body: &[u8]) -> Op<'_>
-    ensures asks { asked result ≡ action_of 5 body.now }
-    ensures fits { length body.now ≤ 1048567 → InputFits result }
-{
-    match read_reset(body) {
-        Some((number, room)) => Op::Reset { number, room },
-        None => Op::Bad,
-    }
-}
-
-fn read_op_close(body: &[u8]) -> Op<'_>
-    ensures asks { asked result ≡ action_of 6 body.now }
-    ensures fits { length body.now ≤ 1048567 → InputFits result }
-{
-    match read_number(body) {
-        Some(number) => Op::Close(number),
-        None => Op::Bad,
-    }
-}
-
 impl<'a> Op<'a> {
     /// What a request of this op and body asks for.
     pub fn read(op: u8, body: &'a [u8]) -> Op<'a>
         ensures asks { asked result ≡ action_of op body.now }
-        ensures fits { length body.now ≤ 1048567 → InputFits result }
+        ensures fits { length body.now ≤ MOST_BODY → InputFits result }
     {
         match op {
-            3 => read_op_open(body),
-            4 => read_op_conv(body),
-            5 => read_op_reset(body),
-            6 => read_op_close(body),
+            OPEN => match read_open(body) {
+                Some((to, from)) => Op::Open { to, from },
+                None => Op::Bad,
+            },
+            CONV => match read_conv(body) {
+                Some((number, room, input)) => Op::Conv {
+                    number,
+                    room,
+                    input,
+                },
+                None => Op::Bad,
+            },
+            RESET => match read_reset(body) {
+                Some((number, room)) => Op::Reset { number, room },
+                None => Op::Bad,
+            },
+            CLOSE => match read_number(body) {
+                Some(number) => Op::Close(number),
+                None => Op::Bad,
+            },
             _ => Op::Bad,
         }
     }

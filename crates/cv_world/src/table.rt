@@ -1,15 +1,15 @@
 //! One caller's descriptors, and what the ops do to them.
 ghost use Rattle.std.specs.Prelude.{◌≡◌, ◌≤◌, ◌<◌, IfSome, IfOk, IsTrue, Some, None, is_some, ◌↔◌, length, OnErr};
 ghost use Rattle.std.specs.List.{list_any};
-ghost use Rattle.cv_pivot.specs.Converted.{IsConverted};
+ghost use Rattle.cv_pivot.specs.Conversions.{IsConverted};
 ghost use Rattle.cv_pivot.specs.Encodings.{encoding_reads, encoding_writes};
-ghost use Rattle.cv_world.specs.Answers.{answer_code, answer_body, AnswerFits};
+ghost use Rattle.cv_world.specs.Answers.{AnswerFits};
 ghost use Rattle.cv_world.specs.Tables.{empty_table, least_free, descriptor_at, with_descriptor};
 ghost use Rattle.cv_world.specs.Turn.{Closes, Convs, Resets};
 
 use crate::answer::Answer;
-use cv_base::{Codec, Memory};
-use cv_frame::{Bytes, Status};
+use cv_base::Memory;
+use cv_frame::{Bytes, MOST_BODY, Status};
 use cv_pivot::{Conversion, Outcome};
 use std::alloc::Global;
 
@@ -39,6 +39,7 @@ fn convert(
     room: u32,
     input: &[u8],
 ) -> Result<Output, Memory>
+    requires { length input.now ≤ MOST_BODY }
     ensures converted { IfOk result (λ r. IsConverted (encoding_reads conversion.old.from) (encoding_writes conversion.old.to) conversion.old.states input.now room
         (record { left = r.outcome.left; count = r.outcome.count; stop = r.outcome.stop; output = r.bytes.items; states = conversion.new.states })) }
     ensures same { (conversion.new.from ≡ conversion.old.from) × (conversion.new.to ≡ conversion.old.to) }
@@ -46,8 +47,7 @@ fn convert(
     ensures fits { IfOk result (λ r. length r.bytes.items ≤ room) }
     ensures err { OnErr result (conversion.new ≡ conversion.old) }
 {
-    let most = conversion.to.most_bytes();
-    let size = (room as usize).min(most.saturating_mul(input.len()));
+    let size = (room as usize).min(conversion.most_output(input.len()));
     let mut bytes = vec![in alloc; 0u8; size]?;
     let outcome = conversion.convert(input, &mut bytes);
     bytes.truncate(size - outcome.room_left);
@@ -119,9 +119,8 @@ impl Table {
 
     /// CONV: converts by a descriptor.
     pub(crate) fn conv(&mut self, alloc: Global, number: u32, room: u32, input: &[u8]) -> Answer
-        requires { length input.now ≤ 1048567 }
-        ensures acts { Convs self.old number (descriptor_at self.old number) room input.now
-            (record { next = self.new; code = answer_code result; body = answer_body result }) }
+        requires { length input.now ≤ MOST_BODY }
+        ensures acts { Convs self.old number (descriptor_at self.old number) room input.now self.new result }
         ensures fits { AnswerFits result }
     {
         let Some(mut conversion) = self.get(number) else {
@@ -144,8 +143,7 @@ impl Table {
 
     /// RESET: takes a descriptor back to its start.
     pub(crate) fn reset(&mut self, number: u32, room: u32) -> Answer
-        ensures acts { Resets self.old number (descriptor_at self.old number) room
-            (record { next = self.new; code = answer_code result; body = answer_body result }) }
+        ensures acts { Resets self.old number (descriptor_at self.old number) room self.new result }
         ensures fits { AnswerFits result }
     {
         let Some(mut conversion) = self.get(number) else {
@@ -157,15 +155,13 @@ impl Table {
         let Ok(closing) = conversion.reset(room as usize) else {
             return Answer::Refused(Status::TooBig);
         };
-        let _few = closing.as_slice();
         self.set(number, Some(conversion));
         Answer::Written(closing)
     }
 
     /// CLOSE: gives a descriptor back.
     pub(crate) fn close(&mut self, number: u32) -> Answer
-        ensures acts { Closes self.old number (descriptor_at self.old number)
-            (record { next = self.new; code = answer_code result; body = answer_body result }) }
+        ensures acts { Closes self.old number (descriptor_at self.old number) self.new result }
         ensures fits { AnswerFits result }
     {
         let Some(_) = self.get(number) else {

@@ -1,17 +1,20 @@
 //! The callers of a shard.
 ghost use Rattle.std.specs.Prelude.{◌≡◌, ◌≤◌, OnOk, OnErr, length};
-ghost use Rattle.cv_frame.specs.Machine.{Steps, with_table};
+ghost use Rattle.cv_machine.specs.Machine.{Steps, with_table};
 ghost use Rattle.cv_world.specs.Actions.{asked, Open, Conv, Reset, Close, InputFits};
-ghost use Rattle.cv_world.specs.Answers.{answer_code, answer_body, AnswerFits};
+ghost use Rattle.cv_world.specs.Answers.{AnswerFits};
 ghost use Rattle.cv_world.specs.Tables.{no_tables};
-ghost use Rattle.cv_world.specs.Turn.{Acts, turn};
+ghost use Rattle.cv_world.specs.Turn.{Acts, turn as world_turn};
+ghost use Rattle.cv_world.specs.declared.table.Table.{Table as WorldTable};
 ghost use Rattle.cv_world.specs.Worlds.{world_tables};
 
 use crate::answer::Answer;
+use crate::laws::{one_answer, some_answer};
 use crate::op::Op;
 use crate::table::Table;
 use cv_base::Memory;
-use cv_frame::{Reply, Request, Status};
+use cv_frame::{MOST_BODY, Reply, Request, Status};
+use cv_machine::Machine;
 use cv_pivot::{Conversion, builtin};
 use std::alloc::Global;
 use std::collections::BTreeMap;
@@ -20,6 +23,19 @@ use std::collections::BTreeMap;
 #[derive(Drop)]
 pub struct World {
     callers: BTreeMap<u32, Table>,
+}
+
+impl Machine for World {
+    ghost Table = { WorldTable };
+
+    ghost turn = { world_turn };
+
+    ghost tables = { world_tables };
+
+    fn assert_valid(&self) {
+        one_answer();
+        some_answer();
+    }
 }
 
 impl World {
@@ -60,8 +76,7 @@ impl World {
 
     /// OPEN
     fn open(&mut self, caller: u32, to: &[u8], from: &[u8]) -> Answer
-        ensures acts { Acts (world_tables self.old caller) (Open to.now from.now)
-            (record { next = world_tables self.new caller; code = answer_code result; body = answer_body result }) }
+        ensures acts { Acts (world_tables self.old caller) (Open to.now from.now) (world_tables self.new caller) result }
         ensures others { world_tables self.new ≡ with_table (world_tables self.old) caller (world_tables self.new caller) }
         ensures fits { AnswerFits result }
     {
@@ -84,9 +99,8 @@ impl World {
 
     /// CONV
     fn conv(&mut self, alloc: Global, caller: u32, number: u32, room: u32, input: &[u8]) -> Answer
-        requires { length input.now ≤ 1048567 }
-        ensures acts { Acts (world_tables self.old caller) (Conv number room input.now)
-            (record { next = world_tables self.new caller; code = answer_code result; body = answer_body result }) }
+        requires { length input.now ≤ MOST_BODY }
+        ensures acts { Acts (world_tables self.old caller) (Conv number room input.now) (world_tables self.new caller) result }
         ensures others { world_tables self.new ≡ with_table (world_tables self.old) caller (world_tables self.new caller) }
         ensures fits { AnswerFits result }
     {
@@ -98,8 +112,7 @@ impl World {
 
     /// RESET
     fn reset(&mut self, caller: u32, number: u32, room: u32) -> Answer
-        ensures acts { Acts (world_tables self.old caller) (Reset number room)
-            (record { next = world_tables self.new caller; code = answer_code result; body = answer_body result }) }
+        ensures acts { Acts (world_tables self.old caller) (Reset number room) (world_tables self.new caller) result }
         ensures others { world_tables self.new ≡ with_table (world_tables self.old) caller (world_tables self.new caller) }
         ensures fits { AnswerFits result }
     {
@@ -111,8 +124,7 @@ impl World {
 
     /// CLOSE
     fn close(&mut self, caller: u32, number: u32) -> Answer
-        ensures acts { Acts (world_tables self.old caller) (Close number)
-            (record { next = world_tables self.new caller; code = answer_code result; body = answer_body result }) }
+        ensures acts { Acts (world_tables self.old caller) (Close number) (world_tables self.new caller) result }
         ensures others { world_tables self.new ≡ with_table (world_tables self.old) caller (world_tables self.new caller) }
         ensures fits { AnswerFits result }
     {
@@ -126,8 +138,7 @@ impl World {
     /// table as it was.
     pub fn step(&mut self, alloc: Global, caller: u32, op: Op<'_>) -> Answer
         requires { InputFits op }
-        ensures acts { Acts (world_tables self.old caller) (asked op.entry)
-            (record { next = world_tables self.new caller; code = answer_code result; body = answer_body result }) }
+        ensures acts { Acts (world_tables self.old caller) (asked op.entry) (world_tables self.new caller) result }
         ensures others { world_tables self.new ≡ with_table (world_tables self.old) caller (world_tables self.new caller) }
         ensures fits { AnswerFits result }
     {
@@ -150,7 +161,7 @@ impl World {
 
     /// The reply to one request.
     pub fn answer(&mut self, alloc: Global, request: &Request) -> Reply
-        ensures { Steps turn (world_tables self.old) request.now result (world_tables self.new) }
+        ensures { Steps world_turn (world_tables self.old) request.now result (world_tables self.new) }
     {
         let op = Op::read(request.op, request.body);
         let answer = self.step(alloc, request.caller, op);

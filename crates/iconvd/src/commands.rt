@@ -1,77 +1,67 @@
-//! The commands of the program.
+//! From the command line to the exit status.
 
+use crate::arguments::arguments;
 use crate::fault::{RunFault, status};
-use crate::input::{MAX_READS, read_all};
 use crate::job::{Job, Options};
 use crate::options::{options, usage_status};
 use crate::output::write_all;
-use crate::replies::show_replies;
-use crate::script::ask_script;
-use cv_loop::{FromReader, ToWriter, serve_new};
-use std::alloc::{AllocError, Global};
+use crate::run::run;
+use clap::Error;
+use clap::error::ErrorKind;
+use std::alloc::Global;
+use std::io;
 use std::rt::Env;
-use std::{env, io};
 
-/// Serves a script by a new world, and gives the reply lines.
-pub fn run_script<R>(rt: &R, alloc: Global, script: &[u8]) -> Result<Vec<u8>, RunFault> {
-    let frames = ask_script(alloc, script)?;
-    let mut reader = FromReader::new(frames.as_slice());
-    let mut writer = ToWriter::new(Vec::new(alloc));
-    serve_new(rt, alloc, &mut reader, &mut writer, MAX_READS)?;
-    show_replies(alloc, &writer.into_inner())
-}
-
-/// The command `run`.
-fn run<R: Input + Print + AllocGlobal>(rt: &R) -> Result<(), RunFault> {
-    let alloc = rt.alloc();
-    let script = read_all(alloc, rt.reader())?;
-    let lines = run_script(rt, alloc, &script)?;
-    write_all(io::writer(rt), &lines)
-}
-
-/// Says a fault on standard error, and gives its exit status.
-fn report<R: Eprint>(rt: &R, fault: RunFault) -> u8 {
-    let _ = eprintln!(rt; "iconvd: {fault}");
-    status(&fault)
+/// The exit status of a command. A fault is said on standard error, if that can be; the status doesn't depend on it.
+fn conclude<R: Eprint>(rt: &R, done: Result<(), RunFault>) -> u8 {
+    match done {
+        Ok(()) => 0,
+        Err(fault) => {
+            let _ = eprintln!(rt; "iconvd: {fault}");
+            status(&fault)
+        }
+    }
 }
 
 fn perform<R: Input + Print + Eprint + AllocGlobal>(rt: &R, said: Options) -> u8 {
     let done = match said.job {
         Job::Run => run(rt),
     };
-    match done {
-        Ok(()) => 0,
-        Err(fault) => report(rt, fault),
+    conclude(rt, done)
+}
+
+/// Prints the help or the version, for which the command line asked.
+fn show<R: Print>(rt: &R, alloc: Global, asked: &Error) -> Result<(), RunFault> {
+    let text = format!(in alloc; "{asked}")?;
+    write_all(io::writer(rt), text.as_bytes())
+}
+
+/// Shows what a command line that is no command asked for, or says what is wrong with it, and gives the exit status.
+pub fn explain<R: Print + Eprint>(rt: &R, alloc: Global, fault: &Error) -> u8 {
+    match fault.kind() {
+        ErrorKind::DisplayHelp | ErrorKind::DisplayVersion => {
+            conclude(rt, show(rt, alloc, fault))
+        }
+        ErrorKind::OutOfMemory => conclude(rt, Err(RunFault::Memory)),
+        _ => {
+            let _ = rt.eprint(fault);
+            usage_status(fault)
+        }
     }
 }
 
-/// Prints the help or the version where they were asked for, else what is wrong with the command line.
-fn explain<R: Print + Eprint>(rt: &R, fault: &clap::Error) -> u8 {
-    match fault.print(rt) {
-        Ok(()) if !fault.use_stderr() => 0,
-        Ok(()) => usage_status(fault),
-        Err(_) => 1,
-    }
-}
-
-fn words_of(alloc: Global, owned: &[String]) -> Result<Vec<&str>, AllocError> {
-    owned.iter().map(|word| word.as_str()).collect(alloc)
+fn obey<R: Env + Input + Print + Eprint + AllocGlobal>(rt: &R, alloc: Global) -> Result<u8, Error> {
+    let arguments = arguments(rt, alloc)?;
+    let words: Vec<&str> = arguments.iter().map(|word| word.as_str()).collect(alloc)?;
+    let said = options(alloc, &words)?;
+    Ok(perform(rt, said))
 }
 
 /// Does what the command line says, and gives the exit status.
 pub fn program<R: Env + Input + Print + Eprint + AllocGlobal>(rt: &R) -> u8 {
     let alloc = rt.alloc();
-    let Ok(arguments) = env::args(rt) else {
-        return report(rt, RunFault::Memory);
-    };
-    let Ok(owned) = arguments.collect::<Vec<String>>(alloc) else {
-        return report(rt, RunFault::Memory);
-    };
-    let Ok(words) = words_of(alloc, &owned) else {
-        return report(rt, RunFault::Memory);
-    };
-    match options(alloc, &words) {
-        Ok(said) => perform(rt, said),
-        Err(fault) => explain(rt, &fault),
+    match obey(rt, alloc) {
+        Ok(status) => status,
+        Err(fault) => explain(rt, alloc, &fault),
     }
 }

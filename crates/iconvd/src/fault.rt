@@ -41,24 +41,44 @@ pub fn status(fault: &RunFault) -> u8
 }
 
 impl From<ServeFault> for RunFault {
+    ghost use Rattle.std.specs.Prelude.{◌≡◌};
+    ghost use Rattle.iconvd.specs.declared.fault.RunFault.TheVariants as run;
+
+    ghost from_gives = { λ fault e. e ≡ run.Serve fault };
+
     fn from(fault: ServeFault) -> RunFault {
         RunFault::Serve(fault)
     }
 }
 
 impl From<Memory> for RunFault {
+    ghost use Rattle.std.specs.Prelude.{◌≡◌};
+    ghost use Rattle.iconvd.specs.declared.fault.RunFault.TheVariants as run;
+
+    ghost from_gives = { λ _ e. e ≡ run.Memory };
+
     fn from(_e: Memory) -> RunFault {
         RunFault::Memory
     }
 }
 
 impl From<AllocError> for RunFault {
+    ghost use Rattle.std.specs.Prelude.{◌≡◌};
+    ghost use Rattle.iconvd.specs.declared.fault.RunFault.TheVariants as run;
+
+    ghost from_gives = { λ _ e. e ≡ run.Memory };
+
     fn from(_e: AllocError) -> RunFault {
         RunFault::Memory
     }
 }
 
 impl<T: Drop> From<AllocFailed<T>> for RunFault {
+    ghost use Rattle.std.specs.Prelude.{◌≡◌};
+    ghost use Rattle.iconvd.specs.declared.fault.RunFault.TheVariants as run;
+
+    ghost from_gives = { λ _ e. e ≡ run.Memory };
+
     fn from(_e: AllocFailed<T>) -> RunFault {
         RunFault::Memory
     }

@@ -1,6 +1,7 @@
 //! `iconvd`: a character set conversion service for many callers.
 #![tactic(auto)]
 
+mod arguments;
 mod commands;
 mod fault;
 mod input;
@@ -9,9 +10,11 @@ mod lines;
 mod options;
 mod output;
 mod replies;
+mod run;
 mod script;
 #[cfg(test)]
 mod tests;
+mod version;
 
 use std::process::ExitCode;
 

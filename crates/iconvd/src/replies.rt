@@ -1,4 +1,6 @@
 //! Replies as lines of text.
+ghost use Rattle.std.specs.Prelude.{IfErr};
+ghost use Rattle.iconvd.specs.Faults.{IsOfReplies};
 
 use crate::fault::RunFault;
 use cv_frame::{ReplyFrame, Status, next_reply};
@@ -44,7 +46,9 @@ fn push_line(
 }
 
 /// The lines of reply frames: caller, tag, the status's name and the body in hexadecimal.
-pub fn show_replies(alloc: Global, replies: &[u8]) -> Result<Vec<u8>, RunFault> {
+pub fn show_replies(alloc: Global, replies: &[u8]) -> Result<Vec<u8>, RunFault>
+    ensures { IfErr result IsOfReplies }
+{
     let mut lines = Vec::new(alloc);
     let mut rest = replies;
     while !rest.is_empty() {

@@ -1,4 +1,6 @@
 //! Scripts: requests as lines of text.
+ghost use Rattle.std.specs.Prelude.{◌≤◌, length, IfOk, IfErr};
+ghost use Rattle.iconvd.specs.Faults.{IsOfScript};
 
 use crate::fault::RunFault;
 use crate::lines::{decimal, hex_bytes, words};
@@ -12,8 +14,8 @@ const LONGEST_NAME: usize = 255;
 /// The longest body of a frame, in bytes.
 const LONGEST_BODY: usize = 1_048_567;
 
-/// How many bytes of a CONV's body stand before the input.
-const CONV_HEAD: usize = 8;
+/// The longest input of a CONV, whose body has a descriptor and a room before it.
+const LONGEST_INPUT: usize = LONGEST_BODY - 8;
 
 /// Why a line gave no request.
 #[derive(Clone, Copy, Debug, PartialEq, Eq)]
@@ -45,7 +47,13 @@ fn number_of(word: &[u8]) -> Result<u32, LineFault> {
     decimal(word).ok_or(LineFault::NotACommand)
 }
 
-fn bytes_of(alloc: Global, word: &[u8]) -> Result<Vec<u8>, LineFault> {
+/// The bytes that a word has in hexadecimal, `most` at most. No memory is taken for more.
+fn bytes_of(alloc: Global, word: &[u8], most: usize) -> Result<Vec<u8>, LineFault>
+    ensures { IfOk result (λ bytes. length bytes.items ≤ most) }
+{
+    if word.len() / 2 > most {
+        return Err(LineFault::NotACommand);
+    }
     hex_bytes(alloc, word)?.ok_or(LineFault::NotACommand)
 }
 
@@ -75,10 +83,7 @@ fn ask_conv(
     };
     let number = number_of(number)?;
     let room = number_of(room)?;
-    let input = bytes_of(alloc, hex)?;
-    if input.len() > LONGEST_BODY - CONV_HEAD {
-        return Err(LineFault::NotACommand);
-    }
+    let input = bytes_of(alloc, hex, LONGEST_INPUT)?;
     let ask = Ask::Conv {
         number,
         room,
@@ -121,10 +126,7 @@ fn ask_raw(
     let Ok(op) = u8::try_from(number_of(op)?) else {
         return Err(LineFault::NotACommand);
     };
-    let body = bytes_of(alloc, hex)?;
-    if body.len() > LONGEST_BODY {
-        return Err(LineFault::NotACommand);
-    }
+    let body = bytes_of(alloc, hex, LONGEST_BODY)?;
     let ask = Ask::Raw { op, body: &body };
     write_request(out, from.caller, from.tag, &ask)?;
     Ok(())
@@ -156,7 +158,9 @@ fn is_skipped(line: &[u8]) -> bool {
 }
 
 /// The request frames of a script, in the order of its lines. Nothing of it is left at a fault.
-pub fn ask_script(alloc: Global, script: &[u8]) -> Result<Vec<u8>, RunFault> {
+pub fn ask_script(alloc: Global, script: &[u8]) -> Result<Vec<u8>, RunFault>
+    ensures { IfErr result IsOfScript }
+{
     let mut frames = Vec::new(alloc);
     let mut number: u32 = 0;
     for line in script.split(|byte| *byte == b'\n') {

@@ -11,19 +11,18 @@ put_or_substitute-requires g c = let i = c.loop-k.invariant in omega (arith, i.f
 pub overflow_add-lacking : goal.overflow_add-lacking
 overflow_add-lacking g c =
     let h = c.in-Wrote.ensures in
-    omega (arith, c.loop-k.invariant.few, h.1, written-count (g.C.Codec.writes c.args.codec.now) c.loop-k.now c.index-characters-k.result)
+    omega (arith, c.loop-k.invariant.few, h.counts, written-count (g.C.Codec.writes c.args.codec.now) c.loop-k.now c.index-characters-k.result)
 
 pub unreachable-requires : goal.unreachable-requires
 unreachable-requires g c =
     let h = c.in-NoRoom.ensures in
     let i = c.loop-k.invariant in
     let most = written-most c.most_bytes-most.result _ c.most_bytes-most.ensures.most c.loop-k.now c.index-characters-k.result in
-    omega (arith, h.0, i.short, i.size, most, c.most_bytes-most.ensures.few)
+    omega (arith, h.full, i.short, i.size, most, c.most_bytes-most.ensures.few)
 
 pub loop-k-preserved : goal.loop-k-preserved
 loop-k-preserved g c =
-    let h = c.in-Wrote.ensures in
-    one_more_written c.most_bytes-most.result _ _ _ _ c.args.at c.loop-k.k c.loop-k.end c.loop-k.lacking c.loop-k.now c.loop-k.out c.loop-k.invariant c.most_bytes-most.ensures.few c.most_bytes-most.ensures.most c.loop-k-test.true _ _ _ _ c.index-characters-k.result c.index-characters-k.is h.0 h.1 h.2 h.3 h.4
+    one_more_written c.most_bytes-most.result _ _ _ _ c.args.at c.loop-k.k c.loop-k.end c.loop-k.lacking c.loop-k.now c.loop-k.out c.loop-k.invariant c.most_bytes-most.ensures.few c.most_bytes-most.ensures.most c.loop-k-test.true _ _ _ _ c.index-characters-k.result c.index-characters-k.is c.in-Wrote.ensures
 
 pub overflow_sub-result : goal.overflow_sub-result
 overflow_sub-result g c = omega (arith, c.loop-k.invariant.wrote)

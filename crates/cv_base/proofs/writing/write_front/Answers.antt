@@ -5,7 +5,7 @@ use Rattle.cv_base.proofs.writing.write_front.Goals as goal
 pub write_some-some-requires-clause-room : goal.write_some-some-requires-clause-room
 write_some-some-requires-clause-room g c =
     let i = c.loop-n.invariant in
-    omega (arith, written_few _ g.met.S.Spelling.short _ 0 _ 0 _ _ i, i.size, i.within)
+    omega (arith, written_few _ c.assert_short.ensures _ 0 _ 0 _ _ i, i.size, i.within)
 
 pub loop-n-preserved : goal.loop-n-preserved
 loop-n-preserved g c = written_more _ _ 0 _ 0 _ _ _ _ _ c.loop-n.used c.loop-n.n _ c.loop-n.invariant (omega arith) (omega arith) c.write_some-some.ensures.bytes
@@ -13,4 +13,4 @@ loop-n-preserved g c = written_more _ _ 0 _ 0 _ _ _ _ _ c.loop-n.used c.loop-n.n
 pub returns-clause-few : goal.returns-clause-few
 returns-clause-few g c =
     let i = c.loop-n.invariant in
-    omega (arith, written_few _ g.met.S.Spelling.short _ 0 _ 0 _ _ i, i.within)
+    omega (arith, written_few _ c.assert_short.ensures _ 0 _ 0 _ _ i, i.within)

@@ -1,5 +1,5 @@
 use Rattle.std.proofs.Common.{◌≡◌, false, length, ◌-◌}
-use Rattle.cv_loop.specs.Steps.{Drained}
+use Rattle.cv_loop.specs.Private.Draining.{Drained}
 use Rattle.cv_loop.proofs.draining.drain.Given as goal
 
 -- what was answered so far
@@ -7,8 +7,8 @@ abbrev pub invariant-loop-n : goal.invariant-loop-n
 invariant-loop-n g l = record {
   ready : g.E.Engine.ready l.engine;
   works : g.W.Sink.has_failed l.writer ≡ false;
-  drained : Drained (g.E.Engine.tables l.fn.engine) (g.W.Sink.held l.fn.writer) (g.W.Sink.held l.writer) l.bytes l.used
-      (g.E.Engine.tables l.engine) l.fn.counts.written l.counts.written l.fn.counts.requests l.counts.requests;
+  drained : Drained g.E.Machine.turn (g.E.Machine.tables l.fn.engine) (g.W.Sink.held l.fn.writer) (g.W.Sink.held l.writer) l.bytes l.used
+      (g.E.Machine.tables l.engine) l.fn.counts.written l.counts.written l.fn.counts.requests l.counts.requests;
 }
 
 abbrev pub decreases-loop-n : goal.decreases-loop-n

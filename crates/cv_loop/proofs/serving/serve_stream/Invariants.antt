@@ -1,4 +1,4 @@
-use Rattle.std.proofs.Common.{◌≡◌, false, vec_len}
+use Rattle.std.proofs.Common.{◌≡◌, false}
 use Rattle.cv_loop.proofs.Streams.{Standing}
 use Rattle.cv_loop.proofs.serving.serve_stream.Given as goal
 
@@ -10,7 +10,6 @@ invariant-loop-read g l = record {
   reads : g.S.Source.has_failed l.reader ≡ false;
   writes : g.W.Sink.has_failed l.writer ≡ false;
   ready : g.E.Engine.ready l.engine;
-  room : vec_len l.buffer ≡ 65536;
-  stands : Standing (g.E.Engine.tables l.fn.engine) (g.E.Engine.tables l.engine) (g.S.Source.left l.fn.reader) (g.S.Source.left l.reader)
-      (g.W.Sink.held l.fn.writer) (g.W.Sink.held l.writer) l.held.items l.counts.requests l.counts.written;
+  stands : Standing g.E.Machine.turn (g.E.Machine.tables l.fn.engine) (g.E.Machine.tables l.engine) (g.S.Source.left l.fn.reader) (g.S.Source.left l.reader)
+      (g.W.Sink.held l.fn.writer) (g.W.Sink.held l.writer) l.held l.counts.requests l.counts.written l._read;
 }

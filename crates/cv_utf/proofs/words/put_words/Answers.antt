@@ -1,4 +1,5 @@
-use Rattle.std.proofs.Common.{arith, ◌∙◌, ◌≡◌, get_or}
+use Rattle.std.proofs.Common.{arith, ◌∙◌, ◌≡◌}
+use Rattle.cv_base.proofs.Front.{Begins-length}
 use Rattle.cv_utf.proofs.WordRuns.{length_more, word_more}
 use Rattle.cv_utf.proofs.words.put_words.Goals as goal
 
@@ -9,7 +10,7 @@ loop-k-preserved g c =
     let size = c.requires.sizes k (omega arith) in
     let word : c.copy_from_slice.new.self ≡ _ = c.copy_from_slice.ensures.after ∙ c.to_le_bytes.ensures in
     record {
-      few = omega (arith, i.few, size, g.met.W.Words.short (get_or c.args.values.now k 0));
+      few = omega (arith, i.few, size, Begins-length _ _ (c.requires.words k (omega arith)));
       bytes = length_more _ c.args.values.now c.loop-k.used k _ (omega (arith, c.requires.long)) i.bytes size;
       stand = word_more _ c.args.values.now c.args.out.now c.args.at c.loop-k.used k _ _ c.loop-k.out c.copy_from_slice.new.self i.stand (omega (arith, c.requires.long)) size (rw word (c.requires.words k (omega arith))) (omega (arith, i.few, c.loop-k.auto.out));
     }

@@ -1,7 +1,7 @@
 use Rattle.std.proofs.Common.{◌≡◌, ◌+◌, [], ◌∷◌, ◌++◌, take, sym, ap, ◌∙◌, arith}
 use Rattle.std.proofs.lemmas.List.{take_more}
 use Rattle.cv_frame.specs.Message.{Message}
-use Rattle.cv_frame.proofs.Runs.{Runs-push}
+use Rattle.cv_machine.proofs.Runs.{Runs-push}
 use Rattle.cv_world.specs.Turn.{turn}
 use Rattle.cv_loop.proofs.world_engine.WorldEngine.batch.Goals as goal
 

@@ -1,5 +1,5 @@
 use Rattle.std.proofs.Common.{◌≡◌, ◌≤◌, length, take, vec_len, vec_capacity}
-use Rattle.cv_frame.specs.Machine.{Runs}
+use Rattle.cv_machine.specs.Machine.{Runs}
 use Rattle.cv_world.specs.Worlds.{world_tables}
 use Rattle.cv_world.specs.Turn.{turn}
 use Rattle.cv_loop.proofs.world_engine.WorldEngine.batch.Given as goal

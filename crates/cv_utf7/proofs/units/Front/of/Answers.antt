@@ -1,5 +1,5 @@
 use Rattle.std.proofs.Common.{refl, arith, ◌+◌, ◌*◌}
-use Rattle.cv_utf7.proofs.Found.{front_more}
+use Rattle.cv_utf7.proofs.FrontDigits.{front_more}
 use Rattle.cv_utf7.proofs.units.Front.of.Goals as goal
 
 pub loop-n-preserved : goal.loop-n-preserved

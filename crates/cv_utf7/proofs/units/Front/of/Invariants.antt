@@ -1,4 +1,4 @@
-use Rattle.cv_utf7.specs.Steps.{IsFront}
+use Rattle.cv_utf7.specs.Private.ItemSteps.{IsFront}
 use Rattle.cv_utf7.proofs.units.Front.of.Given as goal
 
 abbrev pub invariant-loop-n : goal.invariant-loop-n

@@ -1,6 +1,6 @@
 use Rattle.std.proofs.Common.{◌-◌, arith}
 use Rattle.std.proofs.lemmas.Nat.{one_shl}
-use Rattle.cv_utf7.proofs.Found.{width_bound}
+use Rattle.cv_utf7.proofs.FrontDigits.{width_bound}
 use Rattle.cv_utf7.proofs.units.Front.range.Goals as goal
 
 pub returns-clause-bound : goal.returns-clause-bound

@@ -1,5 +1,5 @@
 use Rattle.std.proofs.Common.{refl, arith}
-use Rattle.cv_utf7.proofs.Found.{unit_0, unit_2, unit_4}
+use Rattle.cv_utf7.proofs.FrontDigits.{unit_0, unit_2, unit_4}
 use Rattle.cv_utf7.proofs.units.Unit.next.Goals as goal
 
 pub returns-then-pending-eq4 : goal.returns-then-pending-eq4

@@ -1,0 +1,4 @@
+pub mod Runs
+pub mod Isolation
+pub mod Outcomes
+pub mod Begun

@@ -1,0 +1,41 @@
+//! Laws of the runs of a machine.
+
+ghost use Rattle.cv_machine.specs.Isolation.{OneWriting, OneService, TwoWorlds, AnySchedule, AnyMerge};
+
+use crate::machine::Machine;
+
+/// Answers to one byte string in which memory lacked at the same places are the same.
+pub fn one_writing<M: Machine>(machine: &M)
+    ensures { OneWriting M.turn }
+{
+    machine.assert_valid();
+}
+
+/// Where memory never lacked, one byte string is answered in one way.
+pub fn one_service<M: Machine>(machine: &M)
+    ensures { OneService M.turn }
+{
+    machine.assert_valid();
+}
+
+/// What a caller is told, and its table in the end, depend on its own requests alone.
+pub fn two_worlds<M: Machine>(machine: &M)
+    ensures { TwoWorlds M.turn }
+{
+    machine.assert_valid();
+}
+
+/// Runs that differ only in how the requests of different callers stand among one another tell each caller the same, and leave the
+/// same tables.
+pub fn schedules<M: Machine>(machine: &M)
+    ensures { AnySchedule M.turn }
+{
+    machine.assert_valid();
+}
+
+/// Runs of parts of the callers are one run, in whatever order their events fall.
+pub fn merges<M: Machine>(_machine: &M)
+    ensures { AnyMerge M.turn }
+{
+    // The contract is the law; nothing runs.
+}

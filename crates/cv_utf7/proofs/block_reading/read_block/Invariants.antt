@@ -1,9 +1,0 @@
-use Rattle.std.proofs.Common.{length, ◌-◌}
-use Rattle.cv_utf7.specs.BlockSteps.{ReadsOn}
-use Rattle.cv_utf7.proofs.block_reading.read_block.Given as goal
-
-abbrev pub invariant-loop-next : goal.invariant-loop-next
-invariant-loop-next l = ReadsOn l.input l.fn.state 0 0 l.initial.buffer l.block.next l.block.used l.block.n l.buffer
-
-abbrev pub decreases-loop-next : goal.decreases-loop-next
-decreases-loop-next l = length l.input - l.block.used

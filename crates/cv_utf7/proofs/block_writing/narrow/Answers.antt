@@ -1,5 +1,0 @@
-use Rattle.cv_utf7.proofs.BlockWriting.{zero_not_direct}
-use Rattle.cv_utf7.proofs.block_writing.narrow.Goals as goal
-
-pub returns-else-value-lt128 : goal.returns-else-value-lt128
-returns-else-value-lt128 c e = absurd (zero_not_direct e)

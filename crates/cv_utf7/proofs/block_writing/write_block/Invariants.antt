@@ -1,9 +1,0 @@
-use Rattle.std.proofs.Common.{length, ◌-◌}
-use Rattle.cv_utf7.specs.BlockSteps.{WritesOn}
-use Rattle.cv_utf7.proofs.block_writing.write_block.Given as goal
-
-abbrev pub invariant-loop-reached : goal.invariant-loop-reached
-invariant-loop-reached l = WritesOn l.characters l.fn.state 0 l.at l.fn.out l.reached.next l.reached.n l.reached.end l.out
-
-abbrev pub decreases-loop-reached : goal.decreases-loop-reached
-decreases-loop-reached l = length l.characters - l.reached.n

@@ -1,0 +1,13 @@
+use Rattle.std.proofs.Common.{length, ◌-◌, ◌≤◌}
+use Rattle.cv_base.specs.declared.state.ReadState.TheVariants as read
+use Rattle.cv_utf7.specs.Private.ReadSteps.{place, ReadsOn}
+use Rattle.cv_utf7.proofs.read_blocks.read_window.Given as goal
+
+abbrev pub invariant-loop-used : goal.invariant-loop-used
+invariant-loop-used l = record {
+  read : ReadsOn l.input (place read.Start l.base l.fn.n) l.fn.buffer (place read.Start l.used l.count) l.buffer;
+  on : l.base ≤ l.used;
+}
+
+abbrev pub decreases-loop-used : goal.decreases-loop-used
+decreases-loop-used l = length l.input - l.used

@@ -1,0 +1,12 @@
+use Rattle.std.proofs.Common.{arith, ◌∙◌, length-set}
+use Rattle.std.proofs.lemmas.List.{get_or_read}
+use Rattle.cv_utf7.proofs.WriteRuns.{narrow_more}
+use Rattle.cv_utf7.proofs.write_runs.narrowed.Goals as goal
+
+pub loop-i-preserved : goal.loop-i-preserved
+loop-i-preserved c =
+    let p = c.loop-i.invariant in
+    record {
+      long = length-set _ _ _ ∙ p.long;
+      same = narrow_more c.args.n c.loop-i.i c.narrow.result c.loop-i.bytes _ (omega arith) (λ e. c.narrow.ensures e ∙ get_or_read c.args.characters.now _ _ (omega arith) c.index-characters-n.is 0) p.same;
+    }

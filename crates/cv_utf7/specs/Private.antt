@@ -1,0 +1,5 @@
+pub mod ByteSets
+pub mod ItemSteps
+pub mod PendingBits
+pub mod ReadSteps
+pub mod WriteSteps

@@ -1,0 +1,37 @@
+-- What the steps of finding the next item find in a text.
+use Rattle.std.specs.Prelude.{◌≡◌, ℕ, ◌+◌, ◌*◌, ◌^◌, ◌<◌, ◌≤◌, List, ◌++◌, length, take, Some, None}
+use Rattle.cv_base.specs.Items.{Taken, taken}
+use Rattle.cv_base.specs.declared.item.Item.{Item}
+use Rattle.cv_base.specs.declared.item.Item.TheVariants as item
+use Rattle.cv_base.specs.declared.state.Bits.{Bits}
+use Rattle.cv_utf7.specs.BitLists.{bits, bits_of, AreDigits, digit_bits}
+use Rattle.cv_utf7.specs.Utf7.{EndsAt}
+use Rattle.cv_utf7.specs.declared.units.Unit.{Unit}
+
+-- The fewest digits whose bits hold a code unit stand at the front.
+pub record IsUnit (pending : Bits) (text : List ℕ) (found : Unit) : Type 0 where
+  pub within : found.n ≤ length text
+  pub are_digits : AreDigits (take found.n text)
+  pub same : bits_of pending ++ digit_bits (take found.n text) ≡ bits 16 found.value ++ bits_of found.over
+  pub small : found.value < 0x10000
+
+-- There are too few digits for a code unit.
+abbrev pub NoUnit : Bits → List ℕ → Type 0
+NoUnit pending text = (n : ℕ) → n ≤ length text → 16 ≤ pending.count + 6 * n → AreDigits (take n text) → ⊥
+
+-- These are the digits at the front, and the bits so far.
+pub record IsFront (pending : Bits) (text : List ℕ) (n count value : ℕ) : Type 0 where
+  pub within : n ≤ length text
+  pub are_digits : AreDigits (take n text)
+  pub counts : count ≡ pending.count + 6 * n
+  pub few : count < 16
+  pub small : value < 2 ^ count
+  pub same : bits_of pending ++ digit_bits (take n text) ≡ bits count value
+
+-- What a byte after zero bits ends.
+abbrev pub IsEnding : ℕ → ℕ → Item → Type 0
+IsEnding last used (item.Char c n next) = EndsAt used last (taken n (Some c) next)
+IsEnding last used (item.Shift n next) = EndsAt used last (taken n None next)
+IsEnding last used item.Incomplete = ⊥
+IsEnding last used item.Ill = (i : Taken) → EndsAt used last i → ⊥
+IsEnding last used item.End = ⊥

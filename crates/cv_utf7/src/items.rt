@@ -1,0 +1,203 @@
+//! What stands next in a text.
+ghost use Rattle.std.specs.Prelude.{◌≡◌, ◌↔◌, IsTrue, false, drop, ◌+◌, ◌<◌, ◌≤◌, length, get_or};
+ghost use Rattle.cv_utf7.specs.Sets.{is_digit};
+ghost use Rattle.cv_base.specs.Items.{IsNext};
+ghost use Rattle.cv_utf7.specs.Utf7.{utf7_reads};
+ghost use Rattle.cv_utf7.specs.Private.ItemSteps.{IsUnit, NoUnit, IsEnding};
+
+use crate::sets::{digit, may_stand};
+use crate::units::{Front, Unit};
+use cv_base::{Bits, Item, ReadState, Scalar};
+
+// No bits are pending.
+pub(crate) const NONE: Bits = Bits { count: 0, value: 0 };
+
+/// What stands next outside a shifted sequence.
+#[inline]
+#[tactic(auto, using(crate::proofs::StartItems::starts))]
+pub(crate) fn item_at_start(input: &[u8]) -> Item
+    ensures { IsNext utf7_reads ReadState.Start input.now result }
+{
+    if input.is_empty() {
+        return Item::End;
+    }
+    let a = input[0];
+    if may_stand(a) {
+        return Item::Char {
+            c: Scalar::known(a as u32),
+            n: 1,
+            next: ReadState::Start,
+        };
+    }
+    if a != b'+' {
+        return Item::Ill;
+    }
+    if input.len() < 2 {
+        return Item::Incomplete;
+    }
+    if input[1] == b'-' {
+        return Item::Char {
+            c: Scalar::known(b'+' as u32),
+            n: 2,
+            next: ReadState::Start,
+        };
+    }
+    match digit(input[1]) {
+        Some(_) => {
+            let next = ReadState::Shifted(NONE);
+            Item::Shift { n: 1, next }
+        }
+        None => Item::Ill,
+    }
+}
+
+/// Whether the code unit is one of a pair.
+#[inline(always)]
+pub(crate) fn is_surrogate(unit: u32) -> bool
+    ensures { IsTrue result ↔ ((0xD800 ≤ unit) × (unit < 0xE000)) }
+{
+    unit >= 0xD800 && unit < 0xE000
+}
+
+/// What stands next in a shifted sequence.
+#[inline(always)]
+#[tactic(auto, using(crate::proofs::ShiftItems::shifts))]
+pub(crate) fn item_in_shift(pending: Bits, input: &[u8]) -> Item
+    ensures { IsNext utf7_reads (ReadState.Shifted pending) input.now result }
+{
+    if input.is_empty() {
+        return Item::End;
+    }
+    match Unit::next(pending, input) {
+        None => {
+            if digit(input[0]).is_none() {
+                return item_of_end(pending, input);
+            }
+            item_of_few(pending, input)
+        }
+        Some(unit) => {
+            if is_surrogate(unit.value) {
+                return item_of_surrogate(pending, input, unit);
+            }
+            Item::Char {
+                c: Scalar::known(unit.value),
+                n: unit.n,
+                next: ReadState::Shifted(unit.over),
+            }
+        }
+    }
+}
+
+/// What stands next where no digit does: the end of the sequence, if no bits are left.
+#[inline(always)]
+#[tactic(auto, using(crate::proofs::FewDigits::stops))]
+fn item_of_end(pending: Bits, input: &[u8]) -> Item
+    requires some { 0 < length input.now }
+    requires none { is_digit (get_or input.now 0 0) ≡ false }
+    ensures { IsNext utf7_reads (ReadState.Shifted pending) input.now result }
+{
+    if pending.value != 0 {
+        return Item::Ill;
+    }
+    ending(input[0], 1)
+}
+
+/// What stands next where a surrogate does: a pair, if it is a high one and a low one follows.
+#[inline(always)]
+#[tactic(auto, using(crate::proofs::ShiftItems::pairs))]
+fn item_of_surrogate(pending: Bits, input: &[u8], high: Unit) -> Item
+    requires unit { IsUnit pending input.now high }
+    requires surrogate { (0xD800 ≤ high.value) × (high.value < 0xE000) }
+    ensures { IsNext utf7_reads (ReadState.Shifted pending) input.now result }
+{
+    if high.value >= 0xDC00 {
+        return Item::Ill;
+    }
+    let (_, rest) = input.split_at(high.n);
+    let Some(low) = Unit::next(high.over, rest) else {
+        return item_of_front(pending, input, high);
+    };
+    if low.value < 0xDC00 {
+        return Item::Ill;
+    }
+    if low.value >= 0xE000 {
+        return Item::Ill;
+    }
+    Item::Char {
+        c: Scalar::known(0x1_0000 + (high.value - 0xD800) * 1024 + (low.value - 0xDC00)),
+        n: high.n + low.n,
+        next: ReadState::Shifted(low.over),
+    }
+}
+
+/// What stands next where a high surrogate does, and then too few digits for a code unit.
+#[tactic(auto, using(crate::proofs::GrownDigits::halves))]
+fn item_of_front(pending: Bits, input: &[u8], high: Unit) -> Item
+    requires unit { IsUnit pending input.now high }
+    requires surrogate { (0xD800 ≤ high.value) × (high.value < 0xDC00) }
+    requires few { NoUnit high.over (drop high.n input.now) }
+    ensures { IsNext utf7_reads (ReadState.Shifted pending) input.now result }
+{
+    let (_, rest) = input.split_at(high.n);
+    let front = Front::of(high.over, rest);
+    if front.n < rest.len() {
+        return Item::Ill;
+    }
+    let (from, to) = front.range();
+    if from >= 0xE000 {
+        return Item::Ill;
+    }
+    if to <= 0xDC00 {
+        return Item::Ill;
+    }
+    Item::Incomplete
+}
+
+/// What stands next where there are too few digits for a code unit: the end of the sequence, or the front of a character.
+#[tactic(auto, using(crate::proofs::GrownDigits::fews))]
+fn item_of_few(pending: Bits, input: &[u8]) -> Item
+    requires few { NoUnit pending input.now }
+    requires some { 0 < length input.now }
+    ensures { IsNext utf7_reads (ReadState.Shifted pending) input.now result }
+{
+    let front = Front::of(pending, input);
+    if front.n < input.len() {
+        if front.value != 0 {
+            return Item::Ill;
+        }
+        return ending(input[front.n], front.n + 1);
+    }
+    let (from, to) = front.range();
+    if from < 0xDC00 {
+        return Item::Incomplete;
+    }
+    if to > 0xE000 {
+        return Item::Incomplete;
+    }
+    Item::Ill
+}
+
+/// What a byte ends, after bits that are zero.
+#[inline(always)]
+#[tactic(auto, using(crate::proofs::FewDigits::ends))]
+fn ending(last: u8, used: usize) -> Item
+    ensures { IsEnding last used result }
+{
+    if last == b'-' {
+        return Item::Shift {
+            n: used,
+            next: ReadState::Start,
+        };
+    }
+    if !may_stand(last) {
+        return Item::Ill;
+    }
+    match digit(last) {
+        Some(_) => Item::Ill,
+        None => Item::Char {
+            c: Scalar::known(last as u32),
+            n: used,
+            next: ReadState::Start,
+        },
+    }
+}

@@ -1,0 +1,124 @@
+//! Blocks of characters that are read.
+ghost use Rattle.std.specs.Prelude.{◌≡◌, ◌≤◌, ◌<◌, ◌+◌, MatchOption, IfSome, length};
+ghost use Rattle.cv_utf7.specs.Private.ReadSteps.{place, ReadsOn};
+
+use crate::byte_sets::{WINDOW, not_direct};
+use crate::read_runs::{FEW_READ, MANY_READ, read_direct, read_run};
+use crate::read_sequences::{read_inside, read_lone, read_sequence};
+use crate::utf7::Utf7;
+use cv_base::{Codec, Item, ReadBlock, ReadState, Scalar};
+
+/// The bytes that a window needs: its own, those of a run that begins in it, and those of a sequence behind that.
+const REACH: usize = WINDOW + MANY_READ + 5;
+
+/// Reads direct characters, and sequences between them, from the first byte of a window to its last or to what stops it.
+#[inline(always)]
+fn read_window(input: &[u8], base: usize, buffer: &mut [Scalar], n: usize) -> ReadBlock
+    requires within { base + 85 ≤ length input.now }
+    requires room { n + 10 ≤ length buffer.old }
+    ensures more { ReadsOn input.now (place ReadState.Start base n) buffer.old result buffer.new }
+    ensures on { base ≤ result.used }
+{
+    let stops = not_direct(input, base);
+    let mut used = base;
+    let mut count = n;
+    while used - base < WINDOW && buffer.len() - count >= FEW_READ + 2 {
+        let (run, goes_on) = read_run(input, base, stops, used, buffer, count);
+        used += run;
+        count += run;
+        if goes_on {
+            continue;
+        }
+        let characters = read_lone(input, used, buffer, count);
+        if characters > 0 {
+            used += 5;
+            count += characters;
+            continue;
+        }
+        let block = read_sequence(input, used, buffer, count);
+        match block.next {
+            ReadState::Start if block.used > used => {
+                used = block.used;
+                count = block.n;
+            }
+            _ => return block,
+        }
+    }
+    ReadBlock {
+        n: count,
+        used,
+        next: ReadState::Start,
+    }
+}
+
+/// Reads outside a shifted sequence, as far as it goes.
+#[inline(always)]
+fn read_outside(input: &[u8], start: usize, buffer: &mut [Scalar], n: usize) -> ReadBlock
+    requires within { start ≤ length input.now }
+    requires room { n ≤ length buffer.old }
+    ensures { ReadsOn input.now (place ReadState.Start start n) buffer.old result buffer.new }
+{
+    let mut used = start;
+    let mut count = n;
+    while input.len() - used >= REACH && buffer.len() - count >= FEW_READ + 2 {
+        let block = read_window(input, used, buffer, count);
+        match block.next {
+            ReadState::Start if block.used > used => {
+                used = block.used;
+                count = block.n;
+            }
+            _ => return block,
+        }
+    }
+    let run = read_direct(input, used, buffer, count);
+    ReadBlock {
+        n: count + run,
+        used: used + run,
+        next: ReadState::Start,
+    }
+}
+
+/// Reads on from a block, as far as it goes at once.
+#[inline(always)]
+pub(crate) fn read_on(input: &[u8], buffer: &mut [Scalar], from: ReadBlock) -> ReadBlock
+    requires within { from.used ≤ length input.now }
+    requires room { from.n ≤ length buffer.old }
+    ensures { ReadsOn input.now from buffer.old result buffer.new }
+{
+    match from.next {
+        ReadState::Start => read_outside(input, from.used, buffer, from.n),
+        ReadState::Shifted(pending) => read_inside(pending, input, from.used, buffer, from.n),
+        ReadState::Big | ReadState::Little => from,
+    }
+}
+
+/// Reads the item that stands next, if there is one and there is a place for its character.
+#[inline(never)]
+pub(crate) fn read_one(input: &[u8], buffer: &mut [Scalar], from: ReadBlock) -> Option<ReadBlock>
+    requires within { from.used ≤ length input.now }
+    requires room { from.n ≤ length buffer.old }
+    ensures one { IfSome result
+        (λ to. ReadsOn input.now from buffer.old to buffer.new × (from.used < to.used)) }
+    ensures none { MatchOption result (buffer.new ≡ buffer.old)
+        (λ _. length buffer.new ≡ length buffer.old) }
+{
+    if from.n == buffer.len() {
+        return None;
+    }
+    match Utf7.item(from.next, &input[from.used..]) {
+        Item::Char { c, n, next } => {
+            buffer[from.n] = c;
+            Some(ReadBlock {
+                n: from.n + 1,
+                used: from.used + n,
+                next,
+            })
+        }
+        Item::Shift { n, next } => Some(ReadBlock {
+            n: from.n,
+            used: from.used + n,
+            next,
+        }),
+        Item::Incomplete | Item::Ill | Item::End => None,
+    }
+}

@@ -1,0 +1,109 @@
+//! Runs of direct characters that are read.
+ghost use Rattle.std.specs.Prelude.{◌≡◌, ◌≤◌, ◌<◌, ◌+◌, ◌++◌, ℕ, true, IsTrue, length, take, drop, get_or};
+ghost use Rattle.std.specs.Int.{bit_at};
+ghost use Rattle.cv_utf7.specs.Sets.{may_be_direct};
+ghost use Rattle.cv_utf7.specs.Private.ReadSteps.{place, ReadsOn};
+
+use crate::byte_sets::run_at;
+use crate::sets::may_stand;
+use cv_base::{ReadState, Scalar};
+use std::simd::prelude::*;
+
+/// How many bytes of a run are put into the buffer at once.
+pub(crate) const MANY_READ: usize = 16;
+
+/// How many where there is no place for so many.
+pub(crate) const FEW_READ: usize = 8;
+
+/// Reads direct characters, and answers how many they are.
+#[inline(always)]
+#[tactic(auto, using(crate::proofs::ReadRuns::reads_direct))]
+pub(crate) fn read_direct(input: &[u8], used: usize, buffer: &mut [Scalar], n: usize) -> usize
+    requires within { used ≤ length input.now }
+    requires room { n ≤ length buffer.old }
+    ensures { ReadsOn input.now (place ReadState.Start used n) buffer.old
+        (place ReadState.Start (used + result) (n + result)) buffer.new }
+{
+    let most = (input.len() - used).min(buffer.len() - n);
+    let mut run = 0;
+    while run < most && may_stand(input[used + run]) {
+        buffer[n + run] = Scalar::known(input[used + run] as u32);
+        run += 1;
+    }
+    run
+}
+
+/// Puts 16 bytes into the buffer.
+#[inline(always)]
+fn put_many(input: &[u8], at: usize, buffer: &mut [Scalar], n: usize)
+    requires within { at + 16 ≤ length input.now }
+    requires room { n + 16 ≤ length buffer.old }
+    ensures { take (n + 16) buffer.new ≡ take n buffer.old ++ take 16 (drop at input.now) }
+{
+    let bytes = u8x16::from_slice(&input[at..]).to_array();
+    for i in 0..MANY_READ {
+        buffer[n + i] = Scalar::known(bytes[i] as u32);
+    }
+}
+
+/// Puts 8 bytes into the buffer.
+#[inline(always)]
+fn put_few(input: &[u8], at: usize, buffer: &mut [Scalar], n: usize)
+    requires within { at + 8 ≤ length input.now }
+    requires room { n + 8 ≤ length buffer.old }
+    ensures { take (n + 8) buffer.new ≡ take n buffer.old ++ take 8 (drop at input.now) }
+{
+    let bytes = u8x8::from_slice(&input[at..]).to_array();
+    for i in 0..FEW_READ {
+        buffer[n + i] = Scalar::known(bytes[i] as u32);
+    }
+}
+
+/// Puts 16 bytes into the buffer, or 8 where there is no place for so many and two more. Answers how many they are.
+#[inline(always)]
+fn put_some(input: &[u8], at: usize, buffer: &mut [Scalar], n: usize) -> usize
+    requires within { at + 16 ≤ length input.now }
+    requires room { n + 10 ≤ length buffer.old }
+    ensures stand { take (n + result) buffer.new ≡ take n buffer.old ++ take result
+        (drop at input.now) }
+    ensures most { result ≤ 16 }
+    ensures some { 8 ≤ result }
+    ensures fits { n + result + 2 ≤ length buffer.old }
+{
+    if buffer.len() - n >= MANY_READ + 2 {
+        put_many(input, at, buffer, n);
+        return MANY_READ;
+    }
+    put_few(input, at, buffer, n);
+    FEW_READ
+}
+
+/// Reads the direct characters of a run, as many as are put at once. Answers how many they are, and whether the run may go on.
+#[inline(always)]
+pub(crate) fn read_run(
+    input: &[u8],
+    base: usize,
+    stops: u64,
+    used: usize,
+    buffer: &mut [Scalar],
+    n: usize,
+) -> (usize, bool)
+    requires window { (i : ℕ) → i < 64 → bit_at stops i ≡ 0
+        → may_be_direct (get_or input.now (base + i) 0) ≡ true }
+    requires place { (base ≤ used) × (used < base + 64) }
+    requires within { used + 16 ≤ length input.now }
+    requires room { n + 10 ≤ length buffer.old }
+    ensures run { ReadsOn input.now (place ReadState.Start used n) buffer.old
+        (place ReadState.Start (used + result.0) (n + result.0)) buffer.new }
+    ensures most { result.0 ≤ 16 }
+    ensures on { IsTrue result.1 → 0 < result.0 }
+    ensures fits { n + result.0 + 2 ≤ length buffer.old }
+{
+    let run = run_at(stops, used - base);
+    let most = put_some(input, used, buffer, n);
+    if run >= most {
+        (most, true)
+    } else {
+        (run, false)
+    }
+}

@@ -1,0 +1,90 @@
+//! Blocks of characters that are written.
+ghost use Rattle.std.specs.Prelude.{◌≤◌, ◌<◌, ◌+◌, ◌-◌, ◌*◌, length};
+ghost use Rattle.cv_utf7.specs.Private.WriteSteps.{place, WritesOn};
+
+use crate::byte_sets::{WINDOW, not_written_direct};
+use crate::write_runs::{MANY_WRITTEN, narrowed, write_direct, write_run};
+use crate::write_sequences::{Reached, write_inside, write_one, write_sequence};
+use cv_base::{Scalar, WriteState};
+use std::simd::prelude::*;
+
+/// Writes direct characters, and sequences between them, from a place of a window to its last or as far as there are many more.
+#[inline(always)]
+fn write_window(
+    characters: &[Scalar],
+    base: usize,
+    from: usize,
+    out: &mut [u8],
+    at: usize,
+) -> Reached
+    requires within { base + 64 ≤ length characters.now }
+    requires place { (base ≤ from) × (from < base + 64) }
+    requires many { from + 16 ≤ length characters.now }
+    requires room { at + 8 * (length characters.now - from) ≤ length out.old }
+    ensures more { WritesOn characters.now (place WriteState.Start from at) out.old result out.new }
+    ensures on { from < result.n }
+{
+    let bytes = narrowed(characters, base);
+    let stops = not_written_direct(u8x64::from_slice(&bytes));
+    let mut n = from;
+    let mut end = at;
+    while n - base < WINDOW && characters.len() - n >= MANY_WRITTEN {
+        let (run, goes_on) = write_run(characters, base, &bytes, stops, n, out, end);
+        n += run;
+        end += run;
+        if goes_on {
+            continue;
+        }
+        let reached = write_sequence(characters, n, out, end);
+        match reached.next {
+            WriteState::Start => {
+                n = reached.n;
+                end = reached.end;
+            }
+            _ => return reached,
+        }
+    }
+    Reached {
+        n,
+        end,
+        next: WriteState::Start,
+    }
+}
+
+/// Writes outside a shifted sequence, as far as it goes.
+#[inline(always)]
+fn write_outside(characters: &[Scalar], from: usize, out: &mut [u8], at: usize) -> Reached
+    requires some { from < length characters.now }
+    requires room { at + 8 * (length characters.now - from) ≤ length out.old }
+    ensures more { WritesOn characters.now (place WriteState.Start from at) out.old result out.new }
+    ensures on { from < result.n }
+{
+    let len = characters.len();
+    if len >= WINDOW && len - from >= MANY_WRITTEN {
+        return write_window(characters, from.min(len - WINDOW), from, out, at);
+    }
+    let run = write_direct(characters, from, out, at);
+    if from + run == len {
+        return Reached {
+            n: len,
+            end: at + run,
+            next: WriteState::Start,
+        };
+    }
+    write_sequence(characters, from + run, out, at + run)
+}
+
+/// Writes on from a place, as far as it goes at once.
+#[inline(always)]
+pub(crate) fn write_on(characters: &[Scalar], from: Reached, out: &mut [u8]) -> Reached
+    requires some { from.n < length characters.now }
+    requires room { from.end + 8 * (length characters.now - from.n) ≤ length out.old }
+    ensures more { WritesOn characters.now from out.old result out.new }
+    ensures on { from.n < result.n }
+{
+    match from.next {
+        WriteState::Start => write_outside(characters, from.n, out, from.end),
+        WriteState::Shifted(pending) => { write_inside(pending, characters, from.n, out, from.end) }
+        WriteState::Marked => write_one(characters, from, out),
+    }
+}

@@ -15,3 +15,6 @@ pub use entry::Entry;
 pub use found::Found;
 pub use node::{Link, Node};
 pub use steps::{NODE, NONE, Steps};
+
+#[cfg(test)]
+mod tests;

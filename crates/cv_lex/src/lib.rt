@@ -18,6 +18,3 @@ pub use line::{Line, Marks, Setting, read_line};
 pub use names::name_of;
 pub use splitting::lines;
 pub use text_lines::Lines;
-
-#[cfg(test)]
-mod tests;

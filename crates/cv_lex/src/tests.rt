@@ -1,3 +1,0 @@
-//! Names, constants and causes, against values from outside.
-use super::*;
-use std::test::Fail;

@@ -8,18 +8,22 @@ use Rattle.cv_base.specs.Chains.{IsChain, used_bytes, read_state, characters_of,
 use Rattle.cv_base.specs.declared.state.ReadState.{ReadState}
 use Rattle.cv_base.specs.declared.state.WriteState.{WriteState}
 
+-- the bytes that two chains use
 pub used_bytes-append : (a b : List Taken) → used_bytes (a ++ b) ≡ used_bytes a + used_bytes b
 used_bytes-append [] b = sym (zero-add (used_bytes b))
 used_bytes-append (i ∷ a) b = ap (λ n. i.used + n) (used_bytes-append a b) ∙ sym (add_assoc i.used (used_bytes a) (used_bytes b))
 
+-- the state behind two chains
 pub read_state-append : (s : ReadState) (a b : List Taken) → read_state s (a ++ b) ≡ read_state (read_state s a) b
 read_state-append s [] b = refl
 read_state-append s (i ∷ a) b = read_state-append i.next a b
 
+-- the characters that two chains give
 pub characters_of-append : (a b : List Taken) → characters_of (a ++ b) ≡ characters_of a ++ characters_of b
 characters_of-append [] b = refl
 characters_of-append (i ∷ a) b = ap (λ (x : List ℕ). option_to_list i.gives ++ x) (characters_of-append a b) ∙ sym (append_assoc (option_to_list i.gives) (characters_of a) (characters_of b))
 
+-- outputs may be put together from either end
 pub followed_assoc : (x y z : Output) → followed (followed x y) z ≡ followed x (followed y z)
 followed_assoc x y z = ap (λ (p : List ℕ × ℕ). output p.0 p.1 z.next) (let e : ◌≡◌ {A = List ℕ × ℕ} ((x.bytes ++ y.bytes) ++ z.bytes, (x.count + y.count) + z.count) (x.bytes ++ (y.bytes ++ z.bytes), x.count + (y.count + z.count)) = (cc (append_assoc x.bytes y.bytes z.bytes, add_assoc x.count y.count z.count)) in e)
 
@@ -27,6 +31,7 @@ followed_assoc x y z = ap (λ (p : List ℕ × ℕ). output p.0 p.1 z.next) (let
 followed_none : (t : WriteState) (x : Output) → followed (output [] 0 t) x ≡ x
 followed_none t x = ap (λ n. output x.bytes n x.next) (zero-add x.count)
 
+-- what is written for two chains
 pub output_of-append : (writes : Writing) (t : WriteState) (a b : List Taken) → output_of writes t (a ++ b) ≡ followed (output_of writes t a) (output_of writes (output_of writes t a).next b)
 output_of-append writes t [] b = ap (λ n. output (output_of writes t b).bytes n (output_of writes t b).next) (sym (zero-add (output_of writes t b).count))
 output_of-append writes t (i ∷ a) b =
@@ -34,6 +39,7 @@ output_of-append writes t (i ∷ a) b =
     ap (followed w) (output_of-append writes w.next a b)
     ∙ sym (followed_assoc w (output_of writes w.next a) (output_of writes (output_of writes w.next a).next b))
 
+-- what is written for characters and those behind them
 pub output_for-append : (writes : Writing) (t : WriteState) (a b : List ℕ) → output_for writes t (a ++ b) ≡ followed (output_for writes t a) (output_for writes (output_for writes t a).next b)
 output_for-append writes t [] b = ap (λ n. output (output_for writes t b).bytes n (output_for writes t b).next) (sym (zero-add (output_for writes t b).count))
 output_for-append writes t (c ∷ a) b =

@@ -26,12 +26,14 @@ Begins-length [] b h = omega arith
 Begins-length (x ∷ a) [] h = absurd h
 Begins-length (x ∷ a) (y ∷ b) h = omega (arith, Begins-length a b h.1)
 
+-- a list that begins another does so behind as many of their bytes
 pub Begins-drop : (n : ℕ) (a b : List ℕ) → Begins a b → Begins (drop n a) (drop n b)
 Begins-drop zero a b p = p
 Begins-drop (suc n) [] b p = tt
 Begins-drop (suc n) (x ∷ a) [] p = absurd p
 Begins-drop (suc n) (x ∷ a) (y ∷ b) p = Begins-drop n a b p.1
 
+-- the front of a text begins it
 pub Begins-take : (n : ℕ) (text : List ℕ) → Begins (take n text) text
 Begins-take zero text = tt
 Begins-take (suc n) [] = tt
@@ -49,6 +51,7 @@ Begins-front [] b text p = tt
 Begins-front (x ∷ a) b [] p = absurd p
 Begins-front (x ∷ a) b (t ∷ text) p = (p.0, Begins-front a b text p.1)
 
+-- what follows the front stands behind it
 pub Begins-back : (a b text : List ℕ) → Begins (a ++ b) text → Begins b (drop (length a) text)
 Begins-back [] b text p = p
 Begins-back (x ∷ a) b [] p = absurd p
@@ -90,6 +93,7 @@ none_stays reads s text more b none grow i p =
       | inr l ↦ grow (record { bytes = p.bytes; item = i; is_item = p.is_item; front = Begins-meet text p.bytes more b p.front l })
     ]
 
+-- what stands next stays when bytes follow
 pub stays : (reads : ItemRelation) → StaysWhenBytesFollow reads
 stays reads = record {
   item = item_stays reads;

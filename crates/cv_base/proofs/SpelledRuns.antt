@@ -1,6 +1,6 @@
 -- Characters that are spelled: more of them, one behind the other.
-use Rattle.std.proofs.Common.{◌≡◌, ℕ, ◌+◌, ◌*◌, ◌<◌, ◌≤◌, List, [], ◌∷◌, ◌++◌, length, take, drop, refl, sym, ◌∙◌, ap, arith, length-append, length-drop, length-take, append_assoc, append-nil, slice_set, get_or}
-use Rattle.std.proofs.Math.Seq.{drop-cons, take-add}
+use Rattle.std.proofs.Common.{◌≡◌, ℕ, ◌+◌, ◌*◌, ◌<◌, ◌≤◌, List, [], ◌∷◌, ◌++◌, length, take, drop, refl, sym, ◌∙◌, ap, arith, length-append, length-drop, length-take, append_assoc, append-nil, slice_set}
+use Rattle.std.proofs.Math.Seq.{take-add}
 use Rattle.std.specs.List.{flat_map}
 use Rattle.std.proofs.lemmas.List.{drop-drop, take_more_set, length-set}
 use Rattle.std.proofs.lemmas.Grind.{flat_map-append}
@@ -9,6 +9,7 @@ use Rattle.cv_base.specs.Spelled.{BytesOf, HasFourAtMost, IsSpelledAt, IsReadSpe
 use Rattle.cv_base.specs.declared.spelling.Spelled.{Spelled}
 use Rattle.cv_base.proofs.Front.{Begins-length, Begins-join}
 
+-- so many characters that have so many bytes
 abbrev pub spelled : ℕ → ℕ → Spelled
 spelled n used = record { n = n; used = used }
 
@@ -102,19 +103,3 @@ written_more bytes_of characters n before at m u mid k v place behind after p e 
       stand = ap (λ i. take i after) (let o : at + (u + v) ≡ place + v = omega (arith, e) in o) ∙ q.stand ∙ ap (λ (x : List ℕ). x ++ flat_map bytes_of d) (ap (λ i. take i mid) e ∙ p.stand) ∙ append_assoc (take at before) (flat_map bytes_of c) (flat_map bytes_of d) ∙ ap (λ (x : List ℕ). take at before ++ x) (sym bytes);
       size = q.size ∙ p.size;
     }
-
--- one more, behind what was written
-pub written_one_more : (bytes_of : BytesOf) (characters : List ℕ) (n : ℕ) (before : List ℕ) (at m u : ℕ) (mid : List ℕ) (k : ℕ) (after : List ℕ) → IsWrittenSpelled bytes_of characters n before at (spelled m u) mid
-    → n + m < length characters → at + u + k ≤ length mid → k ≡ length (bytes_of (get_or characters (n + m) 0)) → take (at + u + k) after ≡ take (at + u) mid ++ bytes_of (get_or characters (n + m) 0) → length after ≡ length mid
-    → IsWrittenSpelled bytes_of characters n before at (spelled (m + 1) (u + k)) after
-written_one_more bytes_of characters n before at m u mid k after p h fits long stand size =
-    let c = get_or characters (n + m) 0 in
-    let one : take 1 (drop (n + m) characters) ≡ c ∷ [] = ap (λ (x : List ℕ). take 1 x) (drop-cons characters (n + m) 0 h) in
-    let bytes : flat_map bytes_of (take 1 (drop (n + m) characters)) ≡ bytes_of c = ap (flat_map bytes_of) one ∙ append-nil (bytes_of c) in
-    written_more bytes_of characters n before at m u mid 1 k (at + u) (n + m) after p refl refl (record {
-      within = omega arith;
-      uses = long ∙ ap length (sym bytes);
-      fits = fits;
-      stand = stand ∙ ap (λ (x : List ℕ). take (at + u) mid ++ x) (sym bytes);
-      size = size;
-    })

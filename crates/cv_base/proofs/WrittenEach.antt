@@ -17,6 +17,7 @@ put_or-count t a (Some (x, y)) = omega arith
 put_or-count t (Some (x, y)) None = omega arith
 put_or-count t None None = omega arith
 
+-- `?` stands for a character at most once
 pub written-count : (writes : Writing) (t : WriteState) (c : ℕ) → (written writes t (Some c)).count ≤ 1
 written-count writes t c = put_or-count t (writes t question) (writes t c)
 
@@ -47,6 +48,7 @@ pub record WrittenSoFar (writes : Writing) (t : WriteState) (characters before :
   pub holds : out ≡ (take at before ++ (output_for writes t (take k characters)).bytes) ++ drop end before
   pub size : length out ≡ length before
 
+-- no character is written at first
 pub none_written : (writes : Writing) (t : WriteState) (characters before : List ℕ) (at : ℕ) → at ≤ length before → WrittenSoFar writes t characters before at 0 at 0 t before
 none_written writes t characters before at h = record {
   wrote = omega arith;

@@ -20,4 +20,5 @@ pub record IsReadBlock (reads : ItemRelation) (s : ReadState) (text : List ℕ) 
 
 -- What is written for characters was put at a place.
 abbrev pub IsWrittenBlock : Writing → WriteState → List ℕ → List ℕ → ℕ → WrittenBlock → List ℕ → Type 0
-IsWrittenBlock writes t characters before at block after = IsOutput (output_for writes t characters) before at block.wrote block.count block.next after
+IsWrittenBlock writes t characters before at block after =
+    IsOutput (output_for writes t characters) before at block.wrote block.count block.next after

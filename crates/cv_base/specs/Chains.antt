@@ -32,6 +32,7 @@ pub record Output : Type 0 where
   pub count : ℕ
   pub next : WriteState
 
+-- an output by its parts
 abbrev pub output : List ℕ → ℕ → WriteState → Output
 output bytes count next = record { bytes = bytes; count = count; next = next }
 

@@ -10,6 +10,7 @@ pub record Taken : Type 0 where
   pub gives : Option ℕ
   pub next : ReadState
 
+-- an item by its parts
 abbrev pub taken : ℕ → Option ℕ → ReadState → Taken
 taken used gives next = record { used = used; gives = gives; next = next }
 

@@ -44,7 +44,8 @@ pub record IsWrittenSpelled (bytes_of : BytesOf) (characters : List ℕ) (n : �
 
 -- A block of characters that are spelled was read in a state that it keeps.
 abbrev pub IsSpelledRead : BytesOf → ReadState → List ℕ → List ℕ → ReadBlock → List ℕ → Type 0
-IsSpelledRead bytes_of s text before block after = IsReadSpelled bytes_of text 0 before 0 (record { n = block.n; used = block.used }) after × (block.next ≡ s)
+IsSpelledRead bytes_of s text before block after =
+    IsReadSpelled bytes_of text 0 before 0 (record { n = block.n; used = block.used }) after × (block.next ≡ s)
 
 -- The bytes of a block of characters were put at a place in a state that they keep.
 abbrev pub IsSpelledWritten : BytesOf → WriteState → List ℕ → List ℕ → ℕ → WrittenBlock → List ℕ → Type 0

@@ -25,5 +25,6 @@ pub trait BlockCodec: Codec {
     ) -> WrittenBlock
         requires few { length characters.now ≤ 64 }
         requires room { at + 8 * length characters.now ≤ length out.old }
-        ensures { IsWrittenBlock (Self.writes self.now) state characters.now out.old at result out.new };
+        ensures { IsWrittenBlock (Self.writes self.now) state characters.now
+            out.old at result out.new };
 }

@@ -1,5 +1,6 @@
 //! Blocks of the encodings in which each character is the byte of its number.
 ghost use Rattle.std.specs.Prelude.{◌≡◌, ◌≤◌, ◌<◌, ◌+◌, [], ◌∷◌, ℕ, length, take, slice_index, Some};
+ghost use Rattle.cv_base.specs.Scalars.{question};
 ghost use Rattle.cv_base.specs.Chains.{output, written};
 ghost use Rattle.cv_base.specs.Blocks.{IsReadBlock, IsWrittenBlock};
 ghost use Rattle.cv_base.specs.SingleBytes.{byte_reads, byte_writes};
@@ -59,9 +60,10 @@ pub(crate) fn read_bytes(limit: u32, input: &[u8], buffer: &mut [Scalar]) -> Rea
 /// The byte of a character below a limit, or else `?`, and for how many characters it is `?`.
 #[inline(always)]
 fn byte_of(limit: u32, c: Scalar) -> (u8, usize)
-    requires from { 63 < limit }
+    requires from { question < limit }
     requires to { limit ≤ 256 }
-    ensures { written (byte_writes limit) WriteState.Start (Some c) ≡ output (result.0 ∷ []) result.1 WriteState.Start }
+    ensures { written (byte_writes limit) WriteState.Start (Some c)
+        ≡ output (result.0 ∷ []) result.1 WriteState.Start }
 {
     let value = c.value();
     if value < limit {
@@ -80,9 +82,10 @@ pub(crate) fn write_bytes(
     at: usize,
 ) -> WrittenBlock
     requires room { at + length characters.now ≤ length out.old }
-    requires from { 63 < limit }
+    requires from { question < limit }
     requires to { limit ≤ 256 }
-    ensures { IsWrittenBlock (byte_writes limit) WriteState.Start characters.now out.old at result out.new }
+    ensures { IsWrittenBlock (byte_writes limit) WriteState.Start characters.now
+        out.old at result out.new }
 {
     let mut count = 0;
     for k in 0..characters.len() {

@@ -48,7 +48,8 @@ pub fn put_or_substitute<T: Codec>(
 #[inline(never)]
 fn put_substitute<T: Codec>(to: &T, state: WriteState, out: &mut [u8], at: usize) -> Placed
     requires { at ≤ length out.old }
-    ensures { Places (substituted state (T.writes to.now state question)) out.old at result out.new }
+    ensures { Places (substituted state (T.writes to.now state question))
+        out.old at result out.new }
 {
     to.assert_valid();
     match to.put_at(state, Scalar::substitute(), out, at) {

@@ -19,7 +19,8 @@ fn write_few<S: Spelling>(
 ) -> usize
     requires within { n + few ≤ length characters.now }
     requires room { at + 4 * few ≤ length out.old }
-    ensures { IsWrittenSpelled S.bytes_of characters.now n out.old at (record { n = few; used = result }) out.new }
+    ensures { IsWrittenSpelled S.bytes_of characters.now n out.old at
+        (record { n = few; used = result }) out.new }
 {
     S::assert_short();
     let mut used = 0;
@@ -71,7 +72,8 @@ fn write_some<S: Spelling>(characters: &[Scalar], n: usize, out: &mut [u8], at: 
 fn write_front<S: Spelling>(characters: &[Scalar], out: &mut [u8]) -> usize
     requires { 4 * length characters.now ≤ length out.old }
     ensures few { result ≤ 4 * length characters.now }
-    ensures bytes { IsWrittenSpelled S.bytes_of characters.now 0 out.old 0 (record { n = length characters.now; used = result }) out.new }
+    ensures bytes { IsWrittenSpelled S.bytes_of characters.now 0 out.old 0
+        (record { n = length characters.now; used = result }) out.new }
 {
     S::assert_short();
     let mut n = 0;

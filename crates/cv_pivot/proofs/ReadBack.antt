@@ -1,5 +1,4 @@
 -- Each encoding reads back the texts that it writes.
-use Rattle.std.proofs.Common.{[]}
 use Rattle.cv_base.specs.ReadBack.{ReadsBack}
 use Rattle.cv_base.proofs.SingleByteLaws.{bytes_back}
 use Rattle.cv_utf.specs.Utf16.{utf16}

@@ -64,7 +64,7 @@ impl Codec for Encoding {
 
     ghost closes = { encoding_closes };
 
-    #[tactic(auto, using(crate::specs::EncodingLaws::encoding_readable, crate::specs::EncodingLaws::encoding_substitutable))]
+    #[tactic(auto, using(crate::proofs::EncodingLaws::encoding_readable, crate::proofs::EncodingLaws::encoding_substitutable))]
     fn assert_valid(&self) {}
 
     fn item(&self, state: ReadState, input: &[u8]) -> Item {

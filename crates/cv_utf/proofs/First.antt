@@ -10,7 +10,8 @@ use Rattle.cv_base.specs.declared.state.ReadState.{ReadState}
 use Rattle.cv_base.specs.declared.state.ReadState.TheVariants as read
 use Rattle.cv_base.specs.declared.item.Item.{Item}
 use Rattle.cv_base.specs.declared.item.Item.TheVariants.{Char, Shift, Incomplete, Ill, End}
-use Rattle.cv_utf.specs.Orders.{Form, gives, reads_first}
+use Rattle.cv_utf.specs.Orders.{Form, gives, reads_first, mark}
+use Rattle.cv_utf.specs.Private.AnyState.{always_gives, always_first}
 
 decided : (P : Type 0) (r : Bool) → Decides r P → P ⊎ (P → ⊥)
 decided P true h = inl (h.0 refl)
@@ -20,17 +21,17 @@ is_or_not : (a b : List ℕ) → (a ≡ b) ⊎ (a ≡ b → ⊥)
 is_or_not a b = decided (a ≡ b) (bytes_eq a b) (bytes_eq-Decides a b)
 
 -- the bytes of a big-endian character are an item at the start, be it a mark
-some_item : (form : Form) (s t : ReadState) (w : List ℕ) (i : Taken) → gives form.big read.Big s w i → (j : Taken) × reads_first form t w j
-some_item form s t w i h = elim (is_or_not w form.big_mark) [
+some_item : (form : Form) (w : List ℕ) (i : Taken) → gives form.big read.Big w i → (j : Taken) × reads_first form w j
+some_item form w i h = elim (is_or_not w (form.big mark)) [
   | inl e ↦ (taken (length w) None read.Big, inl (e, refl))
-  | inr n ↦ elim (is_or_not w form.little_mark) [
+  | inr n ↦ elim (is_or_not w (form.little mark)) [
     | inl e ↦ (taken (length w) None read.Little, inr (inl (e, refl)))
     | inr m ↦ (i, inr (inr (n, m, h)))
   ]
 ]
 
 -- where no mark stands, an item stands there just where a big-endian character does
-no_item : (form : Form) (s t : ReadState) (x : List ℕ) → (Begins form.big_mark x → ⊥) → (Begins form.little_mark x → ⊥) → ((i : Taken) → Stands (gives form.big read.Big) s x i → ⊥) → (i : Taken) → Stands (reads_first form) t x i → ⊥
+no_item : (form : Form) (s t : ReadState) (x : List ℕ) → (Begins (form.big mark) x → ⊥) → (Begins (form.little mark) x → ⊥) → ((i : Taken) → Stands (always_gives form.big read.Big) s x i → ⊥) → (i : Taken) → Stands (always_first form) t x i → ⊥
 no_item form s t x big little none i p = elim p.is_item [
   | inl h ↦ big (rw (← h.0) p.front)
   | inr h ↦ elim h [
@@ -39,7 +40,7 @@ no_item form s t x big little none i p = elim p.is_item [
   ]
 ]
 
-cannot : (form : Form) (s t : ReadState) (x : List ℕ) → (Begins x form.big_mark → CanGrow (gives form.big read.Big) s x) → (Begins x form.little_mark → CanGrow (gives form.big read.Big) s x) → (CanGrow (gives form.big read.Big) s x → ⊥) → CanGrow (reads_first form) t x → ⊥
+cannot : (form : Form) (s t : ReadState) (x : List ℕ) → (Begins x (form.big mark) → CanGrow (always_gives form.big read.Big) s x) → (Begins x (form.little mark) → CanGrow (always_gives form.big read.Big) s x) → (CanGrow (always_gives form.big read.Big) s x → ⊥) → CanGrow (always_first form) t x → ⊥
 cannot form s t x big little never p = elim p.is_item [
   | inl h ↦ never (big (rw (← h.0) p.front))
   | inr h ↦ elim h [
@@ -48,29 +49,30 @@ cannot form s t x big little never p = elim p.is_item [
   ]
 ]
 
-a_char : (form : Form) (s t : ReadState) (x : List ℕ) → (Begins form.big_mark x → ⊥) → (Begins form.little_mark x → ⊥) → (i : Taken) → Stands (gives form.big read.Big) s x i → Stands (reads_first form) t x i
+a_char : (form : Form) (s t : ReadState) (x : List ℕ) → (Begins (form.big mark) x → ⊥) → (Begins (form.little mark) x → ⊥) → (i : Taken) → Stands (always_gives form.big read.Big) s x i → Stands (always_first form) t x i
 a_char form s t x big little i h = record { bytes = h.bytes; is_item = inr (inr (λ e. big (rw (← e) h.front), λ e. little (rw (← e) h.front), h.is_item)); front = h.front }
 
 none_some : (c : ℕ) → None ≡ Some c → ⊥
 none_some c e = absurd (cc e)
 
 -- Where no mark stands, and each front of a mark is the front of a big-endian character, what stands next is the same.
-pub first_from : (form : Form) (s t : ReadState) (x : List ℕ) → (Begins form.big_mark x → ⊥) → (Begins form.little_mark x → ⊥) → (Begins x form.big_mark → CanGrow (gives form.big read.Big) s x) → (Begins x form.little_mark → CanGrow (gives form.big read.Big) s x) → (i : Item) → IsNext (gives form.big read.Big) s x i → IsNext (reads_first form) t x i
+pub first_from : (form : Form) (s t : ReadState) (x : List ℕ) → (Begins (form.big mark) x → ⊥) → (Begins (form.little mark) x → ⊥) → (Begins x (form.big mark) → CanGrow (always_gives form.big read.Big) s x) → (Begins x (form.little mark) → CanGrow (always_gives form.big read.Big) s x) → (i : Item) → IsNext (always_gives form.big read.Big) s x i → IsNext (always_first form) t x i
 first_from form s t x big little grow grow_little (Char c n next) h = a_char form s t x big little (taken n (Some c) next) h
 first_from form s t x big little grow grow_little (Shift n next) h = absurd (none_some h.is_item.0 (ap (λ (i : Taken). i.gives) h.is_item.3))
 first_from form s t x big little grow grow_little Incomplete h =
-    let j = some_item form s t h.2.bytes h.2.item h.2.is_item in
+    let j = some_item form h.2.bytes h.2.item h.2.is_item in
     (h.0, no_item form s t x big little h.1, record { bytes = h.2.bytes; item = j.0; is_item = j.1; front = h.2.front })
 first_from form s t x big little grow grow_little Ill h = (h.0, no_item form s t x big little h.1, cannot form s t x grow grow_little h.2)
 first_from form s t x big little grow grow_little End h = h
 
 -- the front of the bytes of a scalar can grow
-pub grows : (form : Form) (s : ReadState) (x : List ℕ) (c : ℕ) → IsScalar c → Begins x (form.big c) → CanGrow (gives form.big read.Big) s x
+pub grows : (form : Form) (s : ReadState) (x : List ℕ) (c : ℕ) → IsScalar c → Begins x (form.big c) → CanGrow (always_gives form.big read.Big) s x
 grows form s x c scalar front = record { bytes = form.big c; item = taken (length (form.big c)) (Some c) read.Big; is_item = (c, scalar, refl, refl); front = front }
 
--- the marks
-pub big_mark_stands : (form : Form) (s : ReadState) (x : List ℕ) (n : ℕ) → Begins form.big_mark x → length form.big_mark ≡ n → Stands (reads_first form) s x (taken n None read.Big)
-big_mark_stands form s x n front e = record { bytes = form.big_mark; is_item = inl (refl, ap (λ m. taken m None read.Big) (sym e)); front = front }
+-- the big-endian mark stands
+pub big_mark_stands : (form : Form) (s : ReadState) (x : List ℕ) (n : ℕ) → Begins (form.big mark) x → length (form.big mark) ≡ n → Stands (always_first form) s x (taken n None read.Big)
+big_mark_stands form s x n front e = record { bytes = (form.big mark); is_item = inl (refl, ap (λ m. taken m None read.Big) (sym e)); front = front }
 
-pub little_mark_stands : (form : Form) (s : ReadState) (x : List ℕ) (n : ℕ) → Begins form.little_mark x → length form.little_mark ≡ n → Stands (reads_first form) s x (taken n None read.Little)
-little_mark_stands form s x n front e = record { bytes = form.little_mark; is_item = inr (inl (refl, ap (λ m. taken m None read.Little) (sym e))); front = front }
+-- the little-endian mark stands
+pub little_mark_stands : (form : Form) (s : ReadState) (x : List ℕ) (n : ℕ) → Begins (form.little mark) x → length (form.little mark) ≡ n → Stands (always_first form) s x (taken n None read.Little)
+little_mark_stands form s x n front e = record { bytes = (form.little mark); is_item = inr (inl (refl, ap (λ m. taken m None read.Little) (sym e))); front = front }

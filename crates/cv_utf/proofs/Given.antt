@@ -6,14 +6,14 @@ use Rattle.cv_base.specs.declared.state.ReadState.{ReadState}
 use Rattle.cv_base.specs.declared.item.Item.{Item}
 use Rattle.cv_base.specs.declared.item.Item.TheVariants.{Char, Shift, Incomplete, Ill, End}
 use Rattle.cv_base.proofs.Front.{Agree, Begins-agree}
-use Rattle.cv_utf.specs.Orders.{gives}
+use Rattle.cv_utf.specs.Private.AnyState.{always_gives}
 
 -- a scalar whose bytes begin the text stands there
-pub char_from : (bytes_of : ℕ → List ℕ) (next s : ReadState) (x : List ℕ) (n c : ℕ) → IsScalar c → Begins (bytes_of c) x → length (bytes_of c) ≡ n → Stands (gives bytes_of next) s x (taken n (Some c) next)
+pub char_from : (bytes_of : ℕ → List ℕ) (next s : ReadState) (x : List ℕ) (n c : ℕ) → IsScalar c → Begins (bytes_of c) x → length (bytes_of c) ≡ n → Stands (always_gives bytes_of next) s x (taken n (Some c) next)
 char_from bytes_of next s x n c scalar front e = record { bytes = bytes_of c; is_item = (c, scalar, refl, ap (λ m. taken m (Some c) next) (sym e)); front = front }
 
 -- a text that the bytes of no scalar agree with is ill-formed
-pub ill_from : (bytes_of : ℕ → List ℕ) (next s : ReadState) (x : List ℕ) → 0 < length x → ((c : ℕ) → IsScalar c → Agree (bytes_of c) x → ⊥) → IsNext (gives bytes_of next) s x Ill
+pub ill_from : (bytes_of : ℕ → List ℕ) (next s : ReadState) (x : List ℕ) → 0 < length x → ((c : ℕ) → IsScalar c → Agree (bytes_of c) x → ⊥) → IsNext (always_gives bytes_of next) s x Ill
 ill_from bytes_of next s x some never = (
   some,
   λ i p. never p.is_item.0 p.is_item.1 (Begins-agree (bytes_of p.is_item.0) x (rw (← p.is_item.2) p.front)).1,
@@ -21,7 +21,7 @@ ill_from bytes_of next s x some never = (
 )
 
 -- a text that begins the bytes of a scalar, and is shorter than those of each that agrees with it, is incomplete
-pub incomplete_from : (bytes_of : ℕ → List ℕ) (next s : ReadState) (x : List ℕ) → 0 < length x → ((c : ℕ) → IsScalar c → Agree (bytes_of c) x → length x < length (bytes_of c)) → (c : ℕ) → IsScalar c → Begins x (bytes_of c) → IsNext (gives bytes_of next) s x Incomplete
+pub incomplete_from : (bytes_of : ℕ → List ℕ) (next s : ReadState) (x : List ℕ) → 0 < length x → ((c : ℕ) → IsScalar c → Agree (bytes_of c) x → length x < length (bytes_of c)) → (c : ℕ) → IsScalar c → Begins x (bytes_of c) → IsNext (always_gives bytes_of next) s x Incomplete
 incomplete_from bytes_of next s x some longer c scalar front = (
   some,
   λ i p. (let b = Begins-agree (bytes_of p.is_item.0) x (rw (← p.is_item.2) p.front) in let l = longer p.is_item.0 p.is_item.1 b.1 in omega (arith, b.0, l)),

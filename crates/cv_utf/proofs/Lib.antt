@@ -1,3 +1,7 @@
+pub mod OrdersLaws
+pub mod Utf8Laws
+pub mod Utf16Laws
+pub mod Utf32Laws
 pub mod Utf8Items
 pub mod Given
 pub mod Utf16Scalars

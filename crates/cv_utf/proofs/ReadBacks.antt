@@ -9,7 +9,7 @@ use Rattle.cv_base.specs.declared.state.WriteState.TheVariants as write
 use Rattle.cv_base.proofs.ReadBacks.{Together, IsReadFrom, EachReadsBack, one_item, mark_and_item, same_written, no_closing, texts_back}
 use Rattle.cv_utf.specs.declared.order.Order.{Order}
 use Rattle.cv_utf.specs.declared.order.Order.TheVariants.{Be, Le, Marked}
-use Rattle.cv_utf.specs.Orders.{Form, reads_in, writes_in}
+use Rattle.cv_utf.specs.Orders.{Form, reads_in, writes_in, mark}
 
 -- A reader and a writer of one text are both at its start, or both behind its big-endian mark.
 abbrev pub BothAt : Together
@@ -27,7 +27,7 @@ at_same reads r s bytes c IsAfter e h = subst (λ a. IsReadFrom reads a bytes (c
 each_back : (form : Form) (order : Order) → EachReadsBack (reads_in form order) (writes_in form order) BothAt
 each_back form Be t s c bytes next m scalar e = same_written (is_read form Be s c) (form.big c) bytes write.Start next (one_item (reads_in form Be) s read.Start (form.big c) c (BothAt write.Start) (c, scalar, refl, refl) refl) e
 each_back form Le t s c bytes next m scalar e = same_written (is_read form Le s c) (form.little c) bytes write.Start next (one_item (reads_in form Le) s read.Start (form.little c) c (BothAt write.Start) (c, scalar, refl, refl) refl) e
-each_back form Marked write.Start s c bytes next m scalar e = same_written (is_read form Marked s c) (form.big_mark ++ form.big c) bytes write.Marked next (at_same (reads_in form Marked) read.Start s (form.big_mark ++ form.big c) c (BothAt write.Marked) m (mark_and_item (reads_in form Marked) read.Start read.Big read.Big form.big_mark (form.big c) c (BothAt write.Marked) (inl (refl, refl)) (c, scalar, refl, refl) refl)) e
+each_back form Marked write.Start s c bytes next m scalar e = same_written (is_read form Marked s c) (form.big mark ++ form.big c) bytes write.Marked next (at_same (reads_in form Marked) read.Start s (form.big mark ++ form.big c) c (BothAt write.Marked) m (mark_and_item (reads_in form Marked) read.Start read.Big read.Big (form.big mark) (form.big c) c (BothAt write.Marked) (inl (refl, refl)) (c, scalar, refl, refl) refl)) e
 each_back form Marked write.Marked s c bytes next m scalar e = same_written (is_read form Marked s c) (form.big c) bytes write.Marked next (at_same (reads_in form Marked) read.Big s (form.big c) c (BothAt write.Marked) m (one_item (reads_in form Marked) read.Big read.Big (form.big c) c (BothAt write.Marked) (c, scalar, refl, refl) refl)) e
 each_back form Marked (write.Shifted bits) s c bytes next m scalar e = absurd m
 

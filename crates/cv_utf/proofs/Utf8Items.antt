@@ -11,7 +11,8 @@ use Rattle.cv_base.specs.declared.state.ReadState.TheVariants as read
 use Rattle.cv_base.specs.declared.item.Item.TheVariants.{Incomplete, Ill}
 use Rattle.cv_base.proofs.Front.{Agree, Begins-agree}
 use Rattle.cv_utf.specs.Utf8.{table, carried, IsOfOne, utf8_reads, utf8_writes}
-use Rattle.cv_utf.specs.Utf8Laws.{IsTail, IsSecond, IsSequence, sequence_of}
+use Rattle.cv_utf.specs.Private.Utf8Bytes.{IsTail, IsSecond}
+use Rattle.cv_utf.proofs.Utf8Laws.{IsSequence, sequence_of}
 
 -- a sequence of a long first byte
 long : (w : List ℕ) (c : ℕ) → IsSequence w c → 0xe0 ≤ get_or w 0 0 → 3 ≤ length w
@@ -35,6 +36,7 @@ incomplete_from s x n longer more c is front = (
 pub ill_low : (s : ReadState) (x : List ℕ) → 0 < length x → 0x80 ≤ get_or x 0 0 → get_or x 0 0 < 0xc2 → IsNext utf8_reads s x Ill
 ill_low s x n h k = ill_from s x n (λ w c q a. omega (arith, a 0 q.some n, q.no_tail))
 
+-- a first byte above F4
 pub ill_high : (s : ReadState) (x : List ℕ) → 0 < length x → 0xf4 < get_or x 0 0 → IsNext utf8_reads s x Ill
 ill_high s x n h = ill_from s x n (λ w c q a. omega (arith, a 0 q.some n, q.lead))
 
@@ -46,6 +48,7 @@ ill_of_two s x n h k never = ill_from s x (omega arith) (λ w c q a.
     let f : get_or w 1 0 ≡ get_or x 1 0 = a 1 (omega arith) (omega arith) in
     never (rw (← f) t.1))
 
+-- a second byte that does not fit the first
 pub ill_second : (s : ReadState) (x : List ℕ) → 2 ≤ length x → 0xe0 ≤ get_or x 0 0 → get_or x 0 0 ≤ 0xf4 → (IsSecond (get_or x 0 0) (get_or x 1 0) → ⊥) → IsNext utf8_reads s x Ill
 ill_second s x n h k never = ill_from s x (omega arith) (λ w c q a.
     let e : get_or w 0 0 ≡ get_or x 0 0 = a 0 q.some (omega arith) in
@@ -53,6 +56,7 @@ ill_second s x n h k never = ill_from s x (omega arith) (λ w c q a.
     let f : get_or w 1 0 ≡ get_or x 1 0 = a 1 (omega arith) (omega arith) in
     never (rw (← e, ← f) (q.second (omega arith))))
 
+-- a third byte that is none behind a first
 pub ill_third : (s : ReadState) (x : List ℕ) → 3 ≤ length x → 0xe0 ≤ get_or x 0 0 → get_or x 0 0 ≤ 0xf4 → (IsTail (get_or x 2 0) → ⊥) → IsNext utf8_reads s x Ill
 ill_third s x n h k never = ill_from s x (omega arith) (λ w c q a.
     let e : get_or w 0 0 ≡ get_or x 0 0 = a 0 q.some (omega arith) in
@@ -60,6 +64,7 @@ ill_third s x n h k never = ill_from s x (omega arith) (λ w c q a.
     let f : get_or w 2 0 ≡ get_or x 2 0 = a 2 (omega arith) (omega arith) in
     never (rw (← f) (q.third (omega arith))))
 
+-- a fourth byte that is none behind a first
 pub ill_fourth : (s : ReadState) (x : List ℕ) → 4 ≤ length x → 0xf0 ≤ get_or x 0 0 → get_or x 0 0 ≤ 0xf4 → (IsTail (get_or x 3 0) → ⊥) → IsNext utf8_reads s x Ill
 ill_fourth s x n h k never = ill_from s x (omega arith) (λ w c q a.
     let e : get_or w 0 0 ≡ get_or x 0 0 = a 0 q.some (omega arith) in
@@ -71,6 +76,7 @@ ill_fourth s x n h k never = ill_from s x (omega arith) (λ w c q a.
 pub row_2 : (a b : ℕ) → 0xc2 ≤ a → a < 0xe0 → IsTail b → IsOfOne table (a ∷ b ∷ []) (carried (a ∷ b ∷ []))
 row_2 a b h k t = inr (inl (((h, omega arith), (t, tt)), (omega arith, omega arith), refl))
 
+-- three bytes that fit are in the table
 pub row_3 : (a b d : ℕ) → 0xe0 ≤ a → a < 0xf0 → IsSecond a b → IsTail d → IsOfOne table (a ∷ b ∷ d ∷ []) (carried (a ∷ b ∷ d ∷ []))
 row_3 a b d h k t u =
     elim (cases_lt a 0xe1) [
@@ -84,6 +90,7 @@ row_3 a b d h k t u =
       ]
     ]
 
+-- four bytes that fit are in the table
 pub row_4 : (a b d f : ℕ) → 0xf0 ≤ a → a ≤ 0xf4 → IsSecond a b → IsTail d → IsTail f → IsOfOne table (a ∷ b ∷ d ∷ f ∷ []) (carried (a ∷ b ∷ d ∷ f ∷ []))
 row_4 a b d f h k t u v =
     elim (cases_lt a 0xf1) [
@@ -99,17 +106,20 @@ pub char_1 : (s : ReadState) (x : List ℕ) (c : ℕ) → c ≡ get_or x 0 0 →
 char_1 s [] c e n h = absurd (omega arith)
 char_1 s (a ∷ x) c e n h = record { bytes = a ∷ []; is_item = (c, inl (((omega arith, omega arith), tt), (omega arith, omega arith), e), refl); front = (refl, tt) }
 
+-- a character of two bytes
 pub char_2 : (s : ReadState) (x : List ℕ) (c : ℕ) → c ≡ carried (get_or x 0 0 ∷ get_or x 1 0 ∷ []) → 2 ≤ length x → 0xc2 ≤ get_or x 0 0 → get_or x 0 0 < 0xe0 → IsTail (get_or x 1 0) → Stands utf8_reads s x (taken 2 (Some c) read.Start)
 char_2 s [] c e n h k t = absurd (omega arith)
 char_2 s (a ∷ []) c e n h k t = absurd (omega arith)
 char_2 s (a ∷ b ∷ x) c e n h k t = record { bytes = a ∷ b ∷ []; is_item = (c, rw e (row_2 a b h k t), refl); front = (refl, (refl, tt)) }
 
+-- a character of three bytes
 pub char_3 : (s : ReadState) (x : List ℕ) (c : ℕ) → c ≡ carried (get_or x 0 0 ∷ get_or x 1 0 ∷ get_or x 2 0 ∷ []) → 3 ≤ length x → 0xe0 ≤ get_or x 0 0 → get_or x 0 0 < 0xf0 → IsSecond (get_or x 0 0) (get_or x 1 0) → IsTail (get_or x 2 0) → Stands utf8_reads s x (taken 3 (Some c) read.Start)
 char_3 s [] c e n h k t u = absurd (omega arith)
 char_3 s (a ∷ []) c e n h k t u = absurd (omega arith)
 char_3 s (a ∷ b ∷ []) c e n h k t u = absurd (omega arith)
 char_3 s (a ∷ b ∷ d ∷ x) c e n h k t u = record { bytes = a ∷ b ∷ d ∷ []; is_item = (c, rw e (row_3 a b d h k t u), refl); front = (refl, (refl, (refl, tt))) }
 
+-- a character of four bytes
 pub char_4 : (s : ReadState) (x : List ℕ) (c : ℕ) → c ≡ carried (get_or x 0 0 ∷ get_or x 1 0 ∷ get_or x 2 0 ∷ get_or x 3 0 ∷ []) → 4 ≤ length x → 0xf0 ≤ get_or x 0 0 → get_or x 0 0 ≤ 0xf4 → IsSecond (get_or x 0 0) (get_or x 1 0) → IsTail (get_or x 2 0) → IsTail (get_or x 3 0) → Stands utf8_reads s x (taken 4 (Some c) read.Start)
 char_4 s [] c e n h k t u v = absurd (omega arith)
 char_4 s (a ∷ []) c e n h k t u v = absurd (omega arith)
@@ -131,6 +141,7 @@ some_second a =
 a_tail : IsTail 0x80
 a_tail = (omega arith, omega arith)
 
+-- a first byte alone
 pub incomplete_1 : (s : ReadState) (x : List ℕ) → length x ≡ 1 → 0xc2 ≤ get_or x 0 0 → get_or x 0 0 ≤ 0xf4 → IsNext utf8_reads s x Incomplete
 incomplete_1 s [] e h k = absurd (omega arith)
 incomplete_1 s (a ∷ b ∷ x) e h k = absurd (omega arith)
@@ -146,6 +157,7 @@ incomplete_1 s (a ∷ []) e h k =
       ]
     ]
 
+-- two bytes of three or four
 pub incomplete_2 : (s : ReadState) (x : List ℕ) → length x ≡ 2 → 0xe0 ≤ get_or x 0 0 → get_or x 0 0 ≤ 0xf4 → IsSecond (get_or x 0 0) (get_or x 1 0) → IsNext utf8_reads s x Incomplete
 incomplete_2 s [] e h k t = absurd (omega arith)
 incomplete_2 s (a ∷ []) e h k t = absurd (omega arith)
@@ -159,6 +171,7 @@ incomplete_2 s (a ∷ b ∷ []) e h k t =
       | inr m ↦ incomplete_from s (a ∷ b ∷ []) (omega arith) longer (a ∷ b ∷ 0x80 ∷ 0x80 ∷ []) (carried (a ∷ b ∷ 0x80 ∷ 0x80 ∷ [])) (row_4 a b 0x80 0x80 m k t a_tail a_tail) (refl, (refl, tt))
     ]
 
+-- three bytes of four
 pub incomplete_3 : (s : ReadState) (x : List ℕ) → length x ≡ 3 → 0xf0 ≤ get_or x 0 0 → get_or x 0 0 ≤ 0xf4 → IsSecond (get_or x 0 0) (get_or x 1 0) → IsTail (get_or x 2 0) → IsNext utf8_reads s x Incomplete
 incomplete_3 s [] e h k t u = absurd (omega arith)
 incomplete_3 s (a ∷ []) e h k t u = absurd (omega arith)
@@ -174,6 +187,7 @@ incomplete_3 s (a ∷ b ∷ d ∷ []) e h k t u =
 pub scalar_3 : (a b d : ℕ) → 0xe0 ≤ a → a < 0xf0 → IsSecond a b → IsTail d → IsScalar ((a % 16) * 4096 + (b % 64) * 64 + d % 64)
 scalar_3 a b d h k t u = (omega arith, λ x. elim (cases_lt a 0xed) [ inl l ↦ absurd (omega arith) | inr l ↦ elim (cases_lt a 0xee) [ inl m ↦ (let e : a ≡ 0xed = omega arith in absurd (omega (arith, t.3 e))) | inr m ↦ omega arith ] ])
 
+-- four bytes that fit carry a scalar
 pub scalar_4 : (a b d f : ℕ) → 0xf0 ≤ a → a ≤ 0xf4 → IsSecond a b → IsTail d → IsTail f → IsScalar ((a % 8) * 262144 + (b % 64) * 4096 + (d % 64) * 64 + f % 64)
 scalar_4 a b d f h k t u v = (elim (cases_lt a 0xf4) [ inl l ↦ omega arith | inr l ↦ (let e : a ≡ 0xf4 = omega arith in omega (arith, t.5 e)) ], λ x. elim (cases_lt a 0xf1) [ inl l ↦ (let e : a ≡ 0xf0 = omega arith in omega (arith, t.4 e)) | inr l ↦ omega arith ])
 
@@ -191,4 +205,5 @@ writes_four t c = elim (nat_lt c 0x80) as (λ (a : Bool). length (cond a (c ∷ 
 pub reads_bytes : ReadsAscii utf8_reads read.Start Byte
 reads_bytes c h = (c, inl (((omega arith, omega arith), tt), (omega arith, omega arith), refl), refl)
 
+-- each return of `item`
 pub ruleset steps = (char_1, char_2, char_3, char_4, incomplete_1, incomplete_2, incomplete_3, ill_low, ill_high, ill_of_two, ill_second, ill_third, ill_fourth, scalar_3, scalar_4)

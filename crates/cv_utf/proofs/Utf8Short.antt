@@ -10,11 +10,12 @@ use Rattle.std.proofs.lemmas.List.{get_or-map}
 use Rattle.std.proofs.lemmas.Bool.{ltb-true, ltb-false, le-ltb, lt-ltb}
 use Rattle.cv_base.specs.Spelled.{IsSpelledAt}
 use Rattle.cv_utf.specs.Utf8.{utf8_bytes}
-use Rattle.cv_utf.specs.Utf8Short.{is_among, is_behind, IsShort, IsShortAt, short_of, short_value, left_over}
-use Rattle.cv_utf.specs.Utf8Windows.{IsTwoAt, IsLane, AreBegun}
+use Rattle.cv_utf.specs.Private.Utf8Short.{is_among, is_behind, IsShort, IsShortAt, short_of, short_value, left_over}
+use Rattle.cv_utf.specs.Private.Utf8Windows.{IsTwoAt, IsLane, AreBegun}
 
 -- ---- which bytes they are
 
+-- the lanes among some numbers are those of the test
 pub among_is : (xs : List ℕ) (least many : ℕ) → length xs ≡ 16 → mask_l (map (top 7) (zip2 (λ a b. cond (ltb a b) 255 0) (zip2 (λ a b. (a + (256 - b)) % 256) xs (replicate 16 least)) (replicate 16 many))) % 2 ^ 64 ≡ mask_l (map (is_among least many) xs)
 among_is xs least many long =
     let off : List ℕ = zip2 (λ a b. (a + (256 - b)) % 256) xs (replicate 16 least) in
@@ -37,6 +38,7 @@ same_lane p q xs ys long also e k h =
     let bit = same_bit _ _ (sym (bit_mask_l (map p xs) k) ∙ ap (λ m. m / 2 ^ k % 2) e ∙ bit_mask_l (map q ys) k) in
     sym (get_or-map p xs k 0 false (omega arith)) ∙ bit ∙ get_or-map q ys k 0 false (omega arith)
 
+-- the lanes that begin two bytes are those of no other first byte
 pub short_lanes : (text : List ℕ) (at : ℕ) → at + 17 ≤ length text → mask_l (map (is_among 0xc2 0x1e) (take 16 (drop at text))) ≡ mask_l (map (is_among 0xc0 0x40) (take 16 (drop at text)))
     → mask_l (map (is_among 0xc2 0x1e) (take 16 (drop at text))) ≡ mask_l (map is_behind (take 16 (drop (at + 1) text))) → (k : ℕ) → k < 16 → IsShortAt text (at + k)
 short_lanes text at room high behind k h =
@@ -76,6 +78,7 @@ values_at (suc n) (x ∷ xs) (y ∷ ys) (suc k) e f h = values_at n xs ys k (ome
 value_is : (x y : ℕ) → x < 256 → y < 256 → lane_value x y ≡ short_of x y
 value_is x y h k = grind arith
 
+-- the number in each lane
 pub value_at : (text : List ℕ) (at k : ℕ) → at + 17 ≤ length text → ((i : ℕ) → Fits w8 (get_or text i 0)) → k < 16 → get_or (values 16 (take 16 (drop at text)) (take 16 (drop (at + 1) text))) k 0 ≡ short_value text (at + k)
 value_at text at k room fits h =
     let place : at + 1 + k ≡ at + k + 1 = omega arith in
@@ -111,6 +114,7 @@ which x y false true h k s e f =
 abbrev none_if : Bool → ℕ
 none_if b = cond b 0 1
 
+-- a text from two of its bytes on
 pub two : (text : List ℕ) (at : ℕ) → at + 2 ≤ length text → drop at text ≡ get_or text at 0 ∷ get_or text (at + 1) 0 ∷ drop (suc (suc at)) text
 two text at h =
     let first : at < length text = omega arith in
@@ -130,9 +134,11 @@ two_value x y h = grind arith
 two_bytes : (x y : ℕ) → 0xc2 ≤ x → x ≤ 0xdf → 0x80 ≤ y → y ≤ 0xbf → utf8_bytes ((x % 32) * 64 + y % 64) ≡ x ∷ y ∷ []
 two_bytes x y h k l m = grind arith
 
+-- a byte below 128 spells its character
 pub one_spelled : (text : List ℕ) (at v : ℕ) → at + 2 ≤ length text → get_or text at 0 < 128 → v ≡ get_or text at 0 → IsSpelledAt utf8_bytes text at v 1
 one_spelled text at v room h is = rw (is, one_bytes (get_or text at 0) h, two text at room) ((omega arith, λ l. omega arith), (refl, tt), refl)
 
+-- two bytes spell their character
 pub two_spelled : (text : List ℕ) (at v : ℕ) → at + 2 ≤ length text → IsTwoAt text at → v ≡ (get_or text at 0 % 32) * 64 + get_or text (at + 1) 0 % 64 → IsSpelledAt utf8_bytes text at v 2
 two_spelled text at v room p is =
     let bytes = two_bytes (get_or text at 0) (get_or text (at + 1) 0) p.0 p.1 p.2.0 p.2.1 in
@@ -168,6 +174,7 @@ byte_is false = refl
 pub all_used : (text : List ℕ) (at : ℕ) (b : Bool) → b ≡ is_behind (get_or text (at + 16) 0) → 16 + bool_byte b ≡ 16 + left_over text (at + 16)
 all_used text at b e = ap (λ n. 16 + n) (byte_is b ∙ ap one_if e)
 
+-- what begins in the lanes stands one behind the other
 pub short_begun : (text : List ℕ) (at used : ℕ) (vs beginnings : List ℕ) → at + 18 ≤ length text → ((i : ℕ) → Fits w8 (get_or text i 0)) → is_behind (get_or text at 0) ≡ false → used ≡ 16 + left_over text (at + 16) → ((k : ℕ) → k < 16 → IsShortAt text (at + k))
     → ((k : ℕ) → k < 16 → get_or vs k 0 ≡ short_value text (at + k)) → ((k : ℕ) → k < 16 → get_or beginnings k 0 ≡ cond (is_behind (get_or text (at + k) 0)) 0 (cond (ltb k 16) 1 0)) → AreBegun text at vs beginnings used
 short_begun text at used vs beginnings room fits begins e short are begun =

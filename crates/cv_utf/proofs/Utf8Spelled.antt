@@ -1,6 +1,6 @@
 -- The spelling of UTF-8: ASCII, sixteen bytes that are tested at once, a word that is written, and the codec.
-use Rattle.std.proofs.Common.{◌≡◌, ℕ, ◌+◌, ◌%◌, ◌^◌, ◌<◌, ◌≤◌, Bool, cond, eqb, not, lit≤, List, [], ◌∷◌, ◌++◌, length, take, drop, get_or, map, refl, sym, ◌∙◌, ap, subst, arith, zero, suc, Some, w8, length-append, length-take, length-drop, get_or-take, get_or-drop, append_assoc}
-use Rattle.std.specs.Prelude.{replicate, option_to_list}
+use Rattle.std.proofs.Common.{◌≡◌, ℕ, ◌+◌, ◌%◌, ◌^◌, ◌<◌, ◌≤◌, Bool, cond, eqb, not, lit≤, List, [], ◌∷◌, ◌++◌, length, take, drop, get_or, map, refl, sym, ◌∙◌, ap, subst, arith, zero, suc, w8, length-append, length-take, length-drop, get_or-take, get_or-drop, append_assoc}
+use Rattle.std.specs.Prelude.{replicate}
 use Rattle.std.specs.List.{flat_map, prefix_len}
 use Rattle.std.specs.Int.Count.{count_trailing_zeros}
 use Rattle.std.specs.Simd.Lanes.{mask_l, top, zip2}
@@ -10,14 +10,14 @@ use Rattle.std.proofs.lemmas.Bool.{lt-ltb, leb-false}
 use Rattle.std.proofs.lemmas.List.{take_at, take-take, length-map}
 use Rattle.std.proofs.lemmas.Simd.{tops_compared, zip2_splat_left, mask_l-mod, run_in_chunk_le, run_in_chunk_fails, length-chunk, first_set_mask_l}
 use borrow.Rule.Slice.PartMut.{put_mid, post_of}
-use Rattle.cv_base.specs.Items.{Taken, taken, Begins}
+use Rattle.cv_base.specs.Items.{Begins}
 use Rattle.cv_base.specs.Scalars.{AreScalars}
 use Rattle.cv_base.specs.Spelled.{IsReadSpelled, IsWrittenSpelled}
 use Rattle.cv_base.proofs.BlockLaws.{ReadsSpelled, WritesSpelled}
 use Rattle.cv_base.specs.declared.spelling.Spelled.{Spelled}
 use Rattle.cv_base.specs.declared.state.ReadState.TheVariants as read
 use Rattle.cv_base.specs.declared.state.WriteState.TheVariants as write
-use Rattle.cv_utf.specs.Utf8.{table, IsOfOne, utf8_reads, utf8_bytes, utf8_writes}
+use Rattle.cv_utf.specs.Utf8.{utf8_reads, utf8_bytes, utf8_writes}
 use Rattle.cv_base.proofs.Front.{Begins-refl}
 use Rattle.cv_utf.proofs.Utf8ReadBack.{is_in_table}
 

@@ -1,5 +1,5 @@
 -- Windows of sixteen bytes of UTF-8: what each byte is, and the characters that begin there.
-use Rattle.std.proofs.Common.{◌≡◌, ℕ, ◌+◌, ◌-◌, ◌*◌, ◌%◌, ◌^◌, ◌<◌, ◌≤◌, ◌⊎◌, inl, inr, Bool, true, false, cond, Fits, List, [], ◌∷◌, length, take, drop, get_or, map, refl, sym, ◌∙◌, ap, ap₂, arith, zero, suc, w8, w64, lit≤, slice_set, append-nil, min, max}
+use Rattle.std.proofs.Common.{◌≡◌, ℕ, ◌+◌, ◌-◌, ◌*◌, ◌%◌, ◌^◌, ◌<◌, ◌≤◌, ◌⊎◌, inl, inr, Bool, true, false, cond, Fits, List, [], ◌∷◌, length, take, drop, get_or, map, refl, sym, ◌∙◌, ap, ap₂, arith, zero, suc, w8, w64, lit≤, slice_set, min, max}
 use Rattle.std.specs.Prelude.{replicate}
 use Rattle.std.specs.Int.{bit_at, trailing_ones}
 use Rattle.std.specs.Int.RustNames.{bit_or}
@@ -16,25 +16,11 @@ use Rattle.cv_base.specs.Scalars.{IsScalar}
 use Rattle.cv_base.specs.Spelled.{IsSpelledAt, IsReadSpelled}
 use Rattle.cv_base.proofs.SpelledRuns.{spelled, read_one_more}
 use Rattle.cv_utf.specs.Utf8.{utf8_bytes}
-use Rattle.cv_utf.specs.Utf8Short.{is_among, is_behind}
-use Rattle.cv_utf.specs.Utf8Windows.{IsLane, AreBegun, IsOneAt, IsTwoAt, IsThreeAt, AreMarks, IsFollowing, AreWhole, whole_of, whole_value}
+use Rattle.cv_utf.specs.Private.Utf8Short.{is_among, is_behind}
+use Rattle.cv_utf.specs.Private.Utf8Windows.{IsLane, AreBegun, IsOneAt, IsTwoAt, IsThreeAt, AreMarks, IsFollowing, AreWhole, whole_of, whole_value}
 use Rattle.cv_utf.proofs.Utf8Short.{two, one_spelled, two_spelled}
 
 -- ---- a step of the loop
-
-pub none_read : (text : List ℕ) (at : ℕ) (before : List ℕ) (n used : ℕ) → n ≤ length before → used ≡ 0 → IsReadSpelled utf8_bytes text at before n (spelled 0 used) before
-none_read text at before n used h e =
-    let same : n + 0 ≡ n = omega arith in
-    rw e (record {
-      characters = [];
-      scalars = tt;
-      begins = tt;
-      uses = refl;
-      counts = refl;
-      stand = rw (same, append-nil) refl;
-      fits = omega arith;
-      size = refl;
-    })
 
 -- What is written behind what was read changes nothing.
 none_more : (text : List ℕ) (at : ℕ) (before : List ℕ) (n more used : ℕ) (mid : List ℕ) (v m u : ℕ) → IsReadSpelled utf8_bytes text at before n (spelled more used) mid → m ≡ more → u ≡ used → IsReadSpelled utf8_bytes text at before n (spelled m u) (slice_set mid (n + more) v)
@@ -58,6 +44,7 @@ step_of : (text : List ℕ) (at : ℕ) (before : List ℕ) (n more reached next 
 step_of text at before n more reached next mid v s h p (inl q) = none_more text at before n more reached mid v (more + s) next p (omega (arith, q.0)) q.1
 step_of text at before n more reached next mid v s h p (inr q) = one_more text at before n more reached mid v q.1.0 (more + s) next p h q.1.2 (omega (arith, q.0)) q.1.1
 
+-- one lane more
 pub step : (text : List ℕ) (at : ℕ) (values beginnings : List ℕ) (used : ℕ) (before : List ℕ) (n lane more : ℕ) (mid : List ℕ) (v : ℕ) (p : AreBegun text at values beginnings used) → n + 16 ≤ length before → lane < 16 → more ≤ lane → v ≡ get_or values lane 0
     → IsReadSpelled utf8_bytes text at before n (spelled more (p.reach lane)) mid → IsReadSpelled utf8_bytes text at before n (spelled (more + get_or beginnings lane 0) (p.reach (lane + 1))) (slice_set mid (n + more) v)
 step text at values beginnings used before n lane more mid v p room l few e q = rw e (step_of text at before n more (p.reach lane) (p.reach (lane + 1)) mid (get_or values lane 0) (get_or beginnings lane 0) (omega arith) q (p.lanes lane l))
@@ -71,9 +58,11 @@ either : (a b : ℕ) → max a b ≡ 1 → a < 2 → b < 2 → (a ≡ 1) ⊎ (b 
 either zero b e h k = inr (omega arith)
 either (suc a) b e h k = inl (omega arith)
 
+-- a bit that two numbers have
 pub in_both : (a b k : ℕ) → bit_at (bit_and a b) k ≡ 1 → (bit_at a k ≡ 1) × (bit_at b k ≡ 1)
 in_both a b k e = both (bit_at a k) (bit_at b k) (sym (bit_at_and a b k) ∙ e) (bit_at-lt a k) (bit_at-lt b k)
 
+-- a bit that one of two numbers has
 pub in_either : (a b k : ℕ) → bit_at (bit_or a b) k ≡ 1 → (bit_at a k ≡ 1) ⊎ (bit_at b k ≡ 1)
 in_either a b k e = either (bit_at a k) (bit_at b k) (sym (bit_at_or a b k) ∙ e) (bit_at-lt a k) (bit_at-lt b k)
 
@@ -90,6 +79,7 @@ set_true : (b : Bool) → one_if b ≡ 1 → b ≡ true
 set_true true e = refl
 set_true false e = cc
 
+-- sixteen lanes are sixteen bits
 pub among_lt : (text : List ℕ) (at least many m : ℕ) → at + 16 ≤ length text → m ≡ mask_l (map (is_among least many) (take 16 (drop at text))) → m < 0x10000
 among_lt text at least many m room e =
     let bits : List Bool = map (is_among least many) (take 16 (drop at text)) in
@@ -114,9 +104,11 @@ among_at text at least many m k room small range e l one =
 wider : (a b k : ℕ) → a < 0x10000 → bit_and a b < 0x10000
 wider a b k h = omega (arith, and_le_l a b)
 
+-- the lanes of ASCII mark it
 pub one_marks : (text : List ℕ) (at one : ℕ) → at + 18 ≤ length text → ((i : ℕ) → Fits w8 (get_or text i 0)) → one ≡ mask_l (map (is_among 0 0x80) (take 16 (drop at text))) → AreMarks (IsOneAt text) at one
 one_marks text at one room fits e = (among_lt text at 0 0x80 one (omega arith) e, λ k l b. (among_at text at 0 0x80 one k (omega arith) (fits (at + k)).fits (lit≤ tt) e l b).1)
 
+-- the lanes of two bytes mark them
 pub two_marks : (text : List ℕ) (at firsts tails : ℕ) → at + 18 ≤ length text → ((i : ℕ) → Fits w8 (get_or text i 0)) → firsts ≡ mask_l (map (is_among 0xc2 0x1e) (take 16 (drop at text))) → tails ≡ mask_l (map (is_among 0x80 0x40) (take 16 (drop (at + 1) text)))
     → AreMarks (IsTwoAt text) at (bit_and firsts tails)
 two_marks text at firsts tails room fits e f = (
@@ -167,6 +159,7 @@ mark_pair text at a b c d e k room fits p q r s t l (inr h) =
     let x = among_at text at 0xe1 0x0f d k (omega arith) (fits (at + k)).fits (lit≤ tt) s l parts.0 in
     pair_low (get_or text (at + k) 0) (get_or text (at + k + 1) 0) x (rw place at (among_at text (at + 1) 0x80 0x20 e k (omega arith) (fits (at + 1 + k)).fits (lit≤ tt) t l parts.1))
 
+-- the lanes of three bytes mark them
 pub three_marks : (text : List ℕ) (at a b c d e f : ℕ) → at + 18 ≤ length text → ((i : ℕ) → Fits w8 (get_or text i 0)) → Bytes text at 0xe0 0x0d a → Bytes text at 0xee 0x02 b → Bytes text (at + 1) 0xa0 0x20 c → Bytes text at 0xe1 0x0f d → Bytes text (at + 1) 0x80 0x20 e → Bytes text (at + 2) 0x80 0x40 f
     → AreMarks (IsThreeAt text) at (bit_and (bit_or (bit_and (bit_or a b) c) (bit_and d e)) f)
 three_marks text at a b c d e f room fits p q r s t u =
@@ -185,6 +178,7 @@ three_marks text at a b c d e f room fits p q r s t u =
 abbrev moved : ℕ → ℕ → ℕ
 moved m s = (m * 2 ^ s) % 2 ^ 64
 
+-- the places that marked characters cover
 abbrev pub covered : ℕ → ℕ → ℕ → ℕ
 covered one two three = bit_or (bit_or (bit_or (bit_or one two) three) (moved (bit_or two three) 1)) (moved three 2)
 
@@ -366,6 +360,7 @@ at_most : (m used : ℕ) → m < 2 ^ 18 → ((i : ℕ) → i < used → bit_at m
 at_most m used h set (inl l) = absurd (omega (arith, set 18 l, bit_at_above m 18 18 h (lit≤ tt)))
 at_most m used h set (inr l) = l
 
+-- up to the first place that is not covered the characters are whole
 pub whole_of_marks : (text : List ℕ) (at one two three used : ℕ) → ((i : ℕ) → Fits w8 (get_or text i 0)) → AreMarks (IsOneAt text) at one → AreMarks (IsTwoAt text) at two → AreMarks (IsThreeAt text) at three → used ≡ trailing_ones w64 (covered one two three) → AreWhole text at used
 whole_of_marks text at one two three used fits p q r e =
     let m : ℕ = covered one two three in
@@ -403,9 +398,6 @@ two_is x y z h k = grind arith
 
 one_is : (x y z : ℕ) → x < 128 → whole_of x y z ≡ x
 one_is x y z h = grind arith
-
-pub whole_scalar : (x y z : ℕ) → x < 256 → y < 256 → z < 256 → IsScalar (whole_of x y z)
-whole_scalar x y z h k l = grind arith
 
 three_spelled : (text : List ℕ) (at v : ℕ) → at + 3 ≤ length text → IsThreeAt text at → v ≡ whole_value text at → IsSpelledAt utf8_bytes text at v 3
 three_spelled text at v room p e =
@@ -532,6 +524,7 @@ at_last text at used true false w e f (inl h) (inl g) =
     let place : at + 17 ≡ at + 16 + 1 = omega arith in
     absurd (clash _ (rw place at (w.over 17 (lit≤ tt) g)) f)
 
+-- what begins in the lanes of whole characters stands one behind the other
 pub whole_begun : (text : List ℕ) (at used : ℕ) (vs beginnings : List ℕ) → at + 18 ≤ length text → ((i : ℕ) → Fits w8 (get_or text i 0)) → AreWhole text at used → ((k : ℕ) → k < 16 → get_or vs k 0 ≡ whole_value text (at + k))
     → ((k : ℕ) → k < 16 → get_or beginnings k 0 ≡ begins_if (is_behind (get_or text (at + k) 0)) (ltb k used)) → AreBegun text at vs beginnings used
 whole_begun text at used vs beginnings room fits w are begun =
@@ -548,6 +541,7 @@ whole_begun text at used vs beginnings room fits w are begun =
 
 -- ---- beginnings, as vectors compute them
 
+-- a run of numbers
 abbrev pub run : ℕ → ℕ → ℕ → List ℕ
 run zero j u = []
 run (suc n) j u = cond (top 7 (cond (ltb j u) 255 0)) 1 0 ∷ run n (suc j) u
@@ -579,6 +573,7 @@ begins_at (suc n) (x ∷ xs) [] k e f h = cc
 begins_at (suc n) (x ∷ xs) (w ∷ ws) zero e f h = begin_is (is_behind x) w
 begins_at (suc n) (x ∷ xs) (w ∷ ws) (suc k) e f h = begins_at n xs ws k (omega arith) (omega arith) (omega arith)
 
+-- what each lane begins
 pub beginning_at : (text : List ℕ) (at used k : ℕ) → at + 16 ≤ length text → k < 16 → get_or (begin_all 16 (take 16 (drop at text)) (run 16 0 used)) k 0 ≡ begins_if (is_behind (get_or text (at + k) 0)) (ltb k used)
 beginning_at text at used k room h =
     let same : k + 0 ≡ k = omega arith in
@@ -637,6 +632,7 @@ values_at (suc n) (x ∷ xs) (y ∷ ys) (z ∷ zs) (suc k) e f g h = values_at n
 value_is : (x y z : ℕ) → x < 256 → y < 256 → z < 256 → lane_value x y z ≡ whole_of x y z
 value_is x y z h k l = grind arith
 
+-- the number in each lane
 pub value_at : (text : List ℕ) (at k : ℕ) → at + 18 ≤ length text → ((i : ℕ) → Fits w8 (get_or text i 0)) → k < 16 → get_or (value_all 16 (take 16 (drop at text)) (take 16 (drop (at + 1) text)) (take 16 (drop (at + 2) text))) k 0 ≡ whole_value text (at + k)
 value_at text at k room fits h =
     let one : at + 1 + k ≡ at + k + 1 = omega arith in

@@ -1,5 +1,5 @@
 -- Units of two bytes, where each high surrogate is joined with the low one behind it.
-use Rattle.std.proofs.Common.{◌≡◌, ℕ, ◌+◌, ◌-◌, ◌*◌, ◌/◌, ◌%◌, ◌<◌, ◌≤◌, Bool, true, false, cond, inl, inr, List, [], ◌∷◌, ◌++◌, length, take, drop, get_or, slice_set, refl, sym, ◌∙◌, ap, subst, arith, zero, suc, length-append, append-nil, append_assoc, eq-eqb, not}
+use Rattle.std.proofs.Common.{◌≡◌, ℕ, ◌+◌, ◌-◌, ◌*◌, ◌/◌, ◌<◌, ◌≤◌, Bool, true, false, cond, inl, inr, List, [], ◌∷◌, ◌++◌, length, take, drop, get_or, slice_set, refl, sym, ◌∙◌, ap, subst, arith, zero, suc, length-append, append-nil, append_assoc, eq-eqb, not}
 use Rattle.std.specs.Prelude.{IsTrue, ◌↔◌}
 use Rattle.std.specs.List.{flat_map}
 use Rattle.std.proofs.lemmas.Bool.{cases_eq, cases_lt, ne_eqb}
@@ -11,20 +11,21 @@ use Rattle.cv_base.specs.Scalars.{AreScalars}
 use Rattle.cv_base.specs.Spelled.{BytesOf, IsReadSpelled}
 use Rattle.cv_base.specs.Units.{high_unit, low_unit}
 use Rattle.cv_utf.specs.Utf16.{big_unit, little_unit, units, utf16}
-use Rattle.cv_utf.specs.Utf16Laws.{one_unit, two_units}
-use Rattle.cv_utf.specs.Wide.{IsUnitAt, ArePaired, IsJoined, AreJoined, unless_low, without_low}
-use Rattle.cv_utf.proofs.WidePairs.{pair_stands}
+use Rattle.cv_utf.proofs.Utf16Laws.{one_unit, two_units}
+use Rattle.cv_utf.specs.Private.Surrogates.{IsHighUnit, IsLowUnit, IsPair}
+use Rattle.cv_utf.specs.Private.Wide.{IsUnitAt, ArePaired, IsJoined, AreJoined, unless_low, without_low}
+use Rattle.cv_utf.proofs.WidePairs.{pair_stands, pair_scalar}
 use Rattle.cv_base.proofs.Front.{Begins-join}
 use Rattle.cv_utf.proofs.WideRuns.{flat_map-more}
 
 -- a number more
-low_more : (numbers : List ℕ) (k : ℕ) → k < length numbers → get_or numbers k 0 / 0x400 ≡ 0x37 → without_low (take (k + 1) numbers) ≡ without_low (take k numbers)
+low_more : (numbers : List ℕ) (k : ℕ) → k < length numbers → IsLowUnit (get_or numbers k 0) → without_low (take (k + 1) numbers) ≡ without_low (take k numbers)
 low_more numbers k h e =
     let c = get_or numbers k 0 in
     let none : unless_low c ≡ [] = ap (λ b. cond b [] (c ∷ [])) (eq-eqb (c / 0x400) 0x37 e) in
     ap without_low (take_more numbers k 0 h) ∙ flat_map-more unless_low (take k numbers) c ∙ ap (λ (x : List ℕ). without_low (take k numbers) ++ x) none ∙ append-nil (without_low (take k numbers))
 
-other_more : (numbers : List ℕ) (k : ℕ) → k < length numbers → (get_or numbers k 0 / 0x400 ≡ 0x37 → ⊥) → without_low (take (k + 1) numbers) ≡ without_low (take k numbers) ++ get_or numbers k 0 ∷ []
+other_more : (numbers : List ℕ) (k : ℕ) → k < length numbers → (IsLowUnit (get_or numbers k 0) → ⊥) → without_low (take (k + 1) numbers) ≡ without_low (take k numbers) ++ get_or numbers k 0 ∷ []
 other_more numbers k h never =
     let c = get_or numbers k 0 in
     let itself : unless_low c ≡ c ∷ [] = ap (λ b. cond b [] (c ∷ [])) (ne_eqb (c / 0x400) 0x37 never) in
@@ -36,13 +37,14 @@ pub record IsPut (numbers before : List ℕ) (n k more : ℕ) (after : List ℕ)
   pub counts : more ≡ length (without_low (take k numbers))
   pub stand : take (n + more) after ≡ take n before ++ without_low (take k numbers)
 
-pub put_more : (numbers before now : List ℕ) (n k more : ℕ) (is_low : Bool) (c : ℕ) → k < length numbers → (IsTrue is_low ↔ (get_or numbers k 0 / 0x400 ≡ 0x37)) → (is_low ≡ false → c ≡ get_or numbers k 0) → more ≤ k → more ≡ length (without_low (take k numbers))
+-- one number more is put, or passed over
+pub put_more : (numbers before now : List ℕ) (n k more : ℕ) (is_low : Bool) (c : ℕ) → k < length numbers → (IsTrue is_low ↔ (IsLowUnit (get_or numbers k 0))) → (is_low ≡ false → c ≡ get_or numbers k 0) → more ≤ k → more ≡ length (without_low (take k numbers))
     → take (n + more) now ≡ take n before ++ without_low (take k numbers) → n + more < length now → IsPut numbers before n (k + 1) (more + bool_byte (not is_low)) (slice_set now (n + more) c)
 put_more numbers before now n k more true c h low is few counts stand room =
     let e = low_more numbers k h (low.0 refl) in
     record { few = omega arith; counts = rw e (omega (arith, counts)); stand = rw e (ap (λ x. take x (slice_set now (n + more) c)) (let g : n + (more + 0) ≡ n + more = omega arith in g) ∙ take-set now (n + more) c ∙ stand) }
 put_more numbers before now n k more false c h low is few counts stand room =
-    let never : get_or numbers k 0 / 0x400 ≡ 0x37 → ⊥ = λ a. (let f : false ≡ true = low.1 a in cc f) in
+    let never : IsLowUnit (get_or numbers k 0) → ⊥ = λ a. (let f : false ≡ true = low.1 a in cc f) in
     let e = other_more numbers k h never in
     record {
       few = omega arith;
@@ -72,29 +74,29 @@ front_more bytes_of text characters at size c front s unit =
 
 -- What was read before a unit: all that is before it, and it too if it is a low surrogate.
 record Before (bytes_of : BytesOf) (text numbers : List ℕ) (m u : ℕ) : Type 0 where
-  low : u / 0x400 ≡ 0x37 → IsFront bytes_of text (without_low (take m numbers)) (2 * m + 2)
-  other : (u / 0x400 ≡ 0x37 → ⊥) → IsFront bytes_of text (without_low (take m numbers)) (2 * m)
+  low : IsLowUnit u → IsFront bytes_of text (without_low (take m numbers)) (2 * m + 2)
+  other : (IsLowUnit u → ⊥) → IsFront bytes_of text (without_low (take m numbers)) (2 * m)
 
 -- behind a high surrogate
-after_high : (bytes_of : BytesOf) (text numbers : List ℕ) (m u : ℕ) → ArePaired bytes_of → m < length numbers → (j : IsJoined bytes_of text (2 * m) (get_or numbers m 0)) → j.next ≡ u → Before bytes_of text numbers m j.unit → j.unit / 0x400 ≡ 0x36 → Before bytes_of text numbers (m + 1) u
+after_high : (bytes_of : BytesOf) (text numbers : List ℕ) (m u : ℕ) → ArePaired bytes_of → m < length numbers → (j : IsJoined bytes_of text (2 * m) (get_or numbers m 0)) → j.next ≡ u → Before bytes_of text numbers m j.unit → IsHighUnit j.unit → Before bytes_of text numbers (m + 1) u
 after_high bytes_of text numbers m u law h j is before high =
     let c = get_or numbers m 0 in
+    let e : IsPair j.unit j.next c = j.pair high in
     let low = j.in_pairs.0 high in
-    let e = j.pair high in
-    let stands : IsUnitAt bytes_of 4 text (2 * m) c = rw e (law.pairs text (2 * m) j.unit j.next j.here j.behind high low) in
-    let never : c / 0x400 ≡ 0x37 → ⊥ = λ f. omega (arith, e, f) in
-    let front = front_more bytes_of text _ (2 * m) 4 c (before.other (λ f. omega (arith, f, high))) (omega (arith, e), λ f. omega (arith, e)) stands in
+    let stands : IsUnitAt bytes_of 4 text (2 * m) c = law.pairs text (2 * m) j.unit j.next c j.here j.behind e in
+    let never : IsLowUnit c → ⊥ = λ f. omega (arith, e.above, f) in
+    let front = front_more bytes_of text _ (2 * m) 4 c (before.other (λ f. omega (arith, f, high))) (pair_scalar j.unit j.next c (omega (arith, high)) e) stands in
     record {
       low = λ f. rw (other_more numbers m h never) (subst (IsFront bytes_of text (without_low (take m numbers) ++ c ∷ [])) (let g : 2 * m + 4 ≡ 2 * (m + 1) + 2 = omega arith in g) front);
-      other = λ f. absurd (f (subst (λ x. x / 0x400 ≡ 0x37) is low));
+      other = λ f. absurd (f (subst IsLowUnit is low));
     }
 
 -- behind another unit
-after_other : (bytes_of : BytesOf) (text numbers : List ℕ) (m u : ℕ) → ArePaired bytes_of → m < length numbers → (j : IsJoined bytes_of text (2 * m) (get_or numbers m 0)) → j.next ≡ u → Before bytes_of text numbers m j.unit → (j.unit / 0x400 ≡ 0x36 → ⊥) → Before bytes_of text numbers (m + 1) u
+after_other : (bytes_of : BytesOf) (text numbers : List ℕ) (m u : ℕ) → ArePaired bytes_of → m < length numbers → (j : IsJoined bytes_of text (2 * m) (get_or numbers m 0)) → j.next ≡ u → Before bytes_of text numbers m j.unit → (IsHighUnit j.unit → ⊥) → Before bytes_of text numbers (m + 1) u
 after_other bytes_of text numbers m u law h j is before never =
     let c = get_or numbers m 0 in
     let e : c ≡ j.unit = j.alone never in
-    let last : u / 0x400 ≡ 0x37 → ⊥ = λ f. never (j.in_pairs.1 (subst (λ x. x / 0x400 ≡ 0x37) (sym is) f)) in
+    let last : IsLowUnit u → ⊥ = λ f. never (j.in_pairs.1 (subst IsLowUnit (sym is) f)) in
     let less = law.few text (2 * m) j.unit j.here in
     let place : 2 * m + 2 ≡ 2 * (m + 1) = omega arith in
     record {
@@ -106,7 +108,7 @@ after_other bytes_of text numbers m u law h j is before never =
     }
 
 -- all that was read before each unit
-all_before : (bytes_of : BytesOf) (text numbers : List ℕ) (m u first : ℕ) → ArePaired bytes_of → m ≤ length numbers → AreJoined bytes_of text numbers (length numbers) → IsUnitAt bytes_of 2 text 0 first → (first / 0x400 ≡ 0x37 → ⊥) → IsUnitAt bytes_of 2 text (2 * m) u → Before bytes_of text numbers m u
+all_before : (bytes_of : BytesOf) (text numbers : List ℕ) (m u first : ℕ) → ArePaired bytes_of → m ≤ length numbers → AreJoined bytes_of text numbers (length numbers) → IsUnitAt bytes_of 2 text 0 first → (IsLowUnit first → ⊥) → IsUnitAt bytes_of 2 text (2 * m) u → Before bytes_of text numbers m u
 all_before bytes_of text numbers zero u first law h joined here never unit =
     let e : u ≡ first = law.same text 0 u first unit here in
     record { low = λ f. absurd (never (ap (λ x. x / 0x400) (sym e) ∙ f)); other = λ f. record { scalars = tt; begins = tt; uses = refl } }
@@ -122,13 +124,13 @@ all_before bytes_of text numbers (suc m) u first law h joined here never unit =
     ])
 
 -- how far that is behind the last of many
-end : {bytes_of : BytesOf} {text numbers : List ℕ} {u : ℕ} (is_low : Bool) → (IsTrue is_low ↔ (u / 0x400 ≡ 0x37)) → Before bytes_of text numbers 16 u → IsFront bytes_of text (without_low (take 16 numbers)) (32 + 2 * bool_byte is_low)
+end : {bytes_of : BytesOf} {text numbers : List ℕ} {u : ℕ} (is_low : Bool) → (IsTrue is_low ↔ (IsLowUnit u)) → Before bytes_of text numbers 16 u → IsFront bytes_of text (without_low (take 16 numbers)) (32 + 2 * bool_byte is_low)
 end true low b = b.low (low.0 refl)
 end false low b = b.other (λ f. (let g : false ≡ true = low.1 f in cc g))
 
 -- many units are read
 pub joined_read : (bytes_of : BytesOf) (text : List ℕ) (at : ℕ) (before : List ℕ) (n more : ℕ) (numbers after : List ℕ) (first last : ℕ) (is_low : Bool) → ArePaired bytes_of → length numbers ≡ 16 → AreJoined bytes_of (take (length text - at) (drop at text)) numbers 16 → IsUnitAt bytes_of 2 (take (length text - at) (drop at text)) 0 first
-    → (first / 0x400 ≡ 0x37 → ⊥) → IsUnitAt bytes_of 2 (take (length text - at) (drop at text)) 32 last → (IsTrue is_low ↔ (last / 0x400 ≡ 0x37)) → n + 16 ≤ length before → more ≤ 16 → more ≡ length (without_low numbers) → take (n + more) after ≡ take n before ++ without_low numbers → length after ≡ length before
+    → (IsLowUnit first → ⊥) → IsUnitAt bytes_of 2 (take (length text - at) (drop at text)) 32 last → (IsTrue is_low ↔ (IsLowUnit last)) → n + 16 ≤ length before → more ≤ 16 → more ≡ length (without_low numbers) → take (n + more) after ≡ take n before ++ without_low numbers → length after ≡ length before
     → IsReadSpelled bytes_of text at before n (record { n = more; used = 32 + 2 * bool_byte is_low }) after
 joined_read bytes_of text at before n more numbers after first last is_low law long joined here never unit low room few counts stand same =
     let b = all_before bytes_of _ numbers 16 last first law (omega arith) (rw long joined) here never unit in
@@ -155,10 +157,7 @@ paired : (unit : ℕ → List ℕ) → ((u : ℕ) → length (unit u) ≡ 2) →
 paired unit two one = record {
   few = below unit two;
   same = λ text at u v p q. one (drop at text) u v (rw (one_unit unit u (below unit two text at u p)) at p.begins) (rw (one_unit unit v (below unit two text at v q)) at q.begins);
-  pairs = λ text at high low p q is_high is_low. (
-      let s = pair_stands unit two text at high low (0x10000 + (high % 0x400) * 0x400 + low % 0x400) p q (omega (arith, is_high)) (omega (arith, is_high)) (omega (arith, is_low)) (omega (arith, is_low)) (omega (arith, is_high, is_low)) in
-      record { begins = s.1; single = sym s.2 }
-      );
+  pairs = λ text at high low c p q pair. pair_stands unit two text at high low c p q (below unit two text at high p) (below unit two text (at + 2) low q) pair;
 }
 
 big_one : (text : List ℕ) (u v : ℕ) → Begins (big_unit u) text → Begins (big_unit v) text → u ≡ v
@@ -171,9 +170,10 @@ little_one [] u v p q = absurd p
 little_one (a ∷ []) u v p q = absurd p.1
 little_one (a ∷ b ∷ text) u v p q = omega (arith, p.0, p.1.0, q.0, q.1.0)
 
--- in each order
+-- units of two bytes with the high one first
 pub big_paired : ArePaired utf16.big
 big_paired = paired big_unit (λ u. refl) big_one
 
+-- units of two bytes with the low one first
 pub little_paired : ArePaired utf16.little
 little_paired = paired little_unit (λ u. refl) little_one

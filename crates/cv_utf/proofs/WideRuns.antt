@@ -9,7 +9,7 @@ use Rattle.cv_base.proofs.Front.{Begins-join}
 use Rattle.cv_base.specs.Items.{Begins}
 use Rattle.cv_base.specs.Scalars.{AreScalars}
 use Rattle.cv_base.specs.Spelled.{BytesOf, IsReadSpelled, IsWrittenSpelled}
-use Rattle.cv_utf.specs.Wide.{AreUnits, AreScalarsBelow, AreSingle}
+use Rattle.cv_utf.specs.Private.Wide.{AreUnits, AreScalarsBelow, AreSingle}
 
 -- one character more
 pub flat_map-more : (bytes_of : BytesOf) (characters : List ℕ) (c : ℕ) → flat_map bytes_of (characters ++ c ∷ []) ≡ flat_map bytes_of characters ++ bytes_of c

@@ -12,6 +12,7 @@ use Rattle.cv_utf.proofs.Utf8Spelled.{front_stands}
 pub bytes_more : (bytes_of : BytesOf) (values : List ℕ) (k : ℕ) → k < length values → flat_map bytes_of (take (k + 1) values) ≡ flat_map bytes_of (take k values) ++ bytes_of (get_or values k 0)
 bytes_more bytes_of values k h = ap (flat_map bytes_of) (take_more values k 0 h) ∙ flat_map-more bytes_of (take k values) (get_or values k 0)
 
+-- as many bytes more as one character has
 pub length_more : (bytes_of : BytesOf) (values : List ℕ) (used k n : ℕ) → k < length values → used ≡ length (flat_map bytes_of (take k values)) → n ≡ length (bytes_of (get_or values k 0)) → used + n ≡ length (flat_map bytes_of (take (k + 1) values))
 length_more bytes_of values used k n h e f = omega (arith, ap length (bytes_more bytes_of values k h), length-append (flat_map bytes_of (take k values)) (bytes_of (get_or values k 0)), e, f)
 

@@ -16,11 +16,9 @@ little_unit u = u % 256 ∷ u / 256 ∷ []
 abbrev pub units : (ℕ → List ℕ) → ℕ → List ℕ
 units unit c = flat_map unit (units_of c)
 
--- UTF-16: its marks are the unit FEFF in each order.
+-- UTF-16 in each order
 abbrev pub utf16 : Form
 utf16 = record {
   big = units big_unit;
   little = units little_unit;
-  big_mark = 0xfe ∷ 0xff ∷ [];
-  little_mark = 0xff ∷ 0xfe ∷ [];
 }

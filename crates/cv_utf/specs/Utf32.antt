@@ -10,11 +10,9 @@ big_four c = c / 0x1000000 ∷ c / 0x10000 % 0x100 ∷ c / 0x100 % 0x100 ∷ c %
 abbrev pub little_four : ℕ → List ℕ
 little_four c = c % 0x100 ∷ c / 0x100 % 0x100 ∷ c / 0x10000 % 0x100 ∷ c / 0x1000000 ∷ []
 
--- UTF-32: its marks are U+FEFF in each order.
+-- UTF-32 in each order
 abbrev pub utf32 : Form
 utf32 = record {
   big = big_four;
   little = little_four;
-  big_mark = 0x00 ∷ 0x00 ∷ 0xfe ∷ 0xff ∷ [];
-  little_mark = 0xff ∷ 0xfe ∷ 0x00 ∷ 0x00 ∷ [];
 }

@@ -1,7 +1,8 @@
 //! Characters of UTF-16 among which some are surrogate pairs, many at once.
 ghost use Rattle.std.specs.Prelude.{◌≡◌, ◌↔◌, ◌+◌, ◌*◌, ◌/◌, ◌%◌, ◌≤◌, ◌++◌, IsTrue, IfSome, length, take};
 ghost use Rattle.cv_base.specs.Spelled.{IsReadSpelled};
-ghost use Rattle.cv_utf.specs.Wide.{ArePaired, AreJoined, AreScalarsOrLow, without_low};
+ghost use Rattle.cv_utf.specs.Private.Surrogates.{IsHighUnit, IsLowUnit, IsPair};
+ghost use Rattle.cv_utf.specs.Private.Wide.{ArePaired, AreJoined, AreScalarsOrLow, without_low};
 
 use crate::wide::WideUnit;
 use cv_base::{MANY, Scalar, Spelled};
@@ -9,7 +10,7 @@ use cv_base::{MANY, Scalar, Spelled};
 /// Whether a unit is a high surrogate.
 #[inline(always)]
 fn is_high(unit: u32) -> bool
-    ensures { IsTrue result ↔ (unit / 0x400 ≡ 0x36) }
+    ensures { IsTrue result ↔ IsHighUnit unit }
 {
     unit / 0x400 == 0x36
 }
@@ -17,7 +18,7 @@ fn is_high(unit: u32) -> bool
 /// Whether a unit is a low surrogate.
 #[inline(always)]
 fn is_low(unit: u32) -> bool
-    ensures { IsTrue result ↔ (unit / 0x400 ≡ 0x37) }
+    ensures { IsTrue result ↔ IsLowUnit unit }
 {
     unit / 0x400 == 0x37
 }
@@ -25,8 +26,8 @@ fn is_low(unit: u32) -> bool
 /// The number of a high surrogate with the low one behind it, and of another unit its own. Which it is takes no branch.
 #[inline(always)]
 fn joined(unit: u32, next: u32) -> u32
-    ensures pair { unit / 0x400 ≡ 0x36 → result ≡ 0x10000 + (unit % 0x400) * 0x400 + next % 0x400 }
-    ensures alone { (unit / 0x400 ≡ 0x36 → ⊥) → result ≡ unit }
+    ensures pair { IsHighUnit unit → IsLowUnit next → IsPair unit next result }
+    ensures alone { (IsHighUnit unit → ⊥) → result ≡ unit }
 {
     let pair = 0x1_0000 + (unit % 0x400) * 0x400 + next % 0x400;
     if is_high(unit) { pair } else { unit }
@@ -38,7 +39,8 @@ fn joined(unit: u32, next: u32) -> u32
 fn joined_numbers<U: WideUnit>(text: &[u8]) -> Option<[u32; MANY]>
     requires size { U.unit_size ≡ 2 }
     requires long { 34 ≤ length text.now }
-    ensures { IfSome result (λ numbers. (length numbers ≡ 16) × AreJoined U.bytes_of text.now numbers 16) }
+    ensures { IfSome result
+        (λ numbers. (length numbers ≡ 16) × AreJoined U.bytes_of text.now numbers 16) }
 {
     let mut numbers = [0; MANY];
     let mut all = true;

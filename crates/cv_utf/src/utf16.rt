@@ -2,10 +2,11 @@
 ghost use Rattle.std.specs.Prelude.{◌≡◌, ◌+◌, ◌*◌, ◌<◌, ◌≤◌, ◌↔◌, IsTrue, ◌++◌, [], length, Some};
 ghost use Rattle.cv_base.specs.Items.{IsNext};
 ghost use Rattle.cv_base.specs.Places.{PutsAt};
-ghost use Rattle.cv_utf.specs.Orders.{gives, reads_first, reads_in, writes_in};
+ghost use Rattle.cv_utf.specs.Orders.{reads_in, writes_in, mark};
+ghost use Rattle.cv_utf.specs.Private.AnyState.{always_gives, always_first};
 ghost use Rattle.cv_base.specs.Units.{high_unit, low_unit};
 ghost use Rattle.cv_utf.specs.Utf16.{utf16};
-ghost use Rattle.cv_utf.specs.Utf16Laws.{IsSurrogate, IsLow};
+ghost use Rattle.cv_utf.specs.Private.Surrogates.{IsSurrogate, IsLow, IsPair};
 
 use crate::character::character;
 use crate::order::Order;
@@ -40,7 +41,7 @@ pub(crate) fn joined(high: u32, low: u32) -> u32
     requires high_to { high < 0xdc00 }
     requires low_from { 0xdc00 ≤ low }
     requires low_to { low < 0xe000 }
-    ensures { result + (0xd800 * 0x400 + 0xdc00) ≡ 0x10000 + high * 0x400 + low }
+    ensures { IsPair high low result }
 {
     0x1_0000 + (high - 0xd800) * 0x400 + (low - 0xdc00)
 }
@@ -78,7 +79,7 @@ fn unit(high: u8, low: u8) -> u32
 #[inline]
 #[tactic(auto, using(crate::proofs::Utf16Big::steps))]
 fn big_item(input: &[u8], next: ReadState) -> Item
-    ensures { IsNext (gives utf16.big next) next input.now result }
+    ensures { IsNext (always_gives utf16.big next) next input.now result }
 {
     if input.is_empty() {
         return Item::End;
@@ -111,7 +112,7 @@ fn big_item(input: &[u8], next: ReadState) -> Item
 #[inline]
 #[tactic(auto, using(crate::proofs::Utf16Little::steps))]
 fn little_item(input: &[u8], next: ReadState) -> Item
-    ensures { IsNext (gives utf16.little next) next input.now result }
+    ensures { IsNext (always_gives utf16.little next) next input.now result }
 {
     if input.is_empty() {
         return Item::End;
@@ -141,7 +142,7 @@ fn little_item(input: &[u8], next: ReadState) -> Item
 #[inline]
 #[tactic(auto, using(crate::proofs::Utf16First::steps))]
 fn first_item(input: &[u8]) -> Item
-    ensures { (state : ReadState) → IsNext (reads_first utf16) state input.now result }
+    ensures { (state : ReadState) → IsNext (always_first utf16) state input.now result }
 {
     if input.len() < 2 {
         return big_item(input, ReadState::Big);
@@ -232,7 +233,8 @@ fn put_little(c: Scalar, out: &mut [u8], at: usize, next: WriteState) -> Put
 #[inline]
 fn put_marked(c: Scalar, out: &mut [u8], at: usize) -> Put
     requires { at ≤ length out.old }
-    ensures { PutsAt (Some (utf16.big_mark ++ utf16.big c, WriteState.Marked)) out.old at result out.new }
+    ensures { PutsAt (Some (utf16.big mark ++ utf16.big c, WriteState.Marked))
+        out.old at result out.new }
 {
     let value = c.value();
     let room = out.len() - at;
@@ -275,7 +277,7 @@ impl Codec for Utf16 {
 
     ghost closes = { λ _ _. [] };
 
-    #[tactic(auto, using(crate::specs::OrdersLaws::in_readable, crate::specs::OrdersLaws::in_substitutable, crate::specs::Utf16Laws::utf16_is_form))]
+    #[tactic(auto, using(crate::proofs::OrdersLaws::in_readable, crate::proofs::OrdersLaws::in_substitutable, crate::proofs::Utf16Laws::utf16_is_form))]
     fn assert_valid(&self) {}
 
     #[inline]

@@ -2,9 +2,10 @@
 ghost use Rattle.std.specs.Prelude.{◌≡◌, ◌+◌, ◌*◌, ◌≤◌, ◌↔◌, IsTrue, ◌++◌, [], ◌∷◌, length, Some};
 ghost use Rattle.cv_base.specs.Items.{Begins, IsNext};
 ghost use Rattle.cv_base.specs.Places.{PutsAt};
-ghost use Rattle.cv_utf.specs.Orders.{gives, reads_first, reads_in, writes_in};
+ghost use Rattle.cv_utf.specs.Orders.{reads_in, writes_in, mark};
+ghost use Rattle.cv_utf.specs.Private.AnyState.{always_gives, always_first};
 ghost use Rattle.cv_utf.specs.Utf32.{utf32};
-ghost use Rattle.cv_utf.specs.Utf32Laws.{IsThird};
+ghost use Rattle.cv_utf.specs.Private.Utf32Bytes.{IsThird};
 
 use crate::character::character;
 use crate::order::Order;
@@ -36,7 +37,7 @@ fn fits_third(second: u8, third: u8) -> bool
 #[inline]
 #[tactic(auto, using(crate::proofs::Utf32Big::steps))]
 fn big_item(input: &[u8], next: ReadState) -> Item
-    ensures { IsNext (gives utf32.big next) next input.now result }
+    ensures { IsNext (always_gives utf32.big next) next input.now result }
 {
     if input.is_empty() {
         return Item::End;
@@ -68,7 +69,7 @@ fn big_item(input: &[u8], next: ReadState) -> Item
 #[inline]
 #[tactic(auto, using(crate::proofs::Utf32Little::steps))]
 fn little_item(input: &[u8], next: ReadState) -> Item
-    ensures { IsNext (gives utf32.little next) next input.now result }
+    ensures { IsNext (always_gives utf32.little next) next input.now result }
 {
     if input.is_empty() {
         return Item::End;
@@ -97,7 +98,7 @@ fn little_item(input: &[u8], next: ReadState) -> Item
 #[inline]
 #[tactic(auto, using(crate::proofs::Utf32First::begins_test))]
 fn begins_little_mark(bytes: &[u8]) -> bool
-    ensures { IsTrue result ↔ Begins bytes.now utf32.little_mark }
+    ensures { IsTrue result ↔ Begins bytes.now (utf32.little mark) }
 {
     let mark: &[u8] = &[0xff, 0xfe, 0x00, 0x00];
     mark.starts_with(bytes)
@@ -107,7 +108,7 @@ fn begins_little_mark(bytes: &[u8]) -> bool
 #[inline]
 #[tactic(auto, using(crate::proofs::Utf32First::steps))]
 fn first_item(input: &[u8]) -> Item
-    ensures { (state : ReadState) → IsNext (reads_first utf32) state input.now result }
+    ensures { (state : ReadState) → IsNext (always_first utf32) state input.now result }
 {
     if input.is_empty() {
         return Item::End;
@@ -180,7 +181,8 @@ fn put_little(c: Scalar, out: &mut [u8], at: usize, next: WriteState) -> Put
 #[inline]
 fn put_marked(c: Scalar, out: &mut [u8], at: usize) -> Put
     requires { at ≤ length out.old }
-    ensures { PutsAt (Some (utf32.big_mark ++ utf32.big c, WriteState.Marked)) out.old at result out.new }
+    ensures { PutsAt (Some (utf32.big mark ++ utf32.big c, WriteState.Marked))
+        out.old at result out.new }
 {
     if out.len() - at < 8 {
         return Put::NoRoom;
@@ -200,7 +202,7 @@ impl Codec for Utf32 {
 
     ghost closes = { λ _ _. [] };
 
-    #[tactic(auto, using(crate::specs::OrdersLaws::in_readable, crate::specs::OrdersLaws::in_substitutable, crate::specs::Utf32Laws::utf32_is_form))]
+    #[tactic(auto, using(crate::proofs::OrdersLaws::in_readable, crate::proofs::OrdersLaws::in_substitutable, crate::proofs::Utf32Laws::utf32_is_form))]
     fn assert_valid(&self) {}
 
     #[inline]

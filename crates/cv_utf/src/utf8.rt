@@ -2,7 +2,7 @@
 ghost use Rattle.std.specs.Prelude.{◌≡◌, ◌+◌, ◌%◌, ◌<◌, ◌≤◌, ◌↔◌, IsTrue, [], length, get_or};
 ghost use Rattle.cv_base.specs.Items.{IsNext};
 ghost use Rattle.cv_utf.specs.Utf8.{utf8_reads, utf8_writes};
-ghost use Rattle.cv_utf.specs.Utf8Laws.{IsTail, IsSecond};
+ghost use Rattle.cv_utf.specs.Private.Utf8Bytes.{IsTail, IsSecond};
 
 use crate::character::character;
 use cv_base::place::write_slice;
@@ -91,7 +91,7 @@ impl Codec for Utf8 {
 
     ghost closes = { λ _ _. [] };
 
-    #[tactic(auto, using(crate::specs::Utf8Laws::utf8_readable))]
+    #[tactic(auto, using(crate::proofs::Utf8Laws::utf8_readable))]
     fn assert_valid(&self) {}
 
     #[inline]

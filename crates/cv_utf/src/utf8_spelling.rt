@@ -3,6 +3,8 @@ ghost use Rattle.std.specs.Prelude.{◌≡◌, ◌+◌, ◌≤◌, ◌<◌, ℕ,
 ghost use Rattle.std.specs.Int.{to_le_bytes, w32};
 ghost use Rattle.cv_base.specs.Scalars.{IsScalar};
 ghost use Rattle.cv_base.specs.Items.{Begins};
+ghost use Rattle.cv_utf.specs.Private.Wide.{AreScalarsBelow};
+ghost use Rattle.cv_utf.specs.Private.Words.{AreWords, AreSizes};
 ghost use Rattle.cv_utf.specs.Utf8.{utf8_bytes};
 
 use crate::utf8_reading::{inner_at, last_at};
@@ -61,8 +63,8 @@ fn are_ascii(characters: &[Scalar], n: usize) -> bool
 /// The spellings of sixteen characters, each as `word` has it.
 #[inline(always)]
 fn words(values: u32x16) -> u32x16
-    requires { (k : ℕ) → k < 16 → IsScalar (get_or values k 0) }
-    ensures { (k : ℕ) → k < 16 → Begins (utf8_bytes (get_or values k 0)) (to_le_bytes w32 (get_or result k 0)) }
+    requires { AreScalarsBelow values 16 }
+    ensures { AreWords utf8_bytes values result 16 }
 {
     let sixty_four = u32x16::splat(64);
     let last = values % sixty_four * u32x16::splat(0x100_0000);
@@ -84,7 +86,7 @@ fn words(values: u32x16) -> u32x16
 /// How many bytes each of sixteen characters has.
 #[inline(always)]
 fn sizes(values: u32x16) -> u32x16
-    ensures { (k : ℕ) → k < 16 → get_or result k 0 ≡ length (utf8_bytes (get_or values k 0)) }
+    ensures { AreSizes utf8_bytes values result 16 }
 {
     let one = u32x16::splat(1);
     let none = u32x16::splat(0);
@@ -127,6 +129,7 @@ impl Spelling for Utf8Spelling {
 
     const MANY_SIZE: usize = 1;
 
+    #[inline(always)]
     fn assert_short() {}
 
     #[inline(always)]

@@ -5,8 +5,8 @@ ghost use Rattle.std.specs.Simd.Lanes.{mask_l};
 ghost use Rattle.cv_base.specs.Scalars.{IsScalar};
 ghost use Rattle.cv_base.specs.Spelled.{IsReadSpelled};
 ghost use Rattle.cv_utf.specs.Utf8.{utf8_bytes};
-ghost use Rattle.cv_utf.specs.Utf8Short.{is_among, is_behind, IsShortAt, short_value};
-ghost use Rattle.cv_utf.specs.Utf8Windows.{AreBegun, AreWhole, AreMarks, IsOneAt, IsTwoAt, IsThreeAt, whole_value};
+ghost use Rattle.cv_utf.specs.Private.Utf8Short.{is_among, is_behind, IsShortAt, short_value};
+ghost use Rattle.cv_utf.specs.Private.Utf8Windows.{AreBegun, AreWhole, AreMarks, IsOneAt, IsTwoAt, IsThreeAt, whole_value};
 
 use cv_base::{MANY, Scalar, Spelled};
 use std::simd::prelude::*;
@@ -56,7 +56,8 @@ fn short_values(input: &[u8], at: usize) -> [u16; MANY]
 fn beginnings(input: &[u8], at: usize, used: usize) -> [u8; MANY]
     requires within { at + 16 ≤ length input.now }
     requires few { used ≤ 18 }
-    ensures { (k : ℕ) → k < 16 → get_or result k 0 ≡ cond (is_behind (get_or input.now (at + k) 0)) 0 (cond (nat_lt k used) 1 0) }
+    ensures { (k : ℕ) → k < 16 → get_or result k 0
+        ≡ cond (is_behind (get_or input.now (at + k) 0)) 0 (cond (nat_lt k used) 1 0) }
 {
     let bytes = u8x16::from_slice(&input[at..]) - u8x16::splat(0x80);
     let lanes = u8x16::from_array([0, 1, 2, 3, 4, 5, 6, 7, 8, 9, 10, 11, 12, 13, 14, 15]);
@@ -83,7 +84,8 @@ fn put_begun(
     requires scalars { (k : ℕ) → k < 16 → IsScalar (get_or values k 0) }
     requires begins { (k : ℕ) → k < 16 → get_or beginnings k 0 ≤ 1 }
     ensures many { result.n ≤ 16 }
-    ensures read { (text : List ℕ) (at : ℕ) → AreBegun text at values beginnings used → IsReadSpelled utf8_bytes text at buffer.old n result buffer.new }
+    ensures read { (text : List ℕ) (at : ℕ) → AreBegun text at values beginnings used
+        → IsReadSpelled utf8_bytes text at buffer.old n result buffer.new }
 {
     let mut more = 0;
     for lane in 0..MANY {

@@ -3,7 +3,7 @@ ghost use Rattle.std.specs.Prelude.{◌≡◌, ℕ, ◌+◌, ◌*◌, ◌<◌, �
 ghost use Rattle.std.specs.List.{flat_map};
 ghost use Rattle.cv_base.specs.Scalars.{IsScalar};
 ghost use Rattle.cv_base.specs.Spelled.{BytesOf, IsReadSpelled, IsWrittenSpelled};
-ghost use Rattle.cv_utf.specs.Wide.{IsUnitAt, AreUnits, AreScalarsBelow, AreSingle};
+ghost use Rattle.cv_utf.specs.Private.Wide.{IsUnitAt, AreUnits, AreScalarsBelow, AreSingle};
 
 use cv_base::{MANY, Scalar, Spelled};
 
@@ -142,7 +142,8 @@ fn put_units<U: WideUnit>(values: &[u32; MANY], out: &mut [u8], at: usize)
     requires long { length values.now ≡ 16 }
     requires single { AreSingle U.bytes_of U.unit_size values.now 16 }
     requires room { at + U.unit_size * 16 ≤ length out.old }
-    ensures stand { take (at + U.unit_size * 16) out.new ≡ take at out.old ++ flat_map U.bytes_of values.now }
+    ensures stand { take (at + U.unit_size * 16) out.new
+        ≡ take at out.old ++ flat_map U.bytes_of values.now }
     ensures size { length out.new ≡ length out.old }
 {
     let mut place = at;

@@ -3,8 +3,8 @@ ghost use Rattle.std.specs.Prelude.{◌≡◌, ◌<◌, ◌≤◌, length};
 ghost use Rattle.cv_base.specs.Items.{Begins};
 ghost use Rattle.cv_base.specs.Units.{high_unit, low_unit};
 ghost use Rattle.cv_utf.specs.Utf16.{utf16};
-ghost use Rattle.cv_utf.specs.Wide.{AreScalarsBelow};
-ghost use Rattle.cv_utf.specs.Words.{AreWords, AreSizes};
+ghost use Rattle.cv_utf.specs.Private.Wide.{AreScalarsBelow};
+ghost use Rattle.cv_utf.specs.Private.Words.{AreWords, AreSizes};
 
 use crate::surrogates::read_joined;
 use crate::utf16::joined;
@@ -152,6 +152,7 @@ impl Spelling for Big16 {
 
     const MANY_SIZE: usize = 0;
 
+    #[inline(always)]
     fn assert_short() {}
 
     #[inline(always)]
@@ -249,6 +250,7 @@ impl Spelling for Little16 {
 
     const MANY_SIZE: usize = 0;
 
+    #[inline(always)]
     fn assert_short() {}
 
     #[inline(always)]

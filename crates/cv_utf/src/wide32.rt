@@ -49,6 +49,7 @@ impl Spelling for Big32 {
 
     const MANY_SIZE: usize = 4;
 
+    #[inline(always)]
     fn assert_short() {}
 
     #[inline(always)]
@@ -121,6 +122,7 @@ impl Spelling for Little32 {
 
     const MANY_SIZE: usize = 4;
 
+    #[inline(always)]
     fn assert_short() {}
 
     #[inline(always)]

@@ -5,8 +5,8 @@ ghost use Rattle.std.specs.List.{flat_map};
 ghost use Rattle.cv_base.specs.Scalars.{IsScalar};
 ghost use Rattle.cv_base.specs.Items.{Begins};
 ghost use Rattle.cv_base.specs.Spelled.{BytesOf, IsWrittenSpelled};
-ghost use Rattle.cv_utf.specs.Wide.{AreScalarsBelow};
-ghost use Rattle.cv_utf.specs.Words.{AreWords, AreSizes};
+ghost use Rattle.cv_utf.specs.Private.Wide.{AreScalarsBelow};
+ghost use Rattle.cv_utf.specs.Private.Words.{AreWords, AreSizes};
 
 use crate::wide::values_of;
 use cv_base::{MANY, Scalar, Spelled};
@@ -47,7 +47,8 @@ fn put_words<W: Words>(
     requires room { at + 64 ≤ length out.old }
     ensures few { result ≤ 64 }
     ensures bytes { result ≡ length (flat_map W.bytes_of values.now) }
-    ensures stand { take (at + result) out.new ≡ take at out.old ++ flat_map W.bytes_of values.now }
+    ensures stand { take (at + result) out.new
+        ≡ take at out.old ++ flat_map W.bytes_of values.now }
     ensures size { length out.new ≡ length out.old }
 {
     let mut used = 0;

@@ -1,7 +1,7 @@
 -- Each request has one answer, and want of memory beside it at most.
 use Rattle.std.proofs.Common.{◌≡◌, ◌≢◌, ℕ, List, length, eqb, nat_lt, Option, Some, None, sym, ap, ◌∙◌}
 use Rattle.cv_pivot.specs.Converted.{Converted}
-use Rattle.cv_pivot.specs.EncodingLaws.{encoding_readable}
+use Rattle.cv_pivot.proofs.EncodingLaws.{encoding_readable}
 use Rattle.cv_pivot.specs.declared.conversion.Conversion.{Conversion}
 use Rattle.cv_pivot.specs.declared.encoding.Encoding.{Encoding}
 use Rattle.cv_pivot.specs.declared.outcome.Stop.{Stop}

@@ -1,6 +1,6 @@
 use Rattle.std.proofs.Common.{◌≡◌, length}
 use Rattle.std.specs.Prelude.{IsTrue}
-use Rattle.cv_utf.specs.Wide.{AreJoined}
+use Rattle.cv_utf.specs.Private.Wide.{AreJoined}
 use Rattle.cv_utf.proofs.surrogates.joined_numbers.Given as goal
 
 abbrev pub invariant-loop-k : goal.invariant-loop-k

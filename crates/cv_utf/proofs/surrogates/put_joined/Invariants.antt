@@ -1,5 +1,5 @@
 use Rattle.std.proofs.Common.{◌≡◌, ◌+◌, ◌≤◌, ◌++◌, length, take}
-use Rattle.cv_utf.specs.Wide.{without_low}
+use Rattle.cv_utf.specs.Private.Wide.{without_low}
 use Rattle.cv_utf.proofs.surrogates.put_joined.Given as goal
 
 abbrev pub invariant-loop-k : goal.invariant-loop-k

@@ -1,5 +1,5 @@
 use Rattle.std.specs.Prelude.{IsTrue}
-use Rattle.cv_utf.specs.Wide.{AreScalarsBelow}
+use Rattle.cv_utf.specs.Private.Wide.{AreScalarsBelow}
 use Rattle.cv_utf.proofs.wide.are_scalars.Given as goal
 
 abbrev pub invariant-loop-k : goal.invariant-loop-k

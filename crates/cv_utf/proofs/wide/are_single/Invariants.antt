@@ -1,5 +1,5 @@
 use Rattle.std.specs.Prelude.{IsTrue}
-use Rattle.cv_utf.specs.Wide.{AreSingle}
+use Rattle.cv_utf.specs.Private.Wide.{AreSingle}
 use Rattle.cv_utf.proofs.wide.are_single.Given as goal
 
 abbrev pub invariant-loop-k : goal.invariant-loop-k

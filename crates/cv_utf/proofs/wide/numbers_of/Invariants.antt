@@ -1,5 +1,5 @@
 use Rattle.std.proofs.Common.{◌≡◌, ◌*◌, length}
-use Rattle.cv_utf.specs.Wide.{AreUnits}
+use Rattle.cv_utf.specs.Private.Wide.{AreUnits}
 use Rattle.cv_utf.proofs.wide.numbers_of.Given as goal
 
 abbrev pub invariant-loop-k : goal.invariant-loop-k

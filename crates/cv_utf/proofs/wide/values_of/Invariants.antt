@@ -1,5 +1,5 @@
 use Rattle.std.proofs.Common.{◌≡◌, length, take, drop}
-use Rattle.cv_utf.specs.Wide.{AreScalarsBelow}
+use Rattle.cv_utf.specs.Private.Wide.{AreScalarsBelow}
 use Rattle.cv_utf.proofs.wide.values_of.Given as goal
 
 abbrev pub invariant-loop-k : goal.invariant-loop-k

@@ -1,4 +1,4 @@
-use Rattle.std.proofs.Common.{arith, ◌∙◌, ◌≡◌, get_or}
+use Rattle.std.proofs.Common.{arith, ◌∙◌, ◌≡◌}
 use Rattle.cv_base.proofs.Front.{Begins-length}
 use Rattle.cv_utf.proofs.WordRuns.{length_more, word_more}
 use Rattle.cv_utf.proofs.words.put_words.Goals as goal

@@ -1,4 +1,4 @@
-use Rattle.cv_pivot.specs.EncodingLaws.{encoding_readable}
+use Rattle.cv_pivot.proofs.EncodingLaws.{encoding_readable}
 use Rattle.cv_pivot.proofs.Enough.{counts_few}
 use Rattle.cv_pivot.proofs.conversion.Conversion.convert.Goals as goal
 

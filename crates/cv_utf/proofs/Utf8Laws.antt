@@ -5,15 +5,8 @@ use Rattle.cv_base.specs.Items.{Taken, taken, Begins}
 use Rattle.cv_base.specs.Codecs.{IsReadable}
 use Rattle.cv_base.specs.declared.state.ReadState.{ReadState}
 use Rattle.cv_base.specs.declared.state.ReadState.TheVariants as read
+use Rattle.cv_utf.specs.Private.Utf8Bytes.{IsTail, IsSecond}
 use Rattle.cv_utf.specs.Utf8.{table, carried, IsOfRow, IsOfOne, utf8_reads, row, range, tail}
-
--- a byte behind the first
-abbrev pub IsTail : ℕ → Type 0
-IsTail b = (0x80 ≤ b) × (b ≤ 0xbf)
-
--- a second byte behind a first byte of three or four: in the range of the row
-abbrev pub IsSecond : ℕ → ℕ → Type 0
-IsSecond a b = (0x80 ≤ b) × (b ≤ 0xbf) × (a ≡ 0xe0 → 0xa0 ≤ b) × (a ≡ 0xed → b ≤ 0x9f) × (a ≡ 0xf0 → 0x90 ≤ b) × (a ≡ 0xf4 → b ≤ 0x8f)
 
 -- What a sequence of the table is, by its first byte.
 pub record IsSequence (w : List ℕ) (c : ℕ) : Type 0 where
@@ -115,5 +108,6 @@ one_utf8 s text a b i j p q f g =
 uses_utf8 : (s : ReadState) (a : List ℕ) (i : Taken) → utf8_reads s a i → (0 < i.used) × (i.used ≤ length a)
 uses_utf8 s a i p = let m = sequence_of a p.0 p.1 in let e : i.used ≡ length a = ap (λ t. t.used) p.2 in (omega (arith, m.some), omega arith)
 
+-- UTF-8 is readable
 pub utf8_readable : IsReadable utf8_reads
 utf8_readable = record { one_item = one_utf8; uses = uses_utf8 }

@@ -1,4 +1,4 @@
--- Characters whose bytes are the front of a word: helpers of the proofs of blocks, which no public contract cites.
+-- Characters whose bytes are the front of a word.
 use Rattle.std.specs.Prelude.{◌≡◌, ℕ, ◌<◌, List, length, get_or}
 use Rattle.std.specs.Int.{to_le_bytes, w32}
 use Rattle.cv_base.specs.Items.{Begins}

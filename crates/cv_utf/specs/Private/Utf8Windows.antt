@@ -3,7 +3,8 @@ use Rattle.std.specs.Prelude.{◌≡◌, ℕ, ◌+◌, ◌*◌, ◌%◌, ◌≤�
 use Rattle.std.specs.Int.{bit_at}
 use Rattle.cv_base.specs.Spelled.{IsSpelledAt}
 use Rattle.cv_utf.specs.Utf8.{utf8_bytes}
-use Rattle.cv_utf.specs.Utf8Short.{is_behind}
+use Rattle.cv_utf.specs.Private.Utf8Bytes.{IsTail}
+use Rattle.cv_utf.specs.Private.Utf8Short.{is_behind}
 
 -- At a lane no character begins and the place that is reached stays, or the character at that place begins, and the next stands behind it.
 abbrev pub IsLane : List ℕ → ℕ → ℕ → ℕ → ℕ → ℕ → Type 0
@@ -21,8 +22,9 @@ pub record AreBegun (text : List ℕ) (at : ℕ) (values beginnings : List ℕ) 
 abbrev pub IsOneAt : List ℕ → ℕ → Type 0
 IsOneAt text i = get_or text i 0 < 128
 
+-- The byte is one behind the first of a character.
 abbrev pub IsTailAt : List ℕ → ℕ → Type 0
-IsTailAt text i = (0x80 ≤ get_or text i 0) × (get_or text i 0 ≤ 0xbf)
+IsTailAt text i = IsTail (get_or text i 0)
 
 -- A character of two bytes stands at the place.
 abbrev pub IsTwoAt : List ℕ → ℕ → Type 0
@@ -52,5 +54,6 @@ pub record AreWhole (text : List ℕ) (at used : ℕ) : Type 0 where
 abbrev pub whole_of : ℕ → ℕ → ℕ → ℕ
 whole_of x y z = cond (nat_lt x 0xc0) x (cond (nat_lt x 0xe0) ((x % 32) * 64 + y % 64) ((x % 16) * 4096 + cond (nat_eq (x % 16) 13) (y % 32) (y % 64) * 64 + z % 64))
 
+-- the number of the character that the bytes at a place begin
 abbrev pub whole_value : List ℕ → ℕ → ℕ
 whole_value text at = whole_of (get_or text at 0) (get_or text (at + 1) 0) (get_or text (at + 2) 0)

@@ -1,9 +1,10 @@
--- Characters of one unit each in UTF-16 and UTF-32, and surrogate pairs: helpers of the proofs of blocks, which no public contract cites.
-use Rattle.std.specs.Prelude.{◌≡◌, ℕ, ◌+◌, ◌*◌, ◌/◌, ◌%◌, ◌<◌, List, [], ◌∷◌, length, drop, get_or, nat_eq, if◌then◌else◌}
+-- Characters of one unit each in UTF-16 and UTF-32, and surrogate pairs, many at once.
+use Rattle.std.specs.Prelude.{◌≡◌, ℕ, ◌+◌, ◌*◌, ◌/◌, ◌<◌, List, [], ◌∷◌, length, drop, get_or, nat_eq, if◌then◌else◌}
 use Rattle.std.specs.List.{flat_map}
 use Rattle.cv_base.specs.Scalars.{IsScalar}
 use Rattle.cv_base.specs.Items.{Begins}
 use Rattle.cv_base.specs.Spelled.{BytesOf}
+use Rattle.cv_utf.specs.Private.Surrogates.{IsHighUnit, IsLowUnit, IsPair}
 
 -- A number, be it a character's or not, is one unit, whose bytes stand at a place of a text.
 pub record IsUnitAt (bytes_of : BytesOf) (size : ℕ) (text : List ℕ) (at number : ℕ) : Type 0 where
@@ -26,7 +27,7 @@ AreSingle bytes_of size numbers n = (k : ℕ) → k < n → length (bytes_of (ge
 pub record ArePaired (bytes_of : BytesOf) : Type 0 where
   pub few : (text : List ℕ) (at u : ℕ) → IsUnitAt bytes_of 2 text at u → u < 0x10000
   pub same : (text : List ℕ) (at u v : ℕ) → IsUnitAt bytes_of 2 text at u → IsUnitAt bytes_of 2 text at v → u ≡ v
-  pub pairs : (text : List ℕ) (at high low : ℕ) → IsUnitAt bytes_of 2 text at high → IsUnitAt bytes_of 2 text (at + 2) low → high / 0x400 ≡ 0x36 → low / 0x400 ≡ 0x37 → IsUnitAt bytes_of 4 text at (0x10000 + (high % 0x400) * 0x400 + low % 0x400)
+  pub pairs : (text : List ℕ) (at high low c : ℕ) → IsUnitAt bytes_of 2 text at high → IsUnitAt bytes_of 2 text (at + 2) low → IsPair high low c → IsUnitAt bytes_of 4 text at c
 
 -- A number is that of a high surrogate joined with the low one behind it, or that of another unit, behind which none that is low stands.
 pub record IsJoined (bytes_of : BytesOf) (text : List ℕ) (at number : ℕ) : Type 0 where
@@ -34,9 +35,9 @@ pub record IsJoined (bytes_of : BytesOf) (text : List ℕ) (at number : ℕ) : T
   pub next : ℕ
   pub here : IsUnitAt bytes_of 2 text at unit
   pub behind : IsUnitAt bytes_of 2 text (at + 2) next
-  pub in_pairs : (unit / 0x400 ≡ 0x36 → next / 0x400 ≡ 0x37) × (next / 0x400 ≡ 0x37 → unit / 0x400 ≡ 0x36)
-  pub pair : unit / 0x400 ≡ 0x36 → number ≡ 0x10000 + (unit % 0x400) * 0x400 + next % 0x400
-  pub alone : (unit / 0x400 ≡ 0x36 → ⊥) → number ≡ unit
+  pub in_pairs : (IsHighUnit unit → IsLowUnit next) × (IsLowUnit next → IsHighUnit unit)
+  pub pair : IsHighUnit unit → IsPair unit next number
+  pub alone : (IsHighUnit unit → ⊥) → number ≡ unit
 
 -- The numbers below a place are those of units of two bytes, one after the other.
 abbrev pub AreJoined : BytesOf → List ℕ → List ℕ → ℕ → Type 0
@@ -44,7 +45,7 @@ AreJoined bytes_of text numbers n = (k : ℕ) → k < n → IsJoined bytes_of te
 
 -- The numbers below a place are those of characters, or low surrogates.
 abbrev pub AreScalarsOrLow : List ℕ → ℕ → Type 0
-AreScalarsOrLow numbers n = (k : ℕ) → k < n → (get_or numbers k 0 / 0x400 ≡ 0x37 → ⊥) → IsScalar (get_or numbers k 0)
+AreScalarsOrLow numbers n = (k : ℕ) → k < n → (IsLowUnit (get_or numbers k 0) → ⊥) → IsScalar (get_or numbers k 0)
 
 -- a number, if it is no low surrogate
 abbrev pub unless_low : ℕ → List ℕ

@@ -5,16 +5,9 @@ use Rattle.cv_base.specs.Scalars.{IsScalar}
 use Rattle.cv_base.specs.Items.{Begins}
 use Rattle.cv_base.proofs.Front.{Begins-agree}
 use Rattle.cv_base.specs.Units.{high_unit, low_unit}
+use Rattle.cv_utf.specs.Private.Surrogates.{IsPair}
 use Rattle.cv_utf.specs.Utf16.{big_unit, little_unit, units, utf16}
-use Rattle.cv_utf.specs.OrdersLaws.{IsUnique, IsForm}
-
--- the high byte of a surrogate
-abbrev pub IsSurrogate : ℕ → Type 0
-IsSurrogate b = (0xd8 ≤ b) × (b < 0xe0)
-
--- the high byte of a low surrogate
-abbrev pub IsLow : ℕ → Type 0
-IsLow b = (0xdc ≤ b) × (b < 0xe0)
+use Rattle.cv_utf.proofs.OrdersLaws.{IsUnique, IsForm}
 
 -- One unit, by the places of its high and its low byte.
 pub record IsOne (w : List ℕ) (h l c : ℕ) : Type 0 where
@@ -30,16 +23,17 @@ pub record IsTwo (w : List ℕ) (h l m k c : ℕ) : Type 0 where
   pub high_to : get_or w h 0 < 0xdc
   pub low_from : 0xdc ≤ get_or w m 0
   pub low_to : get_or w m 0 < 0xe0
-  pub carries : c + (0xd800 * 0x400 + 0xdc00) ≡ 0x10000 + (get_or w h 0 * 256 + get_or w l 0) * 0x400 + (get_or w m 0 * 256 + get_or w k 0)
+  pub carries : IsPair (get_or w h 0 * 256 + get_or w l 0) (get_or w m 0 * 256 + get_or w k 0) c
 
 -- What the bytes of a scalar are.
 abbrev pub IsUnits : List ℕ → ℕ → ℕ → ℕ → ℕ → ℕ → Type 0
 IsUnits w h l m k c = IsOne w h l c ⊎ IsTwo w h l m k c
 
--- the bytes of a scalar below 10000, and of another
+-- a scalar below 10000 is one unit
 pub one_unit : (unit : ℕ → List ℕ) (c : ℕ) → c < 0x10000 → units unit c ≡ unit c
 one_unit unit c h = rw (lt-ltb c 0x10000 h) (append-nil (unit c))
 
+-- a scalar from 10000 on is two units
 pub two_units : (unit : ℕ → List ℕ) (c : ℕ) → 0x10000 ≤ c → units unit c ≡ unit (high_unit c) ++ unit (low_unit c)
 two_units unit c h = rw (le-ltb c 0x10000 h, append-nil) refl
 
@@ -47,21 +41,22 @@ big_one : (c : ℕ) → IsScalar c → c < 0x10000 → IsOne (big_unit c) 0 1 c
 big_one c s h = record { size = refl; no_surrogate = λ p. omega (arith, s.1 (omega arith)); low = omega arith; carries = omega arith }
 
 big_two : (c : ℕ) → IsScalar c → 0x10000 ≤ c → IsTwo (big_unit (high_unit c) ++ big_unit (low_unit c)) 0 1 2 3 c
-big_two c s h = record { size = refl; high_from = omega arith; high_to = omega (arith, s.0); low_from = omega arith; low_to = omega arith; carries = omega arith }
+big_two c s h = record { size = refl; high_from = omega arith; high_to = omega (arith, s.0); low_from = omega arith; low_to = omega arith; carries = record { above = h; first = omega arith; second = omega arith } }
 
 little_one : (c : ℕ) → IsScalar c → c < 0x10000 → IsOne (little_unit c) 1 0 c
 little_one c s h = record { size = refl; no_surrogate = λ p. omega (arith, s.1 (omega arith)); low = omega arith; carries = omega arith }
 
 little_two : (c : ℕ) → IsScalar c → 0x10000 ≤ c → IsTwo (little_unit (high_unit c) ++ little_unit (low_unit c)) 1 0 3 2 c
-little_two c s h = record { size = refl; high_from = omega arith; high_to = omega (arith, s.0); low_from = omega arith; low_to = omega arith; carries = omega arith }
+little_two c s h = record { size = refl; high_from = omega arith; high_to = omega (arith, s.0); low_from = omega arith; low_to = omega arith; carries = record { above = h; first = omega arith; second = omega arith } }
 
--- the bytes of each scalar, by their places
+-- the bytes of each scalar by their places, the high one of each unit first
 pub big_units : (c : ℕ) → IsScalar c → IsUnits (units big_unit c) 0 1 2 3 c
 big_units c s = elim (cases_lt c 0x10000) [
   | inl l ↦ inl (rw (one_unit big_unit c l) (big_one c s l))
   | inr l ↦ inr (rw (two_units big_unit c l) (big_two c s l))
 ]
 
+-- the bytes of each scalar by their places, the low one of each unit first
 pub little_units : (c : ℕ) → IsScalar c → IsUnits (units little_unit c) 1 0 3 2 c
 little_units c s = elim (cases_lt c 0x10000) [
   | inl l ↦ inl (rw (one_unit little_unit c l) (little_one c s l))
@@ -106,14 +101,11 @@ marks_apart : (text : List ℕ) → Begins (0xfe ∷ 0xff ∷ []) text → Begin
 marks_apart [] f g = f
 marks_apart (t ∷ text) f g = omega (arith, f.0, g.0)
 
--- UTF-16 is an encoding form: U+FEFF and U+FFFE are the characters that its marks would be
+-- UTF-16 is an encoding form: U+FFFE is the big-endian character that its little-endian mark would be
 pub utf16_is_form : IsForm utf16
 utf16_is_form = record {
   big_unique = big_is_unique;
   little_unique = little_is_unique;
-  big_some = omega arith;
-  little_some = omega arith;
   marks = marks_apart;
-  big_alone = λ text c s f g. ap (units big_unit) (big_is_unique.one text c 0xFEFF s (omega arith, λ h. omega arith) f g);
   little_alone = λ text c s f g. ap (units big_unit) (big_is_unique.one text c 0xFFFE s (omega arith, λ h. omega arith) f g);
 }

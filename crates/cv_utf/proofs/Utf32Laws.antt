@@ -1,14 +1,12 @@
 -- UTF-32 keeps what a codec keeps.
-use Rattle.std.proofs.Common.{◌≡◌, ℕ, ◌+◌, ◌*◌, ◌/◌, ◌%◌, ◌<◌, ◌≤◌, List, [], ◌∷◌, length, get_or, refl, sym, ◌∙◌, ap, arith}
+use Rattle.std.proofs.Common.{◌≡◌, ℕ, ◌+◌, ◌*◌, ◌/◌, ◌%◌, ◌<◌, ◌≤◌, List, [], ◌∷◌, length, get_or, refl, sym, ◌∙◌, arith}
 use Rattle.cv_base.specs.Scalars.{IsScalar}
 use Rattle.cv_base.specs.Items.{Begins}
 use Rattle.cv_base.proofs.Front.{Begins-agree}
+use Rattle.cv_utf.specs.Private.Utf32Bytes.{IsThird}
+use Rattle.cv_utf.specs.Orders.{mark}
 use Rattle.cv_utf.specs.Utf32.{big_four, little_four, utf32}
-use Rattle.cv_utf.specs.OrdersLaws.{IsUnique, IsForm}
-
--- the third byte of a scalar fits behind the second: they are of no surrogate
-abbrev pub IsThird : ℕ → ℕ → Type 0
-IsThird second third = second ≡ 0 → 0xd8 ≤ third → 0xe0 ≤ third
+use Rattle.cv_utf.proofs.OrdersLaws.{IsUnique, IsForm}
 
 -- The bytes of a scalar, by the places of the highest, the second, the third and the lowest.
 pub record IsFour (w : List ℕ) (h i j k c : ℕ) : Type 0 where
@@ -21,10 +19,11 @@ pub record IsFour (w : List ℕ) (h i j k c : ℕ) : Type 0 where
 third_of : (c : ℕ) → IsScalar c → IsThird (c / 0x10000 % 0x100) (c / 0x100 % 0x100)
 third_of c s e h = omega (arith, s.0, s.1 (omega (arith, s.0)))
 
--- the bytes of each scalar, by their places
+-- the bytes of each scalar by their places, the highest first
 pub big_is_four : (c : ℕ) → IsScalar c → IsFour (big_four c) 0 1 2 3 c
 big_is_four c s = record { size = refl; first = omega (arith, s.0); second = omega (arith, s.0); third = third_of c s; carries = omega (arith, s.0) }
 
+-- the bytes of each scalar by their places, the lowest first
 pub little_is_four : (c : ℕ) → IsScalar c → IsFour (little_four c) 3 2 1 0 c
 little_is_four c s = record { size = refl; first = omega (arith, s.0); second = omega (arith, s.0); third = third_of c s; carries = omega (arith, s.0) }
 
@@ -53,20 +52,17 @@ first_byte a b w v [] f g = absurd f
 first_byte a b w v (t ∷ text) f g = f.0 ∙ sym g.0
 
 -- no scalar begins with the first byte of the little-endian mark
-not_little : (text : List ℕ) (c : ℕ) → IsScalar c → Begins (big_four c) text → Begins utf32.little_mark text → ⊥
+not_little : (text : List ℕ) (c : ℕ) → IsScalar c → Begins (big_four c) text → Begins (utf32.little mark) text → ⊥
 not_little text c s f g = omega (arith, s.0, first_byte (c / 0x1000000) 0xff (c / 0x10000 % 0x100 ∷ c / 0x100 % 0x100 ∷ c % 0x100 ∷ []) (0xfe ∷ 0 ∷ 0 ∷ []) text f g)
 
-marks_apart : (text : List ℕ) → Begins utf32.big_mark text → Begins utf32.little_mark text → ⊥
+marks_apart : (text : List ℕ) → Begins (utf32.big mark) text → Begins (utf32.little mark) text → ⊥
 marks_apart text f g = omega (arith, first_byte 0 0xff (0 ∷ 0xfe ∷ 0xff ∷ []) (0xfe ∷ 0 ∷ 0 ∷ []) text f g)
 
--- UTF-32 is an encoding form: U+FEFF is the character that its big-endian mark would be
+-- UTF-32 is an encoding form
 pub utf32_is_form : IsForm utf32
 utf32_is_form = record {
   big_unique = big_is_unique;
   little_unique = little_is_unique;
-  big_some = omega arith;
-  little_some = omega arith;
   marks = marks_apart;
-  big_alone = λ text c s f g. ap big_four (big_is_unique.one text c 0xFEFF s (omega arith, λ h. omega arith) f g);
   little_alone = λ text c s f g. absurd (not_little text c s f g);
 }

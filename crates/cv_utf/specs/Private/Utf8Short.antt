@@ -13,6 +13,7 @@ is_behind x = is_among 0x80 0x40 x
 abbrev pub IsShort : ℕ → ℕ → Type 0
 IsShort x y = (is_among 0xc2 0x1e x ≡ is_among 0xc0 0x40 x) × (is_among 0xc2 0x1e x ≡ is_behind y)
 
+-- The byte at a place begins a character of at most two, and the next stands behind it just where it begins two.
 abbrev pub IsShortAt : List ℕ → ℕ → Type 0
 IsShortAt text at = IsShort (get_or text at 0) (get_or text (at + 1) 0)
 
@@ -20,6 +21,7 @@ IsShortAt text at = IsShort (get_or text at 0) (get_or text (at + 1) 0)
 abbrev pub short_of : ℕ → ℕ → ℕ
 short_of x y = cond (nat_lt x 0xc0) x ((x % 32) * 64 + y % 64)
 
+-- the number of the character that the bytes at a place begin
 abbrev pub short_value : List ℕ → ℕ → ℕ
 short_value text at = short_of (get_or text at 0) (get_or text (at + 1) 0)
 

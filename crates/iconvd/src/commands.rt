@@ -1,6 +1,7 @@
 //! From the command line to the exit status.
 
 use crate::arguments::arguments;
+use crate::checkmap::checkmap;
 use crate::fault::{RunFault, status};
 use crate::job::{Job, Options};
 use crate::options::{options, usage_status};
@@ -9,6 +10,7 @@ use crate::run::run;
 use clap::Error;
 use clap::error::ErrorKind;
 use std::alloc::Global;
+use std::fs::Files;
 use std::io;
 use std::rt::Env;
 
@@ -23,11 +25,14 @@ fn conclude<R: Eprint>(rt: &R, done: Result<(), RunFault>) -> u8 {
     }
 }
 
-fn perform<R: Input + Print + Eprint + AllocGlobal>(rt: &R, said: Options) -> u8 {
-    let done = match said.job {
-        Job::Run => run(rt),
-    };
-    conclude(rt, done)
+fn perform<R: Files + Input + Print + Eprint + AllocGlobal>(rt: &R, said: Options<'_>) -> u8 {
+    match said.job {
+        Job::Run => conclude(rt, run(rt)),
+        Job::CheckMap(file) => match checkmap(rt, file) {
+            Ok(status) => status,
+            Err(fault) => conclude(rt, Err(fault)),
+        },
+    }
 }
 
 /// Prints the help or the version, for which the command line asked.
@@ -50,7 +55,10 @@ pub fn explain<R: Print + Eprint>(rt: &R, alloc: Global, fault: &Error) -> u8 {
     }
 }
 
-fn obey<R: Env + Input + Print + Eprint + AllocGlobal>(rt: &R, alloc: Global) -> Result<u8, Error> {
+fn obey<R: Env + Files + Input + Print + Eprint + AllocGlobal>(
+    rt: &R,
+    alloc: Global,
+) -> Result<u8, Error> {
     let arguments = arguments(rt, alloc)?;
     let words: Vec<&str> = arguments.iter().map(|word| word.as_str()).collect(alloc)?;
     let said = options(alloc, &words)?;
@@ -58,7 +66,7 @@ fn obey<R: Env + Input + Print + Eprint + AllocGlobal>(rt: &R, alloc: Global) ->
 }
 
 /// Does what the command line says, and gives the exit status.
-pub fn program<R: Env + Input + Print + Eprint + AllocGlobal>(rt: &R) -> u8 {
+pub fn program<R: Env + Files + Input + Print + Eprint + AllocGlobal>(rt: &R) -> u8 {
     let alloc = rt.alloc();
     match obey(rt, alloc) {
         Ok(status) => status,

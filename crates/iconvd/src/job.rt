@@ -2,15 +2,17 @@
 
 /// What the program is to do.
 #[derive(Clone, Copy, Debug, PartialEq, Eq)]
-pub enum Job {
+pub enum Job<'a> {
     /// A script on standard input, its reply lines on standard output.
     Run,
+    /// What there is to say of the charmap in a file.
+    CheckMap(&'a str),
 }
 
 /// What the command line says.
 #[derive(Clone, Copy, Debug, PartialEq, Eq)]
-pub struct Options {
-    pub job: Job,
+pub struct Options<'a> {
+    pub job: Job<'a>,
     /// How many workers serve: 1 where the command has no such option.
     pub workers: u32,
     /// How many streams are served: 1 where the command has no such option.

@@ -2,6 +2,7 @@
 #![tactic(auto)]
 
 mod arguments;
+mod checkmap;
 mod commands;
 mod fault;
 mod input;

@@ -5,8 +5,11 @@ ghost use Rattle.clap.specs.Values.{kind_of};
 use crate::job::{Job, Options};
 use crate::version::VERSION;
 use clap::error::ErrorKind;
-use clap::{Command, Error};
+use clap::{Arg, ArgMatches, Command, Error};
 use std::alloc::{AllocError, Global};
+
+/// The word of `checkmap`.
+const FILE: &str = "FILE";
 
 /// What the help of each command ends with.
 const SCRIPTS: &str = "\
@@ -24,26 +27,59 @@ Example:
 
 See iconvd(1) and iconvd-protocol(5).";
 
+/// What the help of `checkmap` ends with.
+const CHARMAPS: &str = "\
+FILE is a charmap file (POSIX, XBD 6.4), - standard input. It prints the name of the code set and how many mappings there are,
+or `line N: CAUSE` for the first fault, and then ends with status 1.
+
+Example:
+  $ gzip -dc /usr/share/i18n/charmaps/KOI8-U.gz | iconvd checkmap -
+  KOI8-U 256
+
+See iconvd(1) and iconvd-protocol(5).";
+
 fn program<'a>(alloc: Global) -> Result<Command<'a>, AllocError> {
     let run = Command::new(alloc, "run")
         .about("Serves the script on standard input and prints the reply lines")
         .after_help(SCRIPTS);
+    let checkmap = Command::new(alloc, "checkmap")
+        .about(
+            "Reads a charmap file and prints its name and how many mappings it has, or its first fault",
+        )
+        .after_help(CHARMAPS)
+        .arg(
+            Arg::new(alloc, FILE)
+                .help("the charmap file, or - for standard input")
+                .required(true),
+        )?;
     Command::new(alloc, "iconvd")
         .version(VERSION)
         .propagate_version(true)
         .about("A character set conversion service for many callers")
         .after_help(SCRIPTS)
         .subcommand_required(true)
-        .subcommand(run)
+        .subcommand(run)?
+        .subcommand(checkmap)
+}
+
+/// What the command and its words say is to be done.
+fn job_of<'a>(matches: &ArgMatches<'a>) -> Job<'a> {
+    match matches.subcommand_matches("checkmap") {
+        Some(said) => match said.get_str(FILE) {
+            Some(file) => Job::CheckMap(file),
+            None => Job::Run,
+        },
+        None => Job::Run,
+    }
 }
 
 /// What the words of the command line say; the first is the program's name.
-pub fn options<'a>(alloc: Global, words: &'a [&'a str]) -> Result<Options, Error>
+pub fn options<'a>(alloc: Global, words: &'a [&'a str]) -> Result<Options<'a>, Error>
     ensures workers { IfOk result (λ said. (1 ≤ said.workers) × (said.workers ≤ 16)) }
 {
-    program(alloc)?.try_get_matches_from(words)?;
+    let matches = program(alloc)?.try_get_matches_from(words)?;
     Ok(Options {
-        job: Job::Run,
+        job: job_of(&matches),
         workers: 1,
         streams: 1,
     })

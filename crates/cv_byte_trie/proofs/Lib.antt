@@ -1,0 +1,9 @@
+pub mod Linked
+pub mod Edges
+pub mod Setting
+pub mod Ways
+pub mod Followed
+pub mod Leading
+pub mod OneMore
+pub mod Indexing
+pub mod Walked

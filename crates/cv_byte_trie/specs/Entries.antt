@@ -1,0 +1,32 @@
+-- Byte strings and their characters, in the order in which they were entered.
+use Rattle.std.specs.Prelude.{◌≡◌, ℕ, ◌<◌, ◌≤◌, List, [], length, slice_index_or}
+use Rattle.cv_base.specs.Scalars.{IsScalar}
+use Rattle.cv_base.specs.Items.{Begins}
+
+-- a byte string and its character
+abbrev pub Entry : Type 0
+Entry = List ℕ × ℕ
+
+-- what stands past the end of a list
+abbrev pub no_entry : Entry
+no_entry = ([], 0)
+
+-- the byte string at a place
+abbrev pub bytes_at : List Entry → ℕ → List ℕ
+bytes_at entries place = (slice_index_or entries place no_entry).0
+
+-- the character at a place
+abbrev pub character_at : List Entry → ℕ → ℕ
+character_at entries place = (slice_index_or entries place no_entry).1
+
+-- No byte string begins that of another place: so they are distinct, and none is a prefix of another.
+abbrev pub AreApart : List Entry → Type 0
+AreApart entries =
+    (j k : ℕ) → j < length entries → k < length entries → Begins (bytes_at entries j) (bytes_at entries k) → j ≡ k
+
+-- Entries that can be looked up: byte strings of 1 to 8 bytes, none of which begins another, and scalar values.
+pub record AreEntries (entries : List Entry) : Type 0 where
+  pub some : (k : ℕ) → k < length entries → 0 < length (bytes_at entries k)
+  pub short : (k : ℕ) → k < length entries → length (bytes_at entries k) ≤ 8
+  pub scalar : (k : ℕ) → k < length entries → IsScalar (character_at entries k)
+  pub apart : AreApart entries

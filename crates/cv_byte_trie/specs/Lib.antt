@@ -1,0 +1,7 @@
+pub mod Entries
+pub mod Results
+pub mod Tries
+pub mod Tables
+pub mod Walks
+pub mod Index
+pub mod Private

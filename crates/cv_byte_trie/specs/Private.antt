@@ -1,0 +1,4 @@
+pub mod Sound
+pub mod Growth
+pub mod Reading
+pub mod Indexed

@@ -1,0 +1,40 @@
+-- How the edges of a trie change.
+use Rattle.std.specs.Prelude.{◌≡◌, ◌≢◌, ℕ, ◌+◌, ◌-◌, ◌<◌, ◌==◌, List, length, slice_index_or, if◌then◌else◌}
+use Rattle.cv_byte_trie.specs.Tries.{none, node_code}
+use Rattle.cv_byte_trie.specs.Tables.{node_at, edge_of}
+use Rattle.cv_byte_trie.specs.declared.node.Node.TheVariants.{One}
+use Rattle.cv_byte_trie.specs.declared.steps.Steps.{Steps}
+
+-- One edge is set, and all others stay.
+pub record SetsEdge (old new : Steps) (n b code : ℕ) : Type 0 where
+  pub set : edge_of new n b ≡ code
+  pub same : (m c : ℕ) → m < length old.nodes.items → c < 256 → ((m ≡ n) × (c ≡ b) → ⊥) → edge_of new m c ≡ edge_of old m c
+
+-- All edges stay.
+abbrev pub SameEdges : Steps → Steps → Type 0
+SameEdges old new = (n b : ℕ) → n < length old.nodes.items → b < 256 → edge_of new n b ≡ edge_of old n b
+
+-- Nothing was added, removed or written.
+pub record IsUnchanged (old new : Steps) : Type 0 where
+  pub nodes : new.nodes.items ≡ old.nodes.items
+  pub links : new.links.items ≡ old.links.items
+  pub tables : new.tables.items ≡ old.tables.items
+
+-- the code that leads on over the last so many bytes of a chain, whose nodes begin at `count`
+abbrev pub code_behind : ℕ → ℕ → ℕ → ℕ
+code_behind code count j = if j == 0 then code else node_code (count + j - 1)
+
+-- New nodes lead over bytes to a code, one for each byte, that of the last byte first.
+pub record LeadsOver (old new : Steps) (bytes : List ℕ) (code : ℕ) : Type 0 where
+  pub count : length new.nodes.items ≡ length old.nodes.items + length bytes
+  pub same : (n : ℕ) → n < length old.nodes.items → node_at new n ≡ node_at old n
+  pub chain : (j : ℕ) → j < length bytes → node_at new (length old.nodes.items + j)
+      ≡ One (slice_index_or bytes (length bytes - 1 - j) 0) (code_behind code (length old.nodes.items) j)
+
+-- A byte of a node and then the bytes behind it lead to a place, over new nodes; all other edges stay.
+pub record Branches (old new : Steps) (n b : ℕ) (rest : List ℕ) (place : ℕ) : Type 0 where
+  pub count : length new.nodes.items ≡ length old.nodes.items + length rest
+  pub set : edge_of new n b ≡ code_behind place (length old.nodes.items) (length rest)
+  pub same : (m c : ℕ) → m < length old.nodes.items → c < 256 → ((m ≡ n) × (c ≡ b) → ⊥) → edge_of new m c ≡ edge_of old m c
+  pub on : (j : ℕ) → j < length rest → slice_index_or rest (length rest - 1 - j) 0 < 256 → edge_of new (length old.nodes.items + j) (slice_index_or rest (length rest - 1 - j) 0) ≡ code_behind place (length old.nodes.items) j
+  pub off : (j c : ℕ) → j < length rest → c < 256 → c ≢ slice_index_or rest (length rest - 1 - j) 0 → edge_of new (length old.nodes.items + j) c ≡ none

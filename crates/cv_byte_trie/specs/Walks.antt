@@ -1,0 +1,38 @@
+-- Where whole byte strings lead through a trie.
+use Rattle.std.specs.Prelude.{◌≡◌, ◌==◌, ℕ, suc, ◌-◌, ◌<◌, List, [], ◌∷◌, ◌++◌, length, take, nat_lt, if◌then◌else◌}
+use Rattle.cv_byte_trie.specs.Entries.{Entry, bytes_at}
+use Rattle.cv_byte_trie.specs.Results.{GoesOnBehind}
+use Rattle.cv_byte_trie.specs.Tries.{StepsBy, none}
+
+-- a walk ends at the place of an entry, after so many bytes; or at a node; or it leads nowhere
+pub data Destination : Type 0 where
+  Leaf : (place count : ℕ) → Destination
+  Node : (node : ℕ) → Destination
+  Nowhere : Destination
+
+-- the same, one byte later
+abbrev pub later : Destination → Destination
+later (Leaf place count) = Leaf place (suc count)
+later (Node node) = Node node
+later Nowhere = Nowhere
+
+-- from a node over bytes, with a step for each
+abbrev pub walk : StepsBy → ℕ → List ℕ → Destination
+walk step node [] = Node node
+walk step node (b ∷ bytes) =
+    if nat_lt (step node b) none then Leaf (step node b) 1 else
+    if step node b == none then Nowhere else later (walk step (step node b - 0x80000001) bytes)
+
+-- all numbers are those of bytes
+abbrev pub AreBytes : List ℕ → Type 0
+AreBytes [] = Unit {0}
+AreBytes (b ∷ bytes) = (b < 256) × AreBytes bytes
+
+-- Where byte strings lead from the root.
+pub record Leads (step : StepsBy) (entries : List Entry) : Type 0 where
+  -- each that was entered leads to its own place, whatever follows it
+  pub own : (p : ℕ) (rest : List ℕ) → p < length entries → AreBytes (bytes_at entries p) → walk step 0 (bytes_at entries p ++ rest) ≡ Leaf p (length (bytes_at entries p))
+  -- no other leads to a place
+  pub only : (bytes : List ℕ) (p n : ℕ) → AreBytes bytes → walk step 0 bytes ≡ Leaf p n → (p < length entries) × (bytes_at entries p ≡ take n bytes)
+  -- each node but the root lies on the way of one that was entered
+  pub on_way : (bytes : List ℕ) (node : ℕ) → 0 < length bytes → AreBytes bytes → walk step 0 bytes ≡ Node node → (p : ℕ) × GoesOnBehind entries bytes p

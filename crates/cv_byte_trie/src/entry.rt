@@ -1,0 +1,56 @@
+//! A byte string and its character.
+ghost use Rattle.std.specs.Prelude.{◌≡◌, ◌≤◌, length};
+
+use cv_base::Scalar;
+use std::marker::Model;
+
+/// At most eight bytes, and the character that they stand for. Contracts see the pair of them.
+#[derive(Debug, Drop)]
+pub struct Entry {
+    bytes: [u8; 8],
+    len: u8,
+    character: Scalar,
+}
+
+impl Model for Entry {
+    ghost use Rattle.std.specs.Prelude.{ℕ, List, ◌≡◌, ◌≤◌, take, length};
+
+    ghost Value = { List ℕ × ℕ };
+
+    ghost view = { λ e. (take e.len e.bytes, e.character) };
+
+    ghost invariant = { λ e. record { few : e.len ≤ 8; padded : length e.bytes ≡ 8 } };
+}
+
+impl Entry {
+    /// Bytes and their character.
+    pub(crate) fn new(bytes: &[u8], character: Scalar) -> Entry
+        requires { length bytes.now ≤ 8 }
+        ensures { result ≡ (bytes.now, character) }
+    {
+        let mut padded = [0u8; 8];
+        padded[..bytes.len()].copy_from_slice(bytes);
+        Entry {
+            bytes: padded,
+            len: bytes.len() as u8,
+            character,
+        }
+    }
+
+    /// Its bytes.
+    #[inline]
+    pub fn bytes(&self) -> &[u8]
+        ensures value { result.now ≡ self.now.0 }
+        ensures few { length result.now ≤ 8 }
+    {
+        &self.bytes[..self.len as usize]
+    }
+
+    /// Its character.
+    #[inline]
+    pub fn character(&self) -> Scalar
+        ensures { result ≡ self.now.1 }
+    {
+        self.character
+    }
+}

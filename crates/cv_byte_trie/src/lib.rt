@@ -1,0 +1,17 @@
+//! Byte strings and their characters, found by their bytes.
+#![tactic(auto)]
+
+mod added;
+mod byte_trie;
+mod entry;
+mod found;
+mod node;
+mod steps;
+mod walking;
+
+pub use added::Added;
+pub use byte_trie::ByteTrie;
+pub use entry::Entry;
+pub use found::Found;
+pub use node::{Link, Node};
+pub use steps::{NODE, NONE, Steps};

@@ -1,0 +1,46 @@
+//! Following bytes through a trie.
+ghost use Rattle.std.specs.Prelude.{◌<◌, length};
+ghost use Rattle.cv_byte_trie.specs.Entries.{AreEntries};
+ghost use Rattle.cv_byte_trie.specs.Tries.{HasTrie};
+ghost use Rattle.cv_byte_trie.specs.Tables.{edge_of};
+ghost use Rattle.cv_byte_trie.specs.Private.Sound.{IsSound};
+ghost use Rattle.cv_byte_trie.specs.Private.Reading.{LeadsTo};
+
+use crate::entry::Entry;
+use crate::steps::{NODE, NONE, Steps};
+
+/// Where bytes lead from the root.
+#[derive(Clone, Copy, Debug)]
+pub(crate) enum Reached {
+    /// To an entry, by the byte that stands behind `depth` others.
+    Leaf { place: usize, depth: usize },
+    /// To a node, by all of them.
+    Inside,
+    /// Nowhere: from a node, to which the first `depth` of them lead, the next has no edge.
+    Vacant { node: u32, depth: usize },
+}
+
+/// Where a text leads. The entries are there for the contract.
+pub(crate) fn walk(steps: &Steps, _entries: &[Entry], text: &[u8]) -> Reached
+    requires entries { AreEntries _entries.now }
+    requires sound { IsSound steps.now }
+    requires leads { HasTrie (edge_of steps.now) (length steps.now.nodes.items) _entries.now }
+    requires some { 0 < length text.now }
+    ensures { LeadsTo (edge_of steps.now) (length steps.now.nodes.items) _entries.now text.now result }
+{
+    let mut node = 0;
+    for depth in 0..text.len() {
+        let code = steps.edge(node, text[depth]);
+        if code < NONE {
+            return Reached::Leaf {
+                place: code as usize,
+                depth,
+            };
+        }
+        if code == NONE {
+            return Reached::Vacant { node, depth };
+        }
+        node = code - NODE;
+    }
+    Reached::Inside
+}

@@ -1,0 +1,27 @@
+use Rattle.std.proofs.Common.{◌≡◌, sym, ◌∙◌, ap, not, true, List, ℕ}
+use Rattle.std.specs.Prelude.{Ok, is_ok}
+use Rattle.cv_charmap.specs.Entries.{Pair}
+use Rattle.cv_charmap.proofs.EntryLemmas.{from_whole, range_ends}
+use Rattle.cv_charmap.proofs.Ranging.{range_refused, range_passed}
+use Rattle.cv_charmap.proofs.range.enter_range.Goals as goal
+
+pub returns-in-Err : goal.returns-in-Err
+returns-in-Err c n =
+    let passes = rw c.in-Err.is at (c.pass.ensures.passes c.count_of-count.result c.loop-i-test.true) in
+    range_refused c.args.draft.now c.loop-i.draft c.pass.new.draft c.args.hex c.args.first c.args.bytes.now c.count_of-count.result c.loop-i.i c.loop-i.stops.items c.loop-i.invariant.entering c.args.last n c.in-Err.fault c.count_of-count.ensures.value passes
+
+pub loop-i-preserved : goal.loop-i-preserved
+loop-i-preserved c =
+    let passes = c.in-Ok.ensures.passes c.count_of-count.result c.loop-i-test.true in
+    let pushed : is_ok c.push.result ≡ true = c.is_err.ensures.negation ∙ ap not c.if-is_err.false in
+    let more = rw pushed at c.push.ensures.items in
+    record {
+      entering = range_passed c.args.draft.now c.loop-i.draft c.pass.new.draft c.args.hex c.args.first c.args.bytes.now c.count_of-count.result c.loop-i.i c.loop-i.stops.items c.loop-i.invariant.entering c.in-Ok.passed passes c.push.new.self.items more;
+      near = c.in-Ok.ensures.near;
+    }
+
+pub returns-in-Ok-cover : goal.returns-in-Ok-cover
+returns-in-Ok-cover c n =
+    let i = c.loop-i.invariant.entering in
+    from_whole c.args.hex c.args.first c.args.last c.args.bytes.now c.loop-i.i c.count_of-count.result c.args.draft.now c.loop-i.draft n c.count_of-count.ensures.value (i.run n)
+    ∙ range_ends c.args.hex c.args.first c.args.bytes.now c.loop-i.i c.count_of-count.result c.loop-i-test.false c.loop-i.draft n ∙ ap (λ (x : List Pair). Ok x) (sym c.cover.ensures)

@@ -1,0 +1,41 @@
+-- What is known to be in the list of pairs, from a pair on.
+use Rattle.std.specs.Prelude.{◌≡◌, ℕ, Bool, true, ◌<◌, ◌≤◌, List, [], length, slice_index_or, Result, Ok}
+use Rattle.cv_byte_trie.specs.Entries.{bytes_at, AreApart}
+use Rattle.cv_charmap.specs.Entries.{Pair, entry_at}
+use Rattle.cv_charmap.specs.Lists.{most_pairs}
+use Rattle.cv_charmap.specs.declared.reach.Reach.{Reach}
+use Rattle.cv_charmap.specs.declared.reach.Stop.{Stop}
+
+-- the pair at a place
+abbrev pub pair_at : List Pair → ℕ → Pair
+pair_at all place = slice_index_or all place ([], 0)
+
+-- The entry of a range so many places behind the first is in the list.
+abbrev pub HasEntry : List Pair → Bool → ℕ → List ℕ → ℕ → Type 0
+HasEntry all hex first bytes i = (place : ℕ) × (place < length all) × (entry_at hex first bytes i ≡ Ok (pair_at all place))
+
+-- The first so many entries of a range are in the list.
+abbrev pub HasEntries : List Pair → Bool → ℕ → List ℕ → ℕ → Type 0
+HasEntries all hex first bytes count = (i : ℕ) → i < count → HasEntry all hex first bytes i
+
+-- what is known from the pair at a place on
+abbrev pub reach_at : List Reach → ℕ → Reach
+reach_at reach place = slice_index_or reach place (record { hex = true; number = 0; count = 0 })
+
+-- What is known is in the list.
+abbrev pub AreCovered : List Pair → List Reach → Type 0
+AreCovered all reach =
+    (place : ℕ) → place < length reach → let r : Reach = reach_at reach place in HasEntries all r.hex r.number (bytes_at all place) r.count
+
+-- Entries of a range that were looked up are the pairs at their places.
+abbrev pub AreStops : List Pair → Bool → ℕ → List ℕ → ℕ → List Stop → Type 0
+AreStops all hex first bytes end stops =
+    (k : ℕ) → k < length stops → let s : Stop = slice_index_or stops k (record { at = 0; place = 0 }) in
+    (s.at < end) × (s.place < length all) × (entry_at hex first bytes s.at ≡ Ok (pair_at all s.place))
+
+-- A list of pairs, which are few enough and apart, and what is known from the first of them on.
+pub record IsDraft (all : List Pair) (reach : List Reach) : Type 0 where
+  pub few : length all ≤ most_pairs
+  pub apart : AreApart all
+  pub within : length reach ≤ length all
+  pub covered : AreCovered all reach

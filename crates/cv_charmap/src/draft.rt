@@ -1,0 +1,178 @@
+//! The list of pairs while it is read.
+ghost use Rattle.std.specs.Prelude.{◌≡◌, ◌<◌, ◌≤◌, ◌^◌, [], length, take, IfOk};
+ghost use Rattle.cv_byte_trie.specs.Entries.{bytes_at, AreApart};
+ghost use Rattle.cv_charmap.specs.Lists.{most_pairs};
+ghost use Rattle.cv_charmap.specs.Private.Covers.{HasEntries, AreStops};
+ghost use Rattle.cv_charmap.specs.Private.Seen.{Enters};
+
+use crate::reach::{NO_REACH, Reach, Stop, mark};
+use cv_base::{Memory, Scalar};
+use cv_byte_trie::{Added, ByteTrie, Found};
+use cv_lex::Cause;
+use std::alloc::{AllocError, Global};
+use std::marker::Model;
+
+/// How many pairs a charmap has at most.
+const MOST_PAIRS: usize = 262_144;
+
+/// Why a pair was not entered.
+#[derive(Clone, Copy, Debug)]
+pub(crate) enum EntryFault {
+    /// The entry has a fault.
+    Faulty(Cause),
+    /// No memory was to be had.
+    Memory,
+}
+
+/// The pairs that were entered, in order. Contracts see the list of them.
+#[derive(Drop)]
+pub(crate) struct Draft {
+    alloc: Global,
+    trie: ByteTrie,
+    /// For each of the first pairs what is known from it on.
+    reach: Vec<Reach>,
+}
+
+impl Model for Draft {
+    ghost use Rattle.std.specs.Prelude.{List};
+    ghost use Rattle.cv_charmap.specs.Entries.{Pair};
+
+    ghost Value = { List Pair };
+
+    ghost view = { λ d. d.trie.entries };
+
+    ghost use Rattle.cv_charmap.specs.Private.Covers.{IsDraft};
+
+    ghost invariant = { λ d. IsDraft d.trie.entries d.reach.items };
+}
+
+/// The place of an entry with the same bytes, if it has this character.
+fn held(trie: &ByteTrie, bytes: &[u8], place: usize, character: Scalar) -> Result<usize, EntryFault>
+    requires apart { AreApart trie.now.entries }
+    requires low { place < length trie.now.entries }
+    requires same { bytes_at trie.now.entries place ≡ bytes.now }
+    ensures { Enters trie.now.entries (bytes.now, character) result trie.now.entries }
+{
+    let entry = &trie.entries()[place];
+    if entry.character().value() == character.value() {
+        Ok(place)
+    } else {
+        Err(EntryFault::Faulty(Cause::Clash))
+    }
+}
+
+/// What a pair comes to where the list has all the pairs that it may have.
+fn held_by_all(trie: &ByteTrie, bytes: &[u8], character: Scalar) -> Result<usize, EntryFault>
+    requires apart { AreApart trie.now.entries }
+    requires some { 0 < length bytes.now }
+    requires full { length trie.now.entries ≡ most_pairs }
+    ensures { Enters trie.now.entries (bytes.now, character) result trie.now.entries }
+{
+    match trie.find(bytes) {
+        Found::Entry(place) => {
+            if trie.entries()[place].bytes().len() == bytes.len() {
+                held(trie, bytes, place, character)
+            } else {
+                Err(EntryFault::Faulty(Cause::Prefix))
+            }
+        }
+        Found::Inside => Err(EntryFault::Faulty(Cause::Prefix)),
+        Found::Nothing => Err(EntryFault::Faulty(Cause::TooMany)),
+    }
+}
+
+/// Enters a pair into a list that can have more.
+fn enter_into(trie: &mut ByteTrie, bytes: &[u8], character: Scalar) -> Result<usize, EntryFault>
+    requires apart { AreApart trie.old.entries }
+    requires some { 0 < length bytes.now }
+    requires short { length bytes.now ≤ 8 }
+    requires room { length trie.old.entries < most_pairs }
+    ensures enters { Enters trie.old.entries (bytes.now, character) result trie.new.entries }
+    ensures few { length trie.new.entries ≤ most_pairs }
+    ensures stay { take (length trie.old.entries) trie.new.entries ≡ trie.old.entries }
+    ensures apart { AreApart trie.new.entries }
+{
+    let place = trie.len();
+    let Ok(added) = trie.add(bytes, character) else {
+        return Err(EntryFault::Memory);
+    };
+    match added {
+        Added::Entered => Ok(place),
+        Added::Held(place) => held(trie, bytes, place, character),
+        Added::Continues(_) => Err(EntryFault::Faulty(Cause::Prefix)),
+        Added::Begins => Err(EntryFault::Faulty(Cause::Prefix)),
+    }
+}
+
+impl Draft {
+    /// No pairs.
+    pub(crate) fn new(alloc: Global) -> Result<Draft, Memory>
+        ensures { IfOk result (λ d. d ≡ []) }
+    {
+        let trie = ByteTrie::new(alloc)?;
+        Ok(Draft {
+            alloc,
+            trie,
+            reach: Vec::new(alloc),
+        })
+    }
+
+    /// Its allocator.
+    pub(crate) fn alloc(&self) -> Global {
+        self.alloc
+    }
+
+    /// Enters a pair, unless it is there already, and says at which place it is.
+    pub(crate) fn enter(&mut self, bytes: &[u8], character: Scalar) -> Result<usize, EntryFault>
+        requires some { 0 < length bytes.now }
+        requires short { length bytes.now ≤ 8 }
+        ensures enters { Enters self.old (bytes.now, character) result self.new }
+        ensures stay { take (length self.old) self.new ≡ self.old }
+    {
+        if self.trie.len() >= MOST_PAIRS {
+            return held_by_all(&self.trie, bytes, character);
+        }
+        enter_into(&mut self.trie, bytes, character)
+    }
+
+    /// How many entries of a range are known to be in the list, from the one on whose pair is at a place.
+    pub(crate) fn reach(&self, place: usize, hex: bool, number: u64) -> u64
+        ensures has { HasEntries self.now hex number (bytes_at self.now place) result }
+        ensures small { result < 2 ^ 32 }
+        ensures apart { AreApart self.now }
+    {
+        match self.reach.get(place) {
+            Some(reach) if reach.hex == hex && u64::from(reach.number) == number => u64::from(
+                reach.count,
+            ),
+            _ => 0,
+        }
+    }
+
+    /// Notes that the first entries of a range are in the list, those that were looked up at their places.
+    pub(crate) fn cover(
+        &mut self,
+        hex: bool,
+        first: u32,
+        bytes: &[u8],
+        stops: &[Stop],
+        end: u64,
+    ) -> Result<(), AllocError>
+        requires near { end < 2 ^ 40 }
+        requires has { HasEntries self.old hex first bytes.now end }
+        requires stops { AreStops self.old hex first bytes.now end stops.now }
+        ensures { self.new ≡ self.old }
+    {
+        self.reach.resize(self.trie.len(), NO_REACH)?;
+        mark(&self.trie, &mut self.reach, hex, first, bytes, stops, end);
+        Ok(())
+    }
+
+    /// The pairs, with their trie.
+    pub(crate) fn into_trie(self) -> ByteTrie
+        ensures value { result.entries ≡ self }
+        ensures few { length self ≤ most_pairs }
+    {
+        self.trie
+    }
+}

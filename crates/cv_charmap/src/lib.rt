@@ -1,0 +1,18 @@
+//! Charmap texts: what they mean.
+#![tactic(auto)]
+
+mod draft;
+mod entry;
+mod fault;
+mod header;
+pub mod laws;
+mod pairs;
+mod phase;
+mod range;
+mod reach;
+mod reader;
+mod reading;
+
+pub use fault::{CompileFault, MapFault};
+pub use pairs::Pairs;
+pub use reader::read;

@@ -1,0 +1,85 @@
+//! What ranges have entered, so that a range that repeats them is passed over quickly.
+ghost use Rattle.std.specs.Prelude.{◌≡◌, ◌<◌, ◌^◌, length, Ok};
+ghost use Rattle.cv_charmap.specs.Entries.{entry_at};
+ghost use Rattle.cv_charmap.specs.Private.Covers.{pair_at, HasEntries, AreCovered, AreStops};
+
+use cv_byte_trie::ByteTrie;
+
+/// From a pair on, so many entries of a range are in the list: those of the names from a number on, and of the pair's bytes.
+#[derive(Clone, Copy, Debug)]
+pub(crate) struct Reach {
+    /// Whether the range counts in hexadecimal.
+    pub(crate) hex: bool,
+    /// The number in the pair's name.
+    pub(crate) number: u32,
+    /// How many entries.
+    pub(crate) count: u32,
+}
+
+/// An entry of a range that was looked up: how many stand before it, and the place of its pair.
+#[derive(Clone, Copy, Debug)]
+pub(crate) struct Stop {
+    pub(crate) at: u64,
+    pub(crate) place: usize,
+}
+
+/// Notes from the pair of one entry on how many entries of the range are in the list. Numbers that 32 bits can't hold are not noted.
+fn note(
+    trie: &ByteTrie,
+    reach: &mut [Reach],
+    hex: bool,
+    first: u32,
+    _bytes: &[u8],
+    stop: Stop,
+    end: u64,
+)
+    requires covered { AreCovered trie.now.entries reach.old }
+    requires long { length reach.old ≡ length trie.now.entries }
+    requires near { end < 2 ^ 40 }
+    requires has { HasEntries trie.now.entries hex first _bytes.now end }
+    requires below { stop.at < end }
+    requires low { stop.place < length trie.now.entries }
+    requires is { entry_at hex first _bytes.now stop.at ≡ Ok (pair_at trie.now.entries stop.place) }
+    ensures covered { AreCovered trie.now.entries reach.new }
+    ensures long { length reach.new ≡ length trie.now.entries }
+{
+    let number = u64::from(first) + stop.at;
+    if number > u64::from(u32::MAX) {
+        return;
+    }
+    reach[stop.place] = Reach {
+        hex,
+        number: number as u32,
+        count: (end - stop.at).min(u64::from(u32::MAX)) as u32,
+    };
+}
+
+/// Notes from each pair that was looked up on how many entries of the range are in the list.
+pub(crate) fn mark(
+    trie: &ByteTrie,
+    reach: &mut [Reach],
+    hex: bool,
+    first: u32,
+    bytes: &[u8],
+    stops: &[Stop],
+    end: u64,
+)
+    requires covered { AreCovered trie.now.entries reach.old }
+    requires long { length reach.old ≡ length trie.now.entries }
+    requires near { end < 2 ^ 40 }
+    requires has { HasEntries trie.now.entries hex first bytes.now end }
+    requires stops { AreStops trie.now.entries hex first bytes.now end stops.now }
+    ensures covered { AreCovered trie.now.entries reach.new }
+    ensures long { length reach.new ≡ length trie.now.entries }
+{
+    for stop in stops {
+        note(trie, reach, hex, first, bytes, *stop, end);
+    }
+}
+
+/// Nothing is known.
+pub(crate) const NO_REACH: Reach = Reach {
+    hex: true,
+    number: 0,
+    count: 0,
+};

@@ -1,0 +1,117 @@
+//! Reading a charmap line by line.
+
+ghost use Rattle.std.specs.Prelude.{◌≡◌, ℕ};
+ghost use Rattle.cv_lex.specs.Seen.{line_seen, HasBytes};
+ghost use Rattle.cv_charmap.specs.Private.Runs.{state, next_number};
+ghost use Rattle.cv_charmap.specs.Private.Seen.{TakesInside, NextTo, header_seen, AboveTo, InsideTo, after_entries};
+
+use crate::draft::{Draft, EntryFault};
+use crate::fault::{CompileFault, MapFault};
+use crate::header::Header;
+use crate::phase::{Phase, Place};
+use crate::range::{enter_sized_one, enter_sized_range};
+use cv_lex::{Line, read_line};
+
+/// Takes a line above `CHARMAP`.
+pub(crate) fn read_above<'a>(
+    header: Header<'a>,
+    line: &'a [u8],
+    number: u32,
+) -> Result<(Header<'a>, Phase), MapFault>
+    ensures { AboveTo (header_seen header.entry) line.entry.now number result }
+{
+    match read_line(&header.marks(false), line) {
+        Ok(Line::Begin) => Ok((header, Phase::Inside)),
+        Ok(Line::Setting(setting)) => Ok((header.with(setting), Phase::Above)),
+        Ok(_) => Ok((header, Phase::Above)),
+        Err(cause) => Err(MapFault {
+            line: number,
+            cause,
+        }),
+    }
+}
+
+/// What came of a mapping.
+fn after(entered: Result<(), EntryFault>, number: u32) -> Result<Phase, CompileFault>
+    ensures { result ≡ after_entries entered number }
+{
+    match entered {
+        Ok(()) => Ok(Phase::Inside),
+        Err(EntryFault::Faulty(cause)) => Err(CompileFault::Map(MapFault {
+            line: number,
+            cause,
+        })),
+        Err(EntryFault::Memory) => Err(CompileFault::Memory),
+    }
+}
+
+/// Takes what a line among the mappings says.
+fn take_inside(
+    draft: &mut Draft,
+    header: &Header<'_>,
+    line: Line<'_>,
+    number: u32,
+) -> Result<Phase, CompileFault>
+    requires { HasBytes line }
+    ensures { TakesInside (header_seen header.now) draft.old (line_seen line.entry) number result draft.new }
+{
+    match line {
+        Line::Finish => Ok(Phase::Behind),
+        Line::One { c, bytes } => after(enter_sized_one(draft, header, c, bytes), number),
+        Line::Range {
+            first,
+            last,
+            hex,
+            bytes,
+        } => {
+            let entered = enter_sized_range(draft, header, first, last, hex, bytes.as_slice());
+            after(entered, number)
+        }
+        Line::Skip | Line::Begin | Line::Setting(_) => Ok(Phase::Inside),
+    }
+}
+
+/// Takes a line among the mappings.
+pub(crate) fn read_inside(
+    draft: &mut Draft,
+    header: &Header<'_>,
+    line: &[u8],
+    number: u32,
+) -> Result<Phase, CompileFault>
+    ensures { InsideTo (header_seen header.now) draft.old line.now number result draft.new }
+{
+    let marks = header.marks(true);
+    match read_line(&marks, line) {
+        Ok(said) => take_inside(draft, header, said, number),
+        Err(cause) => Err(CompileFault::Map(MapFault {
+            line: number,
+            cause,
+        })),
+    }
+}
+
+/// Takes a line.
+#[tactic(auto, unfolding(crate::specs::Private::Runs::line_run))]
+pub(crate) fn read_next<'a>(
+    draft: &mut Draft,
+    place: Place<'a>,
+    line: &'a [u8],
+    number: u32,
+) -> Result<Place<'a>, CompileFault>
+    ensures { (k : ℕ) → number ≡ next_number k → NextTo (state (header_seen place.entry.header) draft.old place.entry.phase k) line.entry.now result draft.new }
+{
+    match place.phase {
+        Phase::Above => match read_above(place.header, line, number) {
+            Ok((header, phase)) => Ok(Place { header, phase }),
+            Err(fault) => Err(CompileFault::Map(fault)),
+        },
+        Phase::Inside => match read_inside(draft, &place.header, line, number) {
+            Ok(phase) => Ok(Place {
+                header: place.header,
+                phase,
+            }),
+            Err(fault) => Err(fault),
+        },
+        Phase::Behind => Ok(place),
+    }
+}

@@ -1,0 +1,10 @@
+pub mod Lines
+pub mod Words
+pub mod Causes
+pub mod Names
+pub mod Constants
+pub mod Declarations
+pub mod Mappings
+pub mod Readings
+pub mod Seen
+pub mod Private

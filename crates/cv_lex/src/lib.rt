@@ -1,0 +1,23 @@
+//! The lines of a charmap text, and what each of them says (XBD 6.4).
+#![tactic(auto)]
+
+mod cause;
+mod declarations;
+mod encoding;
+mod line;
+mod mappings;
+mod names;
+mod splitting;
+mod symbols;
+mod text_lines;
+mod words;
+
+pub use cause::Cause;
+pub use encoding::constants;
+pub use line::{Line, Marks, Setting, read_line};
+pub use names::name_of;
+pub use splitting::lines;
+pub use text_lines::Lines;
+
+#[cfg(test)]
+mod tests;

@@ -1,0 +1,3 @@
+//! Names, constants and causes, against values from outside.
+use super::*;
+use std::test::Fail;

@@ -51,7 +51,7 @@ impl Codec for Ascii {
         if out.len() - at < 1 {
             return Put::NoRoom;
         }
-        write_slice(out, at, &[value as u8]);
+        write_slice(out, at, [value as u8]);
         Put::Wrote {
             n: 1,
             next: WriteState::Start,

@@ -50,7 +50,7 @@ impl Codec for Latin1 {
         if out.len() - at < 1 {
             return Put::NoRoom;
         }
-        write_slice(out, at, &[value as u8]);
+        write_slice(out, at, [value as u8]);
         Put::Wrote {
             n: 1,
             next: WriteState::Start,

@@ -32,7 +32,7 @@ fn open_request(rt: HostRuntime) -> Result<(), Fail> {
 #[test]
 fn open_reply(rt: HostRuntime) -> Result<(), Fail> {
     let mut out = Vec::new(rt.alloc());
-    let head = Piece::four(0, 0, 0, 0);
+    let head = Piece::of(&[0; 4]);
     let reply = Reply::new(7, 1, Status::Ok, head, Bytes::new(rt.alloc()));
     write_reply(&mut out, &reply)?;
     assert_eq!(rt; out.as_slice(), OPENED);

@@ -175,7 +175,7 @@ fn put_big(c: Scalar, out: &mut [u8], at: usize, next: WriteState) -> Put
         if room < 2 {
             return Put::NoRoom;
         }
-        write_slice(out, at, &[(value / 256) as u8, (value % 256) as u8]);
+        write_slice(out, at, [(value / 256) as u8, (value % 256) as u8]);
         return Put::Wrote { n: 2, next };
     }
     if room < 4 {
@@ -186,7 +186,7 @@ fn put_big(c: Scalar, out: &mut [u8], at: usize, next: WriteState) -> Put
     write_slice(
         out,
         at,
-        &[
+        [
             (high / 256) as u8,
             (high % 256) as u8,
             (low / 256) as u8,
@@ -208,7 +208,7 @@ fn put_little(c: Scalar, out: &mut [u8], at: usize, next: WriteState) -> Put
         if room < 2 {
             return Put::NoRoom;
         }
-        write_slice(out, at, &[(value % 256) as u8, (value / 256) as u8]);
+        write_slice(out, at, [(value % 256) as u8, (value / 256) as u8]);
         return Put::Wrote { n: 2, next };
     }
     if room < 4 {
@@ -219,7 +219,7 @@ fn put_little(c: Scalar, out: &mut [u8], at: usize, next: WriteState) -> Put
     write_slice(
         out,
         at,
-        &[
+        [
             (high % 256) as u8,
             (high / 256) as u8,
             (low % 256) as u8,
@@ -246,7 +246,7 @@ fn put_marked(c: Scalar, out: &mut [u8], at: usize) -> Put
         write_slice(
             out,
             at,
-            &[0xfe, 0xff, (value / 256) as u8, (value % 256) as u8],
+            [0xfe, 0xff, (value / 256) as u8, (value % 256) as u8],
         );
         return Put::Wrote { n: 4, next };
     }
@@ -258,7 +258,7 @@ fn put_marked(c: Scalar, out: &mut [u8], at: usize) -> Put
     write_slice(
         out,
         at,
-        &[
+        [
             0xfe,
             0xff,
             (high / 256) as u8,

@@ -159,7 +159,7 @@ fn put_big(c: Scalar, out: &mut [u8], at: usize, next: WriteState) -> Put
         return Put::NoRoom;
     }
     let (second, third, fourth) = bytes_of(c);
-    write_slice(out, at, &[0, second, third, fourth]);
+    write_slice(out, at, [0, second, third, fourth]);
     Put::Wrote { n: 4, next }
 }
 
@@ -173,7 +173,7 @@ fn put_little(c: Scalar, out: &mut [u8], at: usize, next: WriteState) -> Put
         return Put::NoRoom;
     }
     let (second, third, fourth) = bytes_of(c);
-    write_slice(out, at, &[fourth, third, second, 0]);
+    write_slice(out, at, [fourth, third, second, 0]);
     Put::Wrote { n: 4, next }
 }
 
@@ -188,7 +188,7 @@ fn put_marked(c: Scalar, out: &mut [u8], at: usize) -> Put
         return Put::NoRoom;
     }
     let (second, third, fourth) = bytes_of(c);
-    write_slice(out, at, &[0x00, 0x00, 0xfe, 0xff, 0, second, third, fourth]);
+    write_slice(out, at, [0x00, 0x00, 0xfe, 0xff, 0, second, third, fourth]);
     Put::Wrote {
         n: 8,
         next: WriteState::Marked,

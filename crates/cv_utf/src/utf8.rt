@@ -133,14 +133,14 @@ impl Codec for Utf8 {
             if room < 1 {
                 return Put::NoRoom;
             }
-            write_slice(out, at, &[value as u8]);
+            write_slice(out, at, [value as u8]);
             return Put::Wrote { n: 1, next };
         }
         if value < 0x800 {
             if room < 2 {
                 return Put::NoRoom;
             }
-            write_slice(out, at, &[(0xc0 + value / 64) as u8, tail(value)]);
+            write_slice(out, at, [(0xc0 + value / 64) as u8, tail(value)]);
             return Put::Wrote { n: 2, next };
         }
         if value < 0x1_0000 {
@@ -148,7 +148,7 @@ impl Codec for Utf8 {
                 return Put::NoRoom;
             }
             let first = (0xe0 + value / 4096) as u8;
-            write_slice(out, at, &[first, tail(value / 64), tail(value)]);
+            write_slice(out, at, [first, tail(value / 64), tail(value)]);
             return Put::Wrote { n: 3, next };
         }
         if room < 4 {
@@ -156,7 +156,7 @@ impl Codec for Utf8 {
         }
         let first = (0xf0 + value / 262144) as u8;
         let second = tail(value / 4096);
-        write_slice(out, at, &[first, second, tail(value / 64), tail(value)]);
+        write_slice(out, at, [first, second, tail(value / 64), tail(value)]);
         Put::Wrote { n: 4, next }
     }
 

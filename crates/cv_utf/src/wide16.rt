@@ -129,7 +129,7 @@ impl WideUnit for Big16 {
 
     #[inline(always)]
     fn write(out: &mut [u8], at: usize, value: u32) {
-        write_slice(out, at, &[(value / 256) as u8, (value % 256) as u8]);
+        write_slice(out, at, [(value / 256) as u8, (value % 256) as u8]);
     }
 }
 
@@ -227,7 +227,7 @@ impl WideUnit for Little16 {
 
     #[inline(always)]
     fn write(out: &mut [u8], at: usize, value: u32) {
-        write_slice(out, at, &[(value % 256) as u8, (value / 256) as u8]);
+        write_slice(out, at, [(value % 256) as u8, (value / 256) as u8]);
     }
 }
 

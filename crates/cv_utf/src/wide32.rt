@@ -34,7 +34,7 @@ impl WideUnit for Big32 {
         write_slice(
             out,
             at,
-            &[
+            [
                 (value / 0x100_0000) as u8,
                 (value / 0x1_0000 % 0x100) as u8,
                 (value / 0x100 % 0x100) as u8,
@@ -107,7 +107,7 @@ impl WideUnit for Little32 {
         write_slice(
             out,
             at,
-            &[
+            [
                 (value % 0x100) as u8,
                 (value / 0x100 % 0x100) as u8,
                 (value / 0x1_0000 % 0x100) as u8,

@@ -53,19 +53,19 @@ pub(crate) fn put_digits(cut: Cut, out: &mut [u8], at: usize) -> Put
         next: WriteState::Shifted(cut.next),
     };
     if cut.n == 2 {
-        write_slice(out, at, &[cut.digit(1), cut.digit(0)]);
+        write_slice(out, at, [cut.digit(1), cut.digit(0)]);
         return wrote;
     }
     if cut.n == 3 {
-        write_slice(out, at, &[cut.digit(2), cut.digit(1), cut.digit(0)]);
+        write_slice(out, at, [cut.digit(2), cut.digit(1), cut.digit(0)]);
         return wrote;
     }
     let [b, c, d, e, f] = cut.last_five();
     if cut.n == 5 {
-        write_slice(out, at, &[b, c, d, e, f]);
+        write_slice(out, at, [b, c, d, e, f]);
         return wrote;
     }
-    write_slice(out, at, &[cut.digit(5), b, c, d, e, f]);
+    write_slice(out, at, [cut.digit(5), b, c, d, e, f]);
     wrote
 }
 
@@ -88,11 +88,11 @@ pub(crate) fn put_first(cut: Cut, out: &mut [u8], at: usize) -> Put
         next: WriteState::Shifted(cut.next),
     };
     if cut.n == 2 {
-        write_slice(out, at, &[b'+', cut.digit(1), cut.digit(0)]);
+        write_slice(out, at, [b'+', cut.digit(1), cut.digit(0)]);
         return wrote;
     }
     let [b, c, d, e, f] = cut.last_five();
-    write_slice(out, at, &[b'+', b, c, d, e, f]);
+    write_slice(out, at, [b'+', b, c, d, e, f]);
     wrote
 }
 
@@ -111,13 +111,13 @@ pub(crate) fn put_closed(pending: Bits, byte: u8, out: &mut [u8], at: usize) -> 
         if room < 2 {
             return Put::NoRoom;
         }
-        write_slice(out, at, &[b'-', byte]);
+        write_slice(out, at, [b'-', byte]);
         return Put::Wrote { n: 2, next };
     }
     let digit = closing_digit(pending);
     if room < 3 {
         return Put::NoRoom;
     }
-    write_slice(out, at, &[digit, b'-', byte]);
+    write_slice(out, at, [digit, b'-', byte]);
     Put::Wrote { n: 3, next }
 }

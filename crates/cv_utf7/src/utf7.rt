@@ -28,14 +28,14 @@ fn put_at_start(c: Scalar, out: &mut [u8], at: usize) -> Put
         if room < 1 {
             return Put::NoRoom;
         }
-        write_slice(out, at, &[value as u8]);
+        write_slice(out, at, [value as u8]);
         return Put::Wrote { n: 1, next };
     }
     if value == b'+' as u32 {
         if room < 2 {
             return Put::NoRoom;
         }
-        write_slice(out, at, &[b'+', b'-']);
+        write_slice(out, at, [b'+', b'-']);
         return Put::Wrote { n: 2, next };
     }
     put_first(Cut::of(NONE, c), out, at)

@@ -1,0 +1,121 @@
+//! Calls beside their items.
+
+use crate::chain::{Chain, Expected};
+use crate::trials::{Part, Trial};
+use cv_pivot::{Conversion, Outcome, States};
+use std::alloc::{AllocError, Global};
+
+/// What each byte of a room is before a call.
+pub const UNWRITTEN: u8 = 0xC1;
+
+/// By how much ample room is more than the output has, so that no block ends for want of it: 64 characters have eight bytes each.
+const AMPLE: usize = 64 * 8;
+
+/// What a call came to otherwise than its items.
+#[derive(Clone, Copy, Debug)]
+pub enum Found {
+    Outcome(Outcome),
+    States,
+    Bytes,
+}
+
+/// A call that came to something else than its items do.
+#[derive(Clone, Copy, Debug)]
+pub struct Difference {
+    /// How many bytes it was given.
+    pub given: usize,
+    pub room: usize,
+    pub expected: Outcome,
+    pub found: Found,
+}
+
+/// Why calls were not compared to the end.
+#[derive(Debug, Drop)]
+pub enum Fault {
+    Differs(Difference),
+    Memory(AllocError),
+}
+
+impl From<AllocError> for Fault {
+    fn from(error: AllocError) -> Fault {
+        Fault::Memory(error)
+    }
+}
+
+/// Whether a room has these bytes at its front, and behind them what it had before.
+fn has(room: &[u8], written: &[u8]) -> bool {
+    room.strip_prefix(written)
+        .is_some_and(|behind| behind.iter().all(|byte| *byte == UNWRITTEN))
+}
+
+/// What is otherwise than it has to be behind a call, if anything is.
+fn compare(
+    expected: &Expected<'_>,
+    outcome: Outcome,
+    states: States,
+    room: &[u8],
+) -> Option<Found> {
+    if outcome != expected.outcome {
+        Some(Found::Outcome(outcome))
+    } else if states != expected.states {
+        Some(Found::States)
+    } else if !has(room, expected.written) {
+        Some(Found::Bytes)
+    } else {
+        None
+    }
+}
+
+/// How large the room of a call is whose items have so many bytes.
+fn size_of(room: Part, most: usize) -> usize {
+    match room {
+        Part::All => most.saturating_add(AMPLE),
+        part => part.of(most),
+    }
+}
+
+/// Makes a call, and answers how many bytes of the input it leaves. The buffer is not written yet, and neither is it then.
+fn call(
+    alloc: Global,
+    conversion: &mut Conversion,
+    input: &[u8],
+    room: Part,
+    buffer: &mut [u8],
+) -> Result<usize, Fault> {
+    let chain = Chain::of(alloc, conversion, input)?;
+    let size = size_of(room, chain.most()).min(buffer.len());
+    let out = buffer.get_mut(..size).unwrap_or(&mut []);
+    let expected = chain.within(input, size);
+    let outcome = conversion.convert(input, out);
+    if let Some(found) = compare(&expected, outcome, conversion.states, out) {
+        return Err(Fault::Differs(Difference {
+            given: input.len(),
+            room: size,
+            expected: expected.outcome,
+            found,
+        }));
+    }
+    out.fill(UNWRITTEN);
+    Ok(outcome.left)
+}
+
+/// Makes the calls of a trial, and answers how many they are: one with the text as far as it is cut, and where it leaves something,
+/// another with that and with what was cut off, in ample room.
+pub fn make_calls(
+    alloc: Global,
+    mut conversion: Conversion,
+    text: &[u8],
+    trial: &Trial,
+    buffer: &mut [u8],
+) -> Result<usize, Fault> {
+    let given = text.get(..trial.cut.of(text.len())).unwrap_or(text);
+    let left = call(alloc, &mut conversion, given, trial.room, buffer)?;
+    let used = given.len().saturating_sub(left);
+    match text.get(used..) {
+        None | Some([]) => Ok(1),
+        Some(rest) => {
+            call(alloc, &mut conversion, rest, Part::All, buffer)?;
+            Ok(2)
+        }
+    }
+}

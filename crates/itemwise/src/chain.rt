@@ -1,0 +1,141 @@
+//! A conversion item by item, which knows no blocks.
+
+use cv_base::{Codec, Item, Put, Scalar, WriteState};
+use cv_pivot::{Conversion, Encoding, Outcome, States, Stop};
+use std::alloc::{AllocError, Global};
+
+/// How far a conversion is behind some items.
+#[derive(Clone, Copy, Debug, PartialEq, Eq)]
+struct Reached {
+    used: usize,
+    wrote: usize,
+    count: usize,
+    states: States,
+}
+
+/// The items at the front of a text one behind the other, and what is written for them, whatever the room.
+#[derive(Drop)]
+pub struct Chain {
+    start: Reached,
+    /// How far the conversion is behind the first item, behind the second, and so on.
+    reached: Vec<Reached>,
+    written: Vec<u8>,
+    /// Why there is no further item.
+    stop: Stop,
+}
+
+/// What a call has to come to.
+#[derive(Clone, Copy, Debug)]
+pub struct Expected<'a> {
+    pub outcome: Outcome,
+    pub states: States,
+    pub written: &'a [u8],
+}
+
+/// The most bytes of a character in any encoding.
+const MOST_BYTES: usize = 8;
+
+/// Appends the bytes of a character, and answers the state behind them. None are appended where the encoding lacks it.
+fn put(
+    to: &Encoding,
+    state: WriteState,
+    c: Scalar,
+    written: &mut Vec<u8>,
+) -> Result<Option<WriteState>, AllocError> {
+    let mut bytes = [0; MOST_BYTES];
+    match to.put_at(state, c, &mut bytes, 0) {
+        Put::Wrote { n, next } => {
+            written.extend_from_slice(bytes.get(..n).unwrap_or(&bytes))?;
+            Ok(Some(next))
+        }
+        Put::Lacks | Put::NoRoom => Ok(None),
+    }
+}
+
+impl Chain {
+    /// The items of a text that comes next in a conversion.
+    pub fn of(alloc: Global, conversion: &Conversion, text: &[u8]) -> Result<Chain, AllocError> {
+        let start = Reached {
+            used: 0,
+            wrote: 0,
+            count: 0,
+            states: conversion.states,
+        };
+        let mut chain = Chain {
+            start,
+            reached: Vec::with_capacity(alloc, text.len())?,
+            written: Vec::with_capacity(alloc, text.len())?,
+            stop: Stop::Done,
+        };
+        let mut now = start;
+        for _item in 0..=text.len() {
+            let rest = text.get(now.used..).unwrap_or(&[]);
+            match conversion.from.item(now.states.reading, rest) {
+                Item::Char { c, n, next } => {
+                    now.used = now.used.saturating_add(n);
+                    now.states.reading = next;
+                    chain.write(&conversion.to, c, &mut now)?;
+                }
+                Item::Shift { n, next } => {
+                    now.used = now.used.saturating_add(n);
+                    now.states.reading = next;
+                }
+                Item::Incomplete => {
+                    chain.stop = Stop::Incomplete;
+                    break;
+                }
+                Item::Ill => {
+                    chain.stop = Stop::Ill;
+                    break;
+                }
+                Item::End => break,
+            }
+            chain.reached.push(now)?;
+        }
+        Ok(chain)
+    }
+
+    /// Writes a character, or `?` where the encoding lacks it.
+    fn write(&mut self, to: &Encoding, c: Scalar, now: &mut Reached) -> Result<(), AllocError> {
+        let state = now.states.writing;
+        let next = match put(to, state, c, &mut self.written)? {
+            Some(next) => next,
+            None => {
+                now.count = now.count.saturating_add(1);
+                put(to, state, Scalar::substitute(), &mut self.written)?.unwrap_or(state)
+            }
+        };
+        now.wrote = self.written.len();
+        now.states.writing = next;
+        Ok(())
+    }
+
+    /// How many bytes are written where there is room for all.
+    pub fn most(&self) -> usize {
+        self.written.len()
+    }
+
+    /// What a call has to come to with so much room: the longest run of these items whose bytes fit.
+    pub fn within(&self, text: &[u8], room: usize) -> Expected<'_> {
+        let fit = self.reached.partition_point(|r| r.wrote <= room);
+        let last = match fit.checked_sub(1) {
+            Some(last) => self.reached.get(last).copied().unwrap_or(self.start),
+            None => self.start,
+        };
+        let stop = if fit == self.reached.len() {
+            self.stop
+        } else {
+            Stop::TooBig
+        };
+        Expected {
+            outcome: Outcome {
+                left: text.len().saturating_sub(last.used),
+                room_left: room.saturating_sub(last.wrote),
+                count: last.count,
+                stop,
+            },
+            states: last.states,
+            written: self.written.get(..last.wrote).unwrap_or(&[]),
+        }
+    }
+}

@@ -1,0 +1,35 @@
+//! Conversions between every two encodings beside conversions item by item: texts around the bounds of every loop that takes
+//! several characters at once.
+#![tactic(auto)]
+
+mod calls;
+mod chain;
+mod pairs;
+mod scripts;
+mod shapes;
+mod sources;
+mod stops;
+mod targets;
+mod trials;
+
+use pairs::{Unfinished, compare_all};
+use std::io;
+use std::process::ExitCode;
+
+fn compare<R: Print + AllocGlobal>(rt: &R) -> io::Result<ExitCode> {
+    match compare_all(rt.alloc()) {
+        Ok(count) => {
+            println!(rt; "10 x 10 encodings: {count} conversions are as item by item")?;
+            Ok(ExitCode::SUCCESS)
+        }
+        Err(Unfinished::Differs(report)) => {
+            println!(rt; "{report}")?;
+            Ok(ExitCode::FAILURE)
+        }
+        Err(Unfinished::Memory(error)) => Err(error.into()),
+    }
+}
+
+fn main(rt: HostRuntime) -> io::Result<ExitCode> {
+    compare(&rt)
+}

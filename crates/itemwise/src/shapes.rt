@@ -1,0 +1,101 @@
+//! What a text has, and how it is spelled.
+
+use crate::scripts::Script;
+use cv_base::{Codec, Scalar, WriteState};
+use cv_pivot::Encoding;
+use std::alloc::AllocError;
+
+/// So many characters of one kind.
+#[derive(Clone, Copy, Debug, PartialEq, Eq)]
+pub struct Run {
+    pub script: Script,
+    pub length: usize,
+}
+
+/// What stands between two runs.
+#[derive(Clone, Copy, Debug, PartialEq, Eq)]
+pub enum Middle {
+    Nothing,
+    Character(char),
+    /// A byte as it is.
+    Byte(u8),
+    /// Bytes as they are.
+    Bytes(&'static [u8]),
+}
+
+/// A run, what stops or interrupts it, and another run.
+#[derive(Clone, Copy, Debug, PartialEq, Eq)]
+pub struct Shape {
+    pub front: Run,
+    pub middle: Middle,
+    pub back: Run,
+}
+
+/// Why a text can't be spelled.
+#[derive(Debug, Drop)]
+pub enum Unspelled {
+    /// The encoding lacks a character.
+    Lacks,
+    Memory(AllocError),
+}
+
+impl From<AllocError> for Unspelled {
+    fn from(error: AllocError) -> Unspelled {
+        Unspelled::Memory(error)
+    }
+}
+
+/// A text that is being spelled.
+#[derive(Drop)]
+pub struct Speller {
+    encoding: Encoding,
+    state: WriteState,
+    bytes: Vec<u8>,
+}
+
+impl Speller {
+    /// A text that begins with these bytes.
+    pub fn new(encoding: Encoding, bytes: Vec<u8>) -> Speller {
+        Speller {
+            encoding,
+            state: WriteState::Start,
+            bytes,
+        }
+    }
+
+    /// The text.
+    pub fn into_bytes(self) -> Vec<u8> {
+        self.bytes
+    }
+
+    fn put(&mut self, c: Scalar) -> Result<(), Unspelled> {
+        let Some((piece, next)) = self.encoding.put(self.state, c) else {
+            return Err(Unspelled::Lacks);
+        };
+        self.bytes.extend_from_slice(piece.as_slice())?;
+        self.state = next;
+        Ok(())
+    }
+
+    /// Spells the characters of a run behind what is there.
+    pub fn run(&mut self, run: Run) -> Result<(), Unspelled> {
+        for place in 0..run.length {
+            self.put(run.script.character(place))?;
+        }
+        Ok(())
+    }
+
+    /// Spells a shape behind what is there.
+    pub fn shape(&mut self, shape: &Shape) -> Result<(), Unspelled> {
+        self.run(shape.front)?;
+        match shape.middle {
+            Middle::Nothing => {}
+            Middle::Character(c) => self.put(Scalar::new(u32::from(c)).unwrap_or(
+                Scalar::substitute(),
+            ))?,
+            Middle::Byte(byte) => self.bytes.extend_from_slice(&[byte])?,
+            Middle::Bytes(bytes) => self.bytes.extend_from_slice(bytes)?,
+        }
+        self.run(shape.back)
+    }
+}

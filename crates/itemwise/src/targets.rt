@@ -1,0 +1,51 @@
+//! What conversions write to, and where they are before they write.
+
+use crate::scripts::Script;
+use cv_base::{Codec, WriteState};
+use cv_pivot::{Encoding, builtin};
+use std::alloc::{AllocError, Global};
+
+/// The encodings that are built in, and behind how many characters the state of a writer differs from the states before.
+/// In UTF-7 4, 2 and 0 bits are pending behind the first, the second and the third character of a shifted sequence.
+const ENCODINGS: [(&str, usize); 10] = [
+    ("US-ASCII", 0),
+    ("ISO-8859-1", 0),
+    ("UTF-8", 0),
+    ("UTF-16", 1),
+    ("UTF-16BE", 0),
+    ("UTF-16LE", 0),
+    ("UTF-32", 1),
+    ("UTF-32BE", 0),
+    ("UTF-32LE", 0),
+    ("UTF-7", 3),
+];
+
+/// An encoding to write to, and where a writer is.
+#[derive(Clone, Copy, Debug)]
+pub struct Target {
+    pub name: &'static str,
+    pub encoding: Encoding,
+    pub writing: WriteState,
+}
+
+/// Each encoding in each of the states of its writer.
+pub fn targets(alloc: Global) -> Result<Vec<Target>, AllocError> {
+    let mut targets = Vec::new(alloc);
+    for (name, leads) in ENCODINGS {
+        let Some(encoding) = builtin(name.as_bytes()) else {
+            continue;
+        };
+        let mut writing = WriteState::Start;
+        for lead in 0..=leads {
+            targets.push(Target {
+                name,
+                encoding,
+                writing,
+            })?;
+            if let Some((_, next)) = encoding.put(writing, Script::Cyrillic.character(lead)) {
+                writing = next;
+            }
+        }
+    }
+    Ok(targets)
+}

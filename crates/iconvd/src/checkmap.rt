@@ -10,7 +10,7 @@ use cv_charmap::{CompileFault, MapFault, Pairs, read};
 use cv_loop::ServeFault;
 use std::alloc::{AllocError, Global};
 use std::fs::{self, Files};
-use std::io;
+use std::io::{self, Read, Write};
 
 /// What there is to say of a charmap text.
 #[derive(Debug, Drop)]
@@ -53,25 +53,29 @@ pub fn check_text(alloc: Global, text: &[u8]) -> Result<Checked, RunFault>
     }
 }
 
-/// All bytes of a file; `-` is standard input.
-fn read_named<R: Files + Input>(rt: &R, alloc: Global, file: &str) -> Result<Vec<u8>, RunFault> {
-    if file == "-" {
-        return read_all(alloc, rt.reader());
-    }
-    match fs::open(rt, file) {
-        Ok(opened) => read_all(alloc, opened),
-        Err(_) => Err(RunFault::Serve(ServeFault::Read)),
-    }
+/// Reads a charmap text, writes what there is to say of it, and gives the exit status: 1 where it is no charmap.
+pub fn answer<T: Read + Drop, W: Write + Drop>(
+    alloc: Global,
+    reader: T,
+    writer: W,
+) -> Result<u8, RunFault> {
+    let text = read_all(alloc, reader)?;
+    let checked = check_text(alloc, &text)?;
+    write_all(writer, &checked.line)?;
+    Ok(u8::from(!checked.good))
 }
 
-/// Prints what there is to say of a charmap file, and gives the exit status: 1 where it is no charmap.
+/// Prints what there is to say of a charmap file, and gives the exit status. `-` is standard input.
 pub fn checkmap<R: Files + Input + Print + AllocGlobal>(
     rt: &R,
     file: &str,
 ) -> Result<u8, RunFault> {
     let alloc = rt.alloc();
-    let text = read_named(rt, alloc, file)?;
-    let checked = check_text(alloc, &text)?;
-    write_all(io::writer(rt), &checked.line)?;
-    Ok(u8::from(!checked.good))
+    if file == "-" {
+        return answer(alloc, rt.reader(), io::writer(rt));
+    }
+    match fs::open(rt, file) {
+        Ok(opened) => answer(alloc, opened, io::writer(rt)),
+        Err(_) => Err(RunFault::Serve(ServeFault::Read)),
+    }
 }

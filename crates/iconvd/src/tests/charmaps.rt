@@ -1,15 +1,20 @@
 //! Charmap texts, against what they have to come to. A `|` stands for the end of a line.
-use crate::checkmap::{Checked, check_text, checkmap};
+use crate::checkmap::{Checked, answer, check_text, checkmap};
 use crate::fault::{RunFault, status};
 use cv_loop::ServeFault;
 use std::alloc::Global;
 use std::test::Fail;
 
-fn checked(alloc: Global, text: &[u8]) -> Result<Checked, Fail> {
+fn lines_of(alloc: Global, text: &[u8]) -> Result<Vec<u8>, Fail> {
     let mut lines = Vec::new(alloc);
     for byte in text {
         lines.push(if *byte == b'|' { b'\n' } else { *byte })?;
     }
+    Ok(lines)
+}
+
+fn checked(alloc: Global, text: &[u8]) -> Result<Checked, Fail> {
+    let lines = lines_of(alloc, text)?;
     Ok(check_text(alloc, &lines).map_err(|_| "memory")?)
 }
 
@@ -258,6 +263,23 @@ fn bytes_that_are_no_text_are_refused(rt: HostRuntime) -> Result<(), Fail> {
     for (text, want) in cases {
         let got = checked(rt.alloc(), text)?;
         assert!(rt; got.line.as_slice() == want, "{}", text.escape_ascii());
+    }
+    Ok(())
+}
+
+#[test]
+fn one_line_is_printed(rt: HostRuntime) -> Result<(), Fail> {
+    let alloc = rt.alloc();
+    let cases: [(&[u8], &[u8], u8); 2] = [
+        (TOY, b"TOY 5\n", 0),
+        (b"CHARMAP|<A>", b"line 2: Syntax\n", 1),
+    ];
+    for (text, want, status) in cases {
+        let file = lines_of(alloc, text)?;
+        let mut printed = Vec::new(alloc);
+        let done = answer(alloc, file.as_slice(), &mut printed);
+        assert!(rt; printed.as_slice() == want, "{}", text.escape_ascii());
+        assert!(rt; done == Ok(status), "{}", text.escape_ascii());
     }
     Ok(())
 }

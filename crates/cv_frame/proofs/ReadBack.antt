@@ -1,13 +1,15 @@
 -- Bodies that were spelled are read again, and no others are.
-use Rattle.std.proofs.Common.{◌≡◌, ℕ, ◌^◌, ◌<◌, ◌≤◌, false, eqb, ltb, List, [], ◌∷◌, ◌++◌, length, take, drop, refl, sym, ap, ◌∙◌, arith, inl, inr, length-append, Option, Some, None}
+use Rattle.std.proofs.Common.{◌≡◌, ℕ, ◌^◌, ◌<◌, ◌≤◌, false, eqb, ltb, List, [], ◌∷◌, ◌++◌, length, take, drop, refl, sym, ap, ◌∙◌, arith, ◌⊎◌, inl, inr, subst, length-append, Option, Some, None}
 use Rattle.std.specs.Int.{w32, to_be_bytes}
-use Rattle.std.specs.Option.{option_and_then}
+use Rattle.std.specs.Option.{option_and_then, option_map}
 use Rattle.std.proofs.lemmas.Bool.{ltb-false, le-ltb, eqb-true}
 use Rattle.std.proofs.lemmas.Bool.Decides.{nat_tests}
 use Rattle.std.proofs.lemmas.List.{take_at, drop_at, take_all, append-nil, take-append-drop, length-take, length-drop, drop-drop}
 use Rattle.std.proofs.lemmas.Nat.{from_be_bytes-to_be_bytes_4}
 use Rattle.cv_frame.specs.Cut.{number_at, IsBytes}
-use Rattle.cv_frame.specs.Bodies.{name_body, name_at, at_end, open_body, conv_body, number_body, reset_body, open_of, conv_of, number_of, reset_of, ReadBack}
+use Rattle.cv_frame.specs.Bodies.{name_body, name_at, policy_body, policy_of, Opening, IsOpenBody, open_body, conv_body, number_body, reset_body, open_of, conv_of, number_of, reset_of, ReadBack}
+use Rattle.cv_base.specs.declared.policy.Policy.{Policy}
+use Rattle.cv_base.specs.declared.policy.Policy.TheVariants.{Substitute, Strict}
 use Rattle.cv_frame.proofs.Cuts.{chosen, IsBytes-drop, number_spelled}
 
 name_back : (name rest : List ℕ) → name_at (name_body name ++ rest) ≡ Some (name, rest)
@@ -15,11 +17,13 @@ name_back name rest =
     let long : ltb (length (name ++ rest)) (length name) ≡ false = le-ltb _ _ (omega (arith, length-append name rest)) in
     rw (long, take_at name rest (length name) refl, drop_at name rest (length name) refl) refl
 
-open_back : (to from : List ℕ) → length to ≤ 255 → length from ≤ 255 → open_of (open_body to from) ≡ Some (to, from)
+policy_back : (policy : Policy) → policy_of (policy_body policy) ≡ Some policy
+policy_back Substitute = refl
+policy_back Strict = refl
+
+open_back : (o : Opening) → length o.to ≤ 255 → length o.from ≤ 255 → open_of (open_body o.to o.from o.policy) ≡ Some o
 unfolding open_of
-open_back to from _ _ =
-    let last : name_at (name_body from) ≡ Some (from, []) = ap name_at (sym (append-nil (name_body from))) ∙ name_back from [] in
-    rw (name_back to (name_body from), last) refl
+open_back o _ _ = rw (name_back o.to (name_body o.from ++ policy_body o.policy), name_back o.from (policy_body o.policy), policy_back o.policy) refl
 
 conv_back : (number room : ℕ) (input : List ℕ) → number < 2 ^ 32 → room < 2 ^ 32 → conv_of (conv_body number room input) ≡ Some (number, room, input)
 unfolding conv_of
@@ -52,28 +56,44 @@ name_only (n ∷ bytes) name rest e =
           rw (size, ← is, ← over) (ap (λ (x : List ℕ). n ∷ x) (sym (take-append-drop n bytes)))
     ]
 
-end_only : (x y : List ℕ × List ℕ) (rest : List ℕ) → at_end x rest ≡ Some y → (x ≡ y) × (rest ≡ [])
-end_only x y [] e = (cc, refl)
-end_only x y (b ∷ rest) e =
-    let some : eqb (length (b ∷ rest)) 0 ≡ false = grind (arith, nat_tests) in
-    let gone = rw some at e in
-    absurd cc
+policy_only : (bytes : List ℕ) (policy : Policy) → policy_of bytes ≡ Some policy → (bytes ≡ policy_body policy) ⊎ ((policy ≡ Substitute) × (bytes ≡ 0 ∷ []))
+policy_only [] policy e =
+    let is : Substitute ≡ policy = cc in inl (ap policy_body is)
+policy_only (b ∷ []) policy e =
+    elim (chosen (eqb b 0) _ _ _ e) [
+      | inl p ↦
+          let is : Substitute ≡ policy = (let h = p.1 in cc) in
+          inr (sym is, ap (λ (x : ℕ). x ∷ []) (eqb-true _ _ p.0))
+      | inr p ↦ elim (chosen (eqb b 1) _ _ _ p.1) [
+          | inl q ↦
+              let is : Strict ≡ policy = (let h = q.1 in cc) in
+              inl (ap (λ (x : ℕ). x ∷ []) (eqb-true _ _ q.0) ∙ ap policy_body is)
+          | inr q ↦ absurd (let h = q.1 in cc)
+        ]
+    ]
+policy_only (b ∷ c ∷ bytes) policy e = absurd cc
+
+mapped : {A B : Type 0} (f : A → B) (o : Option A) (y : B) → option_map f o ≡ Some y → (x : A) × (o ≡ Some x) × (f x ≡ y)
+mapped f (Some x) y e = (x, refl, cc)
+mapped f None y e = absurd cc
 
 bound : {A B : Type 0} (f : A → Option B) (o : Option A) (y : B) → option_and_then f o ≡ Some y → (x : A) × (o ≡ Some x) × (f x ≡ Some y)
 bound f (Some x) y e = (x, refl, e)
 bound f None y e = absurd cc
 
-open_only : (body to from : List ℕ) → open_of body ≡ Some (to, from) → body ≡ open_body to from
+open_only : (body : List ℕ) (o : Opening) → open_of body ≡ Some o → IsOpenBody o body
 unfolding open_of
-open_only body to from e =
-    let first = bound _ (name_at body) (to, from) e in
-    let second = bound _ (name_at first.0.1) (to, from) first.2 in
-    let end = end_only (first.0.0, second.0.0) (to, from) second.0.1 second.2 in
-    let t : first.0.0 ≡ to = ap (λ (p : List ℕ × List ℕ). p.0) end.0 in
-    let f : second.0.0 ≡ from = ap (λ (p : List ℕ × List ℕ). p.1) end.0 in
-    name_only body first.0.0 first.0.1 first.1
-    ∙ ap (λ (x : List ℕ). name_body first.0.0 ++ x) (name_only first.0.1 second.0.0 second.0.1 second.1 ∙ ap (λ (x : List ℕ). name_body second.0.0 ++ x) end.1 ∙ append-nil (name_body second.0.0))
-    ∙ ap (λ (x : List ℕ). name_body x ++ name_body second.0.0) t ∙ ap (λ (x : List ℕ). name_body to ++ name_body x) f
+open_only body o e =
+    let first = bound _ (name_at body) o e in
+    let second = bound _ (name_at first.0.1) o first.2 in
+    let third = mapped _ (policy_of second.0.1) o second.2 in
+    let from : first.0.1 ≡ name_body second.0.0 ++ second.0.1 = name_only first.0.1 second.0.0 second.0.1 second.1 in
+    let names : body ≡ name_body first.0.0 ++ (name_body second.0.0 ++ second.0.1) = name_only body first.0.0 first.0.1 first.1 ∙ ap (λ (x : List ℕ). name_body first.0.0 ++ x) from in
+    let behind : List ℕ → List ℕ = λ x. name_body first.0.0 ++ (name_body second.0.0 ++ x) in
+    subst (λ (x : Opening). IsOpenBody x body) third.2 (elim (policy_only second.0.1 third.0 third.1) [
+      | inl p ↦ inl (names ∙ ap behind p)
+      | inr p ↦ inr (p.0, names ∙ ap behind p.1)
+    ])
 
 -- the first eight bytes as two numbers, and the rest
 two_parts : (body : List ℕ) → body ≡ take 4 body ++ (take 4 (drop 4 body) ++ drop 8 body)

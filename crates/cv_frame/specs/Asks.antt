@@ -9,7 +9,7 @@ use Rattle.cv_frame.specs.declared.ask.Ask.TheVariants.{Open, Conv, Reset, Close
 
 -- the number of its op
 abbrev pub ask_code : Ask → ℕ
-ask_code (Open to from) = OPEN
+ask_code (Open to from policy) = OPEN
 ask_code (Conv number room input) = CONV
 ask_code (Reset number room) = RESET
 ask_code (Close number) = CLOSE
@@ -17,7 +17,7 @@ ask_code (Raw op body) = op
 
 -- its body
 abbrev pub ask_body : Ask → List ℕ
-ask_body (Open to from) = open_body to.now from.now
+ask_body (Open to from policy) = open_body to.now from.now policy
 ask_body (Conv number room input) = conv_body number room input.now
 ask_body (Reset number room) = reset_body number room
 ask_body (Close number) = number_body number
@@ -29,7 +29,7 @@ request_of caller tag ask = record { caller = caller; tag = tag; code = ask_code
 
 -- Each name's length is one byte.
 abbrev pub NamesFit : Ask → Type 0
-NamesFit (Open to from) = (length to.now ≤ 255) × (length from.now ≤ 255)
+NamesFit (Open to from policy) = (length to.now ≤ 255) × (length from.now ≤ 255)
 NamesFit (Conv number room input) = Unit {0}
 NamesFit (Reset number room) = Unit {0}
 NamesFit (Close number) = Unit {0}

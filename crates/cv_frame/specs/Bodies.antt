@@ -1,7 +1,9 @@
 -- The bodies of requests, whose forms are this project's own. All numbers are of 32 bits, the highest byte first.
-use Rattle.std.specs.Prelude.{◌≡◌, ℕ, ◌<◌, ◌≤◌, ◌^◌, List, [], ◌∷◌, ◌++◌, length, take, drop, nat_lt, ◌==◌, Option, Some, None, if◌then◌else◌}
+use Rattle.std.specs.Prelude.{◌≡◌, ◌⊎◌, ℕ, ◌<◌, ◌≤◌, ◌^◌, List, [], ◌∷◌, ◌++◌, length, take, drop, nat_lt, ◌==◌, Option, Some, None, if◌then◌else◌}
 use Rattle.std.specs.Int.{w32, to_be_bytes}
-use Rattle.std.specs.Option.{option_and_then}
+use Rattle.std.specs.Option.{option_and_then, option_map}
+use Rattle.cv_base.specs.declared.policy.Policy.{Policy}
+use Rattle.cv_base.specs.declared.policy.Policy.TheVariants.{Substitute, Strict}
 use Rattle.cv_frame.specs.Cut.{number_at, IsBytes}
 
 -- ---- how bodies are spelled
@@ -10,9 +12,14 @@ use Rattle.cv_frame.specs.Cut.{number_at, IsBytes}
 abbrev pub name_body : List ℕ → List ℕ
 name_body name = length name ∷ name
 
--- OPEN has the target's name and then the source's.
-abbrev pub open_body : List ℕ → List ℕ → List ℕ
-open_body to from = name_body to ++ name_body from
+-- A strict policy is a byte 1, and the other is told by nothing.
+abbrev pub policy_body : Policy → List ℕ
+policy_body Substitute = []
+policy_body Strict = 1 ∷ []
+
+-- OPEN has the target's name, then the source's, and then the policy.
+abbrev pub open_body : List ℕ → List ℕ → Policy → List ℕ
+open_body to from policy = name_body to ++ (name_body from ++ policy_body policy)
 
 -- CONV has the descriptor's number, the room, and the input, which is the rest.
 abbrev pub conv_body : ℕ → ℕ → List ℕ → List ℕ
@@ -33,13 +40,22 @@ abbrev pub name_at : List ℕ → Option (List ℕ × List ℕ)
 name_at [] = None
 name_at (n ∷ bytes) = if nat_lt (length bytes) n then None else Some (take n bytes, drop n bytes)
 
--- this value, if nothing is left over
-abbrev pub at_end : {A : Type 0} → A → List ℕ → Option A
-at_end x rest = if length rest == 0 then Some x else None
+-- the policy, of what stands behind the names: a byte 0 says what nothing says
+abbrev pub policy_of : List ℕ → Option Policy
+policy_of [] = Some Substitute
+policy_of (b ∷ []) = if b == 0 then Some Substitute else if b == 1 then Some Strict else None
+policy_of (b ∷ c ∷ bytes) = None
 
--- the target's name and the source's
-unfoldable pub open_of : List ℕ → Option (List ℕ × List ℕ)
-open_of body = option_and_then (λ to. option_and_then (λ from. at_end (to.0, from.0) from.1) (name_at to.1)) (name_at body)
+-- What an OPEN asks for.
+pub record Opening : Type 0 where
+  pub to : List ℕ
+  pub from : List ℕ
+  pub policy : Policy
+
+-- the target's name, the source's and the policy
+unfoldable pub open_of : List ℕ → Option Opening
+open_of body =
+    option_and_then (λ to. option_and_then (λ from. option_map (λ policy. record { to = to.0; from = from.0; policy = policy }) (policy_of from.1)) (name_at to.1)) (name_at body)
 
 -- the descriptor's number, the room and the input
 unfoldable pub conv_of : List ℕ → Option (ℕ × ℕ × List ℕ)
@@ -55,13 +71,17 @@ number_of body = if length body == 4 then Some (number_at body) else None
 
 -- ---- what is spelled is read, and nothing else
 
+-- The body is that of this OPEN. Where the policy substitutes a byte 0 may say so.
+abbrev pub IsOpenBody : Opening → List ℕ → Type 0
+IsOpenBody o body = (body ≡ open_body o.to o.from o.policy) ⊎ ((o.policy ≡ Substitute) × (body ≡ name_body o.to ++ (name_body o.from ++ 0 ∷ [])))
+
 -- Bodies that are spelled of names of at most 255 bytes, and of numbers of 32 bits, are read as those; and a body that is read was spelled so.
 pub record ReadBack : Type 0 where
-  pub opens : (to from : List ℕ) → length to ≤ 255 → length from ≤ 255 → open_of (open_body to from) ≡ Some (to, from)
+  pub opens : (o : Opening) → length o.to ≤ 255 → length o.from ≤ 255 → open_of (open_body o.to o.from o.policy) ≡ Some o
   pub converts : (number room : ℕ) (input : List ℕ) → number < 2 ^ 32 → room < 2 ^ 32 → conv_of (conv_body number room input) ≡ Some (number, room, input)
   pub resets : (number room : ℕ) → number < 2 ^ 32 → room < 2 ^ 32 → reset_of (reset_body number room) ≡ Some (number, room)
   pub closes : (number : ℕ) → number < 2 ^ 32 → number_of (number_body number) ≡ Some number
-  pub opens_only : (body to from : List ℕ) → open_of body ≡ Some (to, from) → body ≡ open_body to from
+  pub opens_only : (body : List ℕ) (o : Opening) → open_of body ≡ Some o → IsOpenBody o body
   pub converts_only : (body : List ℕ) (number room : ℕ) (input : List ℕ) → IsBytes body → conv_of body ≡ Some (number, room, input) → body ≡ conv_body number room input
   pub resets_only : (body : List ℕ) (number room : ℕ) → IsBytes body → reset_of body ≡ Some (number, room) → body ≡ reset_body number room
   pub closes_only : (body : List ℕ) (number : ℕ) → IsBytes body → number_of body ≡ Some number → body ≡ number_body number

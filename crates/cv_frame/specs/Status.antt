@@ -21,6 +21,7 @@ status_number status.NoName = 11
 status_number status.Busy = 12
 status_number status.Quota = 13
 status_number status.Room = 14
+status_number status.Lacking = 15
 
 -- the name of a status, in ASCII
 abbrev pub status_name : Status → List ℕ
@@ -39,3 +40,4 @@ status_name status.NoName = codes "NONAME"
 status_name status.Busy = codes "BUSY"
 status_name status.Quota = codes "QUOTA"
 status_name status.Room = codes "ROOM"
+status_name status.Lacking = codes "ENOCHAR"

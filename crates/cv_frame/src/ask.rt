@@ -1,12 +1,14 @@
 //! What a client asks.
+use cv_base::Policy;
 
 /// What a client asks of the service.
 #[derive(Clone, Copy, Debug)]
 pub enum Ask<'a> {
-    /// Opens a descriptor that converts to one encoding from another, both by name.
+    /// Opens a descriptor that converts to one encoding from another, both by name, under a policy.
     Open {
         to: &'a [u8],
         from: &'a [u8],
+        policy: Policy,
     },
     /// Converts the input by a descriptor, into at most `room` bytes.
     Conv {

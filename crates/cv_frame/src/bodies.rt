@@ -3,9 +3,21 @@
 
 ghost use Rattle.std.specs.Prelude.{◌≡◌, ◌≤◌, ◌+◌, IfSome, length};
 ghost use Rattle.std.specs.Option.{option_map};
-ghost use Rattle.cv_frame.specs.Bodies.{name_at, open_of, conv_of, number_of, reset_of};
+ghost use Rattle.cv_frame.specs.Bodies.{name_at, policy_of, open_of, conv_of, number_of, reset_of};
 
 use crate::reading::number;
+use cv_base::Policy;
+
+/// The body of an OPEN. A name may be empty.
+#[derive(Clone, Copy, Debug)]
+pub struct OpenBody<'a> {
+    /// The target's name.
+    pub to: &'a [u8],
+    /// The source's name.
+    pub from: &'a [u8],
+    /// What the descriptor does at a character that the target lacks.
+    pub policy: Policy,
+}
 
 /// A name, and what stands behind it.
 fn read_name_at(bytes: &[u8]) -> Option<(&[u8], &[u8])>
@@ -19,18 +31,28 @@ fn read_name_at(bytes: &[u8]) -> Option<(&[u8], &[u8])>
     Some(rest.split_at(n))
 }
 
-/// The body of an OPEN: the target's name, then the source's. A name may be empty.
+/// The policy that stands behind the names of an OPEN.
+fn read_policy(bytes: &[u8]) -> Option<Policy>
+    ensures { result ≡ policy_of bytes.now }
+{
+    match bytes {
+        [] | [0] => Some(Policy::Substitute),
+        [1] => Some(Policy::Strict),
+        _ => None,
+    }
+}
+
+/// The body of an OPEN: the target's name, then the source's. Nothing behind them, or a byte 0, says that `?` is written for what the
+/// target lacks, and a byte 1 that the descriptor stops before it.
 #[tactic(auto, unfolding(crate::specs::Bodies::open_of))]
-pub fn read_open(body: &[u8]) -> Option<(&[u8], &[u8])>
-    ensures { option_map (λ p. (p.0.now, p.1.now)) result ≡ open_of body.now }
+pub fn read_open(body: &[u8]) -> Option<OpenBody<'_>>
+    ensures { option_map (λ o. record { to = o.to.now; from = o.from.now; policy = o.policy }) result
+        ≡ open_of body.now }
 {
     let (to, rest) = read_name_at(body)?;
     let (from, rest) = read_name_at(rest)?;
-    if rest.is_empty() {
-        Some((to, from))
-    } else {
-        None
-    }
+    let policy = read_policy(rest)?;
+    Some(OpenBody { to, from, policy })
 }
 
 /// The body of a CONV: the descriptor's number, the room in bytes and the input.

@@ -38,6 +38,8 @@ pub enum Status {
     Quota,
     /// The room is more than any reply may take.
     Room,
+    /// The target lacks the next character, and the descriptor is strict.
+    Lacking,
 }
 
 impl Status {
@@ -61,6 +63,7 @@ impl Status {
             Status::Busy => 12,
             Status::Quota => 13,
             Status::Room => 14,
+            Status::Lacking => 15,
         }
     }
 
@@ -84,12 +87,13 @@ impl Status {
             Status::Busy => "BUSY",
             Status::Quota => "QUOTA",
             Status::Room => "ROOM",
+            Status::Lacking => "ENOCHAR",
         }
     }
 
     /// The status that has this number, if any has.
     pub fn from_number(number: u8) -> Option<Self>
-        ensures known { IsSome result ↔ (number < 15) }
+        ensures known { IsSome result ↔ (number < 16) }
         ensures same { IfSome result (λ status. status_number status ≡ number) }
     {
         let status = match number {
@@ -108,6 +112,7 @@ impl Status {
             12 => Status::Busy,
             13 => Status::Quota,
             14 => Status::Room,
+            15 => Status::Lacking,
             _ => return None,
         };
         Some(status)

@@ -1,5 +1,5 @@
 use super::*;
-use cv_base::Piece;
+use cv_base::{Piece, Policy};
 use std::test::*;
 
 // Caller 7 opens a descriptor to US-ASCII from ISO-8859-1, and it is number 0.
@@ -16,6 +16,7 @@ fn open_request(rt: HostRuntime) -> Result<(), Fail> {
     let ask = Ask::Open {
         to: b"US-ASCII",
         from: b"ISO-8859-1",
+        policy: Policy::Substitute,
     };
     write_request(&mut out, 7, 1, &ask)?;
     assert_eq!(rt; out.as_slice(), OPEN);
@@ -23,10 +24,44 @@ fn open_request(rt: HostRuntime) -> Result<(), Fail> {
         return Err("the frame is whole".into());
     };
     assert_eq!(rt; (request.caller, request.tag, request.op, n), (7, 1, 3, 33));
-    let (to, from) = read_open(request.body).ok_or("the body is an OPEN's")?;
-    assert_eq!(rt; to, b"US-ASCII".as_slice());
-    assert_eq!(rt; from, b"ISO-8859-1".as_slice());
+    let open = read_open(request.body).ok_or("the body is an OPEN's")?;
+    assert_eq!(rt; open.to, b"US-ASCII".as_slice());
+    assert_eq!(rt; open.from, b"ISO-8859-1".as_slice());
+    assert_eq!(rt; open.policy, Policy::Substitute);
     Ok(())
+}
+
+// Caller 1 opens a strict descriptor to US-ASCII from UTF-8.
+const STRICT: &[u8] = b"\0\0\0\x19\0\0\0\x01\0\0\0\x01\x03\x08US-ASCII\x05UTF-8\x01";
+
+#[test]
+fn strict_open_request(rt: HostRuntime) -> Result<(), Fail> {
+    let mut out = Vec::new(rt.alloc());
+    let ask = Ask::Open {
+        to: b"US-ASCII",
+        from: b"UTF-8",
+        policy: Policy::Strict,
+    };
+    write_request(&mut out, 1, 1, &ask)?;
+    assert_eq!(rt; out.as_slice(), STRICT);
+    Ok(())
+}
+
+#[test]
+fn policies(rt: HostRuntime) {
+    let bodies = [
+        (b"\x01a\x01b".as_slice(), Some(Policy::Substitute)),
+        (b"\x01a\x01b\0", Some(Policy::Substitute)),
+        (b"\x01a\x01b\x01", Some(Policy::Strict)),
+        (b"\x01a\x01b\x02", None),
+        (b"\x01a\x01b\xff", None),
+        (b"\x01a\x01b\0\0", None),
+        (b"\x01a\x01b\x01\0", None),
+    ];
+    for (body, policy) in bodies {
+        let found = read_open(body).map(|open| open.policy);
+        assert_eq!(rt; found, policy, "{body:?}");
+    }
 }
 
 #[test]
@@ -102,6 +137,7 @@ fn statuses(rt: HostRuntime) -> Result<(), Fail> {
         "BUSY",
         "QUOTA",
         "ROOM",
+        "ENOCHAR",
     ];
     for number in 0..=255u8 {
         let status = Status::from_number(number);

@@ -2,14 +2,14 @@
 
 ghost use Rattle.std.specs.Prelude.{◌≡◌, ◌≤◌, ◌+◌, ◌++◌, List, ℕ, OnOk, OnErr, length, vec_len, vec_capacity};
 ghost use Rattle.cv_frame.specs.Message.{FitsFrame, spelling};
-ghost use Rattle.cv_frame.specs.Bodies.{name_body};
+ghost use Rattle.cv_frame.specs.Bodies.{name_body, policy_body};
 ghost use Rattle.cv_frame.specs.Asks.{AskFits, request_of};
 
 use crate::ask::Ask;
 use crate::ops::{CLOSE, CONV, OPEN, RESET};
 use crate::reply::Reply;
 use crate::sizes::MOST_BODY;
-use cv_base::Memory;
+use cv_base::{Memory, Policy};
 
 /// Appends bytes for which there is room.
 fn append(out: &mut Vec<u8>, bytes: &[u8])
@@ -31,6 +31,16 @@ fn append_name(out: &mut Vec<u8>, name: &[u8])
 {
     append(out, &[name.len() as u8]);
     append(out, name);
+}
+
+/// What stands behind the names of an OPEN.
+fn policy_bytes(policy: Policy) -> &'static [u8]
+    ensures { result.now ≡ policy_body policy }
+{
+    match policy {
+        Policy::Substitute => b"",
+        Policy::Strict => b"\x01",
+    }
 }
 
 /// Begins a frame: makes room for all of it, and appends what stands before its body of n bytes.
@@ -73,10 +83,12 @@ pub fn write_request(out: &mut Vec<u8>, caller: u32, tag: u32, ask: &Ask<'_>) ->
     ensures err { OnErr result (out.new.items ≡ out.old.items) }
 {
     match *ask {
-        Ask::Open { to, from } => {
-            begin_frame(out, caller, tag, OPEN, 2 + to.len() + from.len())?;
+        Ask::Open { to, from, policy } => {
+            let behind = policy_bytes(policy);
+            begin_frame(out, caller, tag, OPEN, 2 + to.len() + from.len() + behind.len())?;
             append_name(out, to);
             append_name(out, from);
+            append(out, behind);
             Ok(())
         }
         Ask::Conv {

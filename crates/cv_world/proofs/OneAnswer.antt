@@ -1,6 +1,7 @@
 -- Each request has one answer, and want of memory beside it at most.
 use Rattle.std.proofs.Common.{◌≡◌, ◌≢◌, ◌⊎◌, inl, inr, ◌==◌, ℕ, Bool, true, false, List, [], length, nat_lt, Option, Some, None, sym, ap, ◌∙◌}
 use Rattle.cv_pivot.specs.Conversions.{Converted}
+use Rattle.cv_base.specs.declared.policy.Policy.{Policy}
 use Rattle.cv_pivot.specs.Encodings.{builtin_of, encoding_closes}
 use Rattle.cv_pivot.proofs.EncodingLaws.{encoding_readable}
 use Rattle.cv_pivot.specs.declared.conversion.Conversion.{Conversion}
@@ -47,18 +48,19 @@ one_when : (table : Table) (b : Bool) (May Else : Table → Answer → Type 0) �
 one_when table true May Else p q = p
 one_when table false May Else p q = q
 
-one_bind : (table : Table) (number : ℕ) (to from : Option Encoding) → HasOneAct table (Binds table number to from)
-one_bind table number (Some to) (Some from) = one_or table _ (one_does table _ _ (λ e. absurd cc))
-one_bind table number (Some to) None = one_does table _ _ (λ e. absurd cc)
-one_bind table number None from = one_does table _ _ (λ e. absurd cc)
+one_bind : (table : Table) (number : ℕ) (policy : Policy) (to from : Option Encoding) → HasOneAct table (Binds table number policy to from)
+one_bind table number policy (Some to) (Some from) = one_or table _ (one_does table _ _ (λ e. absurd cc))
+one_bind table number policy (Some to) None = one_does table _ _ (λ e. absurd cc)
+one_bind table number policy None from = one_does table _ _ (λ e. absurd cc)
 
-one_open : (table : Table) (number : Option ℕ) (to from : List ℕ) → HasOneAct table (Opens table number to from)
-one_open table None to from = one_does table _ _ (λ e. absurd cc)
-one_open table (Some number) to from = one_bind table number (builtin_of to) (builtin_of from)
+one_open : (table : Table) (number : Option ℕ) (to from : List ℕ) (policy : Policy) → HasOneAct table (Opens table number to from policy)
+one_open table None to from policy = one_does table _ _ (λ e. absurd cc)
+one_open table (Some number) to from policy = one_bind table number policy (builtin_of to) (builtin_of from)
 
 other_code : (s : Stop) → status_number (stop_status s) ≢ no_memory
 other_code stop.Done e = absurd cc
 other_code stop.TooBig e = absurd cc
+other_code stop.Lacking e = absurd cc
 other_code stop.Ill e = absurd cc
 other_code stop.Incomplete e = absurd cc
 
@@ -66,7 +68,7 @@ other_code stop.Incomplete e = absurd cc
 one_convert : (table : Table) (number : ℕ) (d : Conversion) (room : ℕ) (input : List ℕ) → HasOneAct table (IsConversion table number d room input)
 one_convert table number d room input = record {
   one = λ t u a b p q m n.
-      let e : p.came ≡ q.came = one_conversion _ _ (encoding_readable d.from) d.states input room p.came q.came p.is_converted q.is_converted in (
+      let e : p.came ≡ q.came = one_conversion _ _ (encoding_readable d.from) d.policy d.states input room p.came q.came p.is_converted q.is_converted in (
         p.does.0 ∙ ap (λ (c : Converted). with_states table number d c.states) e ∙ sym q.does.0,
         p.does.1 ∙ ap (λ (c : Converted). answers.Converted c.stop c.left c.count c.output) e ∙ sym q.does.1,
       );
@@ -90,7 +92,7 @@ one_close table number (Some d) = one_does table _ _ (λ e. absurd cc)
 
 -- What an action may come to is one, and want of memory beside it.
 one_act : (table : Table) (action : Action) → HasOneAct table (Acts table action)
-one_act table (Open to from) = one_open table (least_free table) to from
+one_act table (Open to from policy) = one_open table (least_free table) to from policy
 one_act table (Conv number room input) = one_conv table number (descriptor_at table number) room input
 one_act table (Reset number room) = one_reset table number (descriptor_at table number) room
 one_act table (Close number) = one_close table number (descriptor_at table number)

@@ -1,5 +1,6 @@
 -- Each request has some answer: where it takes memory, want of it is one.
 use Rattle.std.proofs.Common.{◌⊎◌, inr, ◌==◌, ℕ, Bool, true, false, List, length, nat_lt, Option, Some, None, refl}
+use Rattle.cv_base.specs.declared.policy.Policy.{Policy}
 use Rattle.cv_pivot.specs.Encodings.{builtin_of, encoding_closes}
 use Rattle.cv_pivot.specs.declared.conversion.Conversion.{Conversion}
 use Rattle.cv_pivot.specs.declared.encoding.Encoding.{Encoding}
@@ -28,14 +29,14 @@ some_when false May Else p q = q
 lacks : (table : Table) (May : Table → Answer → Type 0) → HasSomeAct (λ t a. May t a ⊎ Does t a table (answers.Refused status.NoMemory))
 lacks table May = (table, answers.Refused status.NoMemory, inr (refl, refl))
 
-some_bind : (table : Table) (number : ℕ) (to from : Option Encoding) → HasSomeAct (Binds table number to from)
-some_bind table number (Some to) (Some from) = lacks table _
-some_bind table number (Some to) None = does _ _
-some_bind table number None from = does _ _
+some_bind : (table : Table) (number : ℕ) (policy : Policy) (to from : Option Encoding) → HasSomeAct (Binds table number policy to from)
+some_bind table number policy (Some to) (Some from) = lacks table _
+some_bind table number policy (Some to) None = does _ _
+some_bind table number policy None from = does _ _
 
-some_open : (table : Table) (number : Option ℕ) (to from : List ℕ) → HasSomeAct (Opens table number to from)
-some_open table None to from = does _ _
-some_open table (Some number) to from = some_bind table number (builtin_of to) (builtin_of from)
+some_open : (table : Table) (number : Option ℕ) (to from : List ℕ) (policy : Policy) → HasSomeAct (Opens table number to from policy)
+some_open table None to from policy = does _ _
+some_open table (Some number) to from policy = some_bind table number policy (builtin_of to) (builtin_of from)
 
 some_conv : (table : Table) (number : ℕ) (d : Option Conversion) (room : ℕ) (input : List ℕ) → HasSomeAct (Convs table number d room input)
 some_conv table number None room input = does _ _
@@ -53,7 +54,7 @@ some_close table number None = does _ _
 some_close table number (Some d) = does _ _
 
 some_act : (table : Table) (action : Action) → HasSomeAct (Acts table action)
-some_act table (Open to from) = some_open table (least_free table) to from
+some_act table (Open to from policy) = some_open table (least_free table) to from policy
 some_act table (Conv number room input) = some_conv table number (descriptor_at table number) room input
 some_act table (Reset number room) = some_reset table number (descriptor_at table number) room
 some_act table (Close number) = some_close table number (descriptor_at table number)

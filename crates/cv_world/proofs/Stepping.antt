@@ -1,5 +1,6 @@
 -- One request, answered by a turn of its caller's table.
 use Rattle.std.proofs.Common.{◌≡◌, ℕ, List, Some, refl, sym, subst, inr, ap}
+use Rattle.cv_base.specs.declared.policy.Policy.{Policy}
 use Rattle.cv_pivot.specs.Encodings.{builtin_of}
 use Rattle.cv_pivot.specs.declared.encoding.Encoding.{Encoding}
 use Rattle.cv_frame.specs.Message.{Message, FitsFrame}
@@ -26,9 +27,9 @@ stepped s t m r action answer asks acts others is fits =
     }
 
 -- an OPEN for which there was no memory
-pub unbound : (table held next : Table) (number : ℕ) (to from : List ℕ) (t f : Encoding) → held ≡ table → next ≡ table → least_free held ≡ Some number → builtin_of to ≡ Some t → builtin_of from ≡ Some f
-    → Opens table (least_free table) to from next (answers.Refused status.NoMemory)
-unbound table held next number to from t f is same free a b =
+pub unbound : (table held next : Table) (number : ℕ) (to from : List ℕ) (policy : Policy) (t f : Encoding) → held ≡ table → next ≡ table → least_free held ≡ Some number → builtin_of to ≡ Some t → builtin_of from ≡ Some f
+    → Opens table (least_free table) to from policy next (answers.Refused status.NoMemory)
+unbound table held next number to from policy t f is same free a b =
     let least : least_free table ≡ Some number = rw is at free in
     rw (least, a, b) (inr (same, refl))
 

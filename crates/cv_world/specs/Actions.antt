@@ -1,14 +1,15 @@
 -- What a request asks for, by its op and its body.
 use Rattle.std.specs.Prelude.{ℕ, ◌≤◌, List, length, ◌==◌, Option, Some, None, if◌then◌else◌}
-use Rattle.cv_frame.specs.Bodies.{open_of, conv_of, reset_of, number_of}
+use Rattle.cv_base.specs.declared.policy.Policy.{Policy}
+use Rattle.cv_frame.specs.Bodies.{Opening, open_of, conv_of, reset_of, number_of}
 use Rattle.cv_frame.specs.declared.ops.TheConstants.{OPEN, CONV, RESET, CLOSE}
 use Rattle.cv_frame.specs.declared.sizes.TheConstants.{MOST_BODY}
 use Rattle.cv_world.specs.declared.op.Op.{Op}
 use Rattle.cv_world.specs.declared.op.Op.TheVariants as op
 
 pub data Action : Type 0 where
-  -- a descriptor to an encoding from another, by their names
-  Open : (to from : List ℕ) → Action
+  -- a descriptor to an encoding from another, by their names, under a policy
+  Open : (to from : List ℕ) (policy : Policy) → Action
   -- a descriptor's conversion of an input into so many bytes of room
   Conv : (number room : ℕ) (input : List ℕ) → Action
   -- both states of a descriptor at their start, with so many bytes of room for what closes a shift
@@ -18,8 +19,8 @@ pub data Action : Type 0 where
   -- nothing that there is
   Bad : Action
 
-abbrev pub open_action : Option (List ℕ × List ℕ) → Action
-open_action (Some names) = Open names.0 names.1
+abbrev pub open_action : Option Opening → Action
+open_action (Some o) = Open o.to o.from o.policy
 open_action None = Bad
 
 abbrev pub conv_action : Option (ℕ × ℕ × List ℕ) → Action
@@ -44,7 +45,7 @@ action_of code body =
 
 -- what a value of the program asks for
 abbrev pub asked : Op → Action
-asked (op.Open to from) = Open to.now from.now
+asked (op.Open to from policy) = Open to.now from.now policy
 asked (op.Conv number room input) = Conv number room input.now
 asked (op.Reset number room) = Reset number room
 asked (op.Close number) = Close number
@@ -52,7 +53,7 @@ asked op.Bad = Bad
 
 -- the input is no longer than the body of a frame
 abbrev pub InputFits : Op → Type 0
-InputFits (op.Open to from) = Unit {0}
+InputFits (op.Open to from policy) = Unit {0}
 InputFits (op.Conv number room input) = length input.now ≤ MOST_BODY
 InputFits (op.Reset number room) = Unit {0}
 InputFits (op.Close number) = Unit {0}

@@ -17,6 +17,7 @@ most_room = 1000000
 abbrev pub stop_status : Stop → Status
 stop_status stop.Done = status.Ok
 stop_status stop.TooBig = status.TooBig
+stop_status stop.Lacking = status.Lacking
 stop_status stop.Ill = status.Ill
 stop_status stop.Incomplete = status.Incomplete
 

@@ -1,6 +1,7 @@
 -- What each request may do to its caller's table, and what it answers: the cases in the order of refusal
 -- (POSIX iconv_open(), iconv(), iconv_close()).
 use Rattle.std.specs.Prelude.{◌≡◌, ◌⊎◌, ℕ, List, [], length, ◌==◌, nat_lt, Option, Some, None}
+use Rattle.cv_base.specs.declared.policy.Policy.{Policy}
 use Rattle.cv_pivot.specs.Conversions.{start, Converted, IsConverted}
 use Rattle.cv_pivot.specs.Encodings.{builtin_of, encoding_reads, encoding_writes, encoding_closes}
 use Rattle.cv_pivot.specs.declared.conversion.Conversion.{Conversion}
@@ -27,28 +28,28 @@ Refuses table next answer s = Does next answer table (answers.Refused s)
 -- ---- OPEN
 
 -- The least free number is bound to a new conversion.
-abbrev pub Binds : Table → ℕ → Option Encoding → Option Encoding → Table → Answer → Type 0
-Binds table number (Some to) (Some from) next answer =
-    Does next answer (with_descriptor table number (Some (record { to = to; from = from; states = start }))) (answers.Number number)
+abbrev pub Binds : Table → ℕ → Policy → Option Encoding → Option Encoding → Table → Answer → Type 0
+Binds table number policy (Some to) (Some from) next answer =
+    Does next answer (with_descriptor table number (Some (record { to = to; from = from; policy = policy; states = start }))) (answers.Number number)
     ⊎ Refuses table next answer status.NoMemory
-Binds table number (Some to) None next answer = Refuses table next answer status.Unsupported
-Binds table number None from next answer = Refuses table next answer status.Unsupported
+Binds table number policy (Some to) None next answer = Refuses table next answer status.Unsupported
+Binds table number policy None from next answer = Refuses table next answer status.Unsupported
 
 -- A number has to be free, and both names have to be those of encodings.
-abbrev pub Opens : Table → Option ℕ → List ℕ → List ℕ → Table → Answer → Type 0
-Opens table None to from next answer = Refuses table next answer status.TooManyDescriptors
-Opens table (Some number) to from next answer = Binds table number (builtin_of to) (builtin_of from) next answer
+abbrev pub Opens : Table → Option ℕ → List ℕ → List ℕ → Policy → Table → Answer → Type 0
+Opens table None to from policy next answer = Refuses table next answer status.TooManyDescriptors
+Opens table (Some number) to from policy next answer = Binds table number policy (builtin_of to) (builtin_of from) next answer
 
 -- ---- CONV
 
 -- the descriptor's conversion in these states
 abbrev pub with_states : Table → ℕ → Conversion → States → Table
-with_states table number d states = with_descriptor table number (Some (record { to = d.to; from = d.from; states = states }))
+with_states table number d states = with_descriptor table number (Some (record d { states = states }))
 
 -- The longest conversion is answered, and its states are kept.
 pub record IsConversion (table : Table) (number : ℕ) (d : Conversion) (room : ℕ) (input : List ℕ) (next : Table) (answer : Answer) : Type 0 where
   pub came : Converted
-  pub is_converted : IsConverted (encoding_reads d.from) (encoding_writes d.to) d.states input room came
+  pub is_converted : IsConverted (encoding_reads d.from) (encoding_writes d.to) d.policy d.states input room came
   pub does : Does next answer (with_states table number d came.states) (answers.Converted came.stop came.left came.count came.output)
 
 -- The descriptor has to be open, and the room no more than the most.
@@ -85,7 +86,7 @@ Closes table number (Some d) next answer = Does next answer (with_descriptor tab
 
 -- What an action may come to: the table after it, and the answer.
 abbrev pub Acts : Table → Action → Table → Answer → Type 0
-Acts table (Open to from) next answer = Opens table (least_free table) to from next answer
+Acts table (Open to from policy) next answer = Opens table (least_free table) to from policy next answer
 Acts table (Conv number room input) next answer = Convs table number (descriptor_at table number) room input next answer
 Acts table (Reset number room) next answer = Resets table number (descriptor_at table number) room next answer
 Acts table (Close number) next answer = Closes table number (descriptor_at table number) next answer

@@ -36,6 +36,7 @@ fn status_of(stop: Stop) -> Status
     match stop {
         Stop::Done => Status::Ok,
         Stop::TooBig => Status::TooBig,
+        Stop::Lacking => Status::Lacking,
         Stop::Ill => Status::Ill,
         Stop::Incomplete => Status::Incomplete,
     }

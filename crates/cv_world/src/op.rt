@@ -2,16 +2,18 @@
 ghost use Rattle.std.specs.Prelude.{◌≡◌, ◌≤◌, length};
 ghost use Rattle.cv_world.specs.Actions.{action_of, asked, InputFits};
 
+use cv_base::Policy;
 use cv_frame::ops::{CLOSE, CONV, OPEN, RESET};
-use cv_frame::{MOST_BODY, read_conv, read_number, read_open, read_reset};
+use cv_frame::{MOST_BODY, OpenBody, read_conv, read_number, read_open, read_reset};
 
 /// What a request asks of its caller's table.
 #[derive(Clone, Copy, Debug)]
 pub enum Op<'a> {
-    /// A descriptor that converts to one encoding from another (POSIX `iconv_open()`), by their names.
+    /// A descriptor that converts to one encoding from another (POSIX `iconv_open()`), by their names, under a policy.
     Open {
         to: &'a [u8],
         from: &'a [u8],
+        policy: Policy,
     },
     /// As much of the input converted as fits in `room` bytes (POSIX `iconv()`).
     Conv {
@@ -38,7 +40,7 @@ impl<'a> Op<'a> {
     {
         match op {
             OPEN => match read_open(body) {
-                Some((to, from)) => Op::Open { to, from },
+                Some(OpenBody { to, from, policy }) => Op::Open { to, from, policy },
                 None => Op::Bad,
             },
             CONV => match read_conv(body) {

@@ -40,9 +40,9 @@ fn convert(
     input: &[u8],
 ) -> Result<Output, Memory>
     requires { length input.now ≤ MOST_BODY }
-    ensures converted { IfOk result (λ r. IsConverted (encoding_reads conversion.old.from) (encoding_writes conversion.old.to) conversion.old.states input.now room
+    ensures converted { IfOk result (λ r. IsConverted (encoding_reads conversion.old.from) (encoding_writes conversion.old.to) conversion.old.policy conversion.old.states input.now room
         (record { left = r.outcome.left; count = r.outcome.count; stop = r.outcome.stop; output = r.bytes.items; states = conversion.new.states })) }
-    ensures same { (conversion.new.from ≡ conversion.old.from) × (conversion.new.to ≡ conversion.old.to) }
+    ensures same { conversion.new ≡ record conversion.old { states = conversion.new.states } }
     ensures few { IfOk result (λ r. (r.outcome.left ≤ length input.now) × (r.outcome.count ≤ length input.now)) }
     ensures fits { IfOk result (λ r. length r.bytes.items ≤ room) }
     ensures err { OnErr result (conversion.new ≡ conversion.old) }

@@ -1,5 +1,6 @@
 //! One world and two callers, with ample memory.
 use super::*;
+use cv_base::Policy;
 use cv_frame::Status;
 use cv_pivot::Stop;
 use std::test::Fail;
@@ -7,6 +8,7 @@ use std::test::Fail;
 const OPEN: Op<'static> = Op::Open {
     to: b"US-ASCII",
     from: b"iso-8859-1",
+    policy: Policy::Substitute,
 };
 
 #[test]

@@ -12,7 +12,7 @@ use crate::answer::Answer;
 use crate::laws::{one_answer, some_answer};
 use crate::op::Op;
 use crate::table::Table;
-use cv_base::Memory;
+use cv_base::{Memory, Policy};
 use cv_frame::{MOST_BODY, Reply, Request, Status};
 use cv_machine::Machine;
 use cv_pivot::{Conversion, builtin};
@@ -75,8 +75,8 @@ impl World {
     }
 
     /// OPEN
-    fn open(&mut self, caller: u32, to: &[u8], from: &[u8]) -> Answer
-        ensures acts { Acts (world_tables self.old caller) (Open to.now from.now) (world_tables self.new caller) result }
+    fn open(&mut self, caller: u32, to: &[u8], from: &[u8], policy: Policy) -> Answer
+        ensures acts { Acts (world_tables self.old caller) (Open to.now from.now policy) (world_tables self.new caller) result }
         ensures others { world_tables self.new ≡ with_table (world_tables self.old) caller (world_tables self.new caller) }
         ensures fits { AnswerFits result }
     {
@@ -90,7 +90,7 @@ impl World {
         let Some(from) = builtin(from) else {
             return Answer::Refused(Status::Unsupported);
         };
-        table.set(number, Some(Conversion::new(to, from)));
+        table.set(number, Some(Conversion::new(to, from, policy)));
         match self.store(caller, table) {
             Ok(()) => Answer::Number(number),
             Err(Memory) => Answer::Refused(Status::NoMemory),
@@ -143,7 +143,7 @@ impl World {
         ensures fits { AnswerFits result }
     {
         match op {
-            Op::Open { to, from } => self.open(caller, to, from),
+            Op::Open { to, from, policy } => self.open(caller, to, from, policy),
             Op::Conv {
                 number,
                 room,

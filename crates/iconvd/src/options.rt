@@ -14,7 +14,7 @@ const FILE: &str = "FILE";
 /// What the help of each command ends with.
 const SCRIPTS: &str = "\
 A script has one request a line, CALLER TAG and then one of
-  open TARGET SOURCE
+  open TARGET SOURCE [strict]
   conv DESCRIPTOR ROOM HEX
   reset DESCRIPTOR ROOM
   close DESCRIPTOR

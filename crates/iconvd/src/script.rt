@@ -4,7 +4,7 @@ ghost use Rattle.iconvd.specs.Faults.{IsOfScript};
 
 use crate::fault::RunFault;
 use crate::lines::{decimal, hex_bytes, words};
-use cv_base::Memory;
+use cv_base::{Memory, Policy};
 use cv_frame::{Ask, write_request};
 use std::alloc::{AllocError, Global};
 
@@ -58,8 +58,10 @@ fn bytes_of(alloc: Global, word: &[u8], most: usize) -> Result<Vec<u8>, LineFaul
 }
 
 fn ask_open(out: &mut Vec<u8>, from: Sender, words: &[&[u8]]) -> Result<(), LineFault> {
-    let [target, source] = words else {
-        return Err(LineFault::NotACommand);
+    let (target, source, policy) = match words {
+        [target, source] => (target, source, Policy::Substitute),
+        [target, source, b"strict"] => (target, source, Policy::Strict),
+        _ => return Err(LineFault::NotACommand),
     };
     if target.len() > LONGEST_NAME || source.len() > LONGEST_NAME {
         return Err(LineFault::NotACommand);
@@ -67,6 +69,7 @@ fn ask_open(out: &mut Vec<u8>, from: Sender, words: &[&[u8]]) -> Result<(), Line
     let ask = Ask::Open {
         to: target,
         from: source,
+        policy,
     };
     write_request(out, from.caller, from.tag, &ask)?;
     Ok(())

@@ -6,7 +6,7 @@ use crate::fault::{RunFault, status};
 use crate::job::{Job, Options};
 use crate::options::{options, usage_status};
 use crate::output::write_all;
-use crate::run::run;
+use crate::standard::{ask, pipe, run, show};
 use clap::Error;
 use clap::error::ErrorKind;
 use std::alloc::Global;
@@ -28,6 +28,9 @@ fn conclude<R: Eprint>(rt: &R, done: Result<(), RunFault>) -> u8 {
 fn perform<R: Files + Input + Print + Eprint + AllocGlobal>(rt: &R, said: Options<'_>) -> u8 {
     match said.job {
         Job::Run => conclude(rt, run(rt)),
+        Job::Ask => conclude(rt, ask(rt)),
+        Job::Pipe => conclude(rt, pipe(rt)),
+        Job::Show => conclude(rt, show(rt)),
         Job::CheckMap(file) => match checkmap(rt, file) {
             Ok(status) => status,
             Err(fault) => conclude(rt, Err(fault)),
@@ -36,7 +39,7 @@ fn perform<R: Files + Input + Print + Eprint + AllocGlobal>(rt: &R, said: Option
 }
 
 /// Prints the help or the version, for which the command line asked.
-fn show<R: Print>(rt: &R, alloc: Global, asked: &Error) -> Result<(), RunFault> {
+fn print_help<R: Print>(rt: &R, alloc: Global, asked: &Error) -> Result<(), RunFault> {
     let text = format!(in alloc; "{asked}")?;
     write_all(io::writer(rt), text.as_bytes())
 }
@@ -45,7 +48,7 @@ fn show<R: Print>(rt: &R, alloc: Global, asked: &Error) -> Result<(), RunFault> 
 pub fn explain<R: Print + Eprint>(rt: &R, alloc: Global, fault: &Error) -> u8 {
     match fault.kind() {
         ErrorKind::DisplayHelp | ErrorKind::DisplayVersion => {
-            conclude(rt, show(rt, alloc, fault))
+            conclude(rt, print_help(rt, alloc, fault))
         }
         ErrorKind::OutOfMemory => conclude(rt, Err(RunFault::Memory)),
         _ => {

@@ -5,6 +5,12 @@
 pub enum Job<'a> {
     /// A script on standard input, its reply lines on standard output.
     Run,
+    /// A script on standard input, its request frames on standard output.
+    Ask,
+    /// Request frames on standard input, their reply frames on standard output.
+    Pipe,
+    /// Reply frames on standard input, their lines on standard output.
+    Show,
     /// What there is to say of the charmap in a file.
     CheckMap(&'a str),
 }

@@ -13,6 +13,7 @@ mod output;
 mod replies;
 mod run;
 mod script;
+mod standard;
 #[cfg(test)]
 mod tests;
 mod version;

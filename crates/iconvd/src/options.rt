@@ -27,6 +27,12 @@ Example:
 
 See iconvd(1) and iconvd-protocol(5).";
 
+/// What the help of `pipe` and `show` ends with.
+const FRAMES: &str = "\
+`iconvd ask < SCRIPT | iconvd pipe | iconvd show` prints what `iconvd run < SCRIPT` prints.
+
+See iconvd(1) and iconvd-protocol(5).";
+
 /// What the help of `checkmap` ends with.
 const CHARMAPS: &str = "\
 FILE is a charmap file (POSIX, XBD 6.4), - standard input. It prints the name of the code set and how many mappings there are,
@@ -42,6 +48,15 @@ fn program<'a>(alloc: Global) -> Result<Command<'a>, AllocError> {
     let run = Command::new(alloc, "run")
         .about("Serves the script on standard input and prints the reply lines")
         .after_help(SCRIPTS);
+    let ask = Command::new(alloc, "ask")
+        .about("Writes the request frames of the script on standard input")
+        .after_help(SCRIPTS);
+    let pipe = Command::new(alloc, "pipe")
+        .about("Serves the request frames on standard input and writes the reply frames")
+        .after_help(FRAMES);
+    let show = Command::new(alloc, "show")
+        .about("Prints the reply lines of the reply frames on standard input")
+        .after_help(FRAMES);
     let checkmap = Command::new(alloc, "checkmap")
         .about(
             "Reads a charmap file and prints its name and how many mappings it has, or its first fault",
@@ -59,17 +74,20 @@ fn program<'a>(alloc: Global) -> Result<Command<'a>, AllocError> {
         .after_help(SCRIPTS)
         .subcommand_required(true)
         .subcommand(run)?
+        .subcommand(ask)?
+        .subcommand(pipe)?
+        .subcommand(show)?
         .subcommand(checkmap)
 }
 
 /// What the command and its words say is to be done.
 fn job_of<'a>(matches: &ArgMatches<'a>) -> Job<'a> {
-    match matches.subcommand_matches("checkmap") {
-        Some(said) => match said.get_str(FILE) {
-            Some(file) => Job::CheckMap(file),
-            None => Job::Run,
-        },
-        None => Job::Run,
+    match matches.subcommand() {
+        Some(("ask", _)) => Job::Ask,
+        Some(("pipe", _)) => Job::Pipe,
+        Some(("show", _)) => Job::Show,
+        Some(("checkmap", said)) => said.get_str(FILE).map_or(Job::Run, Job::CheckMap),
+        _ => Job::Run,
     }
 }
 

@@ -1,4 +1,4 @@
-//! The command `run`.
+//! Serving a script by a new world.
 ghost use Rattle.std.specs.Prelude.{IfOk, IfErr};
 ghost use Rattle.cv_world.specs.Tables.{no_tables};
 ghost use Rattle.cv_world.specs.Turn.{turn};
@@ -6,13 +6,11 @@ ghost use Rattle.cv_loop.specs.Serving.{AnswersEach};
 ghost use Rattle.iconvd.specs.Faults.{IsNoFailedWrite};
 
 use crate::fault::RunFault;
-use crate::input::{MAX_READS, read_all};
-use crate::output::write_all;
+use crate::input::MAX_READS;
 use crate::replies::show_replies;
 use crate::script::ask_script;
 use cv_loop::serve_bytes;
 use std::alloc::Global;
-use std::io;
 
 /// Serves frames by a new world, and gives the replies. The frames are let go with it.
 fn serve_frames<R>(rt: &R, alloc: Global, frames: Vec<u8>) -> Result<Vec<u8>, RunFault>
@@ -32,12 +30,4 @@ pub fn run_script<R>(rt: &R, alloc: Global, script: &[u8]) -> Result<Vec<u8>, Ru
 {
     let replies = serve_frames(rt, alloc, ask_script(alloc, script)?)?;
     show_replies(alloc, &replies)
-}
-
-/// Serves the script on standard input, and prints the reply lines.
-pub fn run<R: Input + Print + AllocGlobal>(rt: &R) -> Result<(), RunFault> {
-    let alloc = rt.alloc();
-    let script = read_all(alloc, rt.reader())?;
-    let lines = run_script(rt, alloc, &script)?;
-    write_all(io::writer(rt), &lines)
 }

@@ -1,0 +1,43 @@
+//! The commands that work from standard input to standard output.
+
+use crate::fault::RunFault;
+use crate::input::{MAX_READS, read_all};
+use crate::output::write_all;
+use crate::replies::show_replies;
+use crate::run::run_script;
+use crate::script::ask_script;
+use cv_loop::{FromReader, ToWriter, serve_new};
+use std::io;
+
+/// `run`: serves the script, and prints the reply lines.
+pub fn run<R: Input + Print + AllocGlobal>(rt: &R) -> Result<(), RunFault> {
+    let alloc = rt.alloc();
+    let script = read_all(alloc, rt.reader())?;
+    let lines = run_script(rt, alloc, &script)?;
+    write_all(io::writer(rt), &lines)
+}
+
+/// `ask`: writes the request frames of the script.
+pub fn ask<R: Input + Print + AllocGlobal>(rt: &R) -> Result<(), RunFault> {
+    let alloc = rt.alloc();
+    let script = read_all(alloc, rt.reader())?;
+    let frames = ask_script(alloc, &script)?;
+    write_all(io::writer(rt), &frames)
+}
+
+/// `pipe`: serves request frames by a new world, and writes the reply frames. The replies to all whole frames that were read are
+/// written before it reads on.
+pub fn pipe<R: Input + Print + AllocGlobal>(rt: &R) -> Result<(), RunFault> {
+    let mut source = FromReader::new(rt.reader());
+    let mut sink = ToWriter::new(io::writer(rt));
+    serve_new(rt, rt.alloc(), &mut source, &mut sink, MAX_READS)?;
+    Ok(())
+}
+
+/// `show`: prints the lines of reply frames.
+pub fn show<R: Input + Print + AllocGlobal>(rt: &R) -> Result<(), RunFault> {
+    let alloc = rt.alloc();
+    let replies = read_all(alloc, rt.reader())?;
+    let lines = show_replies(alloc, &replies)?;
+    write_all(io::writer(rt), &lines)
+}

@@ -1,14 +1,11 @@
 //! From the command line to the exit status.
 
 use crate::arguments::arguments;
-use crate::checkmap::checkmap;
-use crate::fault::{RunFault, status};
 use crate::job::{Job, Options};
 use crate::options::{options, usage_status};
-use crate::output::write_all;
-use crate::standard::{ask, pipe, run, show};
 use clap::Error;
 use clap::error::ErrorKind;
+use cv_commands::{RunFault, ask, checkmap, pipe, run, show, status, write_all};
 use std::alloc::Global;
 use std::fs::Files;
 use std::io;

@@ -2,18 +2,9 @@
 #![tactic(auto)]
 
 mod arguments;
-mod checkmap;
 mod commands;
-mod fault;
-mod input;
 mod job;
-mod lines;
 mod options;
-mod output;
-mod replies;
-mod run;
-mod script;
-mod standard;
 #[cfg(test)]
 mod tests;
 mod version;

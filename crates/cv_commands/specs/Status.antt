@@ -1,7 +1,7 @@
 -- The exit statuses of a command.
 use Rattle.std.specs.Prelude.{ℕ}
-use Rattle.iconvd.specs.declared.fault.RunFault.{RunFault}
-use Rattle.iconvd.specs.declared.fault.RunFault.TheVariants.{Line, Serve, TruncatedReply, BadReplyLength, Memory}
+use Rattle.cv_commands.specs.declared.fault.RunFault.{RunFault}
+use Rattle.cv_commands.specs.declared.fault.RunFault.TheVariants.{Line, Serve, TruncatedReply, BadReplyLength, Memory}
 
 -- 2 for a fault of the script, else 1
 abbrev pub status_of : RunFault → ℕ

@@ -1,6 +1,6 @@
 //! Replies as lines of text.
 ghost use Rattle.std.specs.Prelude.{IfErr};
-ghost use Rattle.iconvd.specs.Faults.{IsOfReplies};
+ghost use Rattle.cv_commands.specs.Faults.{IsOfReplies};
 
 use crate::fault::RunFault;
 use cv_frame::{ReplyFrame, Status, next_reply};

@@ -1,8 +1,8 @@
 -- Which faults a call may end by.
 use Rattle.std.specs.Prelude.{ℕ, ◌≢◌}
 use Rattle.cv_loop.specs.declared.fault.ServeFault.TheVariants.{Write}
-use Rattle.iconvd.specs.declared.fault.RunFault.{RunFault}
-use Rattle.iconvd.specs.declared.fault.RunFault.TheVariants.{Line, Serve, TruncatedReply, BadReplyLength, Memory}
+use Rattle.cv_commands.specs.declared.fault.RunFault.{RunFault}
+use Rattle.cv_commands.specs.declared.fault.RunFault.TheVariants.{Line, Serve, TruncatedReply, BadReplyLength, Memory}
 
 -- A line of a script is no command, or memory lacked.
 abbrev pub IsOfScript : RunFault → Type 0

@@ -3,7 +3,7 @@ ghost use Rattle.std.specs.Prelude.{IfOk, IfErr};
 ghost use Rattle.cv_world.specs.Tables.{no_tables};
 ghost use Rattle.cv_world.specs.Turn.{turn};
 ghost use Rattle.cv_loop.specs.Serving.{AnswersEach};
-ghost use Rattle.iconvd.specs.Faults.{IsNoFailedWrite};
+ghost use Rattle.cv_commands.specs.Faults.{IsNoFailedWrite};
 
 use crate::fault::RunFault;
 use crate::input::MAX_READS;

@@ -1,6 +1,6 @@
 //! Why a command ended before its work was done.
 ghost use Rattle.std.specs.Prelude.{◌≡◌};
-ghost use Rattle.iconvd.specs.Status.{status_of};
+ghost use Rattle.cv_commands.specs.Status.{status_of};
 
 use cv_base::Memory;
 use cv_loop::ServeFault;
@@ -42,7 +42,7 @@ pub fn status(fault: &RunFault) -> u8
 
 impl From<ServeFault> for RunFault {
     ghost use Rattle.std.specs.Prelude.{◌≡◌};
-    ghost use Rattle.iconvd.specs.declared.fault.RunFault.TheVariants as run;
+    ghost use Rattle.cv_commands.specs.declared.fault.RunFault.TheVariants as run;
 
     ghost from_gives = { λ fault e. e ≡ run.Serve fault };
 
@@ -53,7 +53,7 @@ impl From<ServeFault> for RunFault {
 
 impl From<Memory> for RunFault {
     ghost use Rattle.std.specs.Prelude.{◌≡◌};
-    ghost use Rattle.iconvd.specs.declared.fault.RunFault.TheVariants as run;
+    ghost use Rattle.cv_commands.specs.declared.fault.RunFault.TheVariants as run;
 
     ghost from_gives = { λ _ e. e ≡ run.Memory };
 
@@ -64,7 +64,7 @@ impl From<Memory> for RunFault {
 
 impl From<AllocError> for RunFault {
     ghost use Rattle.std.specs.Prelude.{◌≡◌};
-    ghost use Rattle.iconvd.specs.declared.fault.RunFault.TheVariants as run;
+    ghost use Rattle.cv_commands.specs.declared.fault.RunFault.TheVariants as run;
 
     ghost from_gives = { λ _ e. e ≡ run.Memory };
 
@@ -75,7 +75,7 @@ impl From<AllocError> for RunFault {
 
 impl<T: Drop> From<AllocFailed<T>> for RunFault {
     ghost use Rattle.std.specs.Prelude.{◌≡◌};
-    ghost use Rattle.iconvd.specs.declared.fault.RunFault.TheVariants as run;
+    ghost use Rattle.cv_commands.specs.declared.fault.RunFault.TheVariants as run;
 
     ghost from_gives = { λ _ e. e ≡ run.Memory };
 

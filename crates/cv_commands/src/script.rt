@@ -1,6 +1,6 @@
 //! Scripts: requests as lines of text.
 ghost use Rattle.std.specs.Prelude.{◌≤◌, length, IfOk, IfErr};
-ghost use Rattle.iconvd.specs.Faults.{IsOfScript};
+ghost use Rattle.cv_commands.specs.Faults.{IsOfScript};
 
 use crate::fault::RunFault;
 use crate::lines::{decimal, hex_bytes, words};

@@ -2,7 +2,7 @@
 use crate::fault::RunFault;
 use crate::standard::{ask, pipe, run, show};
 use cv_loop::ServeFault;
-use std::alloc::Global;
+use std::alloc::{Allocator, Global};
 use std::cell::Cell;
 use std::fmt::Display;
 use std::io::{self, BufRead, Lines};

@@ -7,3 +7,4 @@ pub mod ChainLaws
 pub mod ReadBacks
 pub mod BlockLaws
 pub mod WrittenEach
+pub mod AllWritten

@@ -18,6 +18,10 @@ pub record IsReadBlock (reads : ItemRelation) (s : ReadState) (text : List ℕ) 
   pub uses : block.used ≡ used_bytes chain
   pub next : block.next ≡ read_state s chain
 
+-- An encoding has each of these characters: in no state does `?` stand for one.
+abbrev pub HasAll : Writing → List ℕ → Type 0
+HasAll writes characters = (t : WriteState) → (output_for writes t characters).count ≡ 0
+
 -- What is written for characters was put at a place.
 abbrev pub IsWrittenBlock : Writing → WriteState → List ℕ → List ℕ → ℕ → WrittenBlock → List ℕ → Type 0
 IsWrittenBlock writes t characters before at block after =

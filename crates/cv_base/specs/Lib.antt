@@ -3,6 +3,7 @@ pub mod Units
 pub mod Items
 pub mod Codecs
 pub mod Chains
+pub mod Policies
 pub mod ReadBack
 pub mod SingleBytes
 pub mod Names

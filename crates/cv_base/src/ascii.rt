@@ -5,7 +5,7 @@ ghost use Rattle.cv_base.specs.SingleBytes.{byte_reads, byte_writes};
 use crate::ascii_form::AsciiForm;
 use crate::block::{ReadBlock, WrittenBlock};
 use crate::block_codec::BlockCodec;
-use crate::bytes::{read_bytes, write_bytes};
+use crate::bytes::{are_below, read_bytes, write_bytes};
 use crate::codec::Codec;
 use crate::item::Item;
 use crate::piece::Piece;
@@ -98,5 +98,9 @@ impl BlockCodec for Ascii {
             WriteState::Start => write_bytes(128, characters, out, at),
             _ => write_each(self, state, characters, out, at),
         }
+    }
+
+    fn has_all(&self, characters: &[Scalar]) -> bool {
+        are_below(128, characters)
     }
 }

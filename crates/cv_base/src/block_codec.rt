@@ -1,6 +1,6 @@
 //! What an encoding offers for speed.
-ghost use Rattle.std.specs.Prelude.{◌≡◌, ◌≤◌, ◌+◌, ◌*◌, length};
-ghost use Rattle.cv_base.specs.Blocks.{IsReadBlock, IsWrittenBlock};
+ghost use Rattle.std.specs.Prelude.{◌≡◌, ◌≤◌, ◌+◌, ◌*◌, length, IsTrue};
+ghost use Rattle.cv_base.specs.Blocks.{HasAll, IsReadBlock, IsWrittenBlock};
 
 use crate::block::{ReadBlock, WrittenBlock};
 use crate::codec::Codec;
@@ -27,4 +27,12 @@ pub trait BlockCodec: Codec {
         requires room { at + 8 * length characters.now ≤ length out.old }
         ensures { IsWrittenBlock (Self.writes self.now) state characters.now
             out.old at result out.new };
+
+    /// Whether the encoding has all of these characters, in whatever state. It may say no where it can't tell at once: then the
+    /// characters are put one by one.
+    fn has_all(&self, _characters: &[Scalar]) -> bool
+        ensures { IsTrue result → HasAll (Self.writes self.now) _characters.now }
+    {
+        false
+    }
 }

@@ -1,8 +1,8 @@
 //! Blocks of the encodings in which each character is the byte of its number.
-ghost use Rattle.std.specs.Prelude.{◌≡◌, ◌≤◌, ◌<◌, ◌+◌, [], ◌∷◌, ℕ, length, take, slice_index, Some};
+ghost use Rattle.std.specs.Prelude.{◌≡◌, ◌≤◌, ◌<◌, ◌+◌, [], ◌∷◌, ℕ, length, take, slice_index, Some, IsTrue};
 ghost use Rattle.cv_base.specs.Scalars.{question};
 ghost use Rattle.cv_base.specs.Chains.{output, written};
-ghost use Rattle.cv_base.specs.Blocks.{IsReadBlock, IsWrittenBlock};
+ghost use Rattle.cv_base.specs.Blocks.{HasAll, IsReadBlock, IsWrittenBlock};
 ghost use Rattle.cv_base.specs.SingleBytes.{byte_reads, byte_writes};
 ghost use Rattle.cv_base.specs.declared.state.ReadState.{ReadState};
 ghost use Rattle.cv_base.specs.declared.state.WriteState.{WriteState};
@@ -98,4 +98,17 @@ pub(crate) fn write_bytes(
         count,
         next: WriteState::Start,
     }
+}
+
+/// Whether all characters are below a limit, which is a power of two. The bits of all are joined, so that the loop is done by
+/// blocks.
+#[inline(always)]
+pub(crate) fn are_below(limit: u32, characters: &[Scalar]) -> bool
+    ensures { IsTrue result → HasAll (byte_writes limit) characters.now }
+{
+    let mut joined = 0;
+    for k in 0..characters.len() {
+        joined |= characters[k].value();
+    }
+    joined < limit
 }

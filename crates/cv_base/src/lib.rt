@@ -33,7 +33,7 @@ pub use memory::Memory;
 pub use names::same_name;
 pub use piece::Piece;
 pub use place::Put;
-pub use placing::{Placed, put_or_substitute, write_each};
+pub use placing::{Placed, place_character, write_each};
 pub use policy::Policy;
 pub use reading::read_spelled;
 pub use scalar::Scalar;

@@ -4,10 +4,12 @@ ghost use Rattle.cv_base.specs.Scalars.{question};
 ghost use Rattle.cv_base.specs.Chains.{substituted, written};
 ghost use Rattle.cv_base.specs.Places.{Places};
 ghost use Rattle.cv_base.specs.Blocks.{IsWrittenBlock};
+ghost use Rattle.cv_base.specs.declared.policy.Policy.{Policy};
 
 use crate::block::WrittenBlock;
 use crate::codec::Codec;
 use crate::place::Put;
+use crate::policy::Policy;
 use crate::scalar::Scalar;
 use crate::state::WriteState;
 
@@ -22,24 +24,31 @@ pub enum Placed {
     },
     /// There was no room for them.
     NoRoom,
+    /// The target lacks the character, and the policy is strict, whatever the room.
+    Lacks,
 }
 
-/// Writes a character at a place, or `?` where the target lacks it.
+/// Writes a character at a place; where the target lacks it, what the policy says: `?` or nothing.
 #[inline(always)]
-pub fn put_or_substitute<T: Codec>(
+pub fn place_character<T: Codec>(
     to: &T,
+    policy: Policy,
     state: WriteState,
     c: Scalar,
     out: &mut [u8],
     at: usize,
 ) -> Placed
     requires { at ≤ length out.old }
-    ensures { Places (written (T.writes to.now) state (Some c)) out.old at result out.new }
+    ensures { Places policy (written (T.writes to.now) state (Some c))
+        out.old at result out.new }
 {
     match to.put_at(state, c, out, at) {
         Put::Wrote { n, next } => Placed::Wrote { n, count: 0, next },
         Put::NoRoom => Placed::NoRoom,
-        Put::Lacks => put_substitute(to, state, out, at),
+        Put::Lacks => match policy {
+            Policy::Substitute => put_substitute(to, state, out, at),
+            Policy::Strict => Placed::Lacks,
+        },
     }
 }
 
@@ -48,7 +57,7 @@ pub fn put_or_substitute<T: Codec>(
 #[inline(never)]
 fn put_substitute<T: Codec>(to: &T, state: WriteState, out: &mut [u8], at: usize) -> Placed
     requires { at ≤ length out.old }
-    ensures { Places (substituted state (T.writes to.now state question))
+    ensures { Places Policy.Substitute (substituted state (T.writes to.now state question))
         out.old at result out.new }
 {
     to.assert_valid();
@@ -77,13 +86,14 @@ pub fn write_each<C: Codec>(
     let mut lacking = 0;
     let mut now = state;
     for k in 0..characters.len() {
-        match put_or_substitute(codec, now, characters[k], out, end) {
+        match place_character(codec, Policy::Substitute, now, characters[k], out, end) {
             Placed::Wrote { n, count, next } => {
                 end += n;
                 lacking += count;
                 now = next;
             }
             Placed::NoRoom => unreachable!(),
+            Placed::Lacks => unreachable!(),
         }
     }
     WrittenBlock {

@@ -58,8 +58,10 @@ fn blocks_are_read_and_written(rt: HostRuntime) -> Result<(), Fail> {
         let wrote = Ascii.write_block(WriteState::Start, characters, &mut out, 1);
         assert_eq!(rt; wrote.count, lacking, "{text:?}");
         assert_eq!(rt; &out[1..1 + wrote.wrote], spelled);
+        assert_eq!(rt; Ascii.has_all(characters), lacking == 0, "{text:?}");
         let wrote = Latin1.write_block(WriteState::Start, characters, &mut out, 1);
         assert_eq!(rt; &out[1..1 + wrote.wrote], text);
+        assert!(rt; Latin1.has_all(characters), "{text:?}");
     }
     Ok(())
 }

@@ -6,24 +6,26 @@ ghost use Rattle.cv_pivot.specs.Encodings.{encoding_reads, encoding_writes, enco
 use crate::convert::run;
 use crate::encoding::Encoding;
 use crate::outcome::{Outcome, States, TooBig};
-use cv_base::{Codec, Piece, ReadState, WriteState};
+use cv_base::{Codec, Piece, Policy, ReadState, WriteState};
 
 /// A conversion from one encoding to another, between two calls.
 #[derive(Clone, Copy, Debug, PartialEq, Eq)]
 pub struct Conversion {
     pub to: Encoding,
     pub from: Encoding,
+    pub policy: Policy,
     pub states: States,
 }
 
 impl Conversion {
     /// A conversion at its start.
-    pub fn new(to: Encoding, from: Encoding) -> Conversion
-        ensures { result ≡ record { to = to; from = from; states = start } }
+    pub fn new(to: Encoding, from: Encoding, policy: Policy) -> Conversion
+        ensures { result ≡ record { to = to; from = from; policy = policy; states = start } }
     {
         Conversion {
             to,
             from,
+            policy,
             states: States {
                 reading: ReadState::Start,
                 writing: WriteState::Start,
@@ -31,17 +33,24 @@ impl Conversion {
         }
     }
 
-    /// Converts the longest run of items whose bytes fit in `out`. A character that the target lacks is written as
-    /// `?` and counted. Bytes of `out` past the output stay.
+    /// Converts the longest run of items whose bytes fit in `out`. A character that the target lacks is written as `?` and
+    /// counted, or ends the run where the policy is strict. Bytes of `out` past the output stay.
     pub fn convert(&mut self, input: &[u8], out: &mut [u8]) -> Outcome
-        ensures converts { Converts (encoding_reads self.old.from) (encoding_writes self.old.to) self.old.states input.now out.old result self.new.states out.new }
-        ensures same { (self.new.from ≡ self.old.from) × (self.new.to ≡ self.old.to) }
+        ensures converts { Converts (encoding_reads self.old.from) (encoding_writes self.old.to) self.old.policy self.old.states input.now out.old result self.new.states out.new }
+        ensures same { (self.new.from ≡ self.old.from) × (self.new.to ≡ self.old.to) × (self.new.policy ≡ self.old.policy) }
 
         // So the counts fit wherever the lengths do.
         ensures few { (result.left ≤ length input.now) × (result.count ≤ length input.now) × (result.room_left ≤ length out.old) }
         ensures size { length out.new ≡ length out.old }
     {
-        run(&self.from, &self.to, &mut self.states, input, out)
+        run(
+            &self.from,
+            &self.to,
+            self.policy,
+            &mut self.states,
+            input,
+            out,
+        )
     }
 
     /// How many bytes so many bytes of input are written as at most.
@@ -53,7 +62,7 @@ impl Conversion {
         self.to.most_bytes() * len
     }
 
-    /// Goes back to the start. With room 0 it gives both states up and writes nothing; with room above 0 it answers the bytes
+    /// Goes back to the start, under the same policy. With room 0 it gives both states up and writes nothing; with room above 0 it answers the bytes
     /// that close the target's shift, or `TooBig` where they don't fit, and then the conversion is unchanged.
     pub fn reset(&mut self, room: usize) -> Result<Piece, TooBig>
         ensures gives_up { room ≡ 0 → (result ≡ Ok []) × (self.new ≡ record self.old { states = start }) }
@@ -70,7 +79,7 @@ impl Conversion {
         if closing.as_slice().len() > room {
             return Err(TooBig);
         }
-        *self = Conversion::new(self.to, self.from);
+        *self = Conversion::new(self.to, self.from, self.policy);
         Ok(closing)
     }
 }

@@ -162,4 +162,15 @@ impl BlockCodec for Encoding {
             Encoding::Utf7 => Utf7.write_block(state, characters, out, at),
         }
     }
+
+    fn has_all(&self, characters: &[Scalar]) -> bool {
+        match self {
+            Encoding::Ascii => Ascii.has_all(characters),
+            Encoding::Latin1 => Latin1.has_all(characters),
+            Encoding::Utf8 => Utf8.has_all(characters),
+            Encoding::Utf16(order) => Utf16(*order).has_all(characters),
+            Encoding::Utf32(order) => Utf32(*order).has_all(characters),
+            Encoding::Utf7 => Utf7.has_all(characters),
+        }
+    }
 }

@@ -12,6 +12,8 @@ pub enum Stop {
     Ill,
     /// The input ends inside an item (EINVAL).
     Incomplete,
+    /// The target lacks the next character, and the policy is strict (ENOCHAR: this project's own).
+    Lacking,
 }
 
 /// What a conversion answers.

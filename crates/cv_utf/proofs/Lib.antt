@@ -1,3 +1,4 @@
+pub mod AllWritten
 pub mod OrdersLaws
 pub mod Utf8Laws
 pub mod Utf16Laws

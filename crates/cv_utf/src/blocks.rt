@@ -33,6 +33,12 @@ impl BlockCodec for Utf8 {
             _ => write_each(self, state, characters, out, at),
         }
     }
+
+    #[inline]
+    #[tactic(auto, using(crate::proofs::AllWritten::utf8_has))]
+    fn has_all(&self, _characters: &[Scalar]) -> bool {
+        true
+    }
 }
 
 impl BlockCodec for Utf16 {
@@ -63,6 +69,11 @@ impl BlockCodec for Utf16 {
             _ => write_each(self, state, characters, out, at),
         }
     }
+
+    #[inline]
+    fn has_all(&self, _characters: &[Scalar]) -> bool {
+        true
+    }
 }
 
 impl BlockCodec for Utf32 {
@@ -92,5 +103,10 @@ impl BlockCodec for Utf32 {
             }
             _ => write_each(self, state, characters, out, at),
         }
+    }
+
+    #[inline]
+    fn has_all(&self, _characters: &[Scalar]) -> bool {
+        true
     }
 }

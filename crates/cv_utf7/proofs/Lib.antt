@@ -1,3 +1,4 @@
+pub mod AllWritten
 pub mod Agreement
 pub mod BitStrings
 pub mod CodeUnits

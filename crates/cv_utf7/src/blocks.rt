@@ -43,4 +43,10 @@ impl BlockCodec for Utf7 {
             next: reached.next,
         }
     }
+
+    #[inline]
+    #[tactic(auto, using(crate::proofs::AllWritten::utf7_has))]
+    fn has_all(&self, _characters: &[Scalar]) -> bool {
+        true
+    }
 }

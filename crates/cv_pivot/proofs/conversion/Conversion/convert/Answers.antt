@@ -3,4 +3,4 @@ use Rattle.cv_pivot.proofs.Enough.{counts_few}
 use Rattle.cv_pivot.proofs.conversion.Conversion.convert.Goals as goal
 
 pub returns-clause-few : goal.returns-clause-few
-returns-clause-few c = counts_few _ _ (encoding_readable _) _ _ _ _ _ _ c.run.ensures
+returns-clause-few c = counts_few _ _ _ (encoding_readable _) _ _ _ _ _ _ c.run.ensures

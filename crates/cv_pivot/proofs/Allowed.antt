@@ -1,0 +1,21 @@
+-- What a policy allows, part by part.
+use Rattle.std.proofs.Common.{◌≡◌, refl, arith}
+use Rattle.cv_base.specs.declared.policy.Policy.{Policy}
+use Rattle.cv_base.specs.declared.policy.Policy.TheVariants.{Substitute, Strict}
+use Rattle.cv_base.specs.Chains.{Output, followed}
+use Rattle.cv_base.specs.Policies.{Allows}
+
+-- an output in which `?` stands for no character is allowed
+pub none_allowed : (policy : Policy) (o : Output) → o.count ≡ 0 → Allows policy o
+none_allowed Substitute o e = tt
+none_allowed Strict o e = e
+
+-- outputs that are allowed are allowed one after the other
+pub followed_allowed : (policy : Policy) (a b : Output) → Allows policy a → Allows policy b → Allows policy (followed a b)
+followed_allowed Substitute a b p q = tt
+followed_allowed Strict a b p q = omega (arith, p, q)
+
+-- the middle of what is allowed is allowed
+pub middle_allowed : (policy : Policy) (a b c : Output) → Allows policy (followed a (followed b c)) → Allows policy b
+middle_allowed Substitute a b c p = tt
+middle_allowed Strict a b c p = omega (arith, p)

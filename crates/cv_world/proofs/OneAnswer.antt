@@ -68,7 +68,7 @@ other_code stop.Incomplete e = absurd cc
 one_convert : (table : Table) (number : ℕ) (d : Conversion) (room : ℕ) (input : List ℕ) → HasOneAct table (IsConversion table number d room input)
 one_convert table number d room input = record {
   one = λ t u a b p q m n.
-      let e : p.came ≡ q.came = one_conversion _ _ (encoding_readable d.from) d.policy d.states input room p.came q.came p.is_converted q.is_converted in (
+      let e : p.came ≡ q.came = one_conversion _ _ d.policy (encoding_readable d.from) d.states input room p.came q.came p.is_converted q.is_converted in (
         p.does.0 ∙ ap (λ (c : Converted). with_states table number d c.states) e ∙ sym q.does.0,
         p.does.1 ∙ ap (λ (c : Converted). answers.Converted c.stop c.left c.count c.output) e ∙ sym q.does.1,
       );

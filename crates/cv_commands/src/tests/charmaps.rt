@@ -1,5 +1,5 @@
 //! Charmap texts, against what they have to come to. A `|` stands for the end of a line.
-use crate::checkmap::{Checked, answer, check_text, checkmap};
+use crate::charmap_file::{Checked, answer, check_text, checkmap};
 use crate::fault::{RunFault, status};
 use cv_loop::ServeFault;
 use std::alloc::Global;

@@ -1,5 +1,5 @@
 //! Requests to a new world, each with its reply: bytes that are right by the public standards, and by docs/PROTOCOL.md.
-use crate::run::run_script;
+use crate::served_script::run_script;
 use std::alloc::Global;
 use std::test::Fail;
 

@@ -40,6 +40,7 @@ module _ (entries : List Entry) (a : AreEntries entries) (S : StepsBy) (count : 
     size : length (r.way i ++ b ∷ []) ≡ d + 1
     size = longer_by_one (r.way i) b ∙ ap (λ (n : ℕ). n + 1) r.deep
 
+    -- the way to a node and the next byte are the front of the text
     pub front : r.way i ++ b ∷ [] ≡ take (d + 1) x
     front = Begins-same (r.way i ++ b ∷ []) (take (d + 1) x) x begun (Begins-take (d + 1) x) (size ∙ sym (length-take-le (d + 1) x (omega arith)))
 
@@ -63,9 +64,11 @@ module _ (entries : List Entry) (a : AreEntries entries) (S : StepsBy) (count : 
       | inr l ↦ short p low f l
     ]
 
+    -- where the next byte leads nowhere, the way with it begins no entry
     pub begins_none : S i b ≡ none → (p : ℕ) → p < length entries → Begins (r.way i ++ b ∷ []) (bytes_at entries p) → ⊥
     begins_none e p low f = r.trie.there i b p r.low byte low f e
 
+    -- where the next byte leads nowhere, the text meets no entry
     pub meets_none : S i b ≡ none → MeetsNone entries x
     meets_none e p low = (none_begins e p low, λ f. begins_none e p low (Begins-trans (r.way i ++ b ∷ []) x (bytes_at entries p) begun f))
 

@@ -7,6 +7,7 @@ use Rattle.cv_byte_trie.specs.Tries.{none}
 use Rattle.cv_byte_trie.specs.Tables.{linked, link_at}
 use Rattle.cv_byte_trie.specs.declared.node.Link.{Link}
 
+-- the test of two numbers that differ
 pub not_eqb : (a b : ℕ) → a ≢ b → (a == b) ≡ false
 not_eqb a b h = grind (arith, nat_tests)
 
@@ -14,6 +15,7 @@ not_eqb a b h = grind (arith, nat_tests)
 abbrev pub over : ℕ → ℕ → ℕ → Link → ℕ
 over n b c l = cond ((l.node == n) && (l.byte == b)) l.code c
 
+-- a link of another node or byte changes nothing
 pub over_other : (n b c : ℕ) (l : Link) → (l.node ≡ n → l.byte ≡ b → ⊥) → over n b c l ≡ c
 over_other n b c l h = elim (cases_eq l.node n) [
   | inl p ↦ elim (cases_eq l.byte b) [
@@ -23,6 +25,7 @@ over_other n b c l h = elim (cases_eq l.node n) [
   | inr p ↦ rw (not_eqb l.node n p) refl
 ]
 
+-- a link of the node and the byte gives its code
 pub over_same : (n b c : ℕ) (l : Link) → l.node ≡ n → l.byte ≡ b → over n b c l ≡ l.code
 over_same n b c l p q = rw (eq-eqb l.node n p, eq-eqb l.byte b q) refl
 
@@ -43,9 +46,11 @@ found (l ∷ links) n b c zero low p q h =
     ∙ over_same n b c l p q
 found (l ∷ links) n b c (suc k) low p q h = found links n b (over n b c l) k (omega arith) p q (λ j lower from e f. h (suc j) (omega arith) (omega arith) e f)
 
+-- without a link a byte leads nowhere
 pub linked_none : (links : List Link) (n b : ℕ) → NoneFrom links 0 n b → linked links n b ≡ none
 linked_none links n b h = kept links n b none h
 
+-- the last link of a node and a byte gives the code
 pub linked_found : (links : List Link) (n b k : ℕ) → k < length links → (link_at links k).node ≡ n → (link_at links k).byte ≡ b → NoneFrom links (suc k) n b → linked links n b ≡ (link_at links k).code
 linked_found links n b k low p q h = found links n b none k low p q h
 

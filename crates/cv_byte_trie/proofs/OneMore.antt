@@ -18,9 +18,11 @@ use Rattle.cv_byte_trie.proofs.Leading.{behind_some}
 -- ---- the list
 
 module _ (entries : List Entry) (e : Entry) where
+  -- the bytes of an entry that was there
   pub bytes_old : (p : ℕ) → p < length entries → bytes_at (entries ++ e ∷ []) p ≡ bytes_at entries p
   bytes_old p low = ap (λ (x : Entry). x.0) (get_or_append_left entries (e ∷ []) no_entry p low)
 
+  -- the bytes of the new entry
   pub bytes_new : (p : ℕ) → p ≡ length entries → bytes_at (entries ++ e ∷ []) p ≡ e.0
   bytes_new p is = ap (λ (x : Entry). x.0) (get_or_push entries e no_entry p (sym is))
 
@@ -30,6 +32,7 @@ module _ (entries : List Entry) (e : Entry) where
   character_new : (p : ℕ) → p ≡ length entries → character_at (entries ++ e ∷ []) p ≡ e.1
   character_new p is = ap (λ (x : Entry). x.1) (get_or_push entries e no_entry p (sym is))
 
+  -- there is one entry more
   pub longer : length (entries ++ e ∷ []) ≡ length entries + 1
   longer = length-append entries (e ∷ [])
 

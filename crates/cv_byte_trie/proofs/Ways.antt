@@ -20,6 +20,7 @@ Begins-same (x ∷ a) (y ∷ b) [] p q e = absurd p
 Begins-same (x ∷ a) (y ∷ b) (z ∷ w) p q e =
     let h : a ≡ b = Begins-same a b w p.1 q.1 (omega arith) in let g : x ≡ y = p.0 ∙ sym q.0 in (cc)
 
+-- one more byte makes a list longer by one
 pub longer_by_one : (u : List ℕ) (b : ℕ) → length (u ++ b ∷ []) ≡ length u + 1
 longer_by_one u b = length-append u (b ∷ [])
 

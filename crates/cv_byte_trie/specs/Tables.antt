@@ -1,10 +1,22 @@
 -- How the steps of a trie are held: a node has one edge, or a list of links, or a flat table.
-use Rattle.std.specs.Prelude.{◌==◌, ◌&&◌, ℕ, ◌+◌, ◌*◌, List, slice_index_or, if◌then◌else◌, fold}
+use Rattle.std.specs.Prelude.{◌==◌, ◌&&◌, ℕ, ◌+◌, ◌*◌, List, length, slice_index_or, if◌then◌else◌, fold}
 use Rattle.cv_byte_trie.specs.Tries.{none}
 use Rattle.cv_byte_trie.specs.declared.node.Link.{Link}
 use Rattle.cv_byte_trie.specs.declared.node.Node.{Node}
 use Rattle.cv_byte_trie.specs.declared.node.Node.TheVariants.{One, Listed, Table}
 use Rattle.cv_byte_trie.specs.declared.steps.Steps.{Steps}
+
+-- how many nodes a trie has
+abbrev pub node_count : Steps → ℕ
+node_count t = length t.nodes.items
+
+-- how many links
+abbrev pub link_count : Steps → ℕ
+link_count t = length t.links.items
+
+-- how many codes stand in its tables
+abbrev pub code_count : Steps → ℕ
+code_count t = length t.tables.items
 
 -- a node of a trie
 abbrev pub node_at : Steps → ℕ → Node

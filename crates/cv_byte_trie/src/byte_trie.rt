@@ -3,7 +3,7 @@ ghost use Rattle.std.specs.Prelude.{◌≡◌, ◌<◌, ◌≤◌, ◌+◌, ℕ,
 ghost use Rattle.std.specs.Option.{option_copied};
 ghost use Rattle.cv_byte_trie.specs.Entries.{bytes_at, AreEntries};
 ghost use Rattle.cv_byte_trie.specs.Tries.{HasTrie};
-ghost use Rattle.cv_byte_trie.specs.Tables.{edge_of};
+ghost use Rattle.cv_byte_trie.specs.Tables.{node_count, edge_of};
 ghost use Rattle.cv_byte_trie.specs.Walks.{Leads};
 ghost use Rattle.cv_byte_trie.specs.Private.Indexed.{IsIndexed};
 ghost use Rattle.cv_byte_trie.specs.Private.Reading.{IsVacant};
@@ -61,11 +61,13 @@ fn enter(
     depth: usize,
 ) -> Result<(), Memory>
     requires indexed { IsIndexed entries.old.items steps.old }
-    requires vacant { IsVacant (edge_of steps.old) (length steps.old.nodes.items) entries.old.items bytes.now depth node }
+    requires vacant { IsVacant (edge_of steps.old) (node_count steps.old) entries.old.items
+        bytes.now depth node }
     requires short { length bytes.now ≤ 8 }
     requires room { length entries.old.items < 0x1000000 }
     ensures indexed { IsIndexed entries.new.items steps.new }
-    ensures ok { OnOk result (entries.new.items ≡ entries.old.items ++ (bytes.now, character) ∷ []) }
+    ensures ok { OnOk result
+        (entries.new.items ≡ entries.old.items ++ (bytes.now, character) ∷ []) }
     ensures err { OnErr result (entries.new.items ≡ entries.old.items) }
 {
     let _scalar = character.value();
@@ -121,7 +123,7 @@ impl ByteTrie {
     /// Where a byte leads from a node, as a code: below [`NONE`] it is the place of an entry, and above it a node. Node 0 is the root.
     #[inline]
     pub fn step(&self, node: u32, byte: u8) -> u32
-        requires { node < length self.now.steps.nodes.items }
+        requires { node < node_count self.now.steps }
         ensures { result ≡ edge_of self.now.steps node byte }
     {
         self.steps.edge(node, byte)
@@ -129,7 +131,8 @@ impl ByteTrie {
 
     /// The steps lead each byte string as they should. It does nothing.
     pub fn assert_leads(&self)
-        ensures trie { HasTrie (edge_of self.now.steps) (length self.now.steps.nodes.items) self.now.entries }
+        ensures trie { HasTrie (edge_of self.now.steps) (node_count self.now.steps)
+            self.now.entries }
         ensures leads { Leads (edge_of self.now.steps) self.now.entries }
     {
         let _ = &self.steps;
@@ -152,7 +155,8 @@ impl ByteTrie {
         requires some { 0 < length bytes.now }
         requires short { length bytes.now ≤ 8 }
         requires room { length self.old.entries < 0x1000000 }
-        ensures ok { IfOk result (λ added. Adds self.old.entries (bytes.now, character) added self.new.entries) }
+        ensures ok { IfOk result (λ added.
+            Adds self.old.entries (bytes.now, character) added self.new.entries) }
         ensures err { OnErr result (self.new.entries ≡ self.old.entries) }
         ensures entries { AreEntries self.new.entries }
     {

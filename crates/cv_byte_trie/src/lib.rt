@@ -5,7 +5,9 @@ mod added;
 mod byte_trie;
 mod entry;
 mod found;
+mod growing;
 mod node;
+mod setting_edges;
 mod steps;
 mod walking;
 

@@ -2,7 +2,7 @@
 ghost use Rattle.std.specs.Prelude.{◌<◌, length};
 ghost use Rattle.cv_byte_trie.specs.Entries.{AreEntries};
 ghost use Rattle.cv_byte_trie.specs.Tries.{HasTrie};
-ghost use Rattle.cv_byte_trie.specs.Tables.{edge_of};
+ghost use Rattle.cv_byte_trie.specs.Tables.{node_count, edge_of};
 ghost use Rattle.cv_byte_trie.specs.Private.Sound.{IsSound};
 ghost use Rattle.cv_byte_trie.specs.Private.Reading.{LeadsTo};
 
@@ -24,9 +24,9 @@ pub(crate) enum Reached {
 pub(crate) fn walk(steps: &Steps, _entries: &[Entry], text: &[u8]) -> Reached
     requires entries { AreEntries _entries.now }
     requires sound { IsSound steps.now }
-    requires leads { HasTrie (edge_of steps.now) (length steps.now.nodes.items) _entries.now }
+    requires leads { HasTrie (edge_of steps.now) (node_count steps.now) _entries.now }
     requires some { 0 < length text.now }
-    ensures { LeadsTo (edge_of steps.now) (length steps.now.nodes.items) _entries.now text.now result }
+    ensures { LeadsTo (edge_of steps.now) (node_count steps.now) _entries.now text.now result }
 {
     let mut node = 0;
     for depth in 0..text.len() {

@@ -12,6 +12,7 @@ use Rattle.cv_lex.specs.declared.cause.Cause.{Cause}
 use Rattle.cv_lex.specs.declared.cause.Cause.TheVariants.{NotScalar, Carry}
 use Rattle.cv_charmap.specs.Entries.{Pair, number_of, bytes_in, named_by, entry_at}
 
+-- a number in so many bytes has so many
 pub size_in : (size n : ℕ) → length (bytes_in size n) ≡ size
 size_in zero n = refl
 size_in (suc size) n = omega (arith, size_in size (n / 256), length-append (bytes_in size (n / 256)) (n % 256 ∷ []))
@@ -32,6 +33,7 @@ pub record IsEntry (hex : Bool) (first : ℕ) (bytes : List ℕ) (i : ℕ) (q : 
   pub bytes_are : q.0 ≡ bytes_in (length bytes) (number_of bytes + i)
   pub character : q.1 ≡ named_by hex (first + i)
 
+-- what an entry of a range is that has no cause
 pub is_entry : (hex : Bool) (first : ℕ) (bytes : List ℕ) (i : ℕ) (q : Pair) → entry_at hex first bytes i ≡ Ok q → IsEntry hex first bytes i q
 unfolding entry_at
 is_entry hex first bytes i q e = by (is_scalar (named_by hex (first + i))) (leb (256 ^ length bytes) (number_of bytes + i)) refl refl e
@@ -44,6 +46,7 @@ is_entry hex first bytes i q e = by (is_scalar (named_by hex (first + i))) (leb 
         let same : (bytes_in (length bytes) (number_of bytes + i), named_by hex (first + i)) ≡ q = cc in
         record { scalar = s_is; fits = leb-false (256 ^ length bytes) (number_of bytes + i) c_is; bytes_are = ap (λ (x : Pair). x.0) (sym same); character = ap (λ (x : Pair). x.1) (sym same) }
 
+-- where such an entry has no cause
 pub entry_is : (hex : Bool) (first : ℕ) (bytes : List ℕ) (i : ℕ) → is_scalar (named_by hex (first + i)) ≡ true → number_of bytes + i < 256 ^ length bytes
     → entry_at hex first bytes i ≡ Ok (bytes_in (length bytes) (number_of bytes + i), named_by hex (first + i))
 unfolding entry_at

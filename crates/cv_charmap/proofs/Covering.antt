@@ -24,21 +24,26 @@ use Rattle.cv_charmap.proofs.Meeting.{held_again}
 -- ---- a list that goes on
 
 module _ (all new : List Pair) (stay : take (length all) new ≡ all) where
+  -- the list has not become shorter
   pub no_shorter : length all ≤ length new
   no_shorter = (let e = ap length stay in omega (arith, length-take (length all) new))
 
+  -- a pair stays at its place
   pub pair_stays : (k : ℕ) → k < length all → pair_at new k ≡ pair_at all k
   pair_stays k low = sym (get_or-take (length all) new k ([], 0) low) ∙ ap (λ (x : List Pair). get_or x k ([], 0)) stay
 
+  -- an entry that was in the list is in it
   pub entry_stays : (hex : Bool) (first : ℕ) (bytes : List ℕ) (i : ℕ) → HasEntry all hex first bytes i → HasEntry new hex first bytes i
   entry_stays hex first bytes i h = (h.0, (let l = no_shorter in let m = h.1 in omega arith), h.2 ∙ ap (λ (x : Pair). Ok x) (sym (pair_stays h.0 h.1)))
 
+  -- what was known to be in the list is in it
   pub covered_stays : (reach : List Reach) → length reach ≤ length all → AreCovered all reach → AreCovered new reach
   covered_stays reach within c place low i less =
       let r = reach_at reach place in
       let bytes : bytes_at new place ≡ bytes_at all place = ap (λ (x : Pair). x.0) (pair_stays place (omega arith)) in
       subst (λ (b : List ℕ). HasEntry new r.hex r.number b i) (sym bytes) (entry_stays r.hex r.number (bytes_at all place) i (c place low i less))
 
+  -- entries that were looked up are at their places
   pub stops_stay : (hex : Bool) (first : ℕ) (bytes : List ℕ) (end last : ℕ) (stops : List Stop) → end ≤ last → AreStops all hex first bytes end stops → AreStops new hex first bytes last stops
   stops_stay hex first bytes end last stops more s k low = (let h = s k low in
       let l = no_shorter in

@@ -13,6 +13,7 @@ use Rattle.cv_charmap.specs.declared.draft.EntryFault.{EntryFault}
 use Rattle.cv_charmap.specs.declared.draft.EntryFault.TheVariants.{Faulty, Memory}
 use Rattle.cv_charmap.specs.declared.fault.MapFault.{MapFault}
 
+-- an entry whose number has no room in its bytes
 pub entry_carries : (hex : Bool) (first : ℕ) (bytes : List ℕ) (i v n : ℕ) → v ≡ named_by hex (first + i) → is_scalar v ≡ true → n ≡ number_of bytes → leb (256 ^ length bytes) (n + i) ≡ true → entry_at hex first bytes i ≡ Err Carry
 unfolding entry_at
 entry_carries hex first bytes i v n named is number far =
@@ -28,27 +29,33 @@ module _ (hex : Bool) (first : ℕ) (bytes : List ℕ) (i count : ℕ) (lt : i <
   unfolding run_entries
   next = ap (λ (is : List ℕ). run_entries all n (map (entry_at hex first bytes) is)) (range_more i count lt)
 
+  -- a run stops at an entry that is a cause
   pub stops_at_cause : (cause : Cause) → entry_at hex first bytes i ≡ Err cause → run_entries all n (entries_from hex first bytes i count) ≡ Err (fault n cause)
   stops_at_cause cause e = next ∙ ap (λ (x : Result Pair Cause). unless (entry_cause all x) n (run_entries (with_entry all x) n (entries_from hex first bytes (i + 1) count))) e
 
+  -- a run stops at a pair that has a cause
   pub stops_at_pair : (p : Pair) (cause : Cause) → entry_at hex first bytes i ≡ Ok p → pair_cause all p ≡ Some cause → run_entries all n (entries_from hex first bytes i count) ≡ Err (fault n cause)
   stops_at_pair p cause e f =
       next ∙ ap (λ (x : Result Pair Cause). unless (entry_cause all x) n (run_entries (with_entry all x) n (entries_from hex first bytes (i + 1) count))) e
       ∙ ap (λ (o : Option Cause). unless o n (run_entries (entered all p) n (entries_from hex first bytes (i + 1) count))) f
 
+  -- a run goes on behind a pair that has no cause
   pub goes_on : (p : Pair) → entry_at hex first bytes i ≡ Ok p → pair_cause all p ≡ None → run_entries all n (entries_from hex first bytes i count) ≡ run_entries (entered all p) n (entries_from hex first bytes (i + 1) count)
   goes_on p e f =
       next ∙ ap (λ (x : Result Pair Cause). unless (entry_cause all x) n (run_entries (with_entry all x) n (entries_from hex first bytes (i + 1) count))) e
       ∙ ap (λ (o : Option Cause). unless o n (run_entries (entered all p) n (entries_from hex first bytes (i + 1) count))) f
 
+-- a run ends behind the last entry
 pub range_ends : (hex : Bool) (first : ℕ) (bytes : List ℕ) (i count : ℕ) → count ≤ i → (all : List Pair) (n : ℕ) → run_entries all n (entries_from hex first bytes i count) ≡ Ok all
 unfolding run_entries
 range_ends hex first bytes i count le all n = ap (λ (k : ℕ). run_entries all n (map (entry_at hex first bytes) (range_with_len i k))) (let e : count - i ≡ 0 = omega arith in e)
 
+-- a run over one pair
 pub one_entry : (all : List Pair) (n : ℕ) (p : Pair) → run_entries all n (Ok p ∷ []) ≡ unless (pair_cause all p) n (Ok (entered all p))
 unfolding run_entries
 one_entry all n p = refl
 
+-- all entries of a range are those from the first on
 pub from_the_first : (hex : Bool) (first : ℕ) (bytes : List ℕ) (count : ℕ) → map (entry_at hex first bytes) (range_with_len 0 count) ≡ entries_from hex first bytes 0 count
 from_the_first hex first bytes count = ap (λ (k : ℕ). map (entry_at hex first bytes) (range_with_len 0 k)) (let e : count ≡ count - 0 = omega arith in e)
 

@@ -52,9 +52,11 @@ run_from done (step ∷ rest) =
     each None f n r faults pairs e t = t ∙ ap (λ (g : Option MapFault). by_fault (slice_get (cons_option g faults) 0) pairs) (sym e)
     each (Some c) f n r faults pairs e t = ap (λ (g : Option MapFault). by_fault (slice_get (cons_option g faults) 0) pairs) (sym e)
 
+-- a run over all entries finds the first fault, or else the pairs
 pub run_finds : (steps : List Step) → run_steps [] steps ≡ by_fault (slice_get (faults_of steps) 0) (pairs_of steps)
 run_finds steps = run_from [] steps
 
+-- a run over two lists, one behind the other
 pub run_append : (all : List Pair) (xs ys : List Step) → run_steps all (xs ++ ys) ≡ run_steps all xs >>= (λ a. run_steps a ys)
 run_append all [] ys = refl
 run_append all (x ∷ xs) ys = each (entry_cause all x.1) x.0 (run_steps (with_entry all x.1) (xs ++ ys)) (run_steps (with_entry all x.1) xs) (λ a. run_steps a ys) (run_append (with_entry all x.1) xs ys)

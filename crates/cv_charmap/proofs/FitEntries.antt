@@ -21,6 +21,7 @@ abbrev pub IsFitEntry : Result Pair Cause → Type 0
 IsFitEntry (Ok p) = (0 < length p.0) × (length p.0 ≤ 8) × (is_scalar p.1 ≡ true)
 IsFitEntry (Err cause) = Unit {0}
 
+-- All entries are fit.
 abbrev pub AreFit : List (Result Pair Cause) → Type 0
 AreFit [] = Unit {0}
 AreFit (entry ∷ entries) = IsFitEntry entry × AreFit entries
@@ -29,6 +30,7 @@ abbrev AreFitLines : List (List (Result Pair Cause)) → Type 0
 AreFitLines [] = Unit {0}
 AreFitLines (entries ∷ lines) = AreFit entries × AreFitLines lines
 
+-- All entries are fit, whatever the numbers of their lines.
 abbrev pub AreFitSteps : List Step → Type 0
 AreFitSteps [] = Unit {0}
 AreFitSteps (step ∷ steps) = IsFitEntry step.1 × AreFitSteps steps

@@ -27,6 +27,7 @@ use Rattle.cv_charmap.proofs.FirstFaults.{by_fault, run_finds}
 use Rattle.cv_charmap.proofs.FitEntries.{IsFitEntry, AreFitSteps, steps_fit}
 use Rattle.cv_charmap.proofs.Meeting.{begins_true, eq_bytes, same_bytes}
 
+-- a number that passes the test is a scalar value
 pub is_scalar_from : (n : ℕ) → is_scalar n ≡ true → IsScalar n
 is_scalar_from n e = by (ltb n 0xD800) (leb 0xE000 n) (ltb n 0x110000) refl refl refl e
   where
@@ -106,6 +107,7 @@ not_lacking true true true e h = absurd (cc)
 not_lacking true true false true h = refl
 not_lacking true true false false h = absurd (cc)
 
+-- what a text means is a charmap
 pub means_maps : MeansMaps
 unfolding meaning_of_lines
 means_maps text charmap e =

@@ -18,11 +18,13 @@ use Rattle.cv_charmap.specs.Private.Covers.{pair_at}
 
 -- ---- byte strings
 
+-- what begins a text passes the test
 pub begins_true : (b t : List ℕ) → Begins b t → begins t b ≡ true
 begins_true [] t h = refl
 begins_true (x ∷ b) [] h = absurd h
 begins_true (x ∷ b) (y ∷ t) h = rw (eq-eqb x y h.0) (begins_true b t h.1)
 
+-- what passes the test begins the text
 pub begins_from : (b t : List ℕ) → begins t b ≡ true → Begins b t
 begins_from [] t e = tt
 begins_from (x ∷ b) [] e = absurd (cc)
@@ -35,9 +37,11 @@ begins_self : (b : List ℕ) → Begins b b
 begins_self [] = tt
 begins_self (x ∷ b) = (refl, begins_self b)
 
+-- byte strings that pass the test are the same
 pub same_bytes : (a b : List ℕ) → bytes_eq a b ≡ true → a ≡ b
 same_bytes a b e = (bytes_eq-Decides a b).0 e
 
+-- byte strings that are the same pass the test
 pub eq_bytes : (a b : List ℕ) → a ≡ b → bytes_eq a b ≡ true
 eq_bytes a b e = (bytes_eq-Decides a b).1 e
 
@@ -96,6 +100,7 @@ module _ (all : List Pair) (p : Pair) where
       let r = repeat_free other in
       (r, cause_by all p false false false (clash_free (λ k low e. absurd (other k low e))) (overlap_free (λ k low _. ((meets k low).1, (meets k low).0))) r)
 
+  -- a pair that meets none stands at the end
   pub fresh_entered : MeetsNone all p.0 → entered all p ≡ all ++ p ∷ []
   fresh_entered meets = rw (fresh meets).0 refl
 

@@ -23,9 +23,11 @@ by_entries h all m n (Ok done) after e = λ k. ap (λ (run : Result (List Pair) 
 by_entries h all m n (Err (entry.Faulty cause)) after e = λ k. ap (λ (run : Result (List Pair) MapFault). run >>= (λ all. Ok (state h all Inside n))) e
 by_entries h all m n (Err entry.Memory) after e = tt
 
+-- a mapping among the mappings is a run over its entries
 pub maps_inside : (h : Header) (all : List Pair) (m : Mapping) (n : ℕ) (r : Result (Unit {0}) EntryFault) (after : List Pair) → RunsTo (run_entries all n (sized_entries h.least h.most m)) n r after → (o : Result Phase CompileFault) → o ≡ after_entries r n → TakesInside h all (Maps m) n o after
 maps_inside h all m n r after e o is = subst (λ (x : Result Phase CompileFault). TakesInside h all (Maps m) n x after) (sym is) (by_entries h all m n r after e)
 
+-- a line that is at fault decides
 pub stops : (lines rest more : List (List ℕ)) (s : State) (line : List ℕ) (why : CompileFault) (after : List Pair) → run_of lines ≡ lines_run s rest >>= finish_run → rest ≡ line ∷ more → NextTo s line (Err why) after → Reads (meaning_of_lines lines) (Err why)
 stops lines rest more s line (compile.Map f) after so_far is e =
     sym (run_means lines) ∙ so_far ∙ ap (λ (ls : List (List ℕ)). lines_run s ls >>= finish_run) is ∙ ap (λ (r : Result State MapFault). (r >>= (λ t. lines_run t more)) >>= finish_run) e
@@ -36,6 +38,7 @@ same_end Above h all n = refl
 same_end Inside h all n = refl
 same_end Behind h all n = refl
 
+-- behind the last line the rest is decided
 pub ends : (lines rest : List (List ℕ)) (h : Header) (all : List Pair) (phase : Phase) (n : ℕ) (r : Result Charmap CompileFault) → run_of lines ≡ lines_run (state h all phase n) rest >>= finish_run → rest ≡ [] → Reads (finished phase h all) r → Reads (meaning_of_lines lines) r
 ends lines rest h all phase n r so_far none e =
     let same : meaning_of_lines lines ≡ finished phase h all = sym (run_means lines) ∙ so_far ∙ ap (λ (ls : List (List ℕ)). lines_run (state h all phase n) ls >>= finish_run) none ∙ same_end phase h all n in

@@ -33,7 +33,8 @@ impl<'a> Header<'a> {
 
     /// Takes a declaration.
     pub(crate) fn with(self, setting: Setting<'a>) -> Header<'a>
-        ensures { header_seen result ≡ with_declared (header_seen self.entry) (setting_seen setting.entry) }
+        ensures { header_seen result
+            ≡ with_declared (header_seen self.entry) (setting_seen setting.entry) }
     {
         let mut header = self;
         match setting {

@@ -33,7 +33,8 @@ fn pass(
     requires some { 0 < length bytes.now }
     requires few { length bytes.now ≤ 8 }
     requires near { i < 2 ^ 32 }
-    ensures passes { (count : ℕ) → i < count → Passes draft.old hex first bytes.now i count result draft.new }
+    ensures passes { (count : ℕ) → i < count
+        → Passes draft.old hex first bytes.now i count result draft.new }
     ensures near { IfOk result (λ p. p.1 ≤ 2 ^ 33) }
 {
     let (word, c) = match entry_at(hex, first, bytes, i) {
@@ -58,7 +59,9 @@ pub(crate) fn enter_range(
 ) -> Result<(), EntryFault>
     requires some { 0 < length bytes.now }
     requires few { length bytes.now ≤ 8 }
-    ensures { (n : ℕ) → RunsTo (run_entries draft.old n (entries_of (Range first last hex bytes.now))) n result draft.new }
+    ensures { (n : ℕ)
+        → RunsTo (run_entries draft.old n (entries_of (Range first last hex bytes.now))) n result
+        draft.new }
 {
     let count = count_of(first, last);
     let mut stops = Vec::new(draft.alloc());
@@ -81,7 +84,8 @@ pub(crate) fn enter_range(
 
 /// Whether a mapping's bytes are too few or too many.
 fn is_unfit(header: &Header<'_>, bytes: &[u8]) -> bool
-    ensures { result ≡ (nat_lt (length bytes.now) header.now.least || nat_lt header.now.most (length bytes.now)) }
+    ensures { result ≡ (nat_lt (length bytes.now) header.now.least
+        || nat_lt header.now.most (length bytes.now)) }
 {
     bytes.len() < usize::from(header.least) || usize::from(header.most) < bytes.len()
 }
@@ -95,7 +99,8 @@ pub(crate) fn enter_sized_one(
     bytes: Piece,
 ) -> Result<(), EntryFault>
     requires { 0 < length bytes }
-    ensures { (n : ℕ) → RunsTo (run_entries draft.old n (sized_entries header.now.least header.now.most (One c bytes))) n result draft.new }
+    ensures { (n : ℕ) → RunsTo (run_entries draft.old n
+        (sized_entries header.now.least header.now.most (One c bytes))) n result draft.new }
 {
     if is_unfit(header, bytes.as_slice()) {
         return Err(EntryFault::Faulty(Cause::Length));
@@ -118,7 +123,9 @@ pub(crate) fn enter_sized_range(
 ) -> Result<(), EntryFault>
     requires some { 0 < length bytes.now }
     requires few { length bytes.now ≤ 8 }
-    ensures { (n : ℕ) → RunsTo (run_entries draft.old n (sized_entries header.now.least header.now.most (Range first last hex bytes.now))) n result draft.new }
+    ensures { (n : ℕ) → RunsTo (run_entries draft.old n
+        (sized_entries header.now.least header.now.most (Range first last hex bytes.now))) n result
+        draft.new }
 {
     if is_unfit(header, bytes) {
         return Err(EntryFault::Faulty(Cause::Length));

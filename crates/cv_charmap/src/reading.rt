@@ -2,8 +2,8 @@
 
 ghost use Rattle.std.specs.Prelude.{◌≡◌, ℕ};
 ghost use Rattle.cv_lex.specs.Seen.{line_seen, HasBytes};
-ghost use Rattle.cv_charmap.specs.Private.Runs.{state, next_number};
-ghost use Rattle.cv_charmap.specs.Private.Seen.{TakesInside, NextTo, header_seen, AboveTo, InsideTo, after_entries};
+ghost use Rattle.cv_charmap.specs.Private.Runs.{next_number};
+ghost use Rattle.cv_charmap.specs.Private.Seen.{TakesInside, NextTo, header_seen, state_seen, AboveTo, InsideTo, after_entries};
 
 use crate::draft::{Draft, EntryFault};
 use crate::fault::{CompileFault, MapFault};
@@ -53,7 +53,8 @@ fn take_inside(
     number: u32,
 ) -> Result<Phase, CompileFault>
     requires { HasBytes line }
-    ensures { TakesInside (header_seen header.now) draft.old (line_seen line.entry) number result draft.new }
+    ensures { TakesInside (header_seen header.now) draft.old (line_seen line.entry) number result
+        draft.new }
 {
     match line {
         Line::Finish => Ok(Phase::Behind),
@@ -98,7 +99,9 @@ pub(crate) fn read_next<'a>(
     line: &'a [u8],
     number: u32,
 ) -> Result<Place<'a>, CompileFault>
-    ensures { (k : ℕ) → number ≡ next_number k → NextTo (state (header_seen place.entry.header) draft.old place.entry.phase k) line.entry.now result draft.new }
+    ensures { (k : ℕ) → number ≡ next_number k
+        → NextTo (state_seen place.entry.header draft.old place.entry.phase k) line.entry.now result
+        draft.new }
 {
     match place.phase {
         Phase::Above => match read_above(place.header, line, number) {

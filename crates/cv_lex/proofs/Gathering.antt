@@ -26,6 +26,7 @@ within_more : (m n : ℕ) (o : Found) → m ≤ n → Within m o → Within n o
 within_more m n None le h = tt
 within_more m n (Some c) le h = omega arith
 
+-- what follows a constant is shorter than the text
 pub constant_shorter : (escape : ℕ) (kind : Kind) (b : ℕ) (text : List ℕ) → Within (length text) (constant_at escape kind (b ∷ text))
 unfolding constant_at
 constant_shorter escape kind b text =
@@ -62,6 +63,7 @@ prepend_none : (o : Option (List ℕ)) → o ≡ prepend [] o
 prepend_none None = refl
 prepend_none (Some x) = refl
 
+-- nothing is gathered at the start
 pub none_yet : (escape : ℕ) (kind : Kind) (text : List ℕ) → IsGathered escape kind text text [] 0
 none_yet escape kind text = record { numbers = []; so_far = prepend_none (numbers_within (length text) escape kind text); few = λ _. (refl, refl); many = λ h. absurd (omega arith); below = omega arith }
 
@@ -84,6 +86,7 @@ stops escape kind [] e h = absurd (omega arith)
 stops escape kind (b ∷ rest) e h = ap (option_and_then (λ c. option_map (λ numbers. c.0 ∷ numbers) (numbers_within (length rest) escape kind c.1))) e
 
 module _ (escape : ℕ) (kind : Kind) (text rest piece : List ℕ) (count : ℕ) (own : IsGathered escape kind text rest piece count) where
+  -- one more constant
   pub one_more : (more : List ℕ) (n : ℕ) → constant_at escape kind rest ≡ Some (n, more) → 0 < length rest → (piece' : List ℕ) (count' : ℕ)
       → (count < 8 → (piece' ≡ piece ++ n ∷ []) × (count' ≡ count + 1)) → (8 ≤ count → (count' ≡ 9)) → IsGathered escape kind text more piece' count'
   one_more more n e h piece' count' low high = record {
@@ -106,16 +109,19 @@ module _ (escape : ℕ) (kind : Kind) (text rest piece : List ℕ) (count : ℕ)
   ended : rest ≡ [] → numbers_within (length text) escape kind text ≡ Some own.numbers
   ended none = own.so_far ∙ ap (λ (r : List ℕ). prepend own.numbers (numbers_within (length r) escape kind r)) none ∙ ap Some (append-nil own.numbers)
 
+  -- at the end up to eight numbers are the bytes
   pub all_gathered : rest ≡ [] → count ≤ 8 → bytes_by (numbers_within (length text) escape kind text) ≡ Ok piece
   all_gathered none le =
       let f = own.few le in
       let low : ltb 8 (length own.numbers) ≡ false = le-ltb _ _ (omega (arith, f.1)) in
       ap bytes_by (ended none) ∙ (rw low (ap Ok (sym f.0)))
 
+  -- at the end more than eight numbers are too many
   pub too_many : rest ≡ [] → 8 < count → bytes_by (numbers_within (length text) escape kind text) ≡ Err Length
   too_many none big =
       let high : ltb 8 (length own.numbers) ≡ true = lt-ltb _ _ (own.many big) in
       ap bytes_by (ended none) ∙ (rw high refl)
 
+  -- where no constant stands next there are no bytes
   pub no_constant : constant_at escape kind rest ≡ None → 0 < length rest → bytes_by (numbers_within (length text) escape kind text) ≡ Err Constant
   no_constant e h = ap bytes_by (own.so_far ∙ ap (prepend own.numbers) (stops escape kind rest e h))

@@ -19,6 +19,7 @@ range_fit : (o : Result Mapping Cause) (first last : ℕ) (hex : Bool) (bytes : 
 range_fit (Ok m) first last hex bytes e fit = let same : m ≡ maps.Range first last hex bytes = cc in (subst IsFit same (fit m refl)).0
 range_fit (Err cause) first last hex bytes e fit = absurd (cc)
 
+-- a mapping that was read has bytes
 pub mapping_has_bytes : (escape : ℕ) (text : List ℕ) (r : Result Line Cause) → line_read r ≡ mapping_read (mapping_of escape text) → IfOk r HasBytes
 mapping_has_bytes escape text (Ok (line.One c bytes)) e = one_fit (mapping_of escape text) c bytes (sym e) (mapping_fit escape text)
 mapping_has_bytes escape text (Ok (line.Range first last hex bytes)) e = range_fit (mapping_of escape text) first last hex bytes (sym e) (mapping_fit escape text)

@@ -19,15 +19,19 @@ module _ (escape : ℕ) (text : List ℕ) (n : ℕ) (lt : n < length text) (esca
       so_far ∙ ap (λ (x : List ℕ). prepend (take n text) (name_from escape escaped x)) (drop_more text n 0 lt) ∙ ap (prepend (take n text)) e ∙ move (take n text) (get_or text n 0) (name_from escape next (drop (n + 1) text))
       ∙ ap (λ (x : List ℕ). prepend x (name_from escape next (drop (n + 1) text))) (sym (take_more text n 0 lt))
 
+  -- past a byte behind an escape character
   pub name_goes_escaped : escaped ≡ true → r ≡ prepend (take (n + 1) text) (name_from escape false (drop (n + 1) text))
   name_goes_escaped is = step false (rw is refl)
 
+  -- past an escape character
   pub name_escapes : escaped ≡ false → get_or text n 0 ≡ escape → r ≡ prepend (take (n + 1) text) (name_from escape true (drop (n + 1) text))
   name_escapes is e = step true (rw (is, eq-eqb (get_or text n 0) escape e) refl)
 
+  -- past any other byte than `>`
   pub name_goes : escaped ≡ false → get_or text n 0 ≢ escape → get_or text n 0 ≢ 62 → r ≡ prepend (take (n + 1) text) (name_from escape false (drop (n + 1) text))
   name_goes is e f = step false (rw (is, ne_eqb (get_or text n 0) escape e, ne_eqb (get_or text n 0) 62 f) refl)
 
+  -- a `>` that is not escaped ends the name
   pub name_ends : escaped ≡ false → get_or text n 0 ≢ escape → get_or text n 0 ≡ 62 → r ≡ Some (take n text, drop (n + 1) text)
   name_ends is e f =
       let here : name_from escape escaped (get_or text n 0 ∷ drop (n + 1) text) ≡ Some ([], drop (n + 1) text) = rw (is, ne_eqb (get_or text n 0) escape e, eq-eqb (get_or text n 0) 62 f) refl in

@@ -10,6 +10,7 @@ use Rattle.cv_lex.specs.Names.{digits_of, symbol_of, character_of, range_of, ran
 use Rattle.cv_lex.specs.declared.cause.Cause.TheVariants.{UnknownName, Range}
 use Rattle.cv_lex.specs.declared.symbols.TheConstants.{SYMBOLS}
 
+-- a name without escape characters is what it stands for
 pub no_escape : (escape : ℕ) (name : List ℕ) → list_any (λ b. b == escape) name ≡ false → plain escape name ≡ name
 no_escape escape [] none = refl
 no_escape escape (b ∷ name) none =
@@ -43,14 +44,17 @@ no_symbol [] long = absurd (omega arith)
 no_symbol (b ∷ []) long = absurd (omega arith)
 no_symbol (b ∷ c ∷ name) long = absent (b ∷ c ∷ name) 64 long (map (λ s. (s.0.now, s.1)) SYMBOLS) refl
 
+-- a name of more than 64 bytes is unknown
 pub long_name : (name : List ℕ) → 64 < length name → character_of name ≡ Err UnknownName
 unfolding character_of
 long_name name long = ap (λ d. meaning_by d (symbol_of name)) (no_digits name long) ∙ ap (λ s. ok_or s UnknownName) (no_symbol name long)
 
+-- no range begins with such a name
 pub long_first : (hex : Bool) (first last : List ℕ) → 64 < length first → range_of hex first last ≡ Err Range
 unfolding range_of
 long_first hex first last long = ap (λ d. range_by (base_of hex) d (digits_of last)) (no_digits first long)
 
+-- no range ends with such a name
 pub long_last : (hex : Bool) (first last : List ℕ) → 64 < length last → range_of hex first last ≡ Err Range
 unfolding range_of
 long_last hex first last long = ap (range_by (base_of hex) (digits_of first)) (no_digits last long) ∙ either (digits_of first)

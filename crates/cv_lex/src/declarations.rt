@@ -12,7 +12,9 @@ use crate::words::{are_graphic, is, value_behind};
 
 /// Where the first `>` stands.
 fn close_at(text: &[u8]) -> Option<usize>
-    ensures { MatchOption result (list_any spec.is_close text.now ≡ false) (λ n. (list_any spec.is_close text.now ≡ true) × (n ≡ position_or_len spec.is_close text.now) × (n < length text.now)) }
+    ensures { MatchOption result (list_any spec.is_close text.now ≡ false) (λ n.
+        (list_any spec.is_close text.now ≡ true)
+        × (n ≡ position_or_len spec.is_close text.now) × (n < length text.now)) }
 {
     let (mut n, mut rest) = (0, text);
     while let [byte, more @ ..] = rest {

@@ -91,7 +91,8 @@ fn character(escape: u8, name: &[u8]) -> Result<Scalar, Cause>
 
 /// The ends of a range of names with escape characters.
 fn ends(escape: u8, hex: bool, first: &[u8], last: &[u8]) -> Result<(u32, u32), Cause>
-    ensures { result ≡ names.range_of hex (spec.plain escape first.now) (spec.plain escape last.now) }
+    ensures { result
+        ≡ names.range_of hex (spec.plain escape first.now) (spec.plain escape last.now) }
 {
     if is_plain(escape, first) && is_plain(escape, last) {
         return range_of(hex, first, last);

@@ -3,6 +3,7 @@
 
 mod measure;
 
+use cv_base::Policy;
 use measure::{Asked, measure};
 use std::alloc::{AllocError, Global};
 use std::process::ExitCode;
@@ -13,13 +14,22 @@ fn number(word: &str) -> Option<u64> {
     word.parse::<u64>().ok()
 }
 
+fn policy(word: &str) -> Option<Policy> {
+    match word {
+        "substitute" => Some(Policy::Substitute),
+        "strict" => Some(Policy::Strict),
+        _ => None,
+    }
+}
+
 fn asked<'a>(words: &[&'a str]) -> Option<Asked<'a>> {
-    let [_, to, from, call, rounds] = words else {
+    let [_, to, from, call, rounds, how] = words else {
         return None;
     };
     Some(Asked {
         to,
         from,
+        policy: policy(how)?,
         call: usize::try_from(number(call)?).ok()?,
         rounds: number(rounds)?,
     })
@@ -34,7 +44,9 @@ fn bench<R: Env + Clock + Input + Print + AllocGlobal>(rt: &R) -> io::Result<()>
     let owned: Vec<String> = env::args(rt)?.collect(alloc)?;
     let words = words_of(alloc, &owned)?;
     let Some(asked) = asked(&words) else {
-        return println!(rt; "bench TO FROM CALL ROUNDS: the text on standard input");
+        return println!(rt;
+            "bench TO FROM CALL ROUNDS substitute|strict: the text on standard input"
+        );
     };
     match measure(rt, &asked)? {
         Some(spent) => println!(rt; "{spent}"),

@@ -1,5 +1,6 @@
 //! Converting a text over and over.
 
+use cv_base::Policy;
 use cv_pivot::{Conversion, builtin};
 use std::alloc::Global;
 use std::io;
@@ -12,6 +13,7 @@ use std::time::Instant;
 pub struct Asked<'a> {
     pub to: &'a str,
     pub from: &'a str,
+    pub policy: Policy,
     /// How many bytes of the text each call is given.
     pub call: usize,
     /// How often the text is converted.
@@ -58,7 +60,7 @@ pub fn measure<R: Clock + Input + AllocGlobal>(
     let mut out = vec![in alloc; 0u8; asked.call.saturating_mul(8)]?;
     let mut fastest = u128::MAX;
     for _round in 0..asked.rounds {
-        let mut conversion = Conversion::new(to, from);
+        let mut conversion = Conversion::new(to, from, asked.policy);
         let start = Instant::now(rt)?;
         convert_all(&mut conversion, &text, asked.call, &mut out);
         fastest = fastest.min(start.elapsed(rt)?.as_nanos());

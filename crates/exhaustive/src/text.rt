@@ -1,5 +1,6 @@
 //! All scalar values in one text, converted and converted back.
 
+use cv_base::Policy;
 use cv_pivot::{Conversion, Encoding, builtin};
 use std::alloc::{AllocError, Global};
 
@@ -22,7 +23,7 @@ fn converted(
     from: Encoding,
     text: &[u8],
 ) -> Result<Vec<u8>, AllocError> {
-    let mut conversion = Conversion::new(to, from);
+    let mut conversion = Conversion::new(to, from, Policy::Substitute);
     let mut room = vec![in alloc; 0u8; 8 * CALL]?;
     let mut output = Vec::new(alloc);
     let mut rest = text;

@@ -37,13 +37,13 @@ pub struct Charmap {
 impl Model for Charmap {
     ghost use Rattle.cv_charmap.specs.Meaning as meaning;
     ghost use Rattle.cv_trie.specs.Private.Compiled.{IsCompiled};
-    ghost use Rattle.cv_trie.specs.Private.Paging.{place_of};
 
     ghost Value = { meaning.Charmap };
 
     ghost view = { λ m. record { name = m.name.items; pairs = m.trie.entries } };
 
-    ghost invariant = { λ m. IsCompiled m.trie.entries (place_of m.pages.tops.items m.pages.cells.items) m.most m.reads_ascii m.writes_ascii };
+    ghost invariant = { λ m. IsCompiled m.trie.entries m.pages.tops.items m.pages.cells.items
+        m.most m.reads_ascii m.writes_ascii };
 }
 
 impl Charmap {

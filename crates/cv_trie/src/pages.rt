@@ -1,7 +1,7 @@
 //! The place of each character's first entry.
 ghost use Rattle.std.specs.Prelude.{◌≡◌, ◌≤◌, ◌<◌, ◌+◌, ◌*◌, ℕ, length, IfOk};
 ghost use Rattle.cv_byte_trie.specs.Entries.{AreEntries, character_at};
-ghost use Rattle.cv_trie.specs.Private.Paging.{place_of, AreNumbered, ArePaged, AreWhole, NameFirst};
+ghost use Rattle.cv_trie.specs.Private.Paging.{place_of, AreNumbered, ArePaged, AreWhole, AreFirst};
 
 use cv_byte_trie::Entry;
 use std::alloc::{AllocError, Global};
@@ -70,7 +70,7 @@ fn fill(
     requires few { length entries.now ≤ 0x1000000 }
     requires numbered { AreNumbered tops.now count }
     requires paged { ArePaged tops.now (length entries.now) entries.now }
-    ensures names { IfOk result (λ cells. NameFirst (place_of tops.now cells.items) (length entries.now) entries.now) }
+    ensures names { IfOk result (λ cells. AreFirst tops.now cells.items entries.now) }
     ensures size { IfOk result (λ cells. length cells.items ≡ count * 64) }
 {
     let mut cells = vec![in alloc; NOWHERE; count as usize * 64]?;
@@ -90,7 +90,7 @@ impl Pages {
     pub(crate) fn of(alloc: Global, entries: &[Entry]) -> Result<Pages, AllocError>
         requires entries { AreEntries entries.now }
         requires few { length entries.now ≤ 0x1000000 }
-        ensures { IfOk result (λ p. NameFirst (place_of p.tops.items p.cells.items) (length entries.now) entries.now) }
+        ensures { IfOk result (λ p. AreFirst p.tops.items p.cells.items entries.now) }
     {
         let numbers = number(alloc, entries)?;
         let cells = fill(alloc, &numbers.tops, numbers.count, entries)?;

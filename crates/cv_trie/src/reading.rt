@@ -26,8 +26,8 @@ fn follow(trie: &ByteTrie, root: &[u32], input: &[u8], used: usize) -> Followed
     requires root { (b : ℕ) → b < 256 → slice_index root.now b ≡ edge_of trie.now.steps 0 b }
     requires size { length root.now ≡ 256 }
     requires within { used < length input.now }
-    ensures follows { IsFollowed (edge_of trie.now.steps) (length trie.now.steps.nodes.items) trie.now.entries
-        (drop used input.now) result.size result.code }
+    ensures follows { IsFollowed (edge_of trie.now.steps) (length trie.now.steps.nodes.items)
+        trie.now.entries (drop used input.now) result.size result.code }
     ensures within { result.size ≤ length (drop used input.now) }
 {
     trie.assert_leads();
@@ -94,7 +94,8 @@ fn read_longer(trie: &ByteTrie, input: &[u8], buffer: &mut [Scalar], front: Fron
 /// Reads the characters at the front of a text into the front of a buffer. Those of one byte have a loop of their own.
 #[inline(never)]
 pub(crate) fn read_front(trie: &ByteTrie, input: &[u8], buffer: &mut [Scalar]) -> ReadBlock
-    ensures block { IsReadBlock (map_reads trie.now.entries) ReadState.Start input.now result buffer.new }
+    ensures block { IsReadBlock (map_reads trie.now.entries) ReadState.Start input.now
+        result buffer.new }
     ensures size { length buffer.new ≡ length buffer.old }
 {
     let mut front = Front { n: 0, used: 0 };

@@ -122,7 +122,7 @@ fn blocks_are_written(rt: HostRuntime) -> Result<(), Fail> {
     let mut out = [0x2D; 32];
     let block = map.write_block(WriteState::Start, &characters, &mut out, 1);
     assert_eq!(rt; (block.wrote, block.count, block.next), (6, 1, WriteState::Start));
-    assert_eq!(rt; &out[..8], b"-\x81\x40\x6F\x00\xFF\xFE-".as_slice());
+    assert!(rt; out.get(..8) == Some(b"-\x81\x40\x6F\x00\xFF\xFE-".as_slice()));
     let again = map.write_block(WriteState::Marked, &characters, &mut out, 2);
     assert_eq!(rt; (again.wrote, again.count), (6, 1));
     Ok(())

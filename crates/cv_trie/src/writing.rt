@@ -8,7 +8,7 @@ ghost use Rattle.cv_base.specs.declared.state.WriteState.{WriteState};
 ghost use Rattle.cv_byte_trie.specs.Entries.{bytes_at};
 ghost use Rattle.cv_charmap.specs.Maps.{IsMap};
 ghost use Rattle.cv_trie.specs.Charmaps.{map_writes};
-ghost use Rattle.cv_trie.specs.Private.Paging.{place_of, nowhere, NameFirst};
+ghost use Rattle.cv_trie.specs.Private.Paging.{place_of, nowhere, AreFirst};
 ghost use Rattle.cv_trie.specs.Private.Fronts.{IsWrittenFront};
 
 use crate::pages::{NOWHERE, Pages};
@@ -33,7 +33,7 @@ pub(crate) fn put_character(
     out: &mut [u8],
     at: usize,
 ) -> Put
-    requires names { NameFirst (place_of pages.now.tops.items pages.now.cells.items) (length entries.now) entries.now }
+    requires names { AreFirst pages.now.tops.items pages.now.cells.items entries.now }
     requires within { at ≤ length out.old }
     ensures { PutsAt (map_writes entries.now _state c) out.old at result out.new }
 {
@@ -55,7 +55,7 @@ pub(crate) fn put_character(
 /// The place of the entry that is written for a character, or that of `?`, and for how many characters it is `?`.
 #[inline(always)]
 fn choose(pages: &Pages, _entries: &[Entry], substitute: u32, c: Scalar) -> (u32, usize)
-    requires names { NameFirst (place_of pages.now.tops.items pages.now.cells.items) (length _entries.now) _entries.now }
+    requires names { AreFirst pages.now.tops.items pages.now.cells.items _entries.now }
     requires is { substitute ≡ place_of pages.now.tops.items pages.now.cells.items question }
     requires some { substitute ≢ nowhere }
     ensures low { result.0 < length _entries.now }
@@ -93,10 +93,11 @@ fn write_front(
     front: &mut [u8],
 ) -> (usize, usize)
     requires map { IsMap entries.now }
-    requires names { NameFirst (place_of pages.now.tops.items pages.now.cells.items) (length entries.now) entries.now }
+    requires names { AreFirst pages.now.tops.items pages.now.cells.items entries.now }
     requires room { 8 * length characters.now ≤ length front.old }
     ensures few { result.0 ≤ 8 * length characters.now }
-    ensures written { IsWrittenFront (map_writes entries.now) characters.now front.new result.0 result.1 }
+    ensures written { IsWrittenFront (map_writes entries.now) characters.now front.new
+        result.0 result.1 }
 {
     let substitute = pages.place(0x3F);
     let mut used = 0;
@@ -119,10 +120,11 @@ pub(crate) fn write_run(
     at: usize,
 ) -> WrittenBlock
     requires map { IsMap entries.now }
-    requires names { NameFirst (place_of pages.now.tops.items pages.now.cells.items) (length entries.now) entries.now }
+    requires names { AreFirst pages.now.tops.items pages.now.cells.items entries.now }
     requires few { length characters.now ≤ 64 }
     requires room { at + 8 * length characters.now ≤ length out.old }
-    ensures { IsWrittenBlock (map_writes entries.now) WriteState.Start characters.now out.old at result out.new }
+    ensures { IsWrittenBlock (map_writes entries.now) WriteState.Start characters.now
+        out.old at result out.new }
 {
     let mut front = [0u8; 512];
     let (wrote, count) = write_front(pages, entries, characters, &mut front);

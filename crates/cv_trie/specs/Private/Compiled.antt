@@ -8,7 +8,7 @@ use Rattle.cv_byte_trie.specs.Entries.{bytes_at}
 use Rattle.cv_charmap.specs.Entries.{Pair}
 use Rattle.cv_charmap.specs.Maps.{IsMap}
 use Rattle.cv_trie.specs.Charmaps.{map_reads, map_writes}
-use Rattle.cv_trie.specs.Private.Paging.{NameFirst}
+use Rattle.cv_trie.specs.Private.Paging.{AreFirst}
 
 -- No pair has more bytes than so many, and those have 8 at most.
 pub record HaveAtMost (most : ℕ) (pairs : List Pair) : Type 0 where
@@ -16,9 +16,9 @@ pub record HaveAtMost (most : ℕ) (pairs : List Pair) : Type 0 where
   pub each : (k : ℕ) → k < length pairs → length (bytes_at pairs k) ≤ most
 
 -- The list is a charmap's; its pages name the first place of each character and nothing else; and where ASCII stands for itself.
-pub record IsCompiled (pairs : List Pair) (place : ℕ → ℕ) (most : ℕ) (reads writes : Bool) : Type 0 where
+pub record IsCompiled (pairs : List Pair) (tops cells : List ℕ) (most : ℕ) (reads writes : Bool) : Type 0 where
   pub map : IsMap pairs
-  pub names : NameFirst place (length pairs) pairs
+  pub names : AreFirst tops cells pairs
   pub sizes : HaveAtMost most pairs
   pub reads_ascii : IsTrue reads → ReadsAscii (map_reads pairs) read.Start Byte
   pub writes_ascii : IsTrue writes → WritesAscii (map_writes pairs) write.Start Byte

@@ -34,3 +34,7 @@ pub record NameFirst (place : ℕ → ℕ) (k : ℕ) (entries : List Entry) : Ty
   pub of : (c : ℕ) → place c ≢ nowhere → character_at entries (place c) ≡ c
   pub first : (c j : ℕ) → place c ≢ nowhere → j < place c → character_at entries j ≢ c
   pub lacks : (c j : ℕ) → place c ≡ nowhere → j < k → character_at entries j ≢ c
+
+-- Pages name for each character of entries the place of its first, and nothing else.
+abbrev pub AreFirst : List ℕ → List ℕ → List Entry → Type 0
+AreFirst tops cells entries = NameFirst (place_of tops cells) (length entries) entries

@@ -37,12 +37,27 @@ pub struct Bytes {
     size: u8,
 }
 
+/// Spreads numbers, so that those in order are far from each other: an odd factor keeps the last bits of different numbers different.
+fn spread(n: u32) -> u64 {
+    u64::from(n).wrapping_mul(0x9E37_79B9_7F4A_7C15)
+}
+
 impl Bytes {
-    /// The last bytes of a number, spread so that those of numbers in order are far from each other: a factor that is odd keeps
-    /// different numbers different.
+    /// Bytes of a size, different for different numbers that as many bits can hold.
     fn of(size: u8, n: u32) -> Bytes {
         Bytes {
-            all: u64::from(n).wrapping_mul(0x9E37_79B9_7F4A_7C15).to_le_bytes(),
+            all: spread(n).to_le_bytes(),
+            size,
+        }
+    }
+
+    /// The same with the size in the first three bits, so that none begins another.
+    fn marked(size: u8, n: u32) -> Bytes {
+        let mark = size.saturating_sub(1) % 8 * 32;
+        let front = (spread(n) % 32) as u8;
+        let [b, c, d, e, f, g, h, _] = (spread(n) >> 5).to_le_bytes();
+        Bytes {
+            all: [mark | front, b, c, d, e, f, g, h],
             size,
         }
     }
@@ -50,16 +65,6 @@ impl Bytes {
     /// The bytes.
     pub fn as_slice(&self) -> &[u8] {
         self.all.get(..usize::from(self.size)).unwrap_or(&[])
-    }
-
-    /// The same with the size in the first three bits, so that none begins another.
-    fn marked(self) -> Bytes {
-        let [first, b, c, d, e, f, g, h] = self.all;
-        let mark = self.size.saturating_sub(1) % 8 * 32;
-        Bytes {
-            all: [mark | first % 32, b, c, d, e, f, g, h],
-            size: self.size,
-        }
     }
 }
 
@@ -88,8 +93,8 @@ impl Form {
     pub fn bytes(self, n: u32) -> Bytes {
         match self {
             Form::Sized { size, .. } => Bytes::of(size, n),
-            Form::Mixed { .. } if n < 32 => Bytes::of(1, n).marked(),
-            Form::Mixed { .. } => Bytes::of((n % 7) as u8 + 2, n).marked(),
+            Form::Mixed { .. } if n < 32 => Bytes::marked(1, n),
+            Form::Mixed { .. } => Bytes::marked((n % 7) as u8 + 2, n),
             Form::Crowded { .. } => Bytes::of(3, n),
         }
     }

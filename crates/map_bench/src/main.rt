@@ -1,5 +1,5 @@
 //! How long building a charmap takes, and reading and writing by it. It gives figures only where it is asked for them: of each round the
-//! nanoseconds of building, of reading and of writing half a million characters of the map by chance, and how many pairs it has.
+//! nanoseconds of building and how many pairs there are, and those of reading and of writing half a million characters of the map by chance.
 #![tactic(auto)]
 
 use cv_base::{BlockCodec, ReadState, Scalar, WriteState};
@@ -16,12 +16,13 @@ use std::{env, io};
 const CHARACTERS: u32 = 500_000;
 
 /// Characters by chance, and the bytes of their pairs.
+#[derive(Drop)]
 struct Sample {
     bytes: Vec<u8>,
     characters: Vec<Scalar>,
 }
 
-fn sample(alloc: Global, pairs: &Pairs) -> Result<Sample, AllocError> {
+fn drawn(alloc: Global, pairs: &Pairs) -> Result<Sample, AllocError> {
     let mut bytes = Vec::new(alloc);
     let mut characters = Vec::new(alloc);
     let mut chance = 1u64;
@@ -69,24 +70,48 @@ fn write_all(map: &Charmap, characters: &[Scalar]) -> usize {
     count
 }
 
-fn round<R: Clock + Print + AllocGlobal>(rt: &R, text: &[u8]) -> io::Result<()> {
-    let pairs = match read(rt.alloc(), text) {
-        Ok(pairs) => pairs,
-        Err(CompileFault::Map(fault)) => return println!(rt; "{fault}"),
-        Err(CompileFault::Memory) => return Err(io::ErrorKind::OutOfMemory.into()),
-    };
-    let sample = sample(rt.alloc(), &pairs)?;
+fn pairs_of(alloc: Global, text: &[u8]) -> io::Result<Pairs> {
+    match read(alloc, text) {
+        Ok(pairs) => Ok(pairs),
+        Err(CompileFault::Map(_)) => Err(io::ErrorKind::InvalidData.into()),
+        Err(CompileFault::Memory) => Err(io::ErrorKind::OutOfMemory.into()),
+    }
+}
+
+fn map_of(alloc: Global, pairs: Pairs) -> io::Result<Charmap> {
+    Charmap::build(alloc, pairs).map_err(|_| io::ErrorKind::OutOfMemory.into())
+}
+
+/// Builds the map, and prints the nanoseconds and the number of pairs while the map is there.
+fn build<R: Clock + Print + AllocGlobal>(rt: &R, text: &[u8]) -> io::Result<()> {
+    let pairs = pairs_of(rt.alloc(), text)?;
     let start = Instant::now(rt)?;
-    let map = Charmap::build(rt.alloc(), pairs).map_err(|_| io::ErrorKind::OutOfMemory)?;
-    let built = start.elapsed(rt)?.as_nanos();
+    let map = map_of(rt.alloc(), pairs)?;
+    let spent = start.elapsed(rt)?.as_nanos();
+    println!(rt; "build {spent} {}", map.len())
+}
+
+/// The nanoseconds of reading and of writing the sample.
+fn convert<R: Clock + AllocGlobal>(rt: &R, text: &[u8]) -> io::Result<(u128, u128)> {
+    let pairs = pairs_of(rt.alloc(), text)?;
+    let sample = drawn(rt.alloc(), &pairs)?;
+    let map = map_of(rt.alloc(), pairs)?;
     let start = Instant::now(rt)?;
-    let characters = read_all(&map, &sample.bytes);
+    let count = read_all(&map, &sample.bytes);
     let read = start.elapsed(rt)?.as_nanos();
     let start = Instant::now(rt)?;
-    let bytes = write_all(&map, &sample.characters);
-    let wrote = start.elapsed(rt)?.as_nanos();
-    let pairs = map.len();
-    println!(rt; "{built} {read} {wrote} {pairs} {characters} {bytes}")
+    let wrote = write_all(&map, &sample.characters);
+    let written = start.elapsed(rt)?.as_nanos();
+    if count != sample.characters.len() || wrote == 0 {
+        return Err(io::ErrorKind::InvalidData.into());
+    }
+    Ok((read, written))
+}
+
+fn round<R: Clock + Print + AllocGlobal>(rt: &R, text: &[u8]) -> io::Result<()> {
+    build(rt, text)?;
+    let (read, written) = convert(rt, text)?;
+    println!(rt; "read {read} write {written}")
 }
 
 fn rounds_of(words: &[String]) -> Option<u64> {

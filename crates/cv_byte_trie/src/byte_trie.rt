@@ -1,5 +1,5 @@
 //! Entries with a trie of them.
-ghost use Rattle.std.specs.Prelude.{◌≡◌, ◌<◌, ◌≤◌, ◌+◌, ℕ, [], ◌∷◌, ◌++◌, length, take, slice_get, OnOk, OnErr, IfOk};
+ghost use Rattle.std.specs.Prelude.{◌≡◌, ◌<◌, ◌≤◌, ◌+◌, ℕ, [], ◌∷◌, ◌++◌, length, take, slice_get, slice_index, OnOk, OnErr, IfOk};
 ghost use Rattle.std.specs.Option.{option_copied};
 ghost use Rattle.cv_byte_trie.specs.Entries.{bytes_at, AreEntries};
 ghost use Rattle.cv_byte_trie.specs.Tries.{HasTrie};
@@ -127,6 +127,15 @@ impl ByteTrie {
         ensures { result ≡ edge_of self.now.steps node byte }
     {
         self.steps.edge(node, byte)
+    }
+
+    /// Where each byte leads from node 0, the root, as a code.
+    #[inline]
+    pub fn root(&self) -> &[u32]
+        ensures size { length result.now ≡ 256 }
+        ensures edges { (b : ℕ) → b < 256 → slice_index result.now b ≡ edge_of self.now.steps 0 b }
+    {
+        self.steps.root()
     }
 
     /// The steps lead each byte string as they should. It does nothing.

@@ -1,5 +1,5 @@
 //! A byte string and its character.
-ghost use Rattle.std.specs.Prelude.{◌≡◌, ◌≤◌, length};
+ghost use Rattle.std.specs.Prelude.{◌≡◌, ◌≤◌, length, take};
 
 use cv_base::Scalar;
 use std::marker::Model;
@@ -44,6 +44,24 @@ impl Entry {
         ensures few { length result.now ≤ 8 }
     {
         &self.bytes[..self.len as usize]
+    }
+
+    /// Its bytes, with others behind them.
+    #[inline]
+    pub fn padded(&self) -> &[u8; 8]
+        ensures bytes { take (length self.now.0) result.now ≡ self.now.0 }
+        ensures few { length self.now.0 ≤ 8 }
+        ensures size { length result.now ≡ 8 }
+    {
+        &self.bytes
+    }
+
+    /// How many bytes it has.
+    #[inline]
+    pub fn len(&self) -> usize
+        ensures { result ≡ length self.now.0 }
+    {
+        self.len as usize
     }
 
     /// Its character.

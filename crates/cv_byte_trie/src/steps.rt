@@ -1,5 +1,5 @@
 //! The steps of a trie, and where a byte leads by them.
-ghost use Rattle.std.specs.Prelude.{◌≡◌, ◌<◌, ℕ, length, IfOk};
+ghost use Rattle.std.specs.Prelude.{◌≡◌, ◌<◌, ℕ, length, slice_index, IfOk};
 ghost use Rattle.cv_byte_trie.specs.Tries.{none};
 ghost use Rattle.cv_byte_trie.specs.Tables.{node_count, link_count, code_count, node_at, edge_of};
 ghost use Rattle.cv_byte_trie.specs.Private.Sound.{IsSound};
@@ -56,6 +56,16 @@ impl Steps {
             Node::One { byte: own, code } => { if byte == own { code } else { NONE } }
             Node::Listed { newest, .. } => self.listed(node, newest, byte),
         }
+    }
+
+    /// Where each byte leads from the root.
+    #[inline]
+    pub(crate) fn root(&self) -> &[u32]
+        requires { IsSound self.now }
+        ensures size { length result.now ≡ 256 }
+        ensures edges { (b : ℕ) → b < 256 → slice_index result.now b ≡ edge_of self.now 0 b }
+    {
+        &self.tables[..256]
     }
 
     /// A root with no edge.

@@ -1,0 +1,147 @@
+-- The places that pages name.
+use Rattle.std.proofs.Common.{◌≡◌, ◌≢◌, ◌==◌, ℕ, zero, suc, ◌<◌, ◌≤◌, ◌+◌, ◌*◌, ◌/◌, ◌%◌, Bool, true, false, cond, List, [], ◌∷◌, length, get_or, slice_set, refl, sym, ◌∙◌, ap, arith, inl, inr, eq-eqb, Option, Some, None, option_map}
+use Rattle.std.specs.List.{find, slice_index}
+use Rattle.std.proofs.Math.ListN.{replicate}
+use Rattle.std.proofs.lemmas.Bool.{cases_lt, cases_eq}
+use Rattle.std.proofs.lemmas.List.{get_or-replicate, get_or-set_same, get_or-set_other, get_or_past}
+use Rattle.cv_base.specs.declared.state.WriteState.{WriteState}
+use Rattle.cv_base.specs.declared.state.WriteState.TheVariants as write
+use Rattle.cv_byte_trie.specs.Entries.{Entry, bytes_at, character_at}
+use Rattle.cv_byte_trie.proofs.Linked.{not_eqb}
+use Rattle.cv_trie.specs.Charmaps.{as_written, map_writes}
+use Rattle.cv_trie.specs.Private.Paging.{nowhere, cell_of, place_of, AreNumbered, NameFirst}
+
+-- ---- numbering pages
+
+everywhere : (x n t : ℕ) → get_or (replicate n x) t x ≡ x
+everywhere x zero t = refl
+everywhere x (suc n) zero = refl
+everywhere x (suc n) (suc t) = everywhere x n t
+
+-- pages that are all empty
+pub none_numbered : (n : ℕ) → AreNumbered (replicate n 0) 1
+none_numbered n =
+    let zeros : (t : ℕ) → slice_index (replicate n 0) t ≡ 0 = λ t. everywhere 0 n t in
+    record {
+      some = omega arith;
+      below = λ t. rw (zeros t) (omega arith);
+      apart = λ s t e some. absurd (let z : slice_index (replicate n 0) t ≡ 0 = zeros t in omega arith);
+    }
+
+-- one more page
+pub numbered_more : (tops : List ℕ) (count t : ℕ) → AreNumbered tops count → t < length tops → AreNumbered (slice_set tops t count) (count + 1)
+numbered_more tops count t n low =
+    let same : get_or (slice_set tops t count) t 0 ≡ count = get_or-set_same tops t count 0 low in
+    let other : (s : ℕ) → s ≢ t → get_or (slice_set tops t count) s 0 ≡ get_or tops s 0 = λ s ne. get_or-set_other tops t s count 0 ne in
+    record {
+      some = omega arith;
+      below = λ s. elim (cases_eq s t) [
+        | inl e ↦ rw (e, same) (omega arith)
+        | inr ne ↦ rw (other s ne) (let b = n.below s in omega arith)
+      ];
+      apart = λ s u e some. elim (cases_eq s t) [
+        | inl es ↦ elim (cases_eq u t) [
+          | inl eu ↦ es ∙ sym eu
+          | inr nu ↦ absurd (let b = n.below u in let f = other u nu in let g : get_or (slice_set tops t count) s 0 ≡ count = ap (λ (i : ℕ). get_or (slice_set tops t count) i 0) es ∙ same in omega arith)
+        ]
+        | inr ns ↦ elim (cases_eq u t) [
+          | inl eu ↦ absurd (let b = n.below s in let f = other s ns in let g : get_or (slice_set tops t count) u 0 ≡ count = ap (λ (i : ℕ). get_or (slice_set tops t count) i 0) eu ∙ same in omega arith)
+          | inr nu ↦ n.apart s u (sym (other s ns) ∙ e ∙ other u nu) (let f = other u nu in omega arith)
+        ]
+      ];
+    }
+
+-- a page stays one
+pub paged_more : (tops : List ℕ) (count t s : ℕ) → AreNumbered tops count → t < length tops → 0 < get_or tops s 0 → 0 < get_or (slice_set tops t count) s 0
+paged_more tops count t s n low some = elim (cases_eq s t) [
+  | inl e ↦ rw (e, get_or-set_same tops t count 0 low) n.some
+  | inr ne ↦ rw (get_or-set_other tops t s count 0 ne) some
+]
+
+-- ---- naming places
+
+-- no place is named
+pub none_named : (tops : List ℕ) (size : ℕ) (entries : List Entry) → NameFirst (place_of tops (replicate size nowhere)) 0 entries
+none_named tops size entries =
+    let none : (c : ℕ) → place_of tops (replicate size nowhere) c ≡ nowhere = λ c. everywhere nowhere size (cell_of tops c) in
+    record {
+      low = λ c some. absurd (some (none c));
+      of = λ c some. absurd (some (none c));
+      first = λ c j some l. absurd (some (none c));
+      lacks = λ c j e l. absurd (omega arith);
+    }
+
+-- two characters have two cells, where one has a page of its own
+cells_apart : (tops : List ℕ) (count c d : ℕ) → AreNumbered tops count → 0 < get_or tops (c / 64) 0 → cell_of tops d ≡ cell_of tops c → d ≡ c
+cells_apart tops count c d n some e =
+    let page : get_or tops (d / 64) 0 ≡ get_or tops (c / 64) 0 = omega arith in
+    let within : d % 64 ≡ c % 64 = omega arith in
+    let top : d / 64 ≡ c / 64 = n.apart (d / 64) (c / 64) page some in
+    omega arith
+
+-- the next entry's character is named its place, if it has none
+pub named_more : (tops cells : List ℕ) (count k c : ℕ) (entries : List Entry) → AreNumbered tops count → 0 < get_or tops (c / 64) 0 → cell_of tops c < length cells → k < nowhere → c ≡ character_at entries k
+    → place_of tops cells c ≡ nowhere → NameFirst (place_of tops cells) k entries → NameFirst (place_of tops (slice_set cells (cell_of tops c) k)) (k + 1) entries
+named_more tops cells count k c entries n some within small is vacant h =
+    let q : ℕ → ℕ = place_of tops (slice_set cells (cell_of tops c) k) in
+    let mine : q c ≡ k = get_or-set_same cells (cell_of tops c) k nowhere within in
+    let other : (d : ℕ) → d ≢ c → q d ≡ place_of tops cells d = λ d ne. get_or-set_other cells (cell_of tops c) (cell_of tops d) k nowhere (λ e. ne (cells_apart tops count c d n some e)) in
+    record {
+      low = λ d has. elim (cases_eq d c) [
+        | inl e ↦ (let now : q d ≡ k = ap q e ∙ mine in omega arith)
+        | inr ne ↦ (let now = other d ne in let l = h.low d (λ z. has (now ∙ z)) in omega arith)
+      ];
+      of = λ d has. elim (cases_eq d c) [
+        | inl e ↦ (let now : q d ≡ k = ap q e ∙ mine in ap (character_at entries) now ∙ sym is ∙ sym e)
+        | inr ne ↦ (let now = other d ne in ap (character_at entries) now ∙ h.of d (λ z. has (now ∙ z)))
+      ];
+      first = λ d j has l. elim (cases_eq d c) [
+        | inl e ↦ (let now : q d ≡ k = ap q e ∙ mine in λ z. h.lacks c j vacant (omega arith) (z ∙ e))
+        | inr ne ↦ (let now = other d ne in h.first d j (λ z. has (now ∙ z)) (omega arith))
+      ];
+      lacks = λ d j none l. elim (cases_eq d c) [
+        | inl e ↦ absurd (let now : q d ≡ k = ap q e ∙ mine in omega arith)
+        | inr ne ↦ elim (cases_lt j k) [
+          | inl lower ↦ h.lacks d j (sym (other d ne) ∙ none) lower
+          | inr upper ↦ (let last : j ≡ k = omega arith in λ z. ne (sym z ∙ ap (character_at entries) last ∙ sym is))
+        ]
+      ];
+    }
+
+-- the next entry's character has a place already
+pub named_kept : (place : ℕ → ℕ) (k c : ℕ) (entries : List Entry) → c ≡ character_at entries k → place c ≢ nowhere → NameFirst place k entries → NameFirst place (k + 1) entries
+named_kept place k c entries is has h = record {
+  low = λ d some. (let l = h.low d some in omega arith);
+  of = h.of;
+  first = h.first;
+  lacks = λ d j none l. elim (cases_lt j k) [
+    | inl lower ↦ h.lacks d j none lower
+    | inr upper ↦ (let last : j ≡ k = omega arith in λ z. has (ap place (is ∙ sym (ap (character_at entries) last) ∙ z) ∙ none))
+  ];
+}
+
+-- ---- what is written
+
+find_first : (entries : List Entry) (c k : ℕ) → k < length entries → character_at entries k ≡ c → ((j : ℕ) → j < k → character_at entries j ≢ c) → option_map as_written (find (λ (p : Entry). p.1 == c) entries) ≡ Some (bytes_at entries k, write.Start)
+find_first [] c k l e h = absurd (omega arith)
+find_first (p ∷ entries) c zero l e h = rw (eq-eqb p.1 c e) refl
+find_first (p ∷ entries) c (suc k) l e h = rw (not_eqb p.1 c (h 0 (omega arith))) (find_first entries c k (omega arith) e (λ j m. h (suc j) (omega arith)))
+
+find_none : (entries : List Entry) (c : ℕ) → ((j : ℕ) → j < length entries → character_at entries j ≢ c) → option_map as_written (find (λ (p : Entry). p.1 == c) entries) ≡ None
+find_none [] c h = refl
+find_none (p ∷ entries) c h = rw (not_eqb p.1 c (h 0 (omega arith))) (find_none entries c (λ j m. h (suc j) (omega arith)))
+
+module _ (entries : List Entry) (place : ℕ → ℕ) (h : NameFirst place (length entries) entries) (c k : ℕ) (is : k ≡ place c) where
+  -- the place of a character is one of the list
+  pub place_low : k ≢ nowhere → k < length entries
+  place_low has = let l = h.low c (λ z. has (is ∙ z)) in omega arith
+
+  -- a character that has a place is written as the bytes there
+  pub writes_place : k ≢ nowhere → (t : WriteState) → map_writes entries t c ≡ Some (bytes_at entries k, write.Start)
+  writes_place has t =
+      let some : place c ≢ nowhere = λ z. has (is ∙ z) in
+      find_first entries c (place c) (h.low c some) (h.of c some) (λ j l. h.first c j some l) ∙ ap (λ (x : ℕ). Some (bytes_at entries x, write.Start)) (sym is)
+
+  -- a character that has none is lacking
+  pub writes_nothing : k ≡ nowhere → (t : WriteState) → map_writes entries t c ≡ None
+  writes_nothing none t = find_none entries c (λ j l. h.lacks c j (sym is ∙ none) l)

@@ -1,0 +1,5 @@
+pub mod MapLaws
+pub mod MapItems
+pub mod Following
+pub mod FirstPlaces
+pub mod Written

@@ -1,0 +1,59 @@
+-- Characters that are written one after another.
+use Rattle.std.proofs.Common.{◌≡◌, ◌≢◌, ℕ, ◌+◌, ◌≤◌, ◌<◌, List, [], ◌∷◌, ◌++◌, length, take, drop, get_or, refl, sym, ◌∙◌, ap, arith, Some, None, Option, length-append}
+use Rattle.std.proofs.lemmas.List.{take_at, drop_at, take-append-le, length-take-le}
+use Rattle.std.proofs.Math.Seq.{drop-cons, take-add}
+use Rattle.std.specs.Prelude.{IsSome}
+use Rattle.cv_base.specs.Scalars.{question}
+use Rattle.cv_base.specs.Codecs.{Writing}
+use Rattle.cv_base.specs.Chains.{Output, output, written, put_or, substituted, followed, output_for}
+use Rattle.cv_base.specs.declared.state.WriteState.{WriteState}
+use Rattle.cv_base.specs.declared.state.WriteState.TheVariants as write
+use Rattle.cv_base.proofs.ChainLaws.{output_for-append, output_for-one}
+use Rattle.cv_byte_trie.specs.Entries.{Entry, bytes_at}
+use Rattle.cv_charmap.specs.Maps.{IsMap}
+use Rattle.cv_trie.specs.Charmaps.{map_writes}
+use Rattle.cv_trie.specs.Private.Paging.{nowhere, NameFirst}
+use Rattle.cv_trie.specs.Private.Fronts.{IsWrittenFront}
+use Rattle.cv_trie.proofs.MapLaws.{map_substitutes}
+use Rattle.cv_trie.proofs.FirstPlaces.{writes_place, writes_nothing}
+
+not_none : {X : Type 0} (o : Option X) → IsSome o → o ≡ None → ⊥
+not_none (Some x) h e = cc
+not_none None h e = cc
+
+module _ (entries : List Entry) (place : ℕ → ℕ) (h : NameFirst place (length entries) entries) where
+  -- what is written for a character that has a place
+  pub chosen : (c k : ℕ) → k ≡ place c → k ≢ nowhere → written (map_writes entries) write.Start (Some c) ≡ output (bytes_at entries k) 0 write.Start
+  chosen c k is has = ap (put_or (substituted write.Start (map_writes entries write.Start question))) (writes_place entries place h c k is has write.Start)
+
+  -- what is written for one that has none
+  pub chosen_substitute : (c j k : ℕ) → j ≡ place c → j ≡ nowhere → k ≡ place question → k ≢ nowhere → written (map_writes entries) write.Start (Some c) ≡ output (bytes_at entries k) 1 write.Start
+  chosen_substitute c j k none lacks is has =
+      ap (put_or (substituted write.Start (map_writes entries write.Start question))) (writes_nothing entries place h c j none lacks write.Start)
+      ∙ ap (substituted write.Start) (writes_place entries place h question k is has write.Start)
+
+  -- `?` has a place
+  pub substitute_has : IsMap entries → (k : ℕ) → k ≡ place question → k ≢ nowhere
+  substitute_has m k is none = not_none (map_writes entries write.Start question) (map_substitutes entries m write.Start) (writes_nothing entries place h question k is none write.Start)
+
+-- one more character is written
+pub written_more : (writes : Writing) (characters buffer after w : List ℕ) (k used count m c size : ℕ) → IsWrittenFront writes (take k characters) buffer used count → k < length characters → c ≡ get_or characters k c
+    → written writes write.Start (Some c) ≡ output w m write.Start → size ≡ length w → take (used + size) after ≡ take used buffer ++ w → IsWrittenFront writes (take (k + 1) characters) after (used + size) (count + m)
+written_more writes characters buffer after w k used count m c size s low is e n stand =
+    let o = output_for writes write.Start (take k characters) in
+    let one : take (k + 1) characters ≡ take k characters ++ c ∷ [] = take-add k 1 characters ∙ ap (λ (x : List ℕ). take k characters ++ x) (ap (λ (x : List ℕ). take 1 x) (drop-cons characters k c low) ∙ ap (λ (d : ℕ). d ∷ []) (sym is)) in
+    let all : output_for writes write.Start (take (k + 1) characters) ≡ followed o (output w m write.Start) = ap (output_for writes write.Start) one ∙ output_for-append writes write.Start (take k characters) (c ∷ []) ∙ ap (followed o) (output_for-one writes o.next c ∙ ap (λ (u : WriteState). written writes u (Some c)) s.next ∙ e) in
+    record {
+      bytes = rw all (stand ∙ ap (λ (x : List ℕ). x ++ w) s.bytes);
+      uses = rw all (omega (arith, length-append o.bytes w, s.uses, n));
+      counts = rw all (ap (λ (x : ℕ). x + m) s.counts);
+      next = rw all refl;
+    }
+
+-- bytes at a place, with what was copied behind them
+pub stands_at : (front bytes : List ℕ) (used len : ℕ) (rest : List ℕ) → used ≤ length front → len ≤ length bytes → take (used + len) (take used front ++ (bytes ++ rest)) ≡ take used front ++ take len bytes
+stands_at front bytes used len rest a b =
+    let p = take used front in
+    let e : length p ≡ used = length-take-le used front a in
+    take-add used len (p ++ (bytes ++ rest)) ∙ ap (λ (x : List ℕ). x ++ take len (drop used (p ++ (bytes ++ rest)))) (take_at p (bytes ++ rest) used e)
+    ∙ ap (λ (x : List ℕ). p ++ take len x) (drop_at p (bytes ++ rest) used e) ∙ ap (λ (x : List ℕ). p ++ x) (take-append-le len bytes rest b)

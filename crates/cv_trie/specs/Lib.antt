@@ -1,0 +1,2 @@
+pub mod Charmaps
+pub mod Private

@@ -1,0 +1,4 @@
+pub mod Paging
+pub mod Compiled
+pub mod Fronts
+pub mod Followed

@@ -1,0 +1,40 @@
+-- Pages of 64 characters each, which name places in a list.
+use Rattle.std.specs.Prelude.{◌≡◌, ◌≢◌, ℕ, ◌+◌, ◌*◌, ◌/◌, ◌%◌, ◌<◌, ◌≤◌, List, length, slice_index, slice_index_or}
+use Rattle.cv_byte_trie.specs.Entries.{Entry, character_at}
+
+-- stands for no place
+abbrev pub nowhere : ℕ
+nowhere = 0xFFFFFFFF
+
+-- where the cell of a character stands, by the numbers of the pages
+abbrev pub cell_of : List ℕ → ℕ → ℕ
+cell_of tops character = slice_index tops (character / 64) * 64 + character % 64
+
+-- the place that pages name for a character
+abbrev pub place_of : List ℕ → List ℕ → ℕ → ℕ
+place_of tops cells character = slice_index_or cells (cell_of tops character) nowhere
+
+-- There are so many pages. Page 0 is that of all characters that have no other, and no other is that of two.
+pub record AreNumbered (tops : List ℕ) (count : ℕ) : Type 0 where
+  pub some : 0 < count
+  pub below : (t : ℕ) → slice_index tops t < count
+  pub apart : (s t : ℕ) → slice_index tops s ≡ slice_index tops t → 0 < slice_index tops t → s ≡ t
+
+-- Each of the first so many entries has a page for its character.
+abbrev pub ArePaged : List ℕ → ℕ → List Entry → Type 0
+ArePaged tops k entries = (j : ℕ) → j < k → 0 < slice_index tops (character_at entries j / 64)
+
+-- Each page has its cells.
+abbrev pub AreWhole : List ℕ → List ℕ → Type 0
+AreWhole tops cells = (t : ℕ) → slice_index tops t * 64 + 64 ≤ length cells
+
+-- Of the first so many entries each character has the place of its first, and any other character has none.
+pub record NameFirst (place : ℕ → ℕ) (k : ℕ) (entries : List Entry) : Type 0 where
+  pub low : (c : ℕ) → place c ≢ nowhere → place c < k
+  pub of : (c : ℕ) → place c ≢ nowhere → character_at entries (place c) ≡ c
+  pub first : (c j : ℕ) → place c ≢ nowhere → j < place c → character_at entries j ≢ c
+  pub lacks : (c j : ℕ) → place c ≡ nowhere → j < k → character_at entries j ≢ c
+
+-- Pages name for each character of entries the place of its first, and nothing else.
+abbrev pub AreFirst : List ℕ → List ℕ → List Entry → Type 0
+AreFirst tops cells entries = NameFirst (place_of tops cells) (length entries) entries

@@ -1,0 +1,41 @@
+//! Whether ASCII stands for itself in a charmap.
+ghost use Rattle.std.specs.Prelude.{IsTrue};
+ghost use Rattle.cv_base.specs.Ascii.{ReadsAscii, WritesAscii};
+ghost use Rattle.cv_base.specs.declared.ascii_form.AsciiForm.{AsciiForm};
+ghost use Rattle.cv_base.specs.declared.state.ReadState.{ReadState};
+ghost use Rattle.cv_base.specs.declared.state.WriteState.{WriteState};
+ghost use Rattle.cv_trie.specs.Charmaps.{map_reads, map_writes};
+ghost use Rattle.cv_trie.specs.Private.Paging.{AreFirst};
+
+use crate::pages::{NOWHERE, Pages};
+use cv_byte_trie::{ByteTrie, Entry, NONE};
+
+/// Whether each ASCII byte is read as its character.
+pub(crate) fn does_read_ascii(trie: &ByteTrie) -> bool
+    ensures { IsTrue result
+        → ReadsAscii (map_reads trie.now.entries) ReadState.Start AsciiForm.Byte }
+{
+    trie.assert_leads();
+    for byte in 0..128u8 {
+        let code = trie.step(0, byte);
+        if code >= NONE || trie.entries()[code as usize].character().value() != byte as u32 {
+            return false;
+        }
+    }
+    true
+}
+
+/// Whether each ASCII character is written as its byte.
+pub(crate) fn does_write_ascii(pages: &Pages, entries: &[Entry]) -> bool
+    requires names { AreFirst pages.now.tops.items pages.now.cells.items entries.now }
+    ensures { IsTrue result
+        → WritesAscii (map_writes entries.now) WriteState.Start AsciiForm.Byte }
+{
+    for character in 0..128u8 {
+        let place = pages.place(character as u32);
+        if place == NOWHERE || entries[place as usize].bytes() != [character].as_slice() {
+            return false;
+        }
+    }
+    true
+}

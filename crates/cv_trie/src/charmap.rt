@@ -1,0 +1,149 @@
+//! Compiled charmaps.
+ghost use Rattle.std.specs.Prelude.{◌≡◌, length, IfOk};
+ghost use Rattle.cv_charmap.specs.Maps.{IsMap};
+ghost use Rattle.cv_trie.specs.Charmaps.{map_reads, map_writes, map_closes};
+
+use crate::ascii::{does_read_ascii, does_write_ascii};
+use crate::items::next_item;
+use crate::longest::longest;
+use crate::pages::Pages;
+use crate::reading::read_front;
+use crate::writing::{put_character, write_run};
+use cv_base::{
+    AsciiForm, BlockCodec, Codec, Item, Memory, Piece, Put, ReadBlock, ReadState, Scalar,
+    WriteState, WrittenBlock, write_each,
+};
+use cv_byte_trie::ByteTrie;
+use cv_charmap::Pairs;
+use std::alloc::Global;
+use std::marker::Model;
+
+/// A charmap that is read and written. Contracts see its name and its list of pairs.
+#[derive(Drop)]
+pub struct Charmap {
+    name: Vec<u8>,
+    /// The pairs, found by their bytes.
+    trie: ByteTrie,
+    /// The place of each character's first pair.
+    pages: Pages,
+    /// How many bytes the longest pair has.
+    most: usize,
+    /// Whether each ASCII byte is read as its character.
+    reads_ascii: bool,
+    /// Whether each ASCII character is written as its byte.
+    writes_ascii: bool,
+}
+
+impl Model for Charmap {
+    ghost use Rattle.cv_charmap.specs.Meaning as meaning;
+    ghost use Rattle.cv_trie.specs.Private.Compiled.{IsCompiled};
+
+    ghost Value = { meaning.Charmap };
+
+    ghost view = { λ m. record { name = m.name.items; pairs = m.trie.entries } };
+
+    ghost invariant = { λ m. IsCompiled m.trie.entries m.pages.tops.items m.pages.cells.items
+        m.most m.reads_ascii m.writes_ascii };
+}
+
+impl Charmap {
+    /// Compiles a charmap: it keeps the trie that its reader made, and adds the pages by which it is written.
+    pub fn build(alloc: Global, pairs: Pairs) -> Result<Charmap, Memory>
+        ensures { IfOk result (λ m. m ≡ pairs) }
+    {
+        let (name, trie) = pairs.into_parts();
+        let pages = Pages::of(alloc, trie.entries())?;
+        let most = longest(trie.entries());
+        let reads_ascii = does_read_ascii(&trie);
+        let writes_ascii = does_write_ascii(&pages, trie.entries());
+        Ok(Charmap {
+            name,
+            trie,
+            pages,
+            most,
+            reads_ascii,
+            writes_ascii,
+        })
+    }
+
+    /// The name of the code set.
+    pub fn name(&self) -> &[u8]
+        ensures { result.now ≡ self.now.name }
+    {
+        self.name.as_slice()
+    }
+
+    /// How many pairs there are.
+    pub fn len(&self) -> usize
+        ensures value { result ≡ length self.now.pairs }
+        ensures map { IsMap self.now.pairs }
+    {
+        self.trie.len()
+    }
+}
+
+impl Codec for Charmap {
+    ghost reads = { λ m. map_reads m.pairs };
+
+    ghost writes = { λ m. map_writes m.pairs };
+
+    ghost closes = { λ _. map_closes };
+
+    #[tactic(auto, using(crate::proofs::MapLaws::map_readable, crate::proofs::MapLaws::map_substitutes))]
+    fn assert_valid(&self) {
+        let _ = &self.trie;
+    }
+
+    fn item(&self, state: ReadState, input: &[u8]) -> Item {
+        next_item(&self.trie, state, input)
+    }
+
+    fn put_at(&self, state: WriteState, c: Scalar, out: &mut [u8], at: usize) -> Put {
+        put_character(&self.pages, self.trie.entries(), state, c, out, at)
+    }
+
+    fn close(&self, _state: WriteState) -> Piece {
+        Piece::new()
+    }
+
+    fn most_bytes(&self) -> usize {
+        self.most
+    }
+
+    fn reads_ascii(&self, state: ReadState) -> Option<AsciiForm> {
+        match state {
+            ReadState::Start => self.reads_ascii.then_some(AsciiForm::Byte),
+            _ => None,
+        }
+    }
+
+    fn writes_ascii(&self, state: WriteState) -> Option<AsciiForm> {
+        match state {
+            WriteState::Start => self.writes_ascii.then_some(AsciiForm::Byte),
+            _ => None,
+        }
+    }
+}
+
+impl BlockCodec for Charmap {
+    #[tactic(auto, using(cv_base::proofs::BlockLaws::nothing_read))]
+    fn read_block(&self, state: ReadState, input: &[u8], buffer: &mut [Scalar]) -> ReadBlock {
+        match state {
+            ReadState::Start => read_front(&self.trie, input, buffer),
+            _ => ReadBlock::nothing(state),
+        }
+    }
+
+    fn write_block(
+        &self,
+        state: WriteState,
+        characters: &[Scalar],
+        out: &mut [u8],
+        at: usize,
+    ) -> WrittenBlock {
+        match state {
+            WriteState::Start => write_run(&self.pages, self.trie.entries(), characters, out, at),
+            _ => write_each(self, state, characters, out, at),
+        }
+    }
+}

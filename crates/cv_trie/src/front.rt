@@ -1,0 +1,10 @@
+//! The front of a text.
+
+/// How much of a text was read.
+#[derive(Clone, Copy, Debug)]
+pub(crate) struct Front {
+    /// How many characters.
+    pub(crate) n: usize,
+    /// How many bytes they have.
+    pub(crate) used: usize,
+}

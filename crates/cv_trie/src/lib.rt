@@ -1,0 +1,16 @@
+//! Charmaps as encodings: read by a trie of their byte strings, and written by pages of their characters.
+#![tactic(auto)]
+
+mod ascii;
+mod charmap;
+mod front;
+mod items;
+mod longest;
+mod pages;
+mod reading;
+mod writing;
+
+pub use charmap::Charmap;
+
+#[cfg(test)]
+mod tests;

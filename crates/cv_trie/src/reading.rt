@@ -1,0 +1,115 @@
+//! Reading by blocks.
+ghost use Rattle.std.specs.Prelude.{◌≡◌, ◌≤◌, ◌<◌, ℕ, length, drop, slice_index};
+ghost use Rattle.cv_base.specs.Blocks.{IsReadBlock};
+ghost use Rattle.cv_base.specs.declared.state.ReadState.{ReadState};
+ghost use Rattle.cv_byte_trie.specs.Tables.{edge_of};
+ghost use Rattle.cv_trie.specs.Charmaps.{map_reads};
+ghost use Rattle.cv_trie.specs.Private.Fronts.{IsReadFront};
+ghost use Rattle.cv_trie.specs.Private.Followed.{IsFollowed};
+
+use crate::front::Front;
+use cv_base::{ReadBlock, ReadState, Scalar};
+use cv_byte_trie::{ByteTrie, NODE, NONE};
+
+/// Where the bytes at a place of a text lead.
+#[derive(Clone, Copy, Debug)]
+struct Followed {
+    /// The place of the entry that stands there, or the code of no edge, or of the node at which the text ends.
+    code: u32,
+    /// How many bytes were followed.
+    size: usize,
+}
+
+/// Follows the bytes at a place of a text through the trie. It answers two numbers and no option, which would go through memory.
+#[inline(always)]
+fn follow(trie: &ByteTrie, root: &[u32], input: &[u8], used: usize) -> Followed
+    requires root { (b : ℕ) → b < 256 → slice_index root.now b ≡ edge_of trie.now.steps 0 b }
+    requires size { length root.now ≡ 256 }
+    requires within { used < length input.now }
+    ensures follows { IsFollowed (edge_of trie.now.steps) (length trie.now.steps.nodes.items)
+        trie.now.entries (drop used input.now) result.size result.code }
+    ensures within { result.size ≤ length (drop used input.now) }
+{
+    trie.assert_leads();
+    // What it ensures says that the pairs can be looked up.
+    let _pairs = trie.len();
+    let mut code = root[input[used] as usize];
+    let mut size = 1;
+    while code > NONE && size < input.len() - used {
+        code = trie.step(code - NODE, input[used + size]);
+        size += 1;
+    }
+    Followed { code, size }
+}
+
+/// Reads characters of one byte behind what was read.
+#[inline(always)]
+fn read_ones(trie: &ByteTrie, input: &[u8], buffer: &mut [Scalar], front: Front) -> Front
+    requires { IsReadFront trie.now.entries input.now front buffer.old }
+    ensures read { IsReadFront trie.now.entries input.now result buffer.new }
+    ensures on { front.n ≤ result.n }
+{
+    trie.assert_leads();
+    let root = trie.root();
+    let entries = trie.entries();
+    let most = (buffer.len() - front.n).min(input.len() - front.used);
+    let mut k = 0;
+    while k < most {
+        let code = root[input[front.used + k] as usize];
+        if code >= NONE {
+            break;
+        }
+        buffer[front.n + k] = entries[code as usize].character();
+        k += 1;
+    }
+    Front {
+        n: front.n + k,
+        used: front.used + k,
+    }
+}
+
+/// Reads characters behind what was read, up to one of one byte.
+#[inline(always)]
+fn read_longer(trie: &ByteTrie, input: &[u8], buffer: &mut [Scalar], front: Front) -> Front
+    requires { IsReadFront trie.now.entries input.now front buffer.old }
+    ensures read { IsReadFront trie.now.entries input.now result buffer.new }
+    ensures on { front.n ≤ result.n }
+{
+    let root = trie.root();
+    let entries = trie.entries();
+    let mut n = front.n;
+    let mut used = front.used;
+    while n < buffer.len() && used < input.len() {
+        let followed = follow(trie, root, input, used);
+        if followed.code >= NONE || followed.size == 1 {
+            break;
+        }
+        buffer[n] = entries[followed.code as usize].character();
+        n += 1;
+        used += followed.size;
+    }
+    Front { n, used }
+}
+
+/// Reads the characters at the front of a text into the front of a buffer. Those of one byte have a loop of their own.
+#[inline(never)]
+pub(crate) fn read_front(trie: &ByteTrie, input: &[u8], buffer: &mut [Scalar]) -> ReadBlock
+    ensures block { IsReadBlock (map_reads trie.now.entries) ReadState.Start input.now
+        result buffer.new }
+    ensures size { length buffer.new ≡ length buffer.old }
+{
+    let mut front = Front { n: 0, used: 0 };
+    while front.n < buffer.len() {
+        let before = front.n;
+        front = read_ones(trie, input, buffer, front);
+        front = read_longer(trie, input, buffer, front);
+        if front.n == before {
+            break;
+        }
+    }
+    ReadBlock {
+        n: front.n,
+        used: front.used,
+        next: ReadState::Start,
+    }
+}

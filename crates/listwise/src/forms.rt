@@ -1,0 +1,124 @@
+//! Forms of charmaps, and the texts of them.
+
+use cv_base::Scalar;
+use std::alloc::{AllocError, Global};
+
+/// A form of charmaps. The first pair of each is that of the question mark.
+#[derive(Clone, Copy, Debug, PartialEq, Eq)]
+pub enum Form {
+    /// So many byte strings of one size, each with a character of its own, and so far from character to character.
+    Sized { size: u8, count: u32, step: u32 },
+    /// So many byte strings of 1 to 8 bytes, each with a character of its own.
+    Mixed { count: u32 },
+    /// So many byte strings of three bytes, all of one character but the first.
+    Crowded { count: u32 },
+}
+
+/// Each form, and what it is called.
+pub const FORMS: [(&str, Form); 12] = [
+    ("1 byte", Form::Sized { size: 1, count: 256, step: 1 }),
+    ("1 byte, far apart", Form::Sized { size: 1, count: 256, step: 4000 }),
+    ("2 bytes", Form::Sized { size: 2, count: 7000, step: 1 }),
+    ("3 bytes", Form::Sized { size: 3, count: 65_536, step: 16 }),
+    ("4 bytes", Form::Sized { size: 4, count: 5000, step: 3 }),
+    ("5 bytes", Form::Sized { size: 5, count: 5000, step: 200 }),
+    ("6 bytes", Form::Sized { size: 6, count: 5000, step: 1 }),
+    ("7 bytes", Form::Sized { size: 7, count: 5000, step: 7 }),
+    ("8 bytes", Form::Sized { size: 8, count: 5000, step: 64 }),
+    ("1 to 8 bytes", Form::Mixed { count: 5000 }),
+    ("one character", Form::Crowded { count: 5000 }),
+    ("two bytes, whole", Form::Sized { size: 2, count: 65_536, step: 1 }),
+];
+
+/// The bytes of a pair.
+#[derive(Clone, Copy, Debug)]
+pub struct Bytes {
+    all: [u8; 8],
+    size: u8,
+}
+
+/// Spreads numbers, so that those in order are far from each other: an odd factor keeps the last bits of different numbers different.
+fn spread(n: u32) -> u64 {
+    u64::from(n).wrapping_mul(0x9E37_79B9_7F4A_7C15)
+}
+
+impl Bytes {
+    /// Bytes of a size, different for different numbers that as many bits can hold.
+    fn of(size: u8, n: u32) -> Bytes {
+        Bytes {
+            all: spread(n).to_le_bytes(),
+            size,
+        }
+    }
+
+    /// The same with the size in the first three bits, so that none begins another.
+    fn marked(size: u8, n: u32) -> Bytes {
+        let mark = size.saturating_sub(1) % 8 * 32;
+        let front = (spread(n) % 32) as u8;
+        let [b, c, d, e, f, g, h, _] = (spread(n) >> 5).to_le_bytes();
+        Bytes {
+            all: [mark | front, b, c, d, e, f, g, h],
+            size,
+        }
+    }
+
+    /// The bytes.
+    pub fn as_slice(&self) -> &[u8] {
+        self.all.get(..usize::from(self.size)).unwrap_or(&[])
+    }
+}
+
+/// The character of a number, counted from the question mark so that no surrogate is among them.
+fn counted(n: u32, step: u32) -> Scalar {
+    let value = n.saturating_mul(step).saturating_add(0x3F);
+    let past = if value < 0xD800 {
+        value
+    } else {
+        value.saturating_add(0x800)
+    };
+    Scalar::new(past).unwrap_or(Scalar::substitute())
+}
+
+impl Form {
+    /// How many pairs there are.
+    pub fn count(self) -> u32 {
+        match self {
+            Form::Sized { count, .. } => count,
+            Form::Mixed { count } => count,
+            Form::Crowded { count } => count,
+        }
+    }
+
+    /// The bytes of a pair.
+    pub fn bytes(self, n: u32) -> Bytes {
+        match self {
+            Form::Sized { size, .. } => Bytes::of(size, n),
+            Form::Mixed { .. } if n < 32 => Bytes::marked(1, n),
+            Form::Mixed { .. } => Bytes::marked((n % 7) as u8 + 2, n),
+            Form::Crowded { .. } => Bytes::of(3, n),
+        }
+    }
+
+    /// The character of a pair.
+    pub fn character(self, n: u32) -> Scalar {
+        match self {
+            Form::Sized { step, .. } => counted(n, step),
+            Form::Mixed { .. } => counted(n, 5),
+            Form::Crowded { .. } => counted(n.min(1), 0x4E00),
+        }
+    }
+
+    /// The charmap's text.
+    pub fn text(self, alloc: Global) -> Result<String, AllocError> {
+        let mut text = format!(in alloc; "<code_set_name> FORM\n<mb_cur_max> 8\nCHARMAP\n")?;
+        for n in 0..self.count() {
+            text.push_str(&format!(in alloc; "<U{:08X}> ", self.character(n).value())?)?;
+            for byte in self.bytes(n).as_slice() {
+                text.push_str(&format!(in alloc; "\\x{byte:02X}")?)?;
+            }
+            text.push_str("\n")?;
+        }
+        text.push_str("END CHARMAP\n")?;
+        Ok(text)
+    }
+}

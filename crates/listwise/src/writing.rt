@@ -1,0 +1,86 @@
+//! Characters that are written.
+
+use crate::forms::Form;
+use cv_base::{BlockCodec, Codec, Scalar, WriteState};
+use cv_trie::Charmap;
+use std::alloc::{AllocError, Global};
+
+/// Stands for no pair.
+const NONE: u32 = u32::MAX;
+
+/// For each number the first pair whose character it is.
+pub fn firsts(alloc: Global, form: Form) -> Result<Vec<u32>, AllocError> {
+    let mut firsts = vec![in alloc; NONE; 0x11_0000]?;
+    for n in 0..form.count() {
+        if let Some(first) = firsts.get_mut(form.character(n).value() as usize) {
+            *first = n.min(*first);
+        }
+    }
+    Ok(firsts)
+}
+
+/// Whether a character is written as the bytes of its first pair.
+fn is_written(map: &Charmap, form: Form, first: u32, character: Scalar) -> bool {
+    match map.put(WriteState::Start, character) {
+        Some((piece, next)) => first != NONE
+            && next == WriteState::Start
+            && piece.as_slice() == form.bytes(first).as_slice(),
+        None => first == NONE,
+    }
+}
+
+/// How many scalar values are written as the list says.
+pub fn written_alone(map: &Charmap, form: Form, firsts: &[u32]) -> u32 {
+    let mut count = 0u32;
+    for value in 0..0x11_0000u32 {
+        let first = firsts.get(value as usize).copied().unwrap_or(NONE);
+        if let Some(character) = Scalar::new(value) {
+            count = count.saturating_add(u32::from(is_written(map, form, first, character)));
+        }
+    }
+    count
+}
+
+/// What 64 numbers are written as, and for how many it is `?`: the first pair stands in for what the list lacks.
+fn wanted(form: Form, firsts: &[u32]) -> ([u8; 512], usize, usize) {
+    let mut bytes = [0u8; 512];
+    let mut end = 0usize;
+    let mut lacking = 0usize;
+    for first in firsts.iter().take(64) {
+        let known = if *first == NONE { 0 } else { *first };
+        for byte in form.bytes(known).as_slice() {
+            if let Some(place) = bytes.get_mut(end) {
+                *place = *byte;
+            }
+            end = end.saturating_add(1);
+        }
+        lacking = lacking.saturating_add(usize::from(*first == NONE));
+    }
+    (bytes, end, lacking)
+}
+
+/// Whether a block of 64 characters is written as the list says.
+fn is_block_written(map: &Charmap, form: Form, top: u32, firsts: &[u32]) -> bool {
+    let mut characters = [Scalar::substitute(); 64];
+    for (k, character) in characters.iter_mut().enumerate() {
+        let Some(scalar) = Scalar::new(top.saturating_add(k as u32)) else {
+            return true;
+        };
+        *character = scalar;
+    }
+    let mut out = [0u8; 512];
+    let block = map.write_block(WriteState::Start, &characters, &mut out, 0);
+    let (bytes, end, lacking) = wanted(form, firsts);
+    block.wrote == end && block.count == lacking && out.get(..end) == bytes.get(..end)
+}
+
+/// How many blocks of 64 numbers are written as the list says. Those of surrogates count, too.
+pub fn written_in_blocks(map: &Charmap, form: Form, firsts: &[u32]) -> u32 {
+    let mut count = 0u32;
+    let mut top = 0u32;
+    for chunk in firsts.chunks(64) {
+        count = count.saturating_add(u32::from(is_block_written(map, form, top, chunk)));
+        top = top.saturating_add(64);
+    }
+    count
+}

@@ -1,63 +1,45 @@
--- What was read or written of a spelling is a block.
+-- Characters that were read by their bytes are a block.
 use Rattle.std.proofs.Common.{◌≡◌, ℕ, ◌≤◌, ◌<◌, suc, get_or, get_or-take, length-take, List, [], ◌∷◌, length, take, drop, refl, sym, ◌∙◌, ap, arith, Some, length-append, zero-add}
 use Rattle.std.specs.List.{flat_map}
 use Rattle.cv_base.specs.Items.{Taken, taken, ItemRelation, Begins}
-use Rattle.cv_base.specs.Codecs.{Writing}
-use Rattle.cv_base.specs.Chains.{IsChain, used_bytes, read_state, characters_of, output, output_for}
-use Rattle.cv_base.specs.Blocks.{IsReadBlock, IsWrittenBlock}
-use Rattle.cv_base.specs.Scalars.{IsScalar, AreScalars}
-use Rattle.cv_base.specs.Spelled.{BytesOf, IsSpelledRead, IsSpelledWritten}
-use Rattle.cv_base.specs.declared.block.ReadBlock.{ReadBlock}
-use Rattle.cv_base.specs.declared.block.WrittenBlock.{WrittenBlock}
+use Rattle.cv_base.specs.Chains.{IsChain, used_bytes, read_state, characters_of}
+use Rattle.cv_base.specs.Blocks.{IsReadBlock}
 use Rattle.cv_base.specs.declared.state.ReadState.{ReadState}
-use Rattle.cv_base.specs.declared.state.WriteState.{WriteState}
 use Rattle.cv_base.specs.SingleBytes.{byte_reads}
 use Rattle.cv_base.specs.declared.state.ReadState.TheVariants as read
 use Rattle.cv_base.proofs.Front.{Begins-front, Begins-back, Begins-take}
 
--- In this state the bytes of each character read as it, and the state stays.
-abbrev pub ReadsSpelled : ItemRelation → ReadState → BytesOf → Type 0
-ReadsSpelled reads s bytes_of = (c : ℕ) → IsScalar c → reads s (bytes_of c) (taken (length (bytes_of c)) (Some c) s)
-
--- In this state each character is written as its bytes, and the state stays.
-abbrev pub WritesSpelled : Writing → WriteState → BytesOf → Type 0
-WritesSpelled writes t bytes_of = (c : ℕ) → writes t c ≡ Some (bytes_of c, t)
-
 -- the items of characters that are spelled
-abbrev pub items_for : ReadState → BytesOf → List ℕ → List Taken
+abbrev pub items_for : ReadState → (ℕ → List ℕ) → List ℕ → List Taken
 items_for s bytes_of [] = []
 items_for s bytes_of (c ∷ characters) = taken (length (bytes_of c)) (Some c) s ∷ items_for s bytes_of characters
 
 -- the bytes of each read as it
-abbrev pub AreRead : ItemRelation → ReadState → BytesOf → List ℕ → Type 0
+abbrev pub AreRead : ItemRelation → ReadState → (ℕ → List ℕ) → List ℕ → Type 0
 AreRead reads s bytes_of [] = Unit {0}
 AreRead reads s bytes_of (c ∷ characters) = reads s (bytes_of c) (taken (length (bytes_of c)) (Some c) s) × AreRead reads s bytes_of characters
 
-scalars_read : (reads : ItemRelation) (s : ReadState) (bytes_of : BytesOf) → ReadsSpelled reads s bytes_of → (characters : List ℕ) → AreScalars characters → AreRead reads s bytes_of characters
-scalars_read reads s bytes_of r [] p = tt
-scalars_read reads s bytes_of r (c ∷ characters) p = (r c p.0, scalars_read reads s bytes_of r characters p.1)
-
-chain_for : (reads : ItemRelation) (s : ReadState) (bytes_of : BytesOf) (characters text : List ℕ) → AreRead reads s bytes_of characters → Begins (flat_map bytes_of characters) text → IsChain reads s text (items_for s bytes_of characters)
+chain_for : (reads : ItemRelation) (s : ReadState) (bytes_of : ℕ → List ℕ) (characters text : List ℕ) → AreRead reads s bytes_of characters → Begins (flat_map bytes_of characters) text → IsChain reads s text (items_for s bytes_of characters)
 chain_for reads s bytes_of [] text p q = tt
 chain_for reads s bytes_of (c ∷ characters) text p q = (
   record { bytes = bytes_of c; is_item = p.0; front = Begins-front (bytes_of c) (flat_map bytes_of characters) text q },
   chain_for reads s bytes_of characters (drop (length (bytes_of c)) text) p.1 (Begins-back (bytes_of c) (flat_map bytes_of characters) text q),
 )
 
-used_for : (s : ReadState) (bytes_of : BytesOf) (characters : List ℕ) → used_bytes (items_for s bytes_of characters) ≡ length (flat_map bytes_of characters)
+used_for : (s : ReadState) (bytes_of : ℕ → List ℕ) (characters : List ℕ) → used_bytes (items_for s bytes_of characters) ≡ length (flat_map bytes_of characters)
 used_for s bytes_of [] = refl
 used_for s bytes_of (c ∷ characters) = omega (arith, used_for s bytes_of characters, length-append (bytes_of c) (flat_map bytes_of characters))
 
-state_for : (s : ReadState) (bytes_of : BytesOf) (characters : List ℕ) → read_state s (items_for s bytes_of characters) ≡ s
+state_for : (s : ReadState) (bytes_of : ℕ → List ℕ) (characters : List ℕ) → read_state s (items_for s bytes_of characters) ≡ s
 state_for s bytes_of [] = refl
 state_for s bytes_of (c ∷ characters) = state_for s bytes_of characters
 
-characters_for : (s : ReadState) (bytes_of : BytesOf) (characters : List ℕ) → characters_of (items_for s bytes_of characters) ≡ characters
+characters_for : (s : ReadState) (bytes_of : ℕ → List ℕ) (characters : List ℕ) → characters_of (items_for s bytes_of characters) ≡ characters
 characters_for s bytes_of [] = refl
 characters_for s bytes_of (c ∷ characters) = ap (λ (x : List ℕ). c ∷ x) (characters_for s bytes_of characters)
 
 -- characters whose bytes begin a text, in a buffer
-pub read_block_of : (reads : ItemRelation) (s : ReadState) (bytes_of : BytesOf) (text characters buffer : List ℕ) (n used : ℕ) → AreRead reads s bytes_of characters → Begins (flat_map bytes_of characters) text
+pub read_block_of : (reads : ItemRelation) (s : ReadState) (bytes_of : ℕ → List ℕ) (text characters buffer : List ℕ) (n used : ℕ) → AreRead reads s bytes_of characters → Begins (flat_map bytes_of characters) text
     → used ≡ length (flat_map bytes_of characters) → take n buffer ≡ characters → n ≤ length buffer → IsReadBlock reads s text (record { n = n; used = used; next = s }) buffer
 read_block_of reads s bytes_of text characters buffer n used p q e f h = record {
   chain = items_for s bytes_of characters;
@@ -67,23 +49,6 @@ read_block_of reads s bytes_of text characters buffer n used p q e f h = record 
   uses = e ∙ sym (used_for s bytes_of characters);
   next = sym (state_for s bytes_of characters);
 }
-
--- a block that was read in a spelling
-pub spelled_read : (reads : ItemRelation) (s : ReadState) (bytes_of : BytesOf) → ReadsSpelled reads s bytes_of → (text before : List ℕ) (block : ReadBlock) (after : List ℕ) → IsSpelledRead bytes_of s text before block after → IsReadBlock reads s text block after
-spelled_read reads s bytes_of r text before block after p =
-    let run = p.0 in
-    let stand : take block.n after ≡ run.characters = ap (λ i. take i after) (sym (zero-add block.n)) ∙ run.stand in
-    let it = read_block_of reads s bytes_of text run.characters after block.n block.used (scalars_read reads s bytes_of r run.characters run.scalars) run.begins run.uses stand (omega (arith, run.fits, run.size)) in
-    record { chain = it.chain; is_chain = it.is_chain; within = it.within; gives = it.gives; uses = it.uses; next = p.1 ∙ it.next }
-
--- what is written for characters that are spelled
-output_spelled : (writes : Writing) (t : WriteState) (bytes_of : BytesOf) → WritesSpelled writes t bytes_of → (characters : List ℕ) → output_for writes t characters ≡ output (flat_map bytes_of characters) 0 t
-output_spelled writes t bytes_of w [] = refl
-output_spelled writes t bytes_of w (c ∷ characters) = rw (w c) (rw (output_spelled writes t bytes_of w characters) refl)
-
--- a block that was written in a spelling
-pub spelled_written : (writes : Writing) (t : WriteState) (bytes_of : BytesOf) → WritesSpelled writes t bytes_of → (characters before : List ℕ) (at : ℕ) (block : WrittenBlock) (after : List ℕ) → IsSpelledWritten bytes_of t characters before at block after → IsWrittenBlock writes t characters before at block after
-spelled_written writes t bytes_of w characters before at block after p = rw (output_spelled writes t bytes_of w characters) p
 
 -- no item was read
 pub nothing_read : (reads : ItemRelation) (s : ReadState) (text buffer : List ℕ) → IsReadBlock reads s text (record { n = 0; used = 0; next = s }) buffer

@@ -2,7 +2,6 @@ pub mod SingleByteLaws
 pub mod SingleByteItems
 pub mod Front
 pub mod NameTests
-pub mod SpelledRuns
 pub mod ChainLaws
 pub mod ReadBacks
 pub mod BlockLaws

@@ -10,4 +10,3 @@ pub mod Names
 pub mod Ascii
 pub mod Places
 pub mod Blocks
-pub mod Spelled

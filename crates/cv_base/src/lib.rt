@@ -7,6 +7,7 @@ mod block;
 mod block_codec;
 mod bytes;
 mod codec;
+mod endian;
 mod item;
 mod latin1;
 pub mod laws;
@@ -16,17 +17,15 @@ mod piece;
 pub mod place;
 mod placing;
 mod policy;
-mod reading;
 mod scalar;
-mod spelling;
 mod state;
-mod writing;
 
 pub use ascii::Ascii;
 pub use ascii_form::AsciiForm;
 pub use block::{ReadBlock, WrittenBlock};
 pub use block_codec::BlockCodec;
 pub use codec::Codec;
+pub use endian::Endian;
 pub use item::Item;
 pub use latin1::Latin1;
 pub use memory::Memory;
@@ -35,11 +34,8 @@ pub use piece::Piece;
 pub use place::Put;
 pub use placing::{Placed, place_character, write_each};
 pub use policy::Policy;
-pub use reading::read_spelled;
 pub use scalar::Scalar;
-pub use spelling::{MANY, Spelled, Spelling};
 pub use state::{Bits, ReadState, WriteState};
-pub use writing::write_spelled;
 
 #[cfg(test)]
 mod tests;

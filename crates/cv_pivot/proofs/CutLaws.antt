@@ -16,7 +16,7 @@ use Rattle.cv_pivot.specs.Cuts.{Call, used_of, IsFeed, IsFed, Total, total, Ends
 use Rattle.cv_pivot.specs.declared.outcome.States.{States}
 use Rattle.cv_pivot.specs.declared.outcome.Stop.TheVariants as stop
 use Rattle.cv_pivot.proofs.Allowed.{middle_allowed}
-use Rattle.cv_pivot.proofs.Chained.{Longer, longer, same_used, same_chain}
+use Rattle.cv_pivot.proofs.LongestChains.{Longer, longer, same_used, same_chain}
 
 -- A chain stays one when bytes follow.
 IsChain-more : (reads : ItemRelation) (s : ReadState) (text more : List ℕ) (chain : List Taken) → Begins text more → IsChain reads s text chain → IsChain reads s more chain

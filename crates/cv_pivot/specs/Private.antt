@@ -1,3 +1,2 @@
 -- What the contracts of private functions say, which no public contract cites.
-pub mod AsciiRuns
 pub mod Steps

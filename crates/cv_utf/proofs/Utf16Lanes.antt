@@ -4,6 +4,8 @@ use Rattle.std.specs.Prelude.{replicate}
 use Rattle.std.specs.Int.{to_le_bytes, w32}
 use Rattle.cv_base.specs.Scalars.{IsScalar}
 use Rattle.cv_base.specs.Items.{Begins}
+use Rattle.cv_base.specs.declared.endian.Endian.{Endian}
+use Rattle.cv_base.specs.declared.endian.Endian.TheVariants.{Big, Little}
 use Rattle.cv_utf.specs.Utf16.{utf16}
 use Rattle.cv_utf.proofs.Utf8Lanes.{below, div_all, rem_all, mul_all, sum_all, below_all}
 
@@ -30,20 +32,17 @@ abbrev pub lane_size : ℕ → ℕ
 lane_size v = (2 + below 0x10000 v 0 2) % 2 ^ 32
 
 -- the word begins with the bytes of the character, the low one of each unit first
-pub little_begins : (v : ℕ) → IsScalar v → Begins (utf16.little v) (to_le_bytes w32 (lane_little v))
+pub little_begins : (v : ℕ) → IsScalar v → Begins (utf16 Little v) (to_le_bytes w32 (lane_little v))
 little_begins v s = grind arith
 
 -- the word begins with the bytes of the character, the high one of each unit first
-pub big_begins : (v : ℕ) → IsScalar v → Begins (utf16.big v) (to_le_bytes w32 (lane_big v))
+pub big_begins : (v : ℕ) → IsScalar v → Begins (utf16 Big v) (to_le_bytes w32 (lane_big v))
 big_begins v s = grind arith
 
--- a lane has as many bytes as its character, the low one of each unit first
-pub little_size : (v : ℕ) → lane_size v ≡ length (utf16.little v)
-little_size v = grind arith
-
--- a lane has as many bytes as its character, the high one of each unit first
-pub big_size : (v : ℕ) → lane_size v ≡ length (utf16.big v)
-big_size v = grind arith
+-- a lane has as many bytes as its character
+pub lane_size_is : (e : Endian) (v : ℕ) → lane_size v ≡ length (utf16 e v)
+lane_size_is Big v = grind arith
+lane_size_is Little v = grind arith
 
 -- the same of each lane
 abbrev firsts : ℕ → List ℕ → List ℕ

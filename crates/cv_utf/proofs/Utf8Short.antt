@@ -8,7 +8,7 @@ use Rattle.std.proofs.Math.Seq.{drop-cons}
 use Rattle.std.proofs.lemmas.Simd.{bitmask_splat, zip2_splat, bit_mask_l, length-chunk, get_or-chunk, length-zip2, map-map}
 use Rattle.std.proofs.lemmas.List.{get_or-map}
 use Rattle.std.proofs.lemmas.Bool.{ltb-true, ltb-false, le-ltb, lt-ltb}
-use Rattle.cv_base.specs.Spelled.{IsSpelledAt}
+use Rattle.cv_block.specs.Spelled.{IsSpelledAt}
 use Rattle.cv_utf.specs.Utf8.{utf8_bytes}
 use Rattle.cv_utf.specs.Private.Utf8Short.{is_among, is_behind, IsShort, IsShortAt, short_of, short_value, left_over}
 use Rattle.cv_utf.specs.Private.Utf8Windows.{IsTwoAt, IsLane, AreBegun}

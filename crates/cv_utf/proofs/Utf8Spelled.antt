@@ -12,29 +12,15 @@ use Rattle.std.proofs.lemmas.Simd.{tops_compared, zip2_splat_left, mask_l-mod, r
 use borrow.Rule.Slice.PartMut.{put_mid, post_of}
 use Rattle.cv_base.specs.Items.{Begins}
 use Rattle.cv_base.specs.Scalars.{AreScalars}
-use Rattle.cv_base.specs.Spelled.{IsReadSpelled, IsWrittenSpelled}
-use Rattle.cv_base.proofs.BlockLaws.{ReadsSpelled, WritesSpelled}
-use Rattle.cv_base.specs.declared.spelling.Spelled.{Spelled}
+use Rattle.cv_block.specs.Spelled.{IsReadSpelled, IsWrittenSpelled}
+use Rattle.cv_block.proofs.SpelledBlocks.{ReadsSpelled, WritesSpelled}
+use Rattle.cv_block.specs.declared.spelling.Spelled.{Spelled}
 use Rattle.cv_base.specs.declared.state.ReadState.TheVariants as read
 use Rattle.cv_base.specs.declared.state.WriteState.TheVariants as write
 use Rattle.cv_utf.specs.Utf8.{utf8_reads, utf8_bytes, utf8_writes}
 use Rattle.cv_base.proofs.Front.{Begins-refl}
+use Rattle.cv_block.proofs.FrontOfAWord.{front_stands}
 use Rattle.cv_utf.proofs.Utf8ReadBack.{is_in_table}
-
--- the list that begins a text, and what is behind it
-split : (a text : List ℕ) → Begins a text → text ≡ a ++ drop (length a) text
-split [] text p = refl
-split (x ∷ a) [] p = absurd p
-split (x ∷ a) (t ∷ text) p = rw (p.0) (ap (λ (y : List ℕ). t ∷ y) (split a text p.1))
-
--- What was put at a place begins with this, and what is behind it may be anything.
-pub front_stands : (out word spelling : List ℕ) (at n k : ℕ) → at ≤ length out → Begins spelling word → n ≡ length spelling → take (at + n) (put_mid at k out word) ≡ take at out ++ spelling
-front_stands out word spelling at n k h p e =
-    let rest : List ℕ = drop (length spelling) word in
-    let front : List ℕ = take at out ++ spelling in
-    let long : length front ≡ at + n = simp (length-append, length-take) (omega arith) in
-    let parts : put_mid at k out word ≡ front ++ (rest ++ post_of at k out) = ap (λ (w : List ℕ). take at out ++ (w ++ post_of at k out)) (split spelling word p) ∙ simp append_assoc in
-    rw parts (take_at front (rest ++ post_of at k out) (at + n) long)
 
 -- Each number is below 128.
 abbrev AreAscii : List ℕ → Type 0
@@ -109,24 +95,6 @@ written_all characters n before block at m within p room e is =
       stand = rw same (front_stands before block (take 16 (drop n characters)) at 16 m (omega arith) (rw is (Begins-refl (take 16 (drop n characters)))) (sym long));
       size = length-put before block at m (omega arith) (ap length is ∙ long ∙ sym e);
     }
-
--- the bits of the bytes that are 128 at least, as vectors compute them
-abbrev pub others : List ℕ → ℕ
-others xs = mask_l (map (top 7) (zip2 (λ a b. cond (leb a b) 255 0) (replicate 16 128) xs)) % 2 ^ 64
-
-abbrev is_other : ℕ → Bool
-is_other x = leb 128 x
-
-others_mask : (xs : List ℕ) → length xs ≡ 16 → others xs ≡ mask_l (map is_other xs)
-others_mask xs long = ap (λ ms. mask_l ms % 2 ^ 64) (tops_compared w8 leb (replicate 16 128) xs ∙ zip2_splat_left leb 128 16 xs long) ∙ mask_l-mod (map is_other xs) 64 (simp length-map (omega arith))
-
--- The lowest mark is the first byte that is 128 at least.
-pub ascii_before : (bytes : List ℕ) (at front : ℕ) → at + 16 ≤ length bytes → front ≡ cond (eqb (others (take 16 (drop at bytes))) 0) 16 (count_trailing_zeros 64 (others (take 16 (drop at bytes)))) → (front ≤ 16) × ((k : ℕ) → k < front → get_or bytes (at + k) 0 < 128)
-ascii_before bytes at front room e =
-    let xs : List ℕ = take 16 (drop at bytes) in
-    let long : length xs ≡ 16 = length-chunk at 16 bytes room in
-    let first : front ≡ prefix_len (λ x. not (is_other x)) xs = e ∙ ap (λ m. cond (eqb m 0) 16 (count_trailing_zeros 64 m)) (others_mask xs long) ∙ first_set_mask_l is_other xs 16 long (lit≤ tt) in
-    (run_in_chunk_le is_other bytes at 16 front 0 room first, λ k h. leb-false 128 (get_or bytes (at + k) 0) (run_in_chunk_fails is_other bytes at 16 front 0 room first (at + k) (omega arith) (omega arith)))
 
 -- the bytes of each scalar read as it
 pub utf8_reads_spelled : ReadsSpelled utf8_reads read.Start utf8_bytes

@@ -2,8 +2,8 @@
 pub mod Utf8Bytes
 pub mod Utf8Short
 pub mod Utf8Windows
-pub mod Surrogates
 pub mod AnyState
-pub mod Utf32Bytes
-pub mod Wide
-pub mod Words
+pub mod Parts
+pub mod Forms
+pub mod Kept
+pub mod Joined

@@ -1,16 +1,15 @@
 //! The encoding forms by blocks.
 
-use crate::order::Order;
 use crate::utf8::Utf8;
 use crate::utf8_spelling::Utf8Spelling;
 use crate::utf16::Utf16;
+use crate::utf16_spelling::Utf16In;
 use crate::utf32::Utf32;
-use crate::wide16::{Big16, Little16};
-use crate::wide32::{Big32, Little32};
+use crate::utf32_spelling::Utf32In;
 use cv_base::{
-    BlockCodec, ReadBlock, ReadState, Scalar, WriteState, WrittenBlock, read_spelled, write_each,
-    write_spelled,
+    BlockCodec, Endian, ReadBlock, ReadState, Scalar, WriteState, WrittenBlock, write_each,
 };
+use cv_block::{BigEndian, LittleEndian, read_spelled, write_spelled};
 
 impl BlockCodec for Utf8 {
     #[tactic(auto, using(cv_base::proofs::BlockLaws::nothing_read))]
@@ -44,12 +43,10 @@ impl BlockCodec for Utf8 {
 impl BlockCodec for Utf16 {
     #[tactic(auto, using(cv_base::proofs::BlockLaws::nothing_read))]
     fn read_block(&self, state: ReadState, input: &[u8], buffer: &mut [Scalar]) -> ReadBlock {
-        match (self.0, state) {
-            (Order::Be, ReadState::Start) => read_spelled::<Big16>(state, input, buffer),
-            (Order::Le, ReadState::Start) => read_spelled::<Little16>(state, input, buffer),
-            (Order::Marked, ReadState::Big) => read_spelled::<Big16>(state, input, buffer),
-            (Order::Marked, ReadState::Little) => read_spelled::<Little16>(state, input, buffer),
-            _ => ReadBlock::nothing(state),
+        match self.0.kept_reading(state) {
+            Some(Endian::Big) => read_spelled::<Utf16In<BigEndian>>(state, input, buffer),
+            Some(Endian::Little) => read_spelled::<Utf16In<LittleEndian>>(state, input, buffer),
+            None => ReadBlock::nothing(state),
         }
     }
 
@@ -60,13 +57,12 @@ impl BlockCodec for Utf16 {
         out: &mut [u8],
         at: usize,
     ) -> WrittenBlock {
-        match (self.0, state) {
-            (Order::Be, WriteState::Start) => write_spelled::<Big16>(state, characters, out, at),
-            (Order::Le, WriteState::Start) => write_spelled::<Little16>(state, characters, out, at),
-            (Order::Marked, WriteState::Marked) => {
-                write_spelled::<Big16>(state, characters, out, at)
+        match self.0.kept_writing(state) {
+            Some(Endian::Big) => { write_spelled::<Utf16In<BigEndian>>(state, characters, out, at) }
+            Some(Endian::Little) => {
+                write_spelled::<Utf16In<LittleEndian>>(state, characters, out, at)
             }
-            _ => write_each(self, state, characters, out, at),
+            None => write_each(self, state, characters, out, at),
         }
     }
 
@@ -79,12 +75,10 @@ impl BlockCodec for Utf16 {
 impl BlockCodec for Utf32 {
     #[tactic(auto, using(cv_base::proofs::BlockLaws::nothing_read))]
     fn read_block(&self, state: ReadState, input: &[u8], buffer: &mut [Scalar]) -> ReadBlock {
-        match (self.0, state) {
-            (Order::Be, ReadState::Start) => read_spelled::<Big32>(state, input, buffer),
-            (Order::Le, ReadState::Start) => read_spelled::<Little32>(state, input, buffer),
-            (Order::Marked, ReadState::Big) => read_spelled::<Big32>(state, input, buffer),
-            (Order::Marked, ReadState::Little) => read_spelled::<Little32>(state, input, buffer),
-            _ => ReadBlock::nothing(state),
+        match self.0.kept_reading(state) {
+            Some(Endian::Big) => read_spelled::<Utf32In<BigEndian>>(state, input, buffer),
+            Some(Endian::Little) => read_spelled::<Utf32In<LittleEndian>>(state, input, buffer),
+            None => ReadBlock::nothing(state),
         }
     }
 
@@ -95,13 +89,12 @@ impl BlockCodec for Utf32 {
         out: &mut [u8],
         at: usize,
     ) -> WrittenBlock {
-        match (self.0, state) {
-            (Order::Be, WriteState::Start) => write_spelled::<Big32>(state, characters, out, at),
-            (Order::Le, WriteState::Start) => write_spelled::<Little32>(state, characters, out, at),
-            (Order::Marked, WriteState::Marked) => {
-                write_spelled::<Big32>(state, characters, out, at)
+        match self.0.kept_writing(state) {
+            Some(Endian::Big) => { write_spelled::<Utf32In<BigEndian>>(state, characters, out, at) }
+            Some(Endian::Little) => {
+                write_spelled::<Utf32In<LittleEndian>>(state, characters, out, at)
             }
-            _ => write_each(self, state, characters, out, at),
+            None => write_each(self, state, characters, out, at),
         }
     }
 

@@ -3,21 +3,21 @@
 
 mod blocks;
 mod character;
+mod in_order;
 pub mod laws;
 mod order;
-mod surrogates;
 #[cfg(test)]
 mod tests;
 mod utf16;
+mod utf16_joined;
+mod utf16_spelling;
 mod utf32;
+mod utf32_spelling;
 mod utf8;
 mod utf8_reading;
 mod utf8_spelling;
 mod utf8_windows;
-mod wide;
-mod wide16;
-mod wide32;
-mod words;
+mod wide_form;
 
 pub use order::Order;
 pub use utf8::Utf8;

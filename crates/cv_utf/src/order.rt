@@ -1,4 +1,8 @@
 //! The order of bytes.
+ghost use Rattle.std.specs.Prelude.{IfSome};
+ghost use Rattle.cv_utf.specs.Private.Kept.{KeepsReading, KeepsWriting};
+
+use cv_base::{Endian, ReadState, WriteState};
 
 /// The order of the bytes of a unit in UTF-16 and UTF-32.
 #[derive(Clone, Copy, Debug, PartialEq, Eq)]
@@ -9,4 +13,33 @@ pub enum Order {
     Le,
     /// By the mark that begins the text, and without one the high byte first.
     Marked,
+}
+
+impl Order {
+    /// In which order characters stand in this state, if it stays.
+    #[inline]
+    pub(crate) fn kept_reading(self, state: ReadState) -> Option<Endian>
+        ensures { IfSome result (λ endian. KeepsReading self state endian) }
+    {
+        match (self, state) {
+            (Order::Be, ReadState::Start) => Some(Endian::Big),
+            (Order::Le, ReadState::Start) => Some(Endian::Little),
+            (Order::Marked, ReadState::Big) => Some(Endian::Big),
+            (Order::Marked, ReadState::Little) => Some(Endian::Little),
+            _ => None,
+        }
+    }
+
+    /// In which order characters are written in this state, if it stays.
+    #[inline]
+    pub(crate) fn kept_writing(self, state: WriteState) -> Option<Endian>
+        ensures { IfSome result (λ endian. KeepsWriting self state endian) }
+    {
+        match (self, state) {
+            (Order::Be, WriteState::Start) => Some(Endian::Big),
+            (Order::Le, WriteState::Start) => Some(Endian::Little),
+            (Order::Marked, WriteState::Marked) => Some(Endian::Big),
+            _ => None,
+        }
+    }
 }

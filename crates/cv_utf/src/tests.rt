@@ -1,5 +1,5 @@
 use crate::{Order, Utf8, Utf16, Utf32};
-use cv_base::{AsciiForm, Codec, Item, Put, ReadState, Scalar, WriteState};
+use cv_base::{AsciiForm, Codec, Endian, Item, Put, ReadState, Scalar, WriteState};
 
 // U+1F600 in UTF-8
 const GRINNING_FACE: &[u8] = &[0xf0, 0x9f, 0x98, 0x80];
@@ -163,18 +163,18 @@ fn ascii_forms(rt: HostRuntime) {
     assert_eq!(rt; Utf8.writes_ascii(writes), Some(AsciiForm::Byte));
     assert_eq!(rt;
         Utf16(Order::Be).reads_ascii(reads),
-        Some(AsciiForm::TwoBig)
+        Some(AsciiForm::Two(Endian::Big))
     );
     assert_eq!(rt;
         Utf16(Order::Le).writes_ascii(writes),
-        Some(AsciiForm::TwoLittle)
+        Some(AsciiForm::Two(Endian::Little))
     );
     assert_eq!(rt;
         Utf32(Order::Marked).reads_ascii(ReadState::Little),
-        Some(AsciiForm::FourLittle)
+        Some(AsciiForm::Four(Endian::Little))
     );
     assert_eq!(rt;
         Utf32(Order::Marked).writes_ascii(WriteState::Marked),
-        Some(AsciiForm::FourBig)
+        Some(AsciiForm::Four(Endian::Big))
     );
 }

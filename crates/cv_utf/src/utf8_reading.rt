@@ -1,6 +1,6 @@
 //! Reading characters of UTF-8 one by one.
 ghost use Rattle.std.specs.Prelude.{◌+◌, ◌≤◌, IfSome, length, get_or};
-ghost use Rattle.cv_base.specs.Spelled.{IsSpelledAt};
+ghost use Rattle.cv_block.specs.Spelled.{IsSpelledAt};
 ghost use Rattle.cv_utf.specs.Utf8.{utf8_bytes};
 
 use cv_base::Scalar;

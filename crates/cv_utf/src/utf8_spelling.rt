@@ -3,14 +3,14 @@ ghost use Rattle.std.specs.Prelude.{◌≡◌, ◌+◌, ◌≤◌, ◌<◌, ℕ,
 ghost use Rattle.std.specs.Int.{to_le_bytes, w32};
 ghost use Rattle.cv_base.specs.Scalars.{IsScalar};
 ghost use Rattle.cv_base.specs.Items.{Begins};
-ghost use Rattle.cv_utf.specs.Private.Wide.{AreScalarsBelow};
-ghost use Rattle.cv_utf.specs.Private.Words.{AreWords, AreSizes};
+ghost use Rattle.cv_block.specs.Units.{AreScalarsBelow};
+ghost use Rattle.cv_block.specs.Words.{AreWords, AreSizes};
 ghost use Rattle.cv_utf.specs.Utf8.{utf8_bytes};
 
 use crate::utf8_reading::{inner_at, last_at};
 use crate::utf8_windows::read_many;
-use crate::words::{Words, write_words};
-use cv_base::{MANY, Scalar, Spelled, Spelling};
+use cv_base::Scalar;
+use cv_block::{MANY, Spelled, Spelling, Words, write_words};
 use std::simd::prelude::*;
 
 /// The spelling of characters in UTF-8 (Unicode 3.9, Table 3-6).

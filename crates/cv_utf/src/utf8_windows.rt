@@ -1,14 +1,15 @@
 //! Reading UTF-8 by windows of sixteen bytes, with no branch on which characters they are.
-ghost use Rattle.std.specs.Prelude.{◌≡◌, ◌+◌, ◌++◌, ◌≤◌, ◌<◌, ℕ, length, take, drop, get_or, cond, nat_lt, IsTrue, map, Bool, false, List};
+ghost use Rattle.std.specs.Prelude.{◌≡◌, ◌+◌, ◌++◌, ◌≤◌, ◌<◌, ℕ, length, take, drop, get_or, slice_index, cond, nat_lt, IsTrue, map, Bool, false, List};
 ghost use Rattle.std.specs.Int.{bit_at};
 ghost use Rattle.std.specs.Simd.Lanes.{mask_l};
 ghost use Rattle.cv_base.specs.Scalars.{IsScalar};
-ghost use Rattle.cv_base.specs.Spelled.{IsReadSpelled};
+ghost use Rattle.cv_block.specs.Spelled.{IsReadSpelled};
 ghost use Rattle.cv_utf.specs.Utf8.{utf8_bytes};
 ghost use Rattle.cv_utf.specs.Private.Utf8Short.{is_among, is_behind, IsShortAt, short_value};
 ghost use Rattle.cv_utf.specs.Private.Utf8Windows.{AreBegun, AreWhole, AreMarks, IsOneAt, IsTwoAt, IsThreeAt, whole_value};
 
-use cv_base::{MANY, Scalar, Spelled};
+use cv_base::Scalar;
+use cv_block::{MANY, Spelled, is_ascii_block};
 use std::simd::prelude::*;
 
 /// Which of sixteen bytes are among the `many` from `least` on, as bits.
@@ -203,16 +204,6 @@ fn read_whole(input: &[u8], at: usize, buffer: &mut [Scalar], n: usize) -> Spell
     )
 }
 
-/// Whether sixteen bytes are ASCII.
-#[inline(always)]
-fn are_ascii(input: &[u8], at: usize) -> bool
-    requires { at + 16 ≤ length input.now }
-    ensures { IsTrue result → (k : ℕ) → k < 16 → get_or input.now (at + k) 0 < 128 }
-{
-    let lanes = u8x16::from_slice(&input[at..]);
-    lanes.simd_ge(u8x16::splat(128)).to_bitmask() == 0
-}
-
 /// Puts sixteen bytes into a buffer, each as the character of its number. All are read before one is put, so that they are put at once.
 #[inline(always)]
 fn put_bytes(input: &[u8], at: usize, buffer: &mut [Scalar], n: usize)
@@ -232,7 +223,7 @@ fn put_bytes(input: &[u8], at: usize, buffer: &mut [Scalar], n: usize)
 fn read_ascii(input: &[u8], at: usize, buffer: &mut [Scalar], n: usize) -> Spelled
     requires within { at + 16 ≤ length input.now }
     requires room { n + 16 ≤ length buffer.old }
-    requires ascii { (k : ℕ) → k < 16 → get_or input.now (at + k) 0 < 128 }
+    requires ascii { (k : ℕ) → at ≤ k → k < at + 16 → slice_index input.now k < 128 }
     ensures many { result.n ≤ 16 }
     ensures read { IsReadSpelled utf8_bytes input.now at buffer.old n result buffer.new }
 {
@@ -255,7 +246,7 @@ pub(crate) fn read_many(input: &[u8], at: usize, buffer: &mut [Scalar], n: usize
     if input.len() - at < MANY + 2 || input[at] >= 0xe0 || input[at + 1] >= 0xf0 {
         return Spelled { n: 0, used: 0 };
     }
-    if are_ascii(input, at) {
+    if is_ascii_block(input, at) {
         return read_ascii(input, at, buffer, n);
     }
     if !is_behind(input[at]) && are_short(input, at) {

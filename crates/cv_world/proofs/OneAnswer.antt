@@ -8,7 +8,7 @@ use Rattle.cv_pivot.specs.declared.conversion.Conversion.{Conversion}
 use Rattle.cv_pivot.specs.declared.encoding.Encoding.{Encoding}
 use Rattle.cv_pivot.specs.declared.outcome.Stop.{Stop}
 use Rattle.cv_pivot.specs.declared.outcome.Stop.TheVariants as stop
-use Rattle.cv_pivot.proofs.Enough.{one_conversion}
+use Rattle.cv_pivot.proofs.RoomForTheMost.{one_conversion}
 use Rattle.cv_machine.specs.Machine.{IsOneAnswer, When, no_memory}
 use Rattle.cv_frame.specs.Status.{status_number}
 use Rattle.cv_frame.specs.declared.status.Status.TheVariants as status

@@ -1,7 +1,7 @@
 -- Windows of sixteen bytes of UTF-8 that are read at once.
 use Rattle.std.specs.Prelude.{◌≡◌, ℕ, ◌+◌, ◌*◌, ◌%◌, ◌≤◌, ◌<◌, ◌⊎◌, true, false, cond, nat_lt, nat_eq, List, get_or}
 use Rattle.std.specs.Int.{bit_at}
-use Rattle.cv_base.specs.Spelled.{IsSpelledAt}
+use Rattle.cv_block.specs.Spelled.{IsSpelledAt}
 use Rattle.cv_utf.specs.Utf8.{utf8_bytes}
 use Rattle.cv_utf.specs.Private.Utf8Bytes.{IsTail}
 use Rattle.cv_utf.specs.Private.Utf8Short.{is_behind}

@@ -1,4 +1,4 @@
-use Rattle.cv_utf.proofs.Utf8Windows.{beginning_at}
+use Rattle.cv_utf.proofs.Utf8WindowLanes.{beginning_at}
 use Rattle.cv_utf.proofs.utf8_windows.beginnings.Goals as goal
 
 pub returns : goal.returns

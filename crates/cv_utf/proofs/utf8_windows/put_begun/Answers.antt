@@ -1,6 +1,6 @@
 use Rattle.std.proofs.Common.{◌∙◌, arith}
 use Rattle.std.proofs.lemmas.List.{length-set}
-use Rattle.cv_utf.proofs.Utf8Windows.{step}
+use Rattle.cv_utf.proofs.Utf8PutBegun.{step}
 use Rattle.cv_utf.proofs.utf8_windows.put_begun.Goals as goal
 
 pub loop-lane-preserved : goal.loop-lane-preserved

@@ -1,6 +1,6 @@
 use Rattle.std.proofs.Common.{◌≡◌, ◌≤◌, ℕ, List, length}
-use Rattle.cv_base.specs.Spelled.{IsReadSpelled}
-use Rattle.cv_base.proofs.SpelledRuns.{spelled}
+use Rattle.cv_block.specs.Spelled.{IsReadSpelled}
+use Rattle.cv_block.proofs.SpelledRuns.{spelled}
 use Rattle.cv_utf.specs.Utf8.{utf8_bytes}
 use Rattle.cv_utf.specs.Private.Utf8Windows.{AreBegun}
 use Rattle.cv_utf.proofs.utf8_windows.put_begun.Given as goal

@@ -1,4 +1,4 @@
-use Rattle.cv_utf.proofs.Utf8Windows.{whole_begun}
+use Rattle.cv_utf.proofs.Utf8Begun.{whole_begun}
 use Rattle.cv_utf.proofs.utf8_windows.read_whole.Goals as goal
 
 pub returns-clause-read : goal.returns-clause-read

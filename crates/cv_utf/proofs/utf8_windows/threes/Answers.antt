@@ -1,4 +1,4 @@
-use Rattle.cv_utf.proofs.Utf8Windows.{three_marks}
+use Rattle.cv_utf.proofs.Utf8Marks.{three_marks}
 use Rattle.cv_utf.proofs.utf8_windows.threes.Goals as goal
 
 pub returns : goal.returns

@@ -1,4 +1,4 @@
-use Rattle.cv_utf.proofs.Utf8Windows.{two_marks}
+use Rattle.cv_utf.proofs.Utf8Marks.{two_marks}
 use Rattle.cv_utf.proofs.utf8_windows.twos.Goals as goal
 
 pub returns : goal.returns

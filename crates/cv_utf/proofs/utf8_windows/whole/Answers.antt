@@ -1,4 +1,5 @@
-use Rattle.cv_utf.proofs.Utf8Windows.{whole_of_marks, one_marks}
+use Rattle.cv_utf.proofs.Utf8Covered.{whole_of_marks}
+use Rattle.cv_utf.proofs.Utf8Marks.{one_marks}
 use Rattle.cv_utf.proofs.utf8_windows.whole.Goals as goal
 
 pub returns : goal.returns

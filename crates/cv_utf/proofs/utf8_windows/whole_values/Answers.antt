@@ -1,6 +1,6 @@
 use Rattle.std.proofs.Common.{lit<}
 use Rattle.cv_utf.proofs.Utf8Lanes.{none_zero}
-use Rattle.cv_utf.proofs.Utf8Windows.{value_at}
+use Rattle.cv_utf.proofs.Utf8WindowLanes.{value_at}
 use Rattle.cv_utf.proofs.utf8_windows.whole_values.Goals as goal
 
 pub nonzero_rem-two-2 : goal.nonzero_rem-two-2

@@ -1,5 +1,5 @@
 use Rattle.std.proofs.Common.{◌≡◌, ◌-◌, length, min, take, arith, ◌∙◌}
-use Rattle.cv_pivot.proofs.Enough.{enough}
+use Rattle.cv_pivot.proofs.RoomForTheMost.{enough}
 use Rattle.cv_world.proofs.Buffers.{came_back}
 use Rattle.cv_world.proofs.table.convert.Goals as goal
 

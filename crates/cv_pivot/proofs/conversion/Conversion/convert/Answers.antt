@@ -1,5 +1,5 @@
 use Rattle.cv_pivot.proofs.EncodingLaws.{encoding_readable}
-use Rattle.cv_pivot.proofs.Enough.{counts_few}
+use Rattle.cv_pivot.proofs.RoomForTheMost.{counts_few}
 use Rattle.cv_pivot.proofs.conversion.Conversion.convert.Goals as goal
 
 pub returns-clause-few : goal.returns-clause-few

@@ -1,5 +1,5 @@
 use Rattle.std.proofs.Common.{refl}
-use Rattle.cv_pivot.proofs.Enough.{most_output}
+use Rattle.cv_pivot.proofs.RoomForTheMost.{most_output}
 use Rattle.cv_pivot.proofs.conversion.Conversion.most_output.Goals as goal
 
 pub returns : goal.returns

@@ -1,4 +1,4 @@
-use Rattle.cv_base.proofs.BlockLaws.{spelled_read}
+use Rattle.cv_block.proofs.SpelledBlocks.{spelled_read}
 use Rattle.cv_utf.proofs.Utf8Spelled.{utf8_reads_spelled}
 use Rattle.cv_utf.proofs.blocks.Utf8BlockCodec.read_block.Goals as goal
 

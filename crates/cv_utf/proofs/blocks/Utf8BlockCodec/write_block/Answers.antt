@@ -1,4 +1,4 @@
-use Rattle.cv_base.proofs.BlockLaws.{spelled_written}
+use Rattle.cv_block.proofs.SpelledBlocks.{spelled_written}
 use Rattle.cv_utf.specs.Utf8.{utf8_writes}
 use Rattle.cv_utf.proofs.Utf8Spelled.{utf8_writes_spelled}
 use Rattle.cv_utf.proofs.blocks.Utf8BlockCodec.write_block.Goals as goal

@@ -1,6 +1,6 @@
 use Rattle.std.proofs.Common.{arith, ◌≡◌, ◌∙◌, ap, length}
 use Rattle.cv_utf.specs.Utf8.{utf8_bytes}
-use Rattle.cv_utf.proofs.Utf8Spelled.{front_stands}
+use Rattle.cv_block.proofs.FrontOfAWord.{front_stands}
 use Rattle.cv_utf.proofs.utf8_spelling.Utf8SpellingSpelling.write_at.Goals as goal
 
 pub returns-clause-stand : goal.returns-clause-stand

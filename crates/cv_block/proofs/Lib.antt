@@ -1,0 +1,9 @@
+pub mod SpelledRuns
+pub mod SpelledBlocks
+pub mod FrontOfAWord
+pub mod WordRuns
+pub mod UnitBytes
+pub mod UnitRuns
+pub mod AsciiRuns
+pub mod CopiedBytes
+pub mod SixteenBelow

@@ -1,0 +1,6 @@
+-- What encodings read and write many characters at once with. It serves speed: no contract of a codec cites it.
+pub mod Spelled
+pub mod Surrogates
+pub mod Units
+pub mod Words
+pub mod AsciiRuns

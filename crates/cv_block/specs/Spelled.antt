@@ -1,0 +1,53 @@
+-- Spellings: encodings, or states of them, in which each character has its bytes whatever stands around it. They serve blocks.
+use Rattle.std.specs.Prelude.{◌≡◌, ℕ, ◌+◌, ◌≤◌, List, ◌++◌, take, drop, length}
+use Rattle.std.specs.List.{flat_map}
+use Rattle.cv_base.specs.Scalars.{IsScalar, AreScalars}
+use Rattle.cv_base.specs.Items.{Begins}
+use Rattle.cv_base.specs.Chains.{output}
+use Rattle.cv_base.specs.Places.{IsOutput}
+use Rattle.cv_base.specs.declared.block.ReadBlock.{ReadBlock}
+use Rattle.cv_base.specs.declared.block.WrittenBlock.{WrittenBlock}
+use Rattle.cv_block.specs.declared.spelling.Spelled.{Spelled}
+use Rattle.cv_base.specs.declared.state.ReadState.{ReadState}
+use Rattle.cv_base.specs.declared.state.WriteState.{WriteState}
+
+-- the bytes of each character
+abbrev pub BytesOf : Type 0
+BytesOf = ℕ → List ℕ
+
+-- Each character has four bytes at most.
+abbrev pub HasFourAtMost : BytesOf → Type 0
+HasFourAtMost bytes_of = (c : ℕ) → length (bytes_of c) ≤ 4
+
+-- The bytes of a character stand at a place of a text.
+abbrev pub IsSpelledAt : BytesOf → List ℕ → ℕ → ℕ → ℕ → Type 0
+IsSpelledAt bytes_of text at c n = IsScalar c × Begins (bytes_of c) (drop at text) × (n ≡ length (bytes_of c))
+
+-- Characters whose bytes stand at a place of a text were put into a buffer behind its first n; what is behind them may be anything.
+pub record IsReadSpelled (bytes_of : BytesOf) (text : List ℕ) (at : ℕ) (before : List ℕ) (n : ℕ) (run : Spelled) (after : List ℕ) : Type 0 where
+  pub characters : List ℕ
+  pub scalars : AreScalars characters
+  pub begins : Begins (flat_map bytes_of characters) (drop at text)
+  pub uses : run.used ≡ length (flat_map bytes_of characters)
+  pub counts : run.n ≡ length characters
+  pub stand : take (n + run.n) after ≡ take n before ++ characters
+  pub fits : n + run.n ≤ length before
+  pub size : length after ≡ length before
+
+-- The bytes of some characters behind the first n were put at a place; what is behind them may be anything.
+pub record IsWrittenSpelled (bytes_of : BytesOf) (characters : List ℕ) (n : ℕ) (before : List ℕ) (at : ℕ) (run : Spelled) (after : List ℕ) : Type 0 where
+  pub within : n + run.n ≤ length characters
+  pub uses : run.used ≡ length (flat_map bytes_of (take run.n (drop n characters)))
+  pub fits : at + run.used ≤ length before
+  pub stand : take (at + run.used) after ≡ take at before ++ flat_map bytes_of (take run.n (drop n characters))
+  pub size : length after ≡ length before
+
+-- A block of characters that are spelled was read in a state that it keeps.
+abbrev pub IsSpelledRead : BytesOf → ReadState → List ℕ → List ℕ → ReadBlock → List ℕ → Type 0
+IsSpelledRead bytes_of s text before block after =
+    IsReadSpelled bytes_of text 0 before 0 (record { n = block.n; used = block.used }) after × (block.next ≡ s)
+
+-- The bytes of a block of characters were put at a place in a state that they keep.
+abbrev pub IsSpelledWritten : BytesOf → WriteState → List ℕ → List ℕ → ℕ → WrittenBlock → List ℕ → Type 0
+IsSpelledWritten bytes_of t characters before at block after =
+    IsOutput (output (flat_map bytes_of characters) 0 t) before at block.wrote block.count block.next after

@@ -1,0 +1,326 @@
+//! Runs of ASCII.
+ghost use Rattle.std.specs.Prelude.{◌≡◌, ◌≤◌, ◌<◌, ◌+◌, ◌-◌, ◌*◌, ◌++◌, ℕ, length, take, drop, get_or, slice_index, IsTrue};
+ghost use Rattle.cv_base.specs.Units.{unit_size};
+ghost use Rattle.cv_base.specs.declared.ascii_form.AsciiForm.{AsciiForm};
+ghost use Rattle.cv_block.specs.AsciiRuns.{IsAsciiAt, IsAsciiRun, characters_in, offset, units_of};
+
+use crate::byte_order::{BigEndian, LittleEndian};
+use crate::unit::{Byte, Four, Two, Unit};
+use cv_base::{AsciiForm, Endian};
+use std::simd::prelude::*;
+
+/// How many units are tested at once.
+const BLOCK: usize = 16;
+
+/// Whether sixteen bytes are below 128.
+#[inline(always)]
+pub fn is_ascii_block(bytes: &[u8], at: usize) -> bool
+    requires { at + 16 ≤ length bytes.now }
+    ensures { IsTrue result → (k : ℕ) → at ≤ k → k < at + 16 → slice_index bytes.now k < 128 }
+{
+    let lanes = u8x16::from_slice(&bytes[at..]);
+    lanes.simd_ge(u8x16::splat(128)).to_bitmask() == 0
+}
+
+/// How many bytes at the front are below 128.
+#[inline]
+fn ascii_prefix(bytes: &[u8]) -> usize
+    ensures within { result ≤ length bytes.now }
+    ensures ascii { (k : ℕ) → k < result → slice_index bytes.now k < 128 }
+{
+    let mut at = 0;
+    while bytes.len() - at >= 16 && is_ascii_block(bytes, at) {
+        at += 16;
+    }
+    while at < bytes.len() && bytes[at] < 128 {
+        at += 1;
+    }
+    at
+}
+
+/// How many bytes of ASCII stand at the front, `most` at most.
+#[inline]
+fn byte_run(rest: &[u8], most: usize) -> usize
+    ensures fits { result ≤ most }
+    ensures within { result ≤ length rest.now }
+    ensures ascii { (k : ℕ) → k < result → slice_index rest.now k < 128 }
+{
+    if rest.len() < most {
+        ascii_prefix(rest)
+    } else {
+        ascii_prefix(&rest[..most])
+    }
+}
+
+/// Whether a unit of ASCII stands here.
+#[inline(always)]
+#[tactic(auto, using(crate::proofs::UnitBytes::ascii_at))]
+fn is_ascii<U: Unit>(bytes: &[u8], at: usize) -> bool
+    requires { at + unit_size U.form ≤ length bytes.now }
+    ensures { IsTrue result → IsAsciiAt U.form bytes.now at }
+{
+    U::number(bytes, at) < 128
+}
+
+/// The character of the unit of ASCII that stands here, and of another its lowest byte.
+#[inline(always)]
+#[tactic(auto, using(crate::proofs::UnitBytes::low_byte))]
+fn character<U: Unit>(bytes: &[u8], at: usize) -> u32
+    requires { at + unit_size U.form ≤ length bytes.now }
+    ensures few { result < 0x100 }
+    ensures lowest { result ≡ get_or bytes.now (at + offset U.form) 0 }
+{
+    U::number(bytes, at) % 0x100
+}
+
+/// Whether `n` units are ASCII. Each is tested, so that the loop is done by blocks.
+#[inline(always)]
+fn are_ascii<U: Unit>(bytes: &[u8], at: usize, n: usize) -> bool
+    requires { at + unit_size U.form * n ≤ length bytes.now }
+    ensures { IsTrue result → (k : ℕ) → k < n
+        → IsAsciiAt U.form bytes.now (at + unit_size U.form * k) }
+{
+    let mut all = true;
+    let mut place = at;
+    for _unit in 0..n {
+        all &= is_ascii::<U>(bytes, place);
+        place += U::size();
+    }
+    all
+}
+
+/// How many units of ASCII stand at the front, `most` at most.
+#[inline]
+fn unit_run<U: Unit>(rest: &[u8], most: usize) -> usize
+    ensures fits { result ≤ most }
+    ensures within { unit_size U.form * result ≤ length rest.now }
+    ensures ascii { IsAsciiRun U.form rest.now result }
+{
+    let mut n = 0;
+    let mut at = 0;
+    while most - n >= BLOCK
+        && rest.len() - at >= U::size() * BLOCK
+        && are_ascii::<U>(rest, at, BLOCK)
+    {
+        at += U::size() * BLOCK;
+        n += BLOCK;
+    }
+    while n < most && rest.len() - at >= U::size() && is_ascii::<U>(rest, at) {
+        at += U::size();
+        n += 1;
+    }
+    n
+}
+
+/// Whether a block of units at the front is ASCII, so that a run is worth while.
+#[inline(always)]
+fn may_run<U: Unit>(rest: &[u8]) -> bool {
+    rest.len() >= U::size() * BLOCK && are_ascii::<U>(rest, 0, BLOCK)
+}
+
+/// Whether it is worth while to look for a run of units of this form.
+#[inline(always)]
+fn form_may_run(form: AsciiForm, rest: &[u8]) -> bool {
+    match form {
+        AsciiForm::Byte => rest.len() >= BLOCK && is_ascii_block(rest, 0),
+        AsciiForm::Two(Endian::Big) => may_run::<Two<BigEndian>>(rest),
+        AsciiForm::Two(Endian::Little) => may_run::<Two<LittleEndian>>(rest),
+        AsciiForm::Four(Endian::Big) => may_run::<Four<BigEndian>>(rest),
+        AsciiForm::Four(Endian::Little) => may_run::<Four<LittleEndian>>(rest),
+    }
+}
+
+/// How many units of ASCII stand at the front in a form, `most` at most.
+#[inline(never)]
+fn form_run(form: AsciiForm, rest: &[u8], most: usize) -> usize
+    ensures fits { result ≤ most }
+    ensures within { unit_size form * result ≤ length rest.now }
+    ensures ascii { IsAsciiRun form rest.now result }
+{
+    match form {
+        AsciiForm::Byte => byte_run(rest, most),
+        AsciiForm::Two(Endian::Big) => unit_run::<Two<BigEndian>>(rest, most),
+        AsciiForm::Two(Endian::Little) => unit_run::<Two<LittleEndian>>(rest, most),
+        AsciiForm::Four(Endian::Big) => unit_run::<Four<BigEndian>>(rest, most),
+        AsciiForm::Four(Endian::Little) => unit_run::<Four<LittleEndian>>(rest, most),
+    }
+}
+
+/// Copies a block of bytes.
+#[inline(always)]
+fn copy_block(rest: &[u8], from: usize, out: &mut [u8], at: usize)
+    requires stand { from + 16 ≤ length rest.now }
+    requires fit { at + 16 ≤ length out.old }
+    ensures { out.new ≡ take at out.old ++ take 16 (drop from rest.now) ++ drop (at + 16) out.old }
+{
+    out[at..at + BLOCK].copy_from_slice(&rest[from..from + BLOCK]);
+}
+
+/// Copies the blocks of ASCII at the front of a text, and answers how many bytes they are.
+#[inline(always)]
+fn copy_blocks(rest: &[u8], most: usize, out: &mut [u8], at: usize) -> usize
+    requires stand { most ≤ length rest.now }
+    requires fit { at + most ≤ length out.old }
+    ensures within { result ≤ most }
+    ensures ascii { (k : ℕ) → k < result → slice_index rest.now k < 128 }
+    ensures out { out.new ≡ take at out.old ++ take result rest.now ++ drop (at + result) out.old }
+{
+    let mut n = 0;
+    while most - n >= BLOCK && is_ascii_block(rest, n) {
+        copy_block(rest, n, out, at + n);
+        n += BLOCK;
+    }
+    n
+}
+
+/// Copies the bytes of ASCII at the front of a text one by one, and answers how many they are.
+#[inline(always)]
+fn copy_few(rest: &[u8], most: usize, out: &mut [u8], at: usize) -> usize
+    requires stand { most ≤ length rest.now }
+    requires fit { at + most ≤ length out.old }
+    ensures within { result ≤ most }
+    ensures ascii { (k : ℕ) → k < result → slice_index rest.now k < 128 }
+    ensures out { out.new ≡ take at out.old ++ take result rest.now ++ drop (at + result) out.old }
+{
+    let mut n = 0;
+    while n < most && rest[n] < 128 {
+        out[at + n] = rest[n];
+        n += 1;
+    }
+    n
+}
+
+/// Copies the bytes of ASCII at the front of a text, if they are a block at least, and answers how many they are.
+#[inline(never)]
+fn copy_run(rest: &[u8], out: &mut [u8], at: usize) -> usize
+    requires { at ≤ length out.old }
+    ensures stand { result ≤ length rest.now }
+    ensures fit { at + result ≤ length out.old }
+    ensures ascii { IsAsciiRun AsciiForm.Byte rest.now result }
+    ensures none { result ≡ 0 → out.new ≡ out.old }
+    ensures out { out.new ≡ take at out.old ++ take result rest.now ++ drop (at + result) out.old }
+{
+    let most = rest.len().min(out.len() - at);
+    let n = copy_blocks(rest, most, out, at);
+    if n == 0 || n == most {
+        return n;
+    }
+    n + copy_few(&rest[n..], most - n, out, at + n)
+}
+
+/// How many units of ASCII stand at the front in a form, `most` at most.
+#[inline(always)]
+fn ascii_run(form: AsciiForm, rest: &[u8], most: usize) -> usize
+    ensures fits { result ≤ most }
+    ensures within { unit_size form * result ≤ length rest.now }
+    ensures ascii { IsAsciiRun form rest.now result }
+{
+    if !form_may_run(form, rest) {
+        return 0;
+    }
+    form_run(form, rest, most)
+}
+
+/// Writes the characters of the first `n` units of one form in another. No unit is tested, so that the loop is done by blocks.
+#[inline]
+fn write_units<From: Unit, To: Unit>(rest: &[u8], n: usize, out: &mut [u8], at: usize)
+    requires stand { unit_size From.form * n ≤ length rest.now }
+    requires fit { at + unit_size To.form * n ≤ length out.old }
+    ensures { out.new
+        ≡ take at out.old ++ units_of To.form (characters_in From.form rest.now n)
+        ++ drop (at + unit_size To.form * n) out.old }
+{
+    let mut used = 0;
+    let mut end = at;
+    for _unit in 0..n {
+        To::write(out, end, character::<From>(rest, used));
+        used += From::size();
+        end += To::size();
+    }
+}
+
+/// Writes the characters of the first `n` units of one form in a form.
+#[inline]
+fn write_from<From: Unit>(to: AsciiForm, rest: &[u8], n: usize, out: &mut [u8], at: usize)
+    requires stand { unit_size From.form * n ≤ length rest.now }
+    requires fit { at + unit_size to * n ≤ length out.old }
+    ensures { out.new
+        ≡ take at out.old ++ units_of to (characters_in From.form rest.now n)
+        ++ drop (at + unit_size to * n) out.old }
+{
+    match to {
+        AsciiForm::Byte => write_units::<From, Byte>(rest, n, out, at),
+        AsciiForm::Two(Endian::Big) => write_units::<From, Two<BigEndian>>(rest, n, out, at),
+        AsciiForm::Two(Endian::Little) => write_units::<From, Two<LittleEndian>>(rest, n, out, at),
+        AsciiForm::Four(Endian::Big) => write_units::<From, Four<BigEndian>>(rest, n, out, at),
+        AsciiForm::Four(Endian::Little) => write_units::<From, Four<LittleEndian>>(
+            rest, n, out, at,
+        ),
+    }
+}
+
+/// Writes the characters of the first `n` units of `rest` at a place of `out`.
+#[inline(never)]
+fn write_run(from: AsciiForm, to: AsciiForm, rest: &[u8], n: usize, out: &mut [u8], at: usize)
+    requires stand { unit_size from * n ≤ length rest.now }
+    requires fit { at + unit_size to * n ≤ length out.old }
+    ensures { out.new
+        ≡ take at out.old ++ units_of to (characters_in from rest.now n)
+        ++ drop (at + unit_size to * n) out.old }
+{
+    match from {
+        AsciiForm::Byte => write_from::<Byte>(to, rest, n, out, at),
+        AsciiForm::Two(Endian::Big) => write_from::<Two<BigEndian>>(to, rest, n, out, at),
+        AsciiForm::Two(Endian::Little) => write_from::<Two<LittleEndian>>(to, rest, n, out, at),
+        AsciiForm::Four(Endian::Big) => write_from::<Four<BigEndian>>(to, rest, n, out, at),
+        AsciiForm::Four(Endian::Little) => write_from::<Four<LittleEndian>>(to, rest, n, out, at),
+    }
+}
+
+/// How many bytes a unit of a form has.
+#[inline(always)]
+pub fn unit_bytes(form: AsciiForm) -> usize
+    ensures { result ≡ unit_size form }
+{
+    match form {
+        AsciiForm::Byte => 1,
+        AsciiForm::Two(_) => 2,
+        AsciiForm::Four(_) => 4,
+    }
+}
+
+/// How many units of a form fit in a room.
+#[inline(always)]
+fn units_in(form: AsciiForm, room: usize) -> usize
+    ensures { unit_size form * result ≤ room }
+{
+    match form {
+        AsciiForm::Byte => room,
+        AsciiForm::Two(_) => room / 2,
+        AsciiForm::Four(_) => room / 4,
+    }
+}
+
+/// Writes the run of ASCII that stands at the front in a form in another, as far as there is room, and answers how many units it has.
+/// It may be none where the run is shorter than a block.
+#[inline(always)]
+pub fn take_run(form: AsciiForm, target: AsciiForm, rest: &[u8], out: &mut [u8], at: usize) -> usize
+    requires { at ≤ length out.old }
+    ensures stand { unit_size form * result ≤ length rest.now }
+    ensures fit { at + unit_size target * result ≤ length out.old }
+    ensures ascii { IsAsciiRun form rest.now result }
+    ensures none { result ≡ 0 → out.new ≡ out.old }
+    ensures out { out.new
+        ≡ take at out.old ++ units_of target (characters_in form rest.now result)
+        ++ drop (at + unit_size target * result) out.old }
+{
+    if let (AsciiForm::Byte, AsciiForm::Byte) = (form, target) {
+        return copy_run(rest, out, at);
+    }
+    let n = ascii_run(form, rest, units_in(target, out.len() - at));
+    if n == 0 {
+        return 0;
+    }
+    write_run(form, target, rest, n, out, at);
+    n
+}

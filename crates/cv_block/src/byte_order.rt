@@ -1,0 +1,126 @@
+//! Orders of bytes that are known when the code is compiled, so that each loop over units stands once and has a form for each.
+ghost use Rattle.std.specs.Prelude.{◌≡◌, ◌≤◌, ◌<◌, ◌+◌, ◌++◌, length, take, drop};
+ghost use Rattle.cv_base.specs.Units.{unit_of};
+ghost use Rattle.cv_base.specs.declared.ascii_form.AsciiForm.TheVariants.{Two, Four};
+ghost use Rattle.cv_base.specs.declared.endian.Endian.{Endian};
+ghost use Rattle.cv_base.specs.declared.endian.Endian.TheVariants.{Big, Little};
+ghost use Rattle.cv_block.specs.Units.{IsUnitAt};
+
+use cv_base::Endian;
+use cv_base::place::write_slice;
+
+/// An order of the bytes of a unit.
+pub trait ByteOrder {
+    ghost endian: { Endian };
+
+    /// Which order it is.
+    fn order() -> Endian
+        ensures { result ≡ endian };
+
+    /// The number of the two bytes that stand here.
+    fn two(bytes: &[u8], at: usize) -> u32
+        requires { at + 2 ≤ length bytes.now }
+        ensures { IsUnitAt (Two endian) bytes.now at result };
+
+    /// The number of the four bytes that stand here.
+    fn four(bytes: &[u8], at: usize) -> u32
+        requires { at + 4 ≤ length bytes.now }
+        ensures { IsUnitAt (Four endian) bytes.now at result };
+
+    /// Writes a number as two bytes here.
+    fn write_two(out: &mut [u8], at: usize, number: u32)
+        requires few { number < 0x10000 }
+        requires room { at + 2 ≤ length out.old }
+        ensures { out.new
+            ≡ take at out.old ++ unit_of (Two endian) number ++ drop (at + 2) out.old };
+
+    /// Writes a number as four bytes here.
+    fn write_four(out: &mut [u8], at: usize, number: u32)
+        requires { at + 4 ≤ length out.old }
+        ensures { out.new
+            ≡ take at out.old ++ unit_of (Four endian) number ++ drop (at + 4) out.old };
+}
+
+/// The highest byte first.
+pub struct BigEndian;
+
+impl ByteOrder for BigEndian {
+    ghost endian = { Big };
+
+    #[inline(always)]
+    fn order() -> Endian {
+        Endian::Big
+    }
+
+    // Both are read with the lowest byte first and turned, so that LLVM reads all bytes at once.
+    #[inline(always)]
+    fn two(bytes: &[u8], at: usize) -> u32 {
+        u16::from_le_bytes([bytes[at], bytes[at + 1]]).swap_bytes() as u32
+    }
+
+    #[inline(always)]
+    fn four(bytes: &[u8], at: usize) -> u32 {
+        u32::from_le_bytes([bytes[at], bytes[at + 1], bytes[at + 2], bytes[at + 3]]).swap_bytes()
+    }
+
+    #[inline(always)]
+    fn write_two(out: &mut [u8], at: usize, number: u32) {
+        write_slice(out, at, [(number / 0x100) as u8, (number % 0x100) as u8]);
+    }
+
+    #[inline(always)]
+    fn write_four(out: &mut [u8], at: usize, number: u32) {
+        write_slice(
+            out,
+            at,
+            [
+                (number / 0x100_0000) as u8,
+                (number / 0x1_0000 % 0x100) as u8,
+                (number / 0x100 % 0x100) as u8,
+                (number % 0x100) as u8,
+            ],
+        );
+    }
+}
+
+/// The lowest byte first.
+pub struct LittleEndian;
+
+impl ByteOrder for LittleEndian {
+    ghost endian = { Little };
+
+    #[inline(always)]
+    fn order() -> Endian {
+        Endian::Little
+    }
+
+    // Both are inlined late, so that LLVM reads all bytes at once before it sees what of them is tested.
+    #[inline]
+    fn two(bytes: &[u8], at: usize) -> u32 {
+        u16::from_le_bytes([bytes[at], bytes[at + 1]]) as u32
+    }
+
+    #[inline]
+    fn four(bytes: &[u8], at: usize) -> u32 {
+        u32::from_le_bytes([bytes[at], bytes[at + 1], bytes[at + 2], bytes[at + 3]])
+    }
+
+    #[inline(always)]
+    fn write_two(out: &mut [u8], at: usize, number: u32) {
+        write_slice(out, at, [(number % 0x100) as u8, (number / 0x100) as u8]);
+    }
+
+    #[inline(always)]
+    fn write_four(out: &mut [u8], at: usize, number: u32) {
+        write_slice(
+            out,
+            at,
+            [
+                (number % 0x100) as u8,
+                (number / 0x100 % 0x100) as u8,
+                (number / 0x1_0000 % 0x100) as u8,
+                (number / 0x100_0000) as u8,
+            ],
+        );
+    }
+}

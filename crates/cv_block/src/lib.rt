@@ -1,0 +1,23 @@
+//! What encodings read and write many characters at once with: spellings and their loops, units and orders of bytes, surrogates, words
+//! and runs of ASCII.
+#![tactic(auto)]
+
+mod ascii_runs;
+mod byte_order;
+mod spelled_reading;
+mod spelled_writing;
+mod spelling;
+mod surrogates;
+mod unit;
+mod unit_runs;
+mod words;
+
+pub use ascii_runs::{is_ascii_block, take_run, unit_bytes};
+pub use byte_order::{BigEndian, ByteOrder, LittleEndian};
+pub use spelled_reading::read_spelled;
+pub use spelled_writing::write_spelled;
+pub use spelling::{MANY, Spelled, Spelling};
+pub use surrogates::{first_of, is_high, is_low, joined, second_of};
+pub use unit::{Byte, Four, Two, Unit};
+pub use unit_runs::{read_units, write_units};
+pub use words::{Words, write_words};

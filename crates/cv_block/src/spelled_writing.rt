@@ -1,0 +1,107 @@
+//! Writing a spelling by blocks.
+ghost use Rattle.std.specs.Prelude.{◌≡◌, ◌≤◌, ◌<◌, ◌+◌, ◌-◌, ◌*◌, ◌++◌, length, take, drop};
+ghost use Rattle.std.specs.List.{flat_map};
+ghost use Rattle.cv_block.specs.Spelled.{IsWrittenSpelled, IsSpelledWritten};
+
+use crate::spelling::{MANY, Spelled, Spelling};
+use cv_base::{Scalar, WriteState, WrittenBlock};
+
+/// Writes characters one by one, from the `n`th on.
+#[inline(always)]
+fn write_few<S: Spelling>(
+    characters: &[Scalar],
+    n: usize,
+    few: usize,
+    out: &mut [u8],
+    at: usize,
+) -> usize
+    requires within { n + few ≤ length characters.now }
+    requires room { at + 4 * few ≤ length out.old }
+    ensures { IsWrittenSpelled S.bytes_of characters.now n out.old at
+        (record { n = few; used = result }) out.new }
+{
+    S::assert_short();
+    let mut used = 0;
+    for k in 0..few {
+        used += S::write_at(characters[n + k], out, at + used);
+    }
+    used
+}
+
+/// How many characters are written one by one behind so many that were written at once.
+#[inline(always)]
+fn behind(many: usize) -> usize
+    requires { many < 16 }
+    ensures some { 0 < result }
+    ensures within { many + result ≤ 16 }
+{
+    if many == 0 { MANY } else { 1 }
+}
+
+/// Writes some characters from the `n`th on: many at once, and where they are fewer than many, the one behind them; or else many
+/// one by one.
+#[inline(always)]
+fn write_some<S: Spelling>(characters: &[Scalar], n: usize, out: &mut [u8], at: usize) -> Spelled
+    requires within { n ≤ length characters.now }
+    requires room { at + 4 * (length characters.now - n) ≤ length out.old }
+    ensures some { n < length characters.now → 0 < result.n }
+    ensures bytes { IsWrittenSpelled S.bytes_of characters.now n out.old at result out.new }
+{
+    S::assert_short();
+    let left = characters.len() - n;
+    if left < MANY {
+        let used = write_few::<S>(characters, n, left, out, at);
+        return Spelled { n: left, used };
+    }
+    let many = S::write_many(characters, n, out, at);
+    if many.n == MANY {
+        return many;
+    }
+    let few = behind(many.n);
+    let used = write_few::<S>(characters, n + many.n, few, out, at + many.used);
+    Spelled {
+        n: many.n + few,
+        used: many.used + used,
+    }
+}
+
+/// Writes characters at the front of a slice, and answers how many bytes they have.
+#[inline(always)]
+fn write_front<S: Spelling>(characters: &[Scalar], out: &mut [u8]) -> usize
+    requires { 4 * length characters.now ≤ length out.old }
+    ensures few { result ≤ 4 * length characters.now }
+    ensures bytes { IsWrittenSpelled S.bytes_of characters.now 0 out.old 0
+        (record { n = length characters.now; used = result }) out.new }
+{
+    S::assert_short();
+    let mut n = 0;
+    let mut used = 0;
+    while n < characters.len() {
+        let some = write_some::<S>(characters, n, out, used);
+        n += some.n;
+        used += some.used;
+    }
+    used
+}
+
+/// Writes a block of at most 64 characters in a spelling that the state keeps. Bytes of the slice around it stay.
+#[inline(never)]
+pub fn write_spelled<S: Spelling>(
+    state: WriteState,
+    characters: &[Scalar],
+    out: &mut [u8],
+    at: usize,
+) -> WrittenBlock
+    requires few { length characters.now ≤ 64 }
+    requires room { at + 4 * length characters.now ≤ length out.old }
+    ensures { IsSpelledWritten S.bytes_of state characters.now out.old at result out.new }
+{
+    let mut front = [0u8; 256];
+    let wrote = write_front::<S>(characters, &mut front);
+    out[at..at + wrote].copy_from_slice(&front[..wrote]);
+    WrittenBlock {
+        wrote,
+        count: 0,
+        next: state,
+    }
+}

@@ -1,0 +1,52 @@
+//! Surrogates: the code units of UTF-16 that stand in pairs (Unicode 3.8, D71 to D75).
+ghost use Rattle.std.specs.Prelude.{◌≡◌, ◌≤◌, ◌<◌, ◌↔◌, IsTrue};
+ghost use Rattle.cv_base.specs.Units.{high_unit, low_unit};
+ghost use Rattle.cv_block.specs.Surrogates.{IsHighUnit, IsLowUnit, IsPair};
+
+/// Whether a unit is a high surrogate.
+#[inline(always)]
+pub fn is_high(unit: u32) -> bool
+    ensures { IsTrue result ↔ IsHighUnit unit }
+{
+    unit / 0x400 == 0x36
+}
+
+/// Whether a unit is a low surrogate.
+#[inline(always)]
+pub fn is_low(unit: u32) -> bool
+    ensures { IsTrue result ↔ IsLowUnit unit }
+{
+    unit / 0x400 == 0x37
+}
+
+/// The character of a high and a low surrogate. Of other units it is any number.
+#[inline(always)]
+pub fn joined(high: u32, low: u32) -> u32
+    ensures { IsHighUnit high → IsLowUnit low → IsPair high low result }
+{
+    0x1_0000 + (high % 0x400) * 0x400 + low % 0x400
+}
+
+/// The first unit of a character. Which it is takes no branch.
+#[inline(always)]
+pub fn first_of(value: u32) -> u32
+    requires { value < 0x110000 }
+    ensures one { value < 0x10000 → result ≡ value }
+    ensures high { 0x10000 ≤ value → result ≡ high_unit value }
+    ensures few { result < 0x10000 }
+{
+    if value < 0x1_0000 {
+        value
+    } else {
+        0xd7c0 + value / 0x400
+    }
+}
+
+/// The second unit of a character, if it has two.
+#[inline(always)]
+pub fn second_of(value: u32) -> u32
+    ensures low { 0x10000 ≤ value → result ≡ low_unit value }
+    ensures few { result < 0x10000 }
+{
+    0xdc00 + value % 0x400
+}

@@ -1,0 +1,119 @@
+//! Units whose form is known when the code is compiled, so that each loop over units stands once and has a form for each.
+ghost use Rattle.std.specs.Prelude.{◌≡◌, ◌≤◌, ◌<◌, ◌+◌, ◌++◌, length, take, drop, IsTrue};
+ghost use Rattle.cv_base.specs.Units.{unit_of, unit_size, unit_limit};
+ghost use Rattle.cv_base.specs.declared.ascii_form.AsciiForm.{AsciiForm};
+ghost use Rattle.cv_block.specs.Units.{IsUnitAt};
+
+use crate::byte_order::ByteOrder;
+use cv_base::place::write_slice;
+use std::marker::PhantomData;
+
+/// A unit.
+pub trait Unit {
+    ghost form: { AsciiForm };
+
+    /// How many bytes it has.
+    fn size() -> usize
+        ensures { result ≡ unit_size form };
+
+    /// The number of the unit that stands here.
+    fn number(bytes: &[u8], at: usize) -> u32
+        requires { at + unit_size form ≤ length bytes.now }
+        ensures { IsUnitAt form bytes.now at result };
+
+    /// Whether a number is one unit.
+    fn fits(number: u32) -> bool
+        ensures { IsTrue result → number < unit_limit form };
+
+    /// Writes a number of one unit here.
+    fn write(out: &mut [u8], at: usize, number: u32)
+        requires few { number < unit_limit form }
+        requires room { at + unit_size form ≤ length out.old }
+        ensures { out.new
+            ≡ take at out.old ++ unit_of form number ++ drop (at + unit_size form) out.old };
+}
+
+/// One byte.
+pub struct Byte;
+
+impl Unit for Byte {
+    ghost form = { AsciiForm.Byte };
+
+    #[inline(always)]
+    fn size() -> usize {
+        1
+    }
+
+    #[inline(always)]
+    fn number(bytes: &[u8], at: usize) -> u32 {
+        bytes[at] as u32
+    }
+
+    #[inline(always)]
+    fn fits(number: u32) -> bool {
+        number < 0x100
+    }
+
+    #[inline(always)]
+    fn write(out: &mut [u8], at: usize, number: u32) {
+        write_slice(out, at, [number as u8]);
+    }
+}
+
+/// Two bytes in an order.
+pub struct Two<O> {
+    order: PhantomData<O>,
+}
+
+impl<O: ByteOrder> Unit for Two<O> {
+    ghost form = { AsciiForm.Two O.endian };
+
+    #[inline(always)]
+    fn size() -> usize {
+        2
+    }
+
+    #[inline(always)]
+    fn number(bytes: &[u8], at: usize) -> u32 {
+        O::two(bytes, at)
+    }
+
+    #[inline(always)]
+    fn fits(number: u32) -> bool {
+        number < 0x1_0000
+    }
+
+    #[inline(always)]
+    fn write(out: &mut [u8], at: usize, number: u32) {
+        O::write_two(out, at, number);
+    }
+}
+
+/// Four bytes in an order.
+pub struct Four<O> {
+    order: PhantomData<O>,
+}
+
+impl<O: ByteOrder> Unit for Four<O> {
+    ghost form = { AsciiForm.Four O.endian };
+
+    #[inline(always)]
+    fn size() -> usize {
+        4
+    }
+
+    #[inline(always)]
+    fn number(bytes: &[u8], at: usize) -> u32 {
+        O::four(bytes, at)
+    }
+
+    #[inline(always)]
+    fn fits(_number: u32) -> bool {
+        true
+    }
+
+    #[inline(always)]
+    fn write(out: &mut [u8], at: usize, number: u32) {
+        O::write_four(out, at, number);
+    }
+}

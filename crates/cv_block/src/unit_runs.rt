@@ -1,0 +1,146 @@
+//! Characters of one unit each, many at once.
+ghost use Rattle.std.specs.Prelude.{◌≡◌, ◌+◌, ◌*◌, ◌≤◌, ◌++◌, IsTrue, length, take, drop};
+ghost use Rattle.std.specs.List.{flat_map};
+ghost use Rattle.cv_base.specs.Scalars.{IsScalar};
+ghost use Rattle.cv_base.specs.Units.{unit_of, unit_size};
+ghost use Rattle.cv_block.specs.Spelled.{BytesOf, IsReadSpelled, IsWrittenSpelled};
+ghost use Rattle.cv_block.specs.Units.{AreUnits, AreScalarsBelow, AreSingle, SpellsUnits};
+
+use crate::spelling::{MANY, Spelled};
+use crate::unit::Unit;
+use cv_base::Scalar;
+
+/// Whether a number is that of a character. Both sides are tested, so that a loop over it is done by blocks.
+#[inline(always)]
+fn is_scalar(number: u32) -> bool
+    ensures { IsTrue result → IsScalar number }
+{
+    (number < 0xd800) | ((number >= 0xe000) & (number < 0x11_0000))
+}
+
+/// The numbers of the units at the front of a text. None is tested, so that the loop is done by blocks.
+#[inline(always)]
+fn numbers_of<U: Unit>(text: &[u8]) -> [u32; MANY]
+    requires { unit_size U.form * 16 ≤ length text.now }
+    ensures long { length result ≡ 16 }
+    ensures units { AreUnits U.form text.now result 16 }
+{
+    let mut numbers = [0; MANY];
+    let mut at = 0;
+    for k in 0..MANY {
+        numbers[k] = U::number(text, at);
+        at += U::size();
+    }
+    numbers
+}
+
+/// Whether the numbers are those of characters. Each is tested, so that the loop is done by blocks.
+#[inline(always)]
+fn are_scalars(numbers: &[u32; MANY]) -> bool
+    ensures { IsTrue result → AreScalarsBelow numbers.now 16 }
+{
+    let mut all = true;
+    for k in 0..MANY {
+        all &= is_scalar(numbers[k]);
+    }
+    all
+}
+
+/// Puts the characters of the numbers into a buffer, behind its first `n`.
+#[inline(always)]
+fn put_characters(numbers: &[u32; MANY], buffer: &mut [Scalar], n: usize)
+    requires long { length numbers.now ≡ 16 }
+    requires scalars { AreScalarsBelow numbers.now 16 }
+    requires room { n + 16 ≤ length buffer.old }
+    ensures stand { take (n + 16) buffer.new ≡ take n buffer.old ++ numbers.now }
+    ensures size { length buffer.new ≡ length buffer.old }
+{
+    for k in 0..MANY {
+        buffer[n + k] = Scalar::known(numbers[k]);
+    }
+}
+
+/// Reads many units where all of them are characters by themselves, and otherwise none. It serves every encoding in which such a
+/// character has the bytes of its unit.
+#[inline(always)]
+pub fn read_units<U: Unit>(input: &[u8], at: usize, buffer: &mut [Scalar], n: usize) -> Spelled
+    requires within { at ≤ length input.now }
+    requires room { n + 16 ≤ length buffer.old }
+    ensures many { result.n ≤ 16 }
+    ensures read { (bytes_of : BytesOf) → SpellsUnits U.form bytes_of
+        → IsReadSpelled bytes_of input.now at buffer.old n result buffer.new }
+{
+    let used = U::size() * MANY;
+    let rest = &input[at..];
+    if rest.len() < used {
+        return Spelled { n: 0, used: 0 };
+    }
+    let numbers = numbers_of::<U>(rest);
+    if !are_scalars(&numbers) {
+        return Spelled { n: 0, used: 0 };
+    }
+    put_characters(&numbers, buffer, n);
+    Spelled { n: MANY, used }
+}
+
+/// The numbers of many characters, from the `n`th on. They are read before any is written, so that the writing is done by blocks.
+#[inline(always)]
+pub(crate) fn values_of(characters: &[Scalar], n: usize) -> [u32; MANY]
+    requires { n + 16 ≤ length characters.now }
+    ensures values { result ≡ take 16 (drop n characters.now) }
+    ensures scalars { AreScalarsBelow result 16 }
+{
+    let mut values = [0; MANY];
+    for k in 0..MANY {
+        values[k] = characters[n + k].value();
+    }
+    values
+}
+
+/// Whether many characters are one unit each. Each is tested, so that the loop is done by blocks.
+#[inline(always)]
+fn are_single<U: Unit>(values: &[u32; MANY]) -> bool
+    ensures { IsTrue result → AreSingle U.form values.now 16 }
+{
+    let mut all = true;
+    for k in 0..MANY {
+        all &= U::fits(values[k]);
+    }
+    all
+}
+
+/// Writes many characters of one unit each. None is tested, so that the loop is done by blocks.
+#[inline(always)]
+fn put_units<U: Unit>(values: &[u32; MANY], out: &mut [u8], at: usize)
+    requires long { length values.now ≡ 16 }
+    requires single { AreSingle U.form values.now 16 }
+    requires room { at + unit_size U.form * 16 ≤ length out.old }
+    ensures stand { take (at + unit_size U.form * 16) out.new
+        ≡ take at out.old ++ flat_map (unit_of U.form) values.now }
+    ensures size { length out.new ≡ length out.old }
+{
+    let mut place = at;
+    for k in 0..MANY {
+        U::write(out, place, values[k]);
+        place += U::size();
+    }
+}
+
+/// Writes many characters where each is one unit, and otherwise none. It serves every encoding in which such a character has the
+/// bytes of its unit.
+#[inline(always)]
+pub fn write_units<U: Unit>(characters: &[Scalar], n: usize, out: &mut [u8], at: usize) -> Spelled
+    requires within { n + 16 ≤ length characters.now }
+    requires room { at + 64 ≤ length out.old }
+    ensures many { result.n ≤ 16 }
+    ensures written { (bytes_of : BytesOf) → SpellsUnits U.form bytes_of
+        → IsWrittenSpelled bytes_of characters.now n out.old at result out.new }
+{
+    let used = U::size() * MANY;
+    let values = values_of(characters, n);
+    if !are_single::<U>(&values) {
+        return Spelled { n: 0, used: 0 };
+    }
+    put_units::<U>(&values, out, at);
+    Spelled { n: MANY, used }
+}

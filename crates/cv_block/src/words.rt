@@ -1,0 +1,77 @@
+//! Characters whose bytes are the front of a word, many at once, whatever their sizes.
+ghost use Rattle.std.specs.Prelude.{◌≡◌, ℕ, ◌+◌, ◌≤◌, ◌++◌, length, take};
+ghost use Rattle.std.specs.Int.{to_le_bytes, w32};
+ghost use Rattle.std.specs.List.{flat_map};
+ghost use Rattle.cv_base.specs.Scalars.{IsScalar};
+ghost use Rattle.cv_base.specs.Items.{Begins};
+ghost use Rattle.cv_block.specs.Spelled.{BytesOf, IsWrittenSpelled};
+ghost use Rattle.cv_block.specs.Units.{AreScalarsBelow};
+ghost use Rattle.cv_block.specs.Words.{AreWords, AreSizes};
+
+use crate::spelling::{MANY, Spelled};
+use crate::unit_runs::values_of;
+use cv_base::Scalar;
+
+/// A spelling of at most four bytes whose words are computed many at once.
+pub trait Words {
+    ghost bytes_of: { BytesOf };
+
+    /// The bytes of each character, as a number whose lowest byte is the first. What is behind them may be anything.
+    fn words(values: &[u32; MANY]) -> [u32; MANY]
+        requires long { length values.now ≡ 16 }
+        requires scalars { AreScalarsBelow values.now 16 }
+        ensures long { length result ≡ 16 }
+        ensures words { AreWords bytes_of values.now result 16 };
+
+    /// How many bytes each character has.
+    fn sizes(values: &[u32; MANY]) -> [u32; MANY]
+        requires { length values.now ≡ 16 }
+        ensures long { length result ≡ 16 }
+        ensures sizes { AreSizes bytes_of values.now result 16 };
+}
+
+/// Writes words one behind the other, each by its size, and answers how many bytes they have together. What is behind them may be
+/// anything.
+#[inline(always)]
+fn put_words<W: Words>(
+    values: &[u32; MANY],
+    words: &[u32; MANY],
+    sizes: &[u32; MANY],
+    out: &mut [u8],
+    at: usize,
+) -> usize
+    requires long { length values.now ≡ 16 }
+    requires long_words { length words.now ≡ 16 }
+    requires long_sizes { length sizes.now ≡ 16 }
+    requires words { AreWords W.bytes_of values.now words.now 16 }
+    requires sizes { AreSizes W.bytes_of values.now sizes.now 16 }
+    requires room { at + 64 ≤ length out.old }
+    ensures few { result ≤ 64 }
+    ensures bytes { result ≡ length (flat_map W.bytes_of values.now) }
+    ensures stand { take (at + result) out.new
+        ≡ take at out.old ++ flat_map W.bytes_of values.now }
+    ensures size { length out.new ≡ length out.old }
+{
+    let mut used = 0;
+    for k in 0..MANY {
+        let place = at + used;
+        out[place..place + 4].copy_from_slice(&words[k].to_le_bytes());
+        used += sizes[k] as usize;
+    }
+    used
+}
+
+/// Writes many characters.
+#[inline(always)]
+pub fn write_words<W: Words>(characters: &[Scalar], n: usize, out: &mut [u8], at: usize) -> Spelled
+    requires within { n + 16 ≤ length characters.now }
+    requires room { at + 64 ≤ length out.old }
+    ensures many { result.n ≤ 16 }
+    ensures written { IsWrittenSpelled W.bytes_of characters.now n out.old at result out.new }
+{
+    let values = values_of(characters, n);
+    let words = W::words(&values);
+    let sizes = W::sizes(&values);
+    let used = put_words::<W>(&values, &words, &sizes, out, at);
+    Spelled { n: MANY, used }
+}

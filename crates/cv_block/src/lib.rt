@@ -2,6 +2,7 @@
 //! and runs of ASCII.
 #![tactic(auto)]
 
+mod ascii_bytes;
 mod ascii_runs;
 mod byte_order;
 mod spelled_reading;
@@ -12,7 +13,8 @@ mod unit;
 mod unit_runs;
 mod words;
 
-pub use ascii_runs::{is_ascii_block, take_run, unit_bytes};
+pub use ascii_bytes::is_ascii_block;
+pub use ascii_runs::{take_run, unit_bytes};
 pub use byte_order::{BigEndian, ByteOrder, LittleEndian};
 pub use spelled_reading::read_spelled;
 pub use spelled_writing::write_spelled;

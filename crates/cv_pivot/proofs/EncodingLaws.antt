@@ -2,12 +2,12 @@
 use Rattle.std.proofs.Common.{refl}
 use Rattle.cv_base.specs.Codecs.{IsReadable, CanSubstitute}
 use Rattle.cv_base.proofs.SingleByteLaws.{byte_readable}
-use Rattle.cv_utf.proofs.OrdersLaws.{in_readable, in_substitutable}
+use Rattle.cv_utf.proofs.FormsInOrder.{in_readable, in_substitutable}
 use Rattle.cv_utf.proofs.Utf8Laws.{utf8_readable}
 use Rattle.cv_utf.specs.Utf16.{utf16}
-use Rattle.cv_utf.proofs.Utf16Laws.{utf16_is_form}
+use Rattle.cv_utf.proofs.Utf16Form.{utf16_is_form}
 use Rattle.cv_utf.specs.Utf32.{utf32}
-use Rattle.cv_utf.proofs.Utf32Laws.{utf32_is_form}
+use Rattle.cv_utf.proofs.Utf32Form.{utf32_is_form}
 use Rattle.cv_utf7.proofs.OneItem.{utf7_readable, utf7_substitutable}
 use Rattle.cv_pivot.specs.declared.encoding.Encoding.{Encoding}
 use Rattle.cv_pivot.specs.declared.encoding.Encoding.TheVariants.{Ascii, Latin1, Utf8, Utf16, Utf32, Utf7}

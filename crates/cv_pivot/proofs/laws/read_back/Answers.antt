@@ -1,4 +1,4 @@
-use Rattle.cv_pivot.proofs.ReadBack.{encoding_reads_back}
+use Rattle.cv_pivot.proofs.EncodingsReadBack.{encoding_reads_back}
 use Rattle.cv_pivot.proofs.laws.read_back.Goals as goal
 
 pub returns : goal.returns

@@ -1,6 +1,6 @@
 use Rattle.std.proofs.Common.{arith}
 use Rattle.cv_block.proofs.CopiedBytes.{copy_one_more, below_one_more}
-use Rattle.cv_block.proofs.ascii_runs.copy_few.Goals as goal
+use Rattle.cv_block.proofs.ascii_bytes.copy_few.Goals as goal
 
 pub loop-n-preserved : goal.loop-n-preserved
 loop-n-preserved c =

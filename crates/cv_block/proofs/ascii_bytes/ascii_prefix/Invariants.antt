@@ -1,5 +1,5 @@
 use Rattle.std.proofs.Common.{length, ◌-◌, ◌≤◌, ◌<◌, ℕ, get_or}
-use Rattle.cv_block.proofs.ascii_runs.ascii_prefix.Given as goal
+use Rattle.cv_block.proofs.ascii_bytes.ascii_prefix.Given as goal
 
 abbrev pub invariant-loop-at : goal.invariant-loop-at
 invariant-loop-at l = record { within : l.at ≤ length l.bytes; ascii : (k : ℕ) → k < l.at → get_or l.bytes k 0 < 128 }

@@ -3,7 +3,7 @@ use Rattle.cv_base.specs.ReadBack.{ReadsBack}
 use Rattle.cv_base.proofs.SingleByteLaws.{bytes_back}
 use Rattle.cv_utf.specs.Utf16.{utf16}
 use Rattle.cv_utf.specs.Utf32.{utf32}
-use Rattle.cv_utf.proofs.ReadBacks.{form_reads_back}
+use Rattle.cv_utf.proofs.FormReadBack.{form_reads_back}
 use Rattle.cv_utf.proofs.Utf8ReadBack.{utf8_reads_back}
 use Rattle.cv_pivot.specs.declared.encoding.Encoding.{Encoding}
 use Rattle.cv_pivot.specs.declared.encoding.Encoding.TheVariants.{Ascii, Latin1, Utf8, Utf16, Utf32, Utf7}

@@ -1,6 +1,6 @@
 use Rattle.std.proofs.Common.{arith, refl}
 use Rattle.cv_block.proofs.CopiedBytes.{copy_more, below_more}
-use Rattle.cv_block.proofs.ascii_runs.copy_blocks.Goals as goal
+use Rattle.cv_block.proofs.ascii_bytes.copy_blocks.Goals as goal
 
 pub loop-n-preserved : goal.loop-n-preserved
 loop-n-preserved c =

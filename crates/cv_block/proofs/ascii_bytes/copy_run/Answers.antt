@@ -2,7 +2,7 @@ use Rattle.std.proofs.Common.{arith, refl}
 use Rattle.cv_block.proofs.AsciiRuns.{bytes_run}
 use Rattle.cv_block.proofs.CopiedBytes.{copy_more, below_more, below_behind}
 use Rattle.std.proofs.lemmas.List.{take_rest}
-use Rattle.cv_block.proofs.ascii_runs.copy_run.Goals as goal
+use Rattle.cv_block.proofs.ascii_bytes.copy_run.Goals as goal
 
 pub returns-clause-ascii : goal.returns-clause-ascii
 returns-clause-ascii c =

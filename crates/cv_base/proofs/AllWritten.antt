@@ -6,7 +6,7 @@ use Rattle.std.proofs.lemmas.List.{get_or_read}
 use Rattle.std.proofs.lemmas.Nat.{le_or_l, le_or_r}
 use Rattle.cv_base.specs.Scalars.{question}
 use Rattle.cv_base.specs.Codecs.{Writing}
-use Rattle.cv_base.specs.Chains.{put_or, substituted, written, output_for}
+use Rattle.cv_base.specs.Chains.{put_or, substituted, written}
 use Rattle.cv_base.specs.Blocks.{HasAll}
 use Rattle.cv_base.specs.SingleBytes.{byte_writes}
 use Rattle.cv_base.specs.declared.state.WriteState.{WriteState}

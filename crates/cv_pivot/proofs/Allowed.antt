@@ -1,5 +1,5 @@
 -- What a policy allows, part by part.
-use Rattle.std.proofs.Common.{◌≡◌, refl, arith}
+use Rattle.std.proofs.Common.{◌≡◌, arith}
 use Rattle.cv_base.specs.declared.policy.Policy.{Policy}
 use Rattle.cv_base.specs.declared.policy.Policy.TheVariants.{Substitute, Strict}
 use Rattle.cv_base.specs.Chains.{Output, followed}

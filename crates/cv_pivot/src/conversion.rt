@@ -36,8 +36,10 @@ impl Conversion {
     /// Converts the longest run of items whose bytes fit in `out`. A character that the target lacks is written as `?` and
     /// counted, or ends the run where the policy is strict. Bytes of `out` past the output stay.
     pub fn convert(&mut self, input: &[u8], out: &mut [u8]) -> Outcome
-        ensures converts { Converts (encoding_reads self.old.from) (encoding_writes self.old.to) self.old.policy self.old.states input.now out.old result self.new.states out.new }
-        ensures same { (self.new.from ≡ self.old.from) × (self.new.to ≡ self.old.to) × (self.new.policy ≡ self.old.policy) }
+        ensures converts { Converts (encoding_reads self.old.from) (encoding_writes self.old.to)
+            self.old.policy self.old.states input.now out.old result self.new.states out.new }
+        ensures same { (self.new.from ≡ self.old.from) × (self.new.to ≡ self.old.to)
+            × (self.new.policy ≡ self.old.policy) }
 
         // So the counts fit wherever the lengths do.
         ensures few { (result.left ≤ length input.now) × (result.count ≤ length input.now) × (result.room_left ≤ length out.old) }
@@ -62,8 +64,9 @@ impl Conversion {
         self.to.most_bytes() * len
     }
 
-    /// Goes back to the start, under the same policy. With room 0 it gives both states up and writes nothing; with room above 0 it answers the bytes
-    /// that close the target's shift, or `TooBig` where they don't fit, and then the conversion is unchanged.
+    /// Goes back to the start, under the same policy. With room 0 it gives both states up and writes nothing; with room above 0
+    /// it answers the bytes that close the target's shift, or `TooBig` where they don't fit, and then the conversion is
+    /// unchanged.
     pub fn reset(&mut self, room: usize) -> Result<Piece, TooBig>
         ensures gives_up { room ≡ 0 → (result ≡ Ok []) × (self.new ≡ record self.old { states = start }) }
         ensures closes { 0 < room → length (encoding_closes self.old.to self.old.states.writing) ≤ room

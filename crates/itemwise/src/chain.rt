@@ -1,6 +1,6 @@
 //! A conversion item by item, which knows no blocks.
 
-use cv_base::{Codec, Item, Put, Scalar, WriteState};
+use cv_base::{Codec, Item, Policy, Put, Scalar, WriteState};
 use cv_pivot::{Conversion, Encoding, Outcome, States, Stop};
 use std::alloc::{AllocError, Global};
 
@@ -72,9 +72,12 @@ impl Chain {
             let rest = text.get(now.used..).unwrap_or(&[]);
             match conversion.from.item(now.states.reading, rest) {
                 Item::Char { c, n, next } => {
+                    if !chain.write(conversion, c, &mut now)? {
+                        chain.stop = Stop::Lacking;
+                        break;
+                    }
                     now.used = now.used.saturating_add(n);
                     now.states.reading = next;
-                    chain.write(&conversion.to, c, &mut now)?;
                 }
                 Item::Shift { n, next } => {
                     now.used = now.used.saturating_add(n);
@@ -95,19 +98,26 @@ impl Chain {
         Ok(chain)
     }
 
-    /// Writes a character, or `?` where the encoding lacks it.
-    fn write(&mut self, to: &Encoding, c: Scalar, now: &mut Reached) -> Result<(), AllocError> {
+    /// Writes a character, or `?` where the encoding lacks it and the policy allows that; whether it was written.
+    fn write(
+        &mut self,
+        conversion: &Conversion,
+        c: Scalar,
+        now: &mut Reached,
+    ) -> Result<bool, AllocError> {
+        let to = &conversion.to;
         let state = now.states.writing;
-        let next = match put(to, state, c, &mut self.written)? {
-            Some(next) => next,
-            None => {
+        let next = match (put(to, state, c, &mut self.written)?, conversion.policy) {
+            (Some(next), _) => next,
+            (None, Policy::Strict) => return Ok(false),
+            (None, Policy::Substitute) => {
                 now.count = now.count.saturating_add(1);
                 put(to, state, Scalar::substitute(), &mut self.written)?.unwrap_or(state)
             }
         };
         now.wrote = self.written.len();
         now.states.writing = next;
-        Ok(())
+        Ok(true)
     }
 
     /// How many bytes are written where there is room for all.

@@ -1,5 +1,5 @@
-//! Conversions between every two encodings beside conversions item by item: texts around the bounds of every loop that takes
-//! several characters at once.
+//! Conversions between every two encodings, and to some of them under the strict policy, beside conversions item by item: texts
+//! around the bounds of every loop that takes several characters at once.
 #![tactic(auto)]
 
 mod calls;
@@ -19,7 +19,9 @@ use std::process::ExitCode;
 fn compare<R: Print + AllocGlobal>(rt: &R) -> io::Result<ExitCode> {
     match compare_all(rt.alloc()) {
         Ok(count) => {
-            println!(rt; "10 x 10 encodings: {count} conversions are as item by item")?;
+            println!(rt;
+                "10 x 10 encodings, 10 x 3 under the strict policy: {count} conversions are as item by item"
+            )?;
             Ok(ExitCode::SUCCESS)
         }
         Err(Unfinished::Differs(report)) => {

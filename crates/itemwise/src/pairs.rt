@@ -41,6 +41,7 @@ fn compare_trial(
         let conversion = Conversion {
             from: text.encoding,
             to: target.encoding,
+            policy: target.policy,
             states: States {
                 reading: text.reading,
                 writing: target.writing,
@@ -52,8 +53,8 @@ fn compare_trial(
             Err(Fault::Differs(difference)) => {
                 let Source { name, spelling, .. } = *source;
                 return Err(Unfinished::Differs(format!(in alloc;
-                    "{name} as {spelling} to {}, behind {lead} characters: {trial:?}: {difference:?}",
-                    target.name
+                    "{name} as {spelling} to {}, {:?}, behind {lead} characters: {trial:?}: {difference:?}",
+                    target.name, target.policy
                 )?));
             }
         }

@@ -1,7 +1,7 @@
 //! What conversions write to, and where they are before they write.
 
 use crate::scripts::Script;
-use cv_base::{Codec, WriteState};
+use cv_base::{Codec, Policy, WriteState};
 use cv_pivot::{Encoding, builtin};
 use std::alloc::{AllocError, Global};
 
@@ -20,15 +20,19 @@ const ENCODINGS: [(&str, usize); 10] = [
     ("UTF-7", 3),
 ];
 
-/// An encoding to write to, and where a writer is.
+/// To which of them is written under the strict policy too: those that lack characters, and one that has them all.
+const STRICT: [&str; 3] = ["US-ASCII", "ISO-8859-1", "UTF-8"];
+
+/// An encoding to write to, under which policy, and where a writer is.
 #[derive(Clone, Copy, Debug)]
 pub struct Target {
     pub name: &'static str,
     pub encoding: Encoding,
+    pub policy: Policy,
     pub writing: WriteState,
 }
 
-/// Each encoding in each of the states of its writer.
+/// Each encoding in each of the states of its writer, and those under the strict policy.
 pub fn targets(alloc: Global) -> Result<Vec<Target>, AllocError> {
     let mut targets = Vec::new(alloc);
     for (name, leads) in ENCODINGS {
@@ -40,11 +44,22 @@ pub fn targets(alloc: Global) -> Result<Vec<Target>, AllocError> {
             targets.push(Target {
                 name,
                 encoding,
+                policy: Policy::Substitute,
                 writing,
             })?;
             if let Some((_, next)) = encoding.put(writing, Script::Cyrillic.character(lead)) {
                 writing = next;
             }
+        }
+    }
+    for name in STRICT {
+        if let Some(encoding) = builtin(name.as_bytes()) {
+            targets.push(Target {
+                name,
+                encoding,
+                policy: Policy::Strict,
+                writing: WriteState::Start,
+            })?;
         }
     }
     Ok(targets)

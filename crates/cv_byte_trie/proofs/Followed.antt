@@ -10,10 +10,6 @@ use Rattle.cv_byte_trie.specs.Tries.{StepsBy, none, node_code, HasTrie}
 use Rattle.cv_byte_trie.specs.Private.Reading.{IsAt, IsVacant}
 use Rattle.cv_byte_trie.proofs.Ways.{Begins-more, Begins-same, Begins-self, longer_by_one}
 
--- a text begins at the root
-pub at_root : (S : StepsBy) (count : ℕ) (entries : List Entry) (x : List ℕ) → HasTrie S count entries → IsAt S count entries x 0 0
-at_root S count entries x t = record { way = t.way; trie = t.trie; low = t.trie.some; at = rw t.trie.root tt; deep = rw t.trie.root refl }
-
 module _ (entries : List Entry) (a : AreEntries entries) (S : StepsBy) (count : ℕ) (x : List ℕ) (d i : ℕ) (r : IsAt S count entries x d i) where
   -- no entry of this length or less begins the text
   short : (p : ℕ) → p < length entries → Begins (bytes_at entries p) x → length (bytes_at entries p) ≤ d → ⊥

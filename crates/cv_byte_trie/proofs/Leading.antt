@@ -81,13 +81,3 @@ module _ (old t u : Steps) (bytes : List ℕ) (code n first : ℕ) (some : 0 < n
         chained = λ j k low e. rw links (s.chained j k (rw links at low) (rw links at e));
         older = λ j k low less e. rw links (s.older j k (rw links at low) less (rw links at e));
       }
-
--- all nodes are there
-pub leads_over : (old new : Steps) (bytes : List ℕ) (code first : ℕ) → IsLeading old new bytes code 0 first → LeadsOver old new bytes code
-leads_over old new bytes code first l =
-    let o = length old.nodes.items in
-    record {
-      count = omega (arith, l.count);
-      same = λ n low. sym (get_or-take o new.nodes.items n (Table 0) low) ∙ ap (λ (x : List Node). get_or x n (Table 0)) l.front;
-      chain = λ j low. l.chain j (omega arith);
-    }

@@ -1,14 +1,13 @@
 -- Entries of a range, counted from another of them.
-use Rattle.std.proofs.Common.{◌≡◌, ◌≢◌, ℕ, zero, suc, ◌+◌, ◌-◌, ◌*◌, ◌/◌, ◌%◌, ◌^◌, ◌<◌, ◌≤◌, Bool, true, false, not, cond, leb, List, [], ◌∷◌, ◌++◌, length, take, drop, append_assoc, get_or, refl, sym, subst, ◌∙◌, ap, arith, inl, inr, length-append, Option, Some, None, fold}
-use Rattle.std.specs.Prelude.{Result, Ok, Err}
+use Rattle.std.proofs.Common.{◌≡◌, ℕ, zero, suc, ◌+◌, ◌-◌, ◌*◌, ◌/◌, ◌%◌, ◌^◌, ◌<◌, ◌≤◌, Bool, true, false, not, cond, leb, List, [], ◌∷◌, ◌++◌, length, take, drop, append_assoc, refl, sym, ◌∙◌, ap, arith, length-append}
+use Rattle.std.specs.Prelude.{Ok, Err}
 use Rattle.std.proofs.Math.Nat.{pow-succ'}
-use Rattle.std.proofs.lemmas.Bool.{cases_Bool, leb-false, lt-leb, not-false}
+use Rattle.std.proofs.lemmas.Bool.{leb-false, lt-leb}
 use Rattle.std.proofs.lemmas.List.Sums.{fold-append}
 use Rattle.std.proofs.lemmas.List.{length-take-le, drop-set}
 use Rattle.std.proofs.Math.Seq.{take-set-lt}
 use Rattle.std.specs.Prelude.{slice_set}
 use Rattle.cv_lex.specs.Names.{is_scalar}
-use Rattle.cv_lex.specs.declared.cause.Cause.{Cause}
 use Rattle.cv_lex.specs.declared.cause.Cause.TheVariants.{NotScalar, Carry}
 use Rattle.cv_charmap.specs.Entries.{Pair, number_of, bytes_in, named_by, entry_at}
 
@@ -45,12 +44,6 @@ is_entry hex first bytes i q e = by (is_scalar (named_by hex (first + i))) (leb 
     by true false s_is c_is h =
         let same : (bytes_in (length bytes) (number_of bytes + i), named_by hex (first + i)) ≡ q = cc in
         record { scalar = s_is; fits = leb-false (256 ^ length bytes) (number_of bytes + i) c_is; bytes_are = ap (λ (x : Pair). x.0) (sym same); character = ap (λ (x : Pair). x.1) (sym same) }
-
--- where such an entry has no cause
-pub entry_is : (hex : Bool) (first : ℕ) (bytes : List ℕ) (i : ℕ) → is_scalar (named_by hex (first + i)) ≡ true → number_of bytes + i < 256 ^ length bytes
-    → entry_at hex first bytes i ≡ Ok (bytes_in (length bytes) (number_of bytes + i), named_by hex (first + i))
-unfolding entry_at
-entry_is hex first bytes i s f = rw (s, lt-leb (256 ^ length bytes) (number_of bytes + i) f) refl
 
 -- an entry depends on the number of its character, and on the number and the size of its bytes
 same_entry : (hex : Bool) (m n : ℕ) (a b : List ℕ) (i j : ℕ) → m + i ≡ n + j → number_of a + i ≡ number_of b + j → length a ≡ length b → entry_at hex m a i ≡ entry_at hex n b j

@@ -1,6 +1,6 @@
 -- What is known to be in the list stays in it, and is passed over.
-use Rattle.std.proofs.Common.{◌≡◌, ◌≢◌, ℕ, zero, suc, ◌+◌, ◌-◌, ◌<◌, ◌≤◌, Bool, true, false, List, [], ◌∷◌, ◌++◌, length, take, drop, append-nil, get_or, refl, sym, subst, ◌∙◌, ap, arith, inl, inr, min, length-take}
-use Rattle.std.specs.Prelude.{Result, Ok, Err, None, max, slice_set}
+use Rattle.std.proofs.Common.{◌≡◌, ℕ, zero, suc, ◌+◌, ◌-◌, ◌<◌, ◌≤◌, Bool, true, false, List, [], ◌∷◌, ◌++◌, length, take, drop, append-nil, get_or, refl, sym, subst, ◌∙◌, ap, arith, inl, inr, length-take}
+use Rattle.std.specs.Prelude.{Ok, Err, None, max, slice_set}
 use Rattle.std.proofs.Math.Bool.{beq}
 use Rattle.std.proofs.lemmas.Bool.{cases_lt, cases_eq}
 use Rattle.std.proofs.lemmas.List.{get_or-take, get_or_push, get_or_append_left, length-append, get_or-set_same, get_or-set_other, length-set, get_or-replicate, length-replicate, take_all, drop_all}
@@ -11,7 +11,6 @@ use Rattle.cv_charmap.specs.Entries.{Pair, entry_at}
 use Rattle.cv_charmap.specs.Lists.{entered, pair_cause}
 use Rattle.cv_charmap.specs.Private.Covers.{pair_at, HasEntry, HasEntries, reach_at, AreCovered, AreStops, IsDraft}
 use Rattle.cv_charmap.specs.Private.Runs.{run_entries, entries_from}
-use Rattle.cv_charmap.specs.declared.fault.MapFault.{MapFault}
 use Rattle.cv_charmap.specs.declared.reach.Reach.{Reach}
 use Rattle.cv_charmap.specs.declared.reach.Stop.{Stop}
 use Rattle.cv_charmap.proofs.Counting.{counted_on}

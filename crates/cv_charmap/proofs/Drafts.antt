@@ -1,18 +1,16 @@
 -- What a pair comes to, by what its bytes are to the entries.
-use Rattle.std.proofs.Common.{◌≡◌, ◌≢◌, ℕ, ◌<◌, ◌≤◌, ◌+◌, ◌-◌, Bool, true, false, cond, leb, List, [], ◌∷◌, ◌++◌, length, get_or, refl, sym, subst, ◌∙◌, ap, arith, inl, inr, Option, Some, None, length-append}
-use Rattle.std.specs.Prelude.{Result, Ok, Err}
+use Rattle.std.proofs.Common.{◌≡◌, ◌≢◌, ℕ, ◌<◌, ◌≤◌, Bool, false, cond, leb, List, [], ◌∷◌, ◌++◌, length, get_or, refl, sym, subst, ◌∙◌, ap, arith, Some, None, length-append}
 use Rattle.std.proofs.lemmas.Bool.{le-leb, lt-leb}
 use Rattle.std.proofs.lemmas.List.{get_or_push, get_or_read}
 use Rattle.cv_base.specs.Items.{Begins}
 use Rattle.cv_base.proofs.Front.{Begins-length}
-use Rattle.cv_lex.specs.declared.cause.Cause.{Cause}
-use Rattle.cv_lex.specs.declared.cause.Cause.TheVariants.{Clash, Prefix, TooMany}
+use Rattle.cv_lex.specs.declared.cause.Cause.TheVariants.{Prefix, TooMany}
 use Rattle.cv_byte_trie.specs.Entries.{bytes_at, character_at, AreApart}
 use Rattle.cv_byte_trie.specs.Results.{MeetsNone, GoesOnBehind}
 use Rattle.cv_charmap.specs.Entries.{Pair}
 use Rattle.cv_charmap.specs.Lists.{most_pairs, entered, pair_cause}
 use Rattle.cv_charmap.specs.Private.Covers.{pair_at}
-use Rattle.cv_charmap.proofs.Meeting.{fresh, fresh_entered, held_again, held_otherwise, continues, goes_before}
+use Rattle.cv_charmap.proofs.Meeting.{fresh, fresh_entered, held_again, goes_before}
 
 -- what begins bytes and is as long is the same
 pub same_whole : (a b : List ℕ) → Begins a b → length a ≡ length b → a ≡ b

@@ -1,5 +1,5 @@
 -- Entries of a range, one by one.
-use Rattle.std.proofs.Common.{◌≡◌, ◌≢◌, ℕ, zero, suc, ◌+◌, ◌-◌, ◌^◌, ◌<◌, ◌≤◌, Bool, true, List, [], ◌∷◌, length, map, leb, sym, ◌∙◌, ap, arith, refl, Option, Some, None}
+use Rattle.std.proofs.Common.{◌≡◌, ℕ, suc, ◌+◌, ◌-◌, ◌^◌, ◌<◌, ◌≤◌, Bool, true, List, [], ◌∷◌, length, map, leb, sym, ◌∙◌, ap, arith, refl, Option, Some, None}
 use Rattle.std.specs.Prelude.{Result, Ok, Err}
 use Rattle.std.specs.List.{range_with_len}
 use Rattle.cv_lex.specs.Names.{is_scalar}
@@ -7,7 +7,7 @@ use Rattle.cv_lex.specs.declared.cause.Cause.{Cause}
 use Rattle.cv_lex.specs.declared.cause.Cause.TheVariants.{Carry}
 use Rattle.cv_charmap.specs.Entries.{Pair, number_of, named_by, entry_at}
 use Rattle.cv_charmap.specs.Lists.{entered, pair_cause, entry_cause}
-use Rattle.cv_charmap.specs.Private.Runs.{entries_from, run_entries, run_steps, with_entry, unless, fault}
+use Rattle.cv_charmap.specs.Private.Runs.{entries_from, run_entries, with_entry, unless, fault}
 use Rattle.cv_charmap.specs.Private.Seen.{Enters, RunsTo}
 use Rattle.cv_charmap.specs.declared.draft.EntryFault.{EntryFault}
 use Rattle.cv_charmap.specs.declared.draft.EntryFault.TheVariants.{Faulty, Memory}

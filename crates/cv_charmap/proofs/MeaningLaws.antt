@@ -1,10 +1,9 @@
 -- What a text means is a charmap.
-use Rattle.std.proofs.Common.{◌≡◌, ◌≢◌, ℕ, suc, ◌+◌, ◌<◌, ◌≤◌, Bool, true, false, cond, leb, ltb, not, List, [], ◌∷◌, ◌++◌, length, refl, sym, subst, ◌∙◌, ap, arith, inl, inr, Option, Some, None, length-append}
-use Rattle.std.specs.Prelude.{◌==◌, ◌||◌, ◌&&◌, bytes_eq, slice_get, is_none, Result, Ok, Err}
+use Rattle.std.proofs.Common.{◌≡◌, ℕ, ◌<◌, ◌≤◌, Bool, true, false, cond, leb, ltb, not, List, [], ◌∷◌, ◌++◌, length, refl, sym, subst, ◌∙◌, ap, arith, inl, inr, Option, Some, None, length-append}
+use Rattle.std.specs.Prelude.{◌==◌, ◌||◌, ◌&&◌, bytes_eq, slice_get, is_none, Ok, Err}
 use Rattle.std.specs.List.{list_any, after_first}
 use Rattle.std.proofs.lemmas.Bool.{cases_Bool, false≢true, leb-false, or_parts, ltb-true, leb-true}
 use Rattle.std.proofs.lemmas.List.Folds.{list_any_at}
-use Rattle.cv_base.specs.Items.{Begins}
 use Rattle.cv_base.specs.Scalars.{IsScalar, question}
 use Rattle.cv_lex.specs.Lines.{lines_of}
 use Rattle.cv_lex.specs.Names.{is_scalar}
@@ -12,20 +11,20 @@ use Rattle.cv_lex.specs.Readings.{is_begin, is_finish}
 use Rattle.cv_lex.specs.Words.{begins}
 use Rattle.cv_lex.specs.declared.cause.Cause.{Cause}
 use Rattle.cv_lex.specs.declared.cause.Cause.TheVariants.{Clash, Prefix, TooMany, NoMap, NoEnd, NoName, NoSubstitute}
-use Rattle.cv_byte_trie.specs.Entries.{bytes_at, AreEntries}
+use Rattle.cv_byte_trie.specs.Entries.{AreEntries}
 use Rattle.cv_byte_trie.specs.Results.{MeetsNone}
 use Rattle.cv_byte_trie.proofs.OneMore.{one_more_entry}
 use Rattle.cv_charmap.specs.Entries.{Pair}
 use Rattle.cv_charmap.specs.Headers.{header_of}
-use Rattle.cv_charmap.specs.Lists.{most_pairs, repeats, clashes, overlaps, entered, pair_cause, entry_cause}
+use Rattle.cv_charmap.specs.Lists.{most_pairs, repeats, clashes, overlaps, entered, pair_cause}
 use Rattle.cv_charmap.specs.Maps.{IsMap, MeansMaps}
-use Rattle.cv_charmap.specs.Meaning.{Charmap, Step, header_lines, steps_of, pairs_of, faults_of, lacks, decided, meaning, meaning_of_lines}
+use Rattle.cv_charmap.specs.Meaning.{Charmap, Step, header_lines, steps_of, pairs_of, faults_of, lacks, decided, meaning_of_lines}
 use Rattle.cv_charmap.specs.Private.Covers.{pair_at}
-use Rattle.cv_charmap.specs.Private.Runs.{run_steps, with_entry, unless}
+use Rattle.cv_charmap.specs.Private.Runs.{run_steps, unless}
 use Rattle.cv_charmap.specs.declared.fault.MapFault.{MapFault}
 use Rattle.cv_charmap.proofs.FirstFaults.{by_fault, run_finds}
 use Rattle.cv_charmap.proofs.FitEntries.{IsFitEntry, AreFitSteps, steps_fit}
-use Rattle.cv_charmap.proofs.Meeting.{begins_true, eq_bytes, same_bytes}
+use Rattle.cv_charmap.proofs.Meeting.{begins_true}
 
 -- a number that passes the test is a scalar value
 pub is_scalar_from : (n : ℕ) → is_scalar n ≡ true → IsScalar n

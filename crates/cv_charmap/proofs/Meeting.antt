@@ -1,6 +1,6 @@
 -- What is wrong with a pair, by the bytes that it meets.
-use Rattle.std.proofs.Common.{◌≡◌, ◌≢◌, ℕ, ◌<◌, ◌≤◌, Bool, true, false, cond, leb, List, [], ◌∷◌, ◌++◌, length, get_or, refl, sym, subst, ◌∙◌, ap, arith, inl, inr, Option, Some, None, eq-eqb}
-use Rattle.std.specs.Prelude.{◌==◌, ◌||◌, ◌&&◌, not, bytes_eq, nat_eq}
+use Rattle.std.proofs.Common.{◌≡◌, ◌≢◌, ℕ, ◌<◌, Bool, true, false, cond, leb, List, [], ◌∷◌, ◌++◌, length, refl, sym, ◌∙◌, ap, arith, inl, inr, Some, None, eq-eqb}
+use Rattle.std.specs.Prelude.{◌||◌, ◌&&◌, not, bytes_eq, nat_eq}
 use Rattle.std.specs.List.{list_any}
 use Rattle.std.proofs.lemmas.Bool.{cases_Bool, cases_eq, and_parts, false≢true, ne_eqb}
 use Rattle.std.proofs.lemmas.List.Folds.{list_any_at, list_any_none}
@@ -8,10 +8,9 @@ use Rattle.std.proofs.lemmas.List.Elements.{All-from_get_or}
 use Rattle.std.proofs.lemmas.Slice.Eq.{bytes_eq-Decides}
 use Rattle.cv_base.specs.Items.{Begins}
 use Rattle.cv_lex.specs.Words.{begins}
-use Rattle.cv_lex.specs.declared.cause.Cause.{Cause}
 use Rattle.cv_lex.specs.declared.cause.Cause.TheVariants.{Clash, Prefix, TooMany}
 use Rattle.cv_byte_trie.specs.Entries.{bytes_at, character_at, AreApart}
-use Rattle.cv_byte_trie.specs.Results.{MeetsNone, GoesOnBehind}
+use Rattle.cv_byte_trie.specs.Results.{MeetsNone}
 use Rattle.cv_charmap.specs.Entries.{Pair}
 use Rattle.cv_charmap.specs.Lists.{most_pairs, repeats, clashes, overlaps, entered, pair_cause}
 use Rattle.cv_charmap.specs.Private.Covers.{pair_at}

@@ -6,7 +6,7 @@ use Rattle.cv_lex.specs.Readings.{Maps}
 use Rattle.cv_charmap.specs.Entries.{Pair, sized_entries}
 use Rattle.cv_charmap.specs.Headers.{Header}
 use Rattle.cv_charmap.specs.Meaning.{Charmap, meaning_of_lines}
-use Rattle.cv_charmap.specs.Private.Runs.{◌>>=◌, fault, run_entries, State, state, line_run, lines_run, finish_by, finish_run, run_of}
+use Rattle.cv_charmap.specs.Private.Runs.{◌>>=◌, run_entries, State, state, line_run, lines_run, finish_run, run_of}
 use Rattle.cv_charmap.specs.Private.Seen.{RunsTo, TakesInside, NextTo, after_entries, finished}
 use Rattle.cv_charmap.specs.Results.{Reads}
 use Rattle.cv_charmap.specs.declared.draft.EntryFault.{EntryFault}

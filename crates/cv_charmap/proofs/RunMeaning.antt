@@ -1,7 +1,7 @@
 -- A run over the lines of a charmap finds its meaning.
-use Rattle.std.proofs.Common.{◌≡◌, ℕ, suc, ◌+◌, min, Bool, true, false, cond, List, [], ◌∷◌, ◌++◌, length, map, take, drop, refl, sym, ◌∙◌, ap, subst, arith, inl, inr, ◌⊎◌, ◌≤◌, Option, Some, None}
-use Rattle.std.specs.Prelude.{not, ◌||◌, ◌==◌, slice_get, is_none, fold, if◌then◌else◌, Result, Ok, Err}
-use Rattle.std.specs.List.{before_first, after_first, list_any, prefix_len, position_or_len}
+use Rattle.std.proofs.Common.{◌≡◌, ℕ, suc, ◌+◌, min, Bool, true, false, cond, List, [], ◌∷◌, ◌++◌, map, take, drop, refl, sym, ◌∙◌, ap, subst, arith, inl, inr, ◌⊎◌, Option, Some, None}
+use Rattle.std.specs.Prelude.{not, ◌||◌, ◌==◌, slice_get, is_none, fold, Result, Ok, Err}
+use Rattle.std.specs.List.{before_first, after_first, list_any, position_or_len}
 use Rattle.std.proofs.lemmas.Bool.{cases_Bool}
 use Rattle.cv_base.specs.Scalars.{question}
 use Rattle.cv_lex.specs.Declarations.{Declared, declaration_of}
@@ -11,9 +11,9 @@ use Rattle.cv_lex.specs.Readings.{Reading, Skip, Begin, Finish, Declares, Maps, 
 use Rattle.cv_lex.specs.declared.cause.Cause.{Cause}
 use Rattle.cv_lex.specs.declared.cause.Cause.TheVariants.{NoMap, NoEnd, NoName, NoSubstitute}
 use Rattle.cv_charmap.specs.Entries.{Pair, sized_entries}
-use Rattle.cv_charmap.specs.Headers.{Header, undeclared, with_declared, with_said, header_of, marks_by}
-use Rattle.cv_charmap.specs.Meaning.{Charmap, Step, header_lines, mapping_lines, entries_by, header_entries, mapping_entries, numbered, steps_of, pairs_of, faults_of, lacks, decided, meaning_of_lines}
-use Rattle.cv_charmap.specs.Private.Runs.{◌>>=◌, fault, run_steps, run_entries, State, state, above_by, inside_by, next_number, line_by, line_run, lines_run, whole_by, finish_by, finish_run, start, run_of}
+use Rattle.cv_charmap.specs.Headers.{Header, undeclared, with_said, header_of, marks_by}
+use Rattle.cv_charmap.specs.Meaning.{Charmap, Step, header_lines, entries_by, header_entries, mapping_entries, numbered, steps_of, pairs_of, faults_of, decided, meaning_of_lines}
+use Rattle.cv_charmap.specs.Private.Runs.{◌>>=◌, fault, run_steps, run_entries, state, above_by, inside_by, next_number, line_run, lines_run, whole_by, finish_run, run_of}
 use Rattle.cv_charmap.proofs.FirstFaults.{by_fault, run_finds, run_append}
 use Rattle.cv_charmap.proofs.LineKinds.{Marked, stays_marked, skipped_says_nothing, begin_read, finish_read, header_read, mapping_read}
 use Rattle.cv_charmap.specs.declared.fault.MapFault.{MapFault}

@@ -63,10 +63,6 @@ prepend_none : (o : Option (List ℕ)) → o ≡ prepend [] o
 prepend_none None = refl
 prepend_none (Some x) = refl
 
--- nothing is gathered at the start
-pub none_yet : (escape : ℕ) (kind : Kind) (text : List ℕ) → IsGathered escape kind text text [] 0
-none_yet escape kind text = record { numbers = []; so_far = prepend_none (numbers_within (length text) escape kind text); few = λ _. (refl, refl); many = λ h. absurd (omega arith); below = omega arith }
-
 prepend_more : (numbers : List ℕ) (n : ℕ) (o : Option (List ℕ)) → prepend numbers (option_map (λ more. n ∷ more) o) ≡ prepend (numbers ++ n ∷ []) o
 prepend_more numbers n None = refl
 prepend_more numbers n (Some more) = ap Some (sym (append_assoc numbers (n ∷ []) more))

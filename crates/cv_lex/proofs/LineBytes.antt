@@ -1,5 +1,5 @@
 -- A mapping that was read has bytes.
-use Rattle.std.proofs.Common.{◌≡◌, ℕ, ◌<◌, List, length, refl, sym, subst, ◌∙◌, ap}
+use Rattle.std.proofs.Common.{◌≡◌, ℕ, ◌<◌, List, length, refl, sym, subst}
 use Rattle.std.specs.Prelude.{Bool, Result, Ok, Err, IfOk}
 use Rattle.cv_lex.specs.Mappings.{Mapping, mapping_of}
 use Rattle.cv_lex.specs.Mappings as maps

@@ -1,5 +1,5 @@
 -- What a mapping line that isn't faulty says: a scalar value or a range, and 1 to 8 bytes.
-use Rattle.std.proofs.Common.{◌≡◌, ◌≢◌, ℕ, zero, suc, ◌<◌, ◌≤◌, Bool, true, false, cond, ltb, List, [], ◌∷◌, length, map, drop, Option, Some, None, refl, sym, subst, ◌∙◌, ap, arith, inl, inr}
+use Rattle.std.proofs.Common.{◌≡◌, ◌≢◌, ℕ, ◌<◌, ◌≤◌, Bool, true, false, cond, ltb, List, [], ◌∷◌, length, map, drop, Option, Some, None, refl, subst, ◌∙◌, ap, arith}
 use Rattle.std.specs.Prelude.{◌==◌, codes, bytes_eq, option_map, option_and_then, ok_or, Result, Ok, Err}
 use Rattle.std.specs.Char.{is_ascii_alphabetic}
 use Rattle.std.specs.List.{list_all}
@@ -7,11 +7,11 @@ use Rattle.std.specs.Map.{lookup}
 use Rattle.std.proofs.lemmas.Bool.{and_parts, ltb-false, ne_eqb}
 use Rattle.std.proofs.lemmas.Bool.Decides.{nat_tests}
 use Rattle.cv_lex.specs.Words.{begins, after_blanks, numeral}
-use Rattle.cv_lex.specs.Names.{is_scalar, digits_of, symbol_of, scalar_of, meaning_by, character_of, range_of}
+use Rattle.cv_lex.specs.Names.{is_scalar, digits_of, symbol_of, meaning_by, character_of, range_of}
 use Rattle.cv_lex.specs.Constants.{kind_of, constant_at, numbers_within, bytes_by, bytes_of}
 use Rattle.cv_lex.specs.Mappings.{Mapping, One, Range, ◌>>=◌, name_at, encoding_at, plain, single_by, ranged_by, mapping_of}
 use Rattle.cv_lex.specs.declared.cause.Cause.{Cause}
-use Rattle.cv_lex.specs.declared.cause.Cause.TheVariants.{Constant, Length, Syntax, UnknownName, NotScalar}
+use Rattle.cv_lex.specs.declared.cause.Cause.TheVariants.{Length, Syntax, NotScalar}
 use Rattle.cv_lex.specs.declared.encoding.Kind.{Kind}
 use Rattle.cv_lex.specs.declared.symbols.TheConstants.{SYMBOLS}
 

@@ -1,5 +1,5 @@
 -- What is known to be in the list of pairs, from a pair on.
-use Rattle.std.specs.Prelude.{◌≡◌, ℕ, Bool, true, ◌<◌, ◌≤◌, List, [], length, slice_index_or, Result, Ok}
+use Rattle.std.specs.Prelude.{◌≡◌, ℕ, Bool, true, ◌<◌, ◌≤◌, List, [], length, slice_index_or, Ok}
 use Rattle.cv_byte_trie.specs.Entries.{bytes_at, AreApart}
 use Rattle.cv_charmap.specs.Entries.{Pair, entry_at}
 use Rattle.cv_charmap.specs.Lists.{most_pairs}

@@ -1,5 +1,5 @@
 -- The meaning of a charmap as a run over its lines. It serves proofs: `RunMeaning` shows that both are one.
-use Rattle.std.specs.Prelude.{ℕ, ◌+◌, ◌-◌, min, Bool, not, ◌==◌, false, true, List, [], ◌∷◌, map, if◌then◌else◌, Option, Some, None, Result, Ok, Err}
+use Rattle.std.specs.Prelude.{ℕ, ◌+◌, ◌-◌, min, Bool, ◌==◌, false, true, List, [], ◌∷◌, map, if◌then◌else◌, Option, Some, None, Result, Ok, Err}
 use Rattle.std.specs.List.{list_any, range_with_len}
 use Rattle.cv_base.specs.Scalars.{question}
 use Rattle.cv_lex.specs.Readings.{Reading, Skip, Begin, Finish, Declares, Maps, reading_of}

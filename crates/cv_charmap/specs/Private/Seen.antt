@@ -1,5 +1,5 @@
 -- How what is read of a charmap stands in the code: contracts of private functions cite it.
-use Rattle.std.specs.Prelude.{◌≡◌, ℕ, ◌<◌, ◌≤◌, Bool, false, true, List, length, take, Option, Some, None, option_map, Result, Ok, Err}
+use Rattle.std.specs.Prelude.{◌≡◌, ℕ, ◌<◌, ◌≤◌, Bool, false, true, List, length, take, Some, None, option_map, Result, Ok, Err}
 use Rattle.cv_lex.specs.Readings.{Reading, reading_of}
 use Rattle.cv_lex.specs.declared.cause.Cause.{Cause}
 use Rattle.cv_charmap.specs.Entries.{Pair, entry_at}

@@ -1,4 +1,4 @@
-use Rattle.std.proofs.Common.{◌≡◌, ◌≢◌, ◌∙◌, List, length, ap, sym, arith}
+use Rattle.std.proofs.Common.{◌≡◌, ◌≢◌, ◌∙◌, length, ap, sym, arith}
 use Rattle.cv_byte_trie.specs.Entries.{bytes_at}
 use Rattle.cv_charmap.specs.Entries.{Pair}
 use Rattle.cv_charmap.proofs.Drafts.{entry_read, same_whole, shorter, begins_one, too_many}

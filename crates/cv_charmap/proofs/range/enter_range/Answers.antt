@@ -1,4 +1,4 @@
-use Rattle.std.proofs.Common.{◌≡◌, sym, ◌∙◌, ap, not, true, List, ℕ}
+use Rattle.std.proofs.Common.{◌≡◌, sym, ◌∙◌, ap, not, true, List}
 use Rattle.std.specs.Prelude.{Ok, is_ok}
 use Rattle.cv_charmap.specs.Entries.{Pair}
 use Rattle.cv_charmap.proofs.EntryLemmas.{from_whole, range_ends}

@@ -1,11 +1,8 @@
-use Rattle.std.proofs.Common.{◌≡◌, ◌∙◌, ◌+◌, refl, sym, ap, subst, arith, length, take, ℕ, List}
-use Rattle.std.specs.Prelude.{Result, Ok, Err}
-use Rattle.std.proofs.lemmas.List.{length-take-le}
-use Rattle.cv_lex.specs.declared.cause.Cause.{Cause}
-use Rattle.cv_charmap.specs.Entries.{Pair, entry_at}
+use Rattle.std.proofs.Common.{◌∙◌, ◌+◌, sym, ap, subst, arith, length, take, ℕ}
+use Rattle.std.specs.Prelude.{Result, Ok}
+use Rattle.cv_charmap.specs.Entries.{Pair}
 use Rattle.cv_charmap.specs.Private.Seen.{Enters, padded_entry}
 use Rattle.cv_charmap.specs.declared.draft.EntryFault.{EntryFault}
-use Rattle.cv_charmap.proofs.Counting.{is_entry, size_in}
 use Rattle.cv_charmap.proofs.Covering.{passed_on, refused_run}
 use Rattle.cv_charmap.proofs.EntryLemmas.{stops_at_cause}
 use Rattle.cv_charmap.proofs.range.pass.Goals as goal

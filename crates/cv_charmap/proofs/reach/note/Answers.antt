@@ -1,4 +1,4 @@
-use Rattle.std.proofs.Common.{◌+◌, ◌≤◌, ap, arith}
+use Rattle.std.proofs.Common.{◌+◌, ap, arith}
 use Rattle.cv_charmap.proofs.Covering.{covered_set}
 use Rattle.cv_charmap.proofs.reach.note.Goals as goal
 

@@ -1,4 +1,4 @@
-use Rattle.std.proofs.Common.{◌≡◌, ◌-◌, ◌≤◌, ◌∙◌, length, sym, subst, ap, arith, List, ℕ, vec_len}
+use Rattle.std.proofs.Common.{◌≡◌, ◌-◌, ◌≤◌, ◌∙◌, length, sym, subst, arith, List, vec_len}
 use Rattle.cv_charmap.specs.Entries.{Pair}
 use Rattle.cv_charmap.specs.Private.Covers.{IsDraft, HasEntries, AreCovered}
 use Rattle.cv_charmap.specs.declared.reach.Reach.{Reach}

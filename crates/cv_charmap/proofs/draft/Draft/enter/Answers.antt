@@ -1,4 +1,4 @@
-use Rattle.std.proofs.Common.{length, arith}
+use Rattle.std.proofs.Common.{arith}
 use Rattle.cv_charmap.proofs.Covering.{no_shorter, covered_stays}
 use Rattle.cv_charmap.proofs.draft.Draft.enter.Goals as goal
 

@@ -4,8 +4,8 @@ use crate::fault::RunFault;
 use crate::input::{MAX_READS, read_all};
 use crate::output::write_all;
 use crate::replies::show_replies;
-use crate::served_script::run_script;
 use crate::script::ask_script;
+use crate::served_script::run_script;
 use cv_loop::{FromReader, ToWriter, serve_new};
 use std::io;
 

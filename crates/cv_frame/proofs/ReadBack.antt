@@ -65,11 +65,11 @@ policy_only (b ∷ []) policy e =
           let is : Substitute ≡ policy = (let h = p.1 in cc) in
           inr (sym is, ap (λ (x : ℕ). x ∷ []) (eqb-true _ _ p.0))
       | inr p ↦ elim (chosen (eqb b 1) _ _ _ p.1) [
-          | inl q ↦
-              let is : Strict ≡ policy = (let h = q.1 in cc) in
-              inl (ap (λ (x : ℕ). x ∷ []) (eqb-true _ _ q.0) ∙ ap policy_body is)
-          | inr q ↦ absurd (let h = q.1 in cc)
-        ]
+        | inl q ↦
+            let is : Strict ≡ policy = (let h = q.1 in cc) in
+            inl (ap (λ (x : ℕ). x ∷ []) (eqb-true _ _ q.0) ∙ ap policy_body is)
+        | inr q ↦ absurd (let h = q.1 in cc)
+      ]
     ]
 policy_only (b ∷ c ∷ bytes) policy e = absurd cc
 

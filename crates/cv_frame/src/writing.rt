@@ -85,7 +85,13 @@ pub fn write_request(out: &mut Vec<u8>, caller: u32, tag: u32, ask: &Ask<'_>) ->
     match *ask {
         Ask::Open { to, from, policy } => {
             let behind = policy_bytes(policy);
-            begin_frame(out, caller, tag, OPEN, 2 + to.len() + from.len() + behind.len())?;
+            begin_frame(
+                out,
+                caller,
+                tag,
+                OPEN,
+                2 + to.len() + from.len() + behind.len(),
+            )?;
             append_name(out, to);
             append_name(out, from);
             append(out, behind);

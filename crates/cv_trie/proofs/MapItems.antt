@@ -33,13 +33,13 @@ pub inside_incomplete : (pairs : List Pair) → AreApart pairs → (s : ReadStat
 inside_incomplete pairs apart s text k some on = (
   some,
   λ i p. (
-    let x = stands_pair pairs s text i p in
-    let j = p.is_item.1.0 in
-    let same : j ≡ k = apart j k x.0 on.low (Begins-trans (bytes_at pairs j) text (bytes_at pairs k) x.1 on.front) in
-    let size : length (bytes_at pairs j) ≡ length (bytes_at pairs k) = ap (λ (n : ℕ). length (bytes_at pairs n)) same in
-    let fits : length (bytes_at pairs j) ≤ length text = Begins-length (bytes_at pairs j) text x.1 in
-    let longer = on.longer in
-    omega arith),
+      let x = stands_pair pairs s text i p in
+      let j = p.is_item.1.0 in
+      let same : j ≡ k = apart j k x.0 on.low (Begins-trans (bytes_at pairs j) text (bytes_at pairs k) x.1 on.front) in
+      let size : length (bytes_at pairs j) ≡ length (bytes_at pairs k) = ap (λ (n : ℕ). length (bytes_at pairs n)) same in
+      let fits : length (bytes_at pairs j) ≤ length text = Begins-length (bytes_at pairs j) text x.1 in
+      let longer = on.longer in
+      omega arith),
   record {
     bytes = bytes_at pairs k;
     item = taken (length (bytes_at pairs k)) (Some (character_at pairs k)) read.Start;

@@ -60,12 +60,7 @@ fn number(alloc: Global, entries: &[Entry]) -> Result<Numbers, AllocError>
 }
 
 /// The cells of pages, each with the first place of its character.
-fn fill(
-    alloc: Global,
-    tops: &[u32],
-    count: u32,
-    entries: &[Entry],
-) -> Result<Vec<u32>, AllocError>
+fn fill(alloc: Global, tops: &[u32], count: u32, entries: &[Entry]) -> Result<Vec<u32>, AllocError>
     requires entries { AreEntries entries.now }
     requires few { length entries.now ≤ 0x1000000 }
     requires numbered { AreNumbered tops.now count }

@@ -94,7 +94,10 @@ fn a_charmap_tells_its_name_and_sizes(rt: HostRuntime) -> Result<(), Fail> {
         assert!(rt; map.name() == name, "{name:?}");
         assert_eq!(rt; map.len(), len, "{name:?}");
         assert_eq!(rt; map.most_bytes(), most, "{name:?}");
-        assert!(rt; map.close(WriteState::Marked).as_slice().is_empty(), "{name:?}");
+        assert!(rt;
+            map.close(WriteState::Marked).as_slice().is_empty(),
+            "{name:?}"
+        );
     }
     Ok(())
 }
@@ -121,7 +124,10 @@ fn blocks_are_written(rt: HostRuntime) -> Result<(), Fail> {
     let characters = [scalar(0x4E00)?, scalar(0x41)?, scalar(0x1_FFFE)?];
     let mut out = [0x2D; 32];
     let block = map.write_block(WriteState::Start, &characters, &mut out, 1);
-    assert_eq!(rt; (block.wrote, block.count, block.next), (6, 1, WriteState::Start));
+    assert_eq!(rt;
+        (block.wrote, block.count, block.next),
+        (6, 1, WriteState::Start)
+    );
     assert!(rt; out.get(..8) == Some(b"-\x81\x40\x6F\x00\xFF\xFE-".as_slice()));
     let again = map.write_block(WriteState::Marked, &characters, &mut out, 2);
     assert_eq!(rt; (again.wrote, again.count), (6, 1));

@@ -16,18 +16,88 @@ pub enum Form {
 
 /// Each form, and what it is called.
 pub const FORMS: [(&str, Form); 12] = [
-    ("1 byte", Form::Sized { size: 1, count: 256, step: 1 }),
-    ("1 byte, far apart", Form::Sized { size: 1, count: 256, step: 4000 }),
-    ("2 bytes", Form::Sized { size: 2, count: 7000, step: 1 }),
-    ("3 bytes", Form::Sized { size: 3, count: 65_536, step: 16 }),
-    ("4 bytes", Form::Sized { size: 4, count: 5000, step: 3 }),
-    ("5 bytes", Form::Sized { size: 5, count: 5000, step: 200 }),
-    ("6 bytes", Form::Sized { size: 6, count: 5000, step: 1 }),
-    ("7 bytes", Form::Sized { size: 7, count: 5000, step: 7 }),
-    ("8 bytes", Form::Sized { size: 8, count: 5000, step: 64 }),
+    (
+        "1 byte",
+        Form::Sized {
+            size: 1,
+            count: 256,
+            step: 1,
+        },
+    ),
+    (
+        "1 byte, far apart",
+        Form::Sized {
+            size: 1,
+            count: 256,
+            step: 4000,
+        },
+    ),
+    (
+        "2 bytes",
+        Form::Sized {
+            size: 2,
+            count: 7000,
+            step: 1,
+        },
+    ),
+    (
+        "3 bytes",
+        Form::Sized {
+            size: 3,
+            count: 65_536,
+            step: 16,
+        },
+    ),
+    (
+        "4 bytes",
+        Form::Sized {
+            size: 4,
+            count: 5000,
+            step: 3,
+        },
+    ),
+    (
+        "5 bytes",
+        Form::Sized {
+            size: 5,
+            count: 5000,
+            step: 200,
+        },
+    ),
+    (
+        "6 bytes",
+        Form::Sized {
+            size: 6,
+            count: 5000,
+            step: 1,
+        },
+    ),
+    (
+        "7 bytes",
+        Form::Sized {
+            size: 7,
+            count: 5000,
+            step: 7,
+        },
+    ),
+    (
+        "8 bytes",
+        Form::Sized {
+            size: 8,
+            count: 5000,
+            step: 64,
+        },
+    ),
     ("1 to 8 bytes", Form::Mixed { count: 5000 }),
     ("one character", Form::Crowded { count: 5000 }),
-    ("two bytes, whole", Form::Sized { size: 2, count: 65_536, step: 1 }),
+    (
+        "two bytes, whole",
+        Form::Sized {
+            size: 2,
+            count: 65_536,
+            step: 1,
+        },
+    ),
 ];
 
 /// The bytes of a pair.

@@ -18,7 +18,10 @@ fn compare<R: Print + AllocGlobal>(rt: &R, name: &str, form: Form, pairs: Pairs)
     let firsts = writing::firsts(rt.alloc(), form)?;
     let written = writing::written_alone(&map, form, &firsts);
     let blocks = writing::written_in_blocks(&map, form, &firsts);
-    println!(rt; "{name}: {} pairs, {alone} read alone, {joined} in blocks", map.len())?;
+    println!(rt;
+        "{name}: {} pairs, {alone} read alone, {joined} in blocks",
+        map.len()
+    )?;
     println!(rt; "{name}: {written} scalar values written alone, {blocks} blocks")
 }
 

@@ -86,12 +86,16 @@ fn ask_pipe_and_show_print_what_run_prints(rt: HostRuntime) -> Result<(), Fail> 
     show(&shown).map_err(|_| "refused")?;
     let lines = shown.output.into_inner();
     assert!(rt; lines == alone.output.into_inner());
-    assert!(rt; lines.as_slice() == b"7 1 OK 00000000\n7 2 OK 0000000000000001413f42\n8 1 EBADF -\n".as_slice());
+    assert!(rt;
+        lines.as_slice()
+            == b"7 1 OK 00000000\n7 2 OK 0000000000000001413f42\n8 1 EBADF -\n".as_slice()
+    );
     Ok(())
 }
 
 // Caller 7 opens UTF-8 from ISO-8859-1, and it is number 0.
 const OPEN: &[u8] = b"\0\0\0\x1a\0\0\0\x07\0\0\0\x01\x03\x05UTF-8\x0aISO-8859-1";
+
 const OPENED: &[u8] = b"\0\0\0\x0d\0\0\0\x07\0\0\0\x01\0\0\0\0\0";
 
 #[test]
@@ -99,10 +103,7 @@ fn a_pipe_answers_what_stands_before_a_fault(rt: HostRuntime) -> Result<(), Fail
     let alloc = rt.alloc();
     let faults: [(&[u8], ServeFault); 4] = [
         (b"\0\0\0\x08", ServeFault::BadLength { length: 8 }),
-        (
-            b"\0\x10\0\x01",
-            ServeFault::BadLength { length: 1_048_577 },
-        ),
+        (b"\0\x10\0\x01", ServeFault::BadLength { length: 1_048_577 }),
         (b"\0", ServeFault::TruncatedFrame),
         (&OPEN[..29], ServeFault::TruncatedFrame),
     ];

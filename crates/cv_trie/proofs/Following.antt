@@ -11,13 +11,17 @@ use Rattle.cv_base.proofs.ChainLaws.{used_bytes-append, read_state-append, chara
 use Rattle.cv_byte_trie.specs.Entries.{Entry, no_entry, bytes_at, character_at, AreEntries}
 use Rattle.cv_byte_trie.specs.Tries.{StepsBy, none, HasTrie}
 use Rattle.cv_byte_trie.specs.Private.Reading.{IsAt}
-use Rattle.cv_byte_trie.proofs.Followed.{at_root, leads_to_leaf, leads_to_node}
+use Rattle.cv_byte_trie.proofs.Followed.{leads_to_leaf, leads_to_node}
 use Rattle.cv_trie.specs.Charmaps.{map_reads}
 use Rattle.cv_trie.specs.Private.Fronts.{IsReadFront}
 use Rattle.cv_trie.specs.Private.Followed.{IsFollowed}
 use Rattle.cv_trie.specs.declared.front.Front.{Front}
 use Rattle.cv_trie.proofs.MapLaws.{holds_place}
 use Rattle.cv_trie.proofs.MapItems.{pair_stands}
+
+-- a text begins at the root
+at_root : (S : StepsBy) (count : ℕ) (entries : List Entry) (x : List ℕ) → HasTrie S count entries → IsAt S count entries x 0 0
+at_root S count entries x t = record { way = t.way; trie = t.trie; low = t.trie.some; at = rw t.trie.root tt; deep = rw t.trie.root refl }
 
 -- a byte that leads from the root to an entry is all of its bytes
 pub root_leaf : (entries : List Entry) (S : StepsBy) (count : ℕ) → HasTrie S count entries → (b code : ℕ) → b < 256 → code ≡ S 0 b → code < none → (code < length entries) × (bytes_at entries code ≡ b ∷ [])

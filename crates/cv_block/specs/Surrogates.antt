@@ -1,6 +1,10 @@
 -- Surrogates (Unicode 3.8, D71 to D75): code units that stand in pairs of a high and a low one.
-use Rattle.std.specs.Prelude.{◌≡◌, ℕ, ◌/◌, ◌≤◌}
+use Rattle.std.specs.Prelude.{◌≡◌, ℕ, ◌/◌, ◌≤◌, ◌<◌}
 use Rattle.cv_base.specs.Units.{high_unit, low_unit}
+
+-- the unit is one of a pair
+abbrev pub IsSurrogate : ℕ → Type 0
+IsSurrogate unit = (0xD800 ≤ unit) × (unit < 0xE000)
 
 -- the unit is a high surrogate
 abbrev pub IsHighUnit : ℕ → Type 0

@@ -19,7 +19,7 @@ pub use byte_order::{BigEndian, ByteOrder, LittleEndian};
 pub use spelled_reading::read_spelled;
 pub use spelled_writing::write_spelled;
 pub use spelling::{MANY, Spelled, Spelling};
-pub use surrogates::{first_of, is_high, is_low, joined, second_of};
+pub use surrogates::{first_of, is_high, is_low, is_surrogate, joined, second_of};
 pub use unit::{Byte, Four, Two, Unit};
 pub use unit_runs::{read_units, write_units};
 pub use words::{Words, write_words};

@@ -1,7 +1,15 @@
 //! Surrogates: the code units of UTF-16 that stand in pairs (Unicode 3.8, D71 to D75).
 ghost use Rattle.std.specs.Prelude.{◌≡◌, ◌≤◌, ◌<◌, ◌↔◌, IsTrue};
 ghost use Rattle.cv_base.specs.Units.{high_unit, low_unit};
-ghost use Rattle.cv_block.specs.Surrogates.{IsHighUnit, IsLowUnit, IsPair};
+ghost use Rattle.cv_block.specs.Surrogates.{IsSurrogate, IsHighUnit, IsLowUnit, IsPair};
+
+/// Whether a unit is one of a pair.
+#[inline(always)]
+pub fn is_surrogate(unit: u32) -> bool
+    ensures { IsTrue result ↔ IsSurrogate unit }
+{
+    unit >= 0xd800 && unit < 0xe000
+}
 
 /// Whether a unit is a high surrogate.
 #[inline(always)]

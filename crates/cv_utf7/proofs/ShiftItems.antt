@@ -13,6 +13,7 @@ use Rattle.cv_utf7.proofs.BitStrings.{length-bits}
 use Rattle.cv_utf7.specs.Utf7.{utf7_reads}
 use Rattle.cv_utf7.proofs.CodeUnits.{Leads, leads-long, leads-unit, one_unit, two_units, IsOne, IsPair, one_or_pair}
 use Rattle.cv_base.specs.Units.{high_unit, low_unit}
+use Rattle.cv_block.specs.Surrogates.{IsSurrogate, IsHighUnit, IsLowUnit, IsPair as IsJoined}
 use Rattle.cv_utf7.proofs.Agreement.{agree-sym, agree-take, agree-drop, agree-front}
 use Rattle.cv_utf7.proofs.OneItem.{IsStop, stop_of, leads-length, leads_stop}
 use Rattle.cv_utf7.specs.Private.ItemSteps.{IsUnit}
@@ -102,30 +103,26 @@ surrogate_ill p x u h a b pair = ill_from p x (unit_some p x u h)
     (λ w i m g. (let e = pair_after p x u w i h m g in pair (drop u.n w) m.c (bits_of m.next) m.in_range m.large e.0 e.1 e.2))
     (λ w i m g. unit_no_stop p x u w i h m g)
 
--- a low surrogate that comes first is ill-formed
-pub low_first : (p : Bits) (x : List ℕ) (u : Unit) → IsUnit p x u → 0xDC00 ≤ u.value → u.value < 0xE000 → IsNext utf7_reads (read.Shifted p) x item.Ill
-low_first p x u h a b = surrogate_ill p x u h (omega arith) b (λ w c rest i l e k g. omega arith)
+-- a surrogate that is no high one is ill-formed where it comes first
+pub low_first : (p : Bits) (x : List ℕ) (u : Unit) → IsUnit p x u → IsSurrogate u.value → (IsHighUnit u.value → ⊥)
+    → IsNext utf7_reads (read.Shifted p) x item.Ill
+low_first p x u h s n = surrogate_ill p x u h s.0 s.1 (λ w c rest i l e k g. n (omega arith))
 
-no_low : (p : Bits) (x : List ℕ) (u v : Unit) → IsUnit p x u → 0xD800 ≤ u.value → u.value < 0xE000 → IsUnit u.over (drop u.n x) v → (v.value < 0xDC00) ⊎ (0xE000 ≤ v.value) → IsNext utf7_reads (read.Shifted p) x item.Ill
-no_low p x u v h a b k o = surrogate_ill p x u h a b (λ w c rest i l e m g.
-    (let f = (unit_of u.over (drop u.n x) v w (low_unit c) rest k m g).1 in elim o [ inl q ↦ omega (arith, k.small) | inr q ↦ omega (arith, k.small) ]))
-
--- a high surrogate before a code unit below the low ones is ill-formed
-pub no_low_below : (p : Bits) (x : List ℕ) (u v : Unit) → IsUnit p x u → 0xD800 ≤ u.value → u.value < 0xDC00 → IsUnit u.over (drop u.n x) v → v.value < 0xDC00 → IsNext utf7_reads (read.Shifted p) x item.Ill
-no_low_below p x u v h a b k o = no_low p x u v h a (omega arith) k (inl o)
-
--- a high surrogate before a code unit above the low ones is ill-formed
-pub no_low_above : (p : Bits) (x : List ℕ) (u v : Unit) → IsUnit p x u → 0xD800 ≤ u.value → u.value < 0xDC00 → IsUnit u.over (drop u.n x) v → 0xE000 ≤ v.value → IsNext utf7_reads (read.Shifted p) x item.Ill
-no_low_above p x u v h a b k o = no_low p x u v h a (omega arith) k (inr o)
+-- a high surrogate before a code unit that is no low one is ill-formed
+pub no_low : (p : Bits) (x : List ℕ) (u v : Unit) → IsUnit p x u → IsHighUnit u.value → IsUnit u.over (drop u.n x) v
+    → (IsLowUnit v.value → ⊥) → IsNext utf7_reads (read.Shifted p) x item.Ill
+no_low p x u v h a k n = surrogate_ill p x u h (omega arith) (omega arith) (λ w c rest i l e m g.
+    (let f = (unit_of u.over (drop u.n x) v w (low_unit c) rest k m g).1 in n (omega (arith, k.small))))
 
 -- a high surrogate and a low one stand as their character
-pub pair_stands : (p : Bits) (x : List ℕ) (u v : Unit) (c n : ℕ) (next : Bits) → IsUnit p x u → IsUnit u.over (drop u.n x) v → 0xD800 ≤ u.value → u.value < 0xDC00 → 0xDC00 ≤ v.value → v.value < 0xE000
-    → c ≡ 0x10000 + (u.value - 0xD800) * 1024 + (v.value - 0xDC00) → n ≡ u.n + v.n → next ≡ v.over → Stands utf7_reads (read.Shifted p) x (taken n (Some c) (read.Shifted next))
-pair_stands p x u v c n next h k a b d e f g j =
+pub pair_stands : (p : Bits) (x : List ℕ) (u v : Unit) (c n : ℕ) (next : Bits) → IsUnit p x u → IsUnit u.over (drop u.n x) v
+    → IsHighUnit u.value → IsLowUnit v.value → IsJoined u.value v.value c → n ≡ u.n + v.n → next ≡ v.over → Stands utf7_reads (read.Shifted p) x (taken n (Some c) (read.Shifted next))
+pair_stands p x u v c n next h k a b f g j =
     let t : take n x ≡ take u.n x ++ take v.n (drop u.n x) = ap (λ (m : ℕ). take m x) g ∙ take-two u.n v.n x in
     let l : length (take n x) ≡ n = length-take-le n x (omega (arith, h.within, k.within, length-drop u.n x)) in
-    let high : high_unit c ≡ u.value = omega arith in
-    let low : low_unit c ≡ v.value = omega arith in
+    let high = f.first in
+    let low = f.second in
+    let above = f.above in
     let is : taken n (Some c) (read.Shifted next) ≡ taken (length (take n x)) (Some c) (read.Shifted v.over) = cc in
     record {
       bytes = take n x;
@@ -147,4 +144,4 @@ pair_stands p x u v c n next h k a b d e f g j =
 
 pub ruleset shifts = (char_stands, scalar_unit)
 
-pub ruleset pairs = (low_first, no_low_below, no_low_above, pair_stands)
+pub ruleset pairs = (low_first, no_low, pair_stands)

@@ -3,6 +3,7 @@ ghost use Rattle.std.specs.Prelude.{◌≡◌, [], ◌∷◌, ◌⊎◌, ◌++�
 
 use crate::sets::digit_for;
 use cv_base::{Bits, Scalar};
+use cv_block::{first_of, second_of};
 
 /// The digits of a character behind pending bits: how many there are, the number that they spell, and the bits over.
 #[derive(Clone, Copy)]
@@ -84,9 +85,7 @@ impl Cut {
         ensures count { (result.n ≡ 5) ⊎ (result.n ≡ 6) }
         ensures first { pending.count ≡ 0 → result.n ≡ 5 }
     {
-        let high = 0xD800 + (value - 0x1_0000) / 1024;
-        let low = 0xDC00 + (value - 0x1_0000) % 1024;
-        let units = high as u64 * 0x1_0000 + low as u64;
+        let units = first_of(value) as u64 * 0x1_0000 + second_of(value) as u64;
         let all = pending.value as u64 * 0x1_0000_0000 + units;
         if pending.count == 0 {
             return Cut {

@@ -1,13 +1,15 @@
 //! What stands next in a text.
-ghost use Rattle.std.specs.Prelude.{◌≡◌, ◌↔◌, IsTrue, false, drop, ◌+◌, ◌<◌, ◌≤◌, length, get_or};
+ghost use Rattle.std.specs.Prelude.{◌≡◌, false, drop, ◌+◌, ◌<◌, ◌≤◌, length, get_or};
 ghost use Rattle.cv_utf7.specs.Sets.{is_digit};
 ghost use Rattle.cv_base.specs.Items.{IsNext};
+ghost use Rattle.cv_block.specs.Surrogates.{IsSurrogate, IsHighUnit};
 ghost use Rattle.cv_utf7.specs.Utf7.{utf7_reads};
 ghost use Rattle.cv_utf7.specs.Private.ItemSteps.{IsUnit, NoUnit, IsEnding};
 
 use crate::sets::{digit, may_stand};
 use crate::units::{Front, Unit};
 use cv_base::{Bits, Item, ReadState, Scalar};
+use cv_block::{is_high, is_low, is_surrogate, joined};
 
 // No bits are pending.
 pub(crate) const NONE: Bits = Bits { count: 0, value: 0 };
@@ -49,14 +51,6 @@ pub(crate) fn item_at_start(input: &[u8]) -> Item
         }
         None => Item::Ill,
     }
-}
-
-/// Whether the code unit is one of a pair.
-#[inline(always)]
-pub(crate) fn is_surrogate(unit: u32) -> bool
-    ensures { IsTrue result ↔ ((0xD800 ≤ unit) × (unit < 0xE000)) }
-{
-    unit >= 0xD800 && unit < 0xE000
 }
 
 /// What stands next in a shifted sequence.
@@ -107,24 +101,21 @@ fn item_of_end(pending: Bits, input: &[u8]) -> Item
 #[tactic(auto, using(crate::proofs::ShiftItems::pairs))]
 fn item_of_surrogate(pending: Bits, input: &[u8], high: Unit) -> Item
     requires unit { IsUnit pending input.now high }
-    requires surrogate { (0xD800 ≤ high.value) × (high.value < 0xE000) }
+    requires surrogate { IsSurrogate high.value }
     ensures { IsNext utf7_reads (ReadState.Shifted pending) input.now result }
 {
-    if high.value >= 0xDC00 {
+    if !is_high(high.value) {
         return Item::Ill;
     }
     let (_, rest) = input.split_at(high.n);
     let Some(low) = Unit::next(high.over, rest) else {
         return item_of_front(pending, input, high);
     };
-    if low.value < 0xDC00 {
-        return Item::Ill;
-    }
-    if low.value >= 0xE000 {
+    if !is_low(low.value) {
         return Item::Ill;
     }
     Item::Char {
-        c: Scalar::known(0x1_0000 + (high.value - 0xD800) * 1024 + (low.value - 0xDC00)),
+        c: Scalar::known(joined(high.value, low.value)),
         n: high.n + low.n,
         next: ReadState::Shifted(low.over),
     }
@@ -134,7 +125,7 @@ fn item_of_surrogate(pending: Bits, input: &[u8], high: Unit) -> Item
 #[tactic(auto, using(crate::proofs::GrownDigits::halves))]
 fn item_of_front(pending: Bits, input: &[u8], high: Unit) -> Item
     requires unit { IsUnit pending input.now high }
-    requires surrogate { (0xD800 ≤ high.value) × (high.value < 0xDC00) }
+    requires surrogate { IsHighUnit high.value }
     requires few { NoUnit high.over (drop high.n input.now) }
     ensures { IsNext utf7_reads (ReadState.Shifted pending) input.now result }
 {

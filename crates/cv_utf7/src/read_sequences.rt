@@ -2,10 +2,11 @@
 ghost use Rattle.std.specs.Prelude.{◌≡◌, ◌≤◌, ◌<◌, ◌+◌, ◌↔◌, IsTrue, IfSome, length};
 ghost use Rattle.cv_utf7.specs.Private.ReadSteps.{place, ReadsOn, Ends, IsLone};
 
-use crate::items::{NONE, is_surrogate, item_at_start, item_in_shift};
+use crate::items::{NONE, item_at_start, item_in_shift};
 use crate::sets::{digit, may_stand};
 use crate::units::Unit;
 use cv_base::{Bits, Item, ReadBlock, ReadState, Scalar};
+use cv_block::is_surrogate;
 
 /// Whether a byte ends a shifted sequence in which no bits are left.
 #[inline(always)]

@@ -5,6 +5,7 @@ use Rattle.cv_base.specs.Chains.{IsChain, used_bytes, read_state, characters_of}
 use Rattle.cv_base.specs.declared.block.ReadBlock.{ReadBlock}
 use Rattle.cv_base.specs.declared.state.Bits.{Bits}
 use Rattle.cv_base.specs.declared.state.ReadState.{ReadState}
+use Rattle.cv_block.specs.Surrogates.{IsSurrogate}
 use Rattle.cv_utf7.specs.Sets.{may_be_direct, is_digit}
 use Rattle.cv_utf7.specs.Private.ItemSteps.{IsUnit}
 use Rattle.cv_utf7.specs.Utf7.{plus, utf7_reads}
@@ -37,6 +38,6 @@ pub record IsLone (text : List ℕ) (at c : ℕ) : Type 0 where
   pub begins : get_or text at 0 ≡ plus
   pub is_unit : IsUnit none (drop (at + 1) text) unit
   pub is : unit.value ≡ c
-  pub scalar : (0xD800 ≤ unit.value) × (unit.value < 0xE000) → ⊥
+  pub scalar : IsSurrogate unit.value → ⊥
   pub zero : unit.over.value ≡ 0
   pub ends : Ends (get_or text (at + 4) 0)

@@ -1,5 +1,5 @@
 //! Units whose form is known when the code is compiled, so that each loop over units stands once and has a form for each.
-ghost use Rattle.std.specs.Prelude.{◌≡◌, ◌≤◌, ◌<◌, ◌+◌, ◌++◌, length, take, drop, IsTrue};
+ghost use Rattle.std.specs.Prelude.{◌↔◌, ◌≡◌, ◌≤◌, ◌<◌, ◌+◌, ◌++◌, length, take, drop, IsTrue};
 ghost use Rattle.cv_base.specs.Units.{unit_of, unit_size, unit_limit};
 ghost use Rattle.cv_base.specs.declared.ascii_form.AsciiForm.{AsciiForm};
 ghost use Rattle.cv_block.specs.Units.{IsUnitAt};
@@ -23,7 +23,7 @@ pub trait Unit {
 
     /// Whether a number is one unit.
     fn fits(number: u32) -> bool
-        ensures { IsTrue result → number < unit_limit form };
+        ensures { IsTrue result ↔ (number < unit_limit form) };
 
     /// Writes a number of one unit here.
     fn write(out: &mut [u8], at: usize, number: u32)

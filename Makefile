@@ -5,12 +5,7 @@ SCRIPT = crates/iconvd/stdin
 MANUALS = $(DESTDIR)$(PREFIX)/share/man
 
 SOURCES := crates.txt $(shell find crates -name out -prune -o \( -name '*.rt' -o -name '*.antt' \) -print)
-LIBRARIES := $(patsubst crates/%/src/lib.rt,%,$(wildcard crates/*/src/lib.rt))
 VERSION := $(shell sed -n 's/^pub const VERSION: &str = "\(.*\)";$$/\1/p' crates/iconvd/src/version.rt)
-PROCESSORS := $(shell nproc)
-
-# The libraries of this repository that a crate stands on, by crates.txt.
-below = $(filter $(LIBRARIES),$(shell sed -n 's/^$(1)://p' crates.txt))
 
 .PHONY: run check install bench clean
 
@@ -26,14 +21,9 @@ check:
 check-%:
 	cd crates/$* && rt check
 
-# Proves a library and builds it for the crates above, once those that it stands on are built: make library-cv_utf.
-library-%:
-	cd crates/$* && rt lib
-$(foreach crate,$(LIBRARIES),$(eval library-$(crate): $(addprefix library-,$(call below,$(crate)))))
-
-# Libraries that don't stand on each other are proved at once.
+# The libraries below the program are proved first, in turn: rt locks those that a crate stands on, so no two of them that have
+# one below them both are proved at once. Each takes up to four processors for itself.
 $(PROGRAM): $(SOURCES)
-	$(MAKE) -j$(PROCESSORS) $(addprefix library-,$(call below,iconvd))
 	cd crates/iconvd && rt run -- --version
 	touch $(PROGRAM)
 

@@ -14,6 +14,7 @@ pub mod Utf8PutBegun
 pub mod Utf8Marks
 pub mod Utf8Covered
 pub mod Utf8Begun
+pub mod Utf8Long
 pub mod Utf8WindowLanes
 pub mod Utf8Spelled
 pub mod Utf16Units

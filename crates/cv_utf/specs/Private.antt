@@ -7,3 +7,4 @@ pub mod Parts
 pub mod Forms
 pub mod Kept
 pub mod Joined
+pub mod Utf8Long

@@ -8,6 +8,7 @@ ghost use Rattle.cv_utf.specs.Utf8.{utf8_bytes};
 ghost use Rattle.cv_utf.specs.Private.Utf8Short.{is_among, is_behind, IsShortAt, short_value};
 ghost use Rattle.cv_utf.specs.Private.Utf8Windows.{AreBegun, AreWhole, AreMarks, IsOneAt, IsTwoAt, IsThreeAt, whole_value};
 
+use crate::utf8_long::{read_fours, read_threes};
 use cv_base::Scalar;
 use cv_block::{MANY, Spelled, is_ascii_block};
 use std::simd::prelude::*;
@@ -234,8 +235,8 @@ fn read_ascii(input: &[u8], at: usize, buffer: &mut [Scalar], n: usize) -> Spell
     }
 }
 
-/// Reads the characters of up to three bytes that begin among sixteen bytes, up to one that has four. Where a longer one stands
-/// at the front, text is likely all in such, which is read faster one by one.
+/// Reads the characters of up to three bytes that begin among sixteen bytes, up to one that has four. Where one of four bytes
+/// stands at the front, or of three and the fifth likely too, those behind it that have as many are read.
 #[inline(always)]
 pub(crate) fn read_many(input: &[u8], at: usize, buffer: &mut [Scalar], n: usize) -> Spelled
     requires within { at ≤ length input.now }
@@ -243,7 +244,17 @@ pub(crate) fn read_many(input: &[u8], at: usize, buffer: &mut [Scalar], n: usize
     ensures many { result.n ≤ 16 }
     ensures read { IsReadSpelled utf8_bytes input.now at buffer.old n result buffer.new }
 {
-    if input.len() - at < MANY + 2 || input[at] >= 0xe0 || input[at + 1] >= 0xf0 {
+    if input.len() - at < MANY + 2 {
+        return Spelled { n: 0, used: 0 };
+    }
+    let (first, fifth) = (input[at], input[at + 12]);
+    if first >= 0xf0 {
+        return read_fours(input, at, buffer, n);
+    }
+    if first >= 0xe0 && fifth >= 0xe0 {
+        return read_threes(input, at, buffer, n);
+    }
+    if input[at + 1] >= 0xf0 {
         return Spelled { n: 0, used: 0 };
     }
     if is_ascii_block(input, at) {

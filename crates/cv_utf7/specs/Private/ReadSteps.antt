@@ -1,5 +1,5 @@
 -- What the steps of reading a block do.
-use Rattle.std.specs.Prelude.{◌≡◌, ℕ, ◌+◌, ◌<◌, ◌≤◌, true, false, List, ◌++◌, take, drop, length, get_or}
+use Rattle.std.specs.Prelude.{◌≡◌, ℕ, ◌+◌, ◌≤◌, true, false, List, ◌++◌, take, drop, length, get_or}
 use Rattle.cv_base.specs.Items.{Taken}
 use Rattle.cv_base.specs.Chains.{IsChain, used_bytes, read_state, characters_of}
 use Rattle.cv_base.specs.declared.block.ReadBlock.{ReadBlock}

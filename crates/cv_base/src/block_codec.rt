@@ -1,6 +1,6 @@
 //! What an encoding offers for speed.
 ghost use Rattle.std.specs.Prelude.{◌≡◌, ◌≤◌, ◌+◌, ◌*◌, length, IsTrue};
-ghost use Rattle.cv_base.specs.Blocks.{HasAll, IsReadBlock, IsWrittenBlock};
+ghost use Rattle.cv_base.specs.Blocks.{HasAll, IsReadBlock, IsUnchanged, IsWrittenBlock};
 
 use crate::block::{ReadBlock, WrittenBlock};
 use crate::codec::Codec;
@@ -34,5 +34,16 @@ pub trait BlockCodec: Codec {
         ensures { IsTrue result → HasAll (Self.writes self.now) _characters.now }
     {
         false
+    }
+
+    /// How many bytes at the front of a text come out as they stand where it is converted to the encoding itself. It may be
+    /// fewer than could: what is behind them goes by blocks, or one by one.
+    #[inline]
+    #[tactic(auto, using(crate::proofs::UnchangedLaws::none_unchanged))]
+    fn unchanged(&self, _reading: ReadState, _writing: WriteState, _input: &[u8]) -> usize
+        ensures { IsUnchanged (Self.reads self.now) (Self.writes self.now) _reading _writing
+            _input.now result }
+    {
+        0
     }
 }

@@ -102,4 +102,13 @@ impl BlockCodec for Latin1 {
     fn has_all(&self, characters: &[Scalar]) -> bool {
         are_below(256, characters)
     }
+
+    #[inline]
+    #[tactic(auto, using(crate::proofs::UnchangedLaws::none_unchanged, crate::proofs::UnchangedLaws::bytes_unchanged))]
+    fn unchanged(&self, reading: ReadState, writing: WriteState, input: &[u8]) -> usize {
+        match (reading, writing) {
+            (ReadState::Start, WriteState::Start) => input.len(),
+            _ => 0,
+        }
+    }
 }

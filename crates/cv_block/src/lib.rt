@@ -10,6 +10,7 @@ mod spelled_writing;
 mod spelling;
 mod surrogates;
 mod unit;
+mod unit_fronts;
 mod unit_runs;
 mod words;
 
@@ -21,5 +22,6 @@ pub use spelled_writing::write_spelled;
 pub use spelling::{MANY, Spelled, Spelling};
 pub use surrogates::{first_of, is_high, is_low, joined, second_of};
 pub use unit::{Byte, Four, Two, Unit};
+pub use unit_fronts::unit_front;
 pub use unit_runs::{read_units, write_units};
 pub use words::{Words, write_words};

@@ -173,4 +173,15 @@ impl BlockCodec for Encoding {
             Encoding::Utf7 => Utf7.has_all(characters),
         }
     }
+
+    fn unchanged(&self, reading: ReadState, writing: WriteState, input: &[u8]) -> usize {
+        match self {
+            Encoding::Ascii => Ascii.unchanged(reading, writing, input),
+            Encoding::Latin1 => Latin1.unchanged(reading, writing, input),
+            Encoding::Utf8 => Utf8.unchanged(reading, writing, input),
+            Encoding::Utf16(order) => Utf16(*order).unchanged(reading, writing, input),
+            Encoding::Utf32(order) => Utf32(*order).unchanged(reading, writing, input),
+            Encoding::Utf7 => Utf7.unchanged(reading, writing, input),
+        }
+    }
 }

@@ -1,6 +1,7 @@
 //! The encoding forms by blocks.
 
 use crate::utf8::Utf8;
+use crate::utf8_front::well_formed_front;
 use crate::utf8_spelling::Utf8Spelling;
 use crate::utf16::Utf16;
 use crate::utf16_spelling::Utf16In;
@@ -9,7 +10,7 @@ use crate::utf32_spelling::Utf32In;
 use cv_base::{
     BlockCodec, Endian, ReadBlock, ReadState, Scalar, WriteState, WrittenBlock, write_each,
 };
-use cv_block::{BigEndian, LittleEndian, read_spelled, write_spelled};
+use cv_block::{BigEndian, Four, LittleEndian, Two, read_spelled, unit_front, write_spelled};
 
 impl BlockCodec for Utf8 {
     #[tactic(auto, using(cv_base::proofs::BlockLaws::nothing_read))]
@@ -37,6 +38,15 @@ impl BlockCodec for Utf8 {
     #[tactic(auto, using(crate::proofs::AllWritten::utf8_has))]
     fn has_all(&self, _characters: &[Scalar]) -> bool {
         true
+    }
+
+    #[inline]
+    #[tactic(auto, using(cv_base::proofs::UnchangedLaws::none_unchanged, crate::proofs::Utf8Front::utf8_unchanged))]
+    fn unchanged(&self, reading: ReadState, writing: WriteState, input: &[u8]) -> usize {
+        match (reading, writing) {
+            (ReadState::Start, WriteState::Start) => well_formed_front(input),
+            _ => 0,
+        }
     }
 }
 
@@ -70,6 +80,16 @@ impl BlockCodec for Utf16 {
     fn has_all(&self, _characters: &[Scalar]) -> bool {
         true
     }
+
+    #[inline]
+    #[tactic(auto, using(cv_base::proofs::UnchangedLaws::none_unchanged))]
+    fn unchanged(&self, reading: ReadState, writing: WriteState, input: &[u8]) -> usize {
+        match self.0.kept(reading, writing) {
+            Some(Endian::Big) => unit_front::<Two<BigEndian>>(input),
+            Some(Endian::Little) => unit_front::<Two<LittleEndian>>(input),
+            None => 0,
+        }
+    }
 }
 
 impl BlockCodec for Utf32 {
@@ -101,5 +121,15 @@ impl BlockCodec for Utf32 {
     #[inline]
     fn has_all(&self, _characters: &[Scalar]) -> bool {
         true
+    }
+
+    #[inline]
+    #[tactic(auto, using(cv_base::proofs::UnchangedLaws::none_unchanged))]
+    fn unchanged(&self, reading: ReadState, writing: WriteState, input: &[u8]) -> usize {
+        match self.0.kept(reading, writing) {
+            Some(Endian::Big) => unit_front::<Four<BigEndian>>(input),
+            Some(Endian::Little) => unit_front::<Four<LittleEndian>>(input),
+            None => 0,
+        }
     }
 }

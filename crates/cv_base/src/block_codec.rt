@@ -1,7 +1,9 @@
 //! What an encoding offers for speed.
-ghost use Rattle.std.specs.Prelude.{◌≡◌, ◌≤◌, ◌+◌, ◌*◌, length, IsTrue};
+ghost use Rattle.std.specs.Prelude.{◌≡◌, ◌≤◌, ◌+◌, ◌*◌, length, IsTrue, IfSome};
+ghost use Rattle.cv_base.specs.Ascii.{ReadsBelow, WritesBelow};
 ghost use Rattle.cv_base.specs.Blocks.{HasAll, IsReadBlock, IsUnchanged, IsWrittenBlock};
 
+use crate::ascii_form::AsciiForm;
 use crate::block::{ReadBlock, WrittenBlock};
 use crate::codec::Codec;
 use crate::scalar::Scalar;
@@ -45,5 +47,21 @@ pub trait BlockCodec: Codec {
             _input.now result }
     {
         0
+    }
+
+    /// The form in which each character below 256 is read in this state, if it is one and the state stays.
+    #[inline]
+    fn reads_latin(&self, _state: ReadState) -> Option<AsciiForm>
+        ensures { IfSome result (λ form. ReadsBelow 256 (Self.reads self.now) _state form) }
+    {
+        None
+    }
+
+    /// The form in which each character below 256 is written in this state, if it is one and the state stays.
+    #[inline]
+    fn writes_latin(&self, _state: WriteState) -> Option<AsciiForm>
+        ensures { IfSome result (λ form. WritesBelow 256 (Self.writes self.now) _state form) }
+    {
+        None
     }
 }

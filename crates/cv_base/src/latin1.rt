@@ -111,4 +111,20 @@ impl BlockCodec for Latin1 {
             _ => 0,
         }
     }
+
+    #[inline]
+    fn reads_latin(&self, state: ReadState) -> Option<AsciiForm> {
+        match state {
+            ReadState::Start => Some(AsciiForm::Byte),
+            _ => None,
+        }
+    }
+
+    #[inline]
+    fn writes_latin(&self, state: WriteState) -> Option<AsciiForm> {
+        match state {
+            WriteState::Start => Some(AsciiForm::Byte),
+            _ => None,
+        }
+    }
 }

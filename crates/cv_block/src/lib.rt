@@ -5,6 +5,7 @@
 mod ascii_bytes;
 mod ascii_runs;
 mod byte_order;
+mod repertoire;
 mod spelled_reading;
 mod spelled_writing;
 mod spelling;
@@ -17,6 +18,7 @@ mod words;
 pub use ascii_bytes::is_ascii_block;
 pub use ascii_runs::{take_run, unit_bytes};
 pub use byte_order::{BigEndian, ByteOrder, LittleEndian};
+pub use repertoire::{OfAscii, OfLatin, Repertoire};
 pub use spelled_reading::read_spelled;
 pub use spelled_writing::write_spelled;
 pub use spelling::{MANY, Spelled, Spelling};

@@ -8,7 +8,7 @@ use crate::utf16_spelling::Utf16In;
 use crate::utf32::Utf32;
 use crate::utf32_spelling::Utf32In;
 use cv_base::{
-    BlockCodec, Endian, ReadBlock, ReadState, Scalar, WriteState, WrittenBlock, write_each,
+    AsciiForm, BlockCodec, Endian, ReadBlock, ReadState, Scalar, WriteState, WrittenBlock, write_each,
 };
 use cv_block::{BigEndian, Four, LittleEndian, Two, read_spelled, unit_front, write_spelled};
 
@@ -90,6 +90,20 @@ impl BlockCodec for Utf16 {
             None => 0,
         }
     }
+
+    #[inline]
+    #[tactic(auto, using(crate::proofs::AsciiInOrder::utf16_reads_latin))]
+    fn reads_latin(&self, state: ReadState) -> Option<AsciiForm> {
+        let endian = self.0.kept_reading(state)?;
+        Some(AsciiForm::Two(endian))
+    }
+
+    #[inline]
+    #[tactic(auto, using(crate::proofs::AsciiInOrder::utf16_writes_latin))]
+    fn writes_latin(&self, state: WriteState) -> Option<AsciiForm> {
+        let endian = self.0.kept_writing(state)?;
+        Some(AsciiForm::Two(endian))
+    }
 }
 
 impl BlockCodec for Utf32 {
@@ -131,5 +145,19 @@ impl BlockCodec for Utf32 {
             Some(Endian::Little) => unit_front::<Four<LittleEndian>>(input),
             None => 0,
         }
+    }
+
+    #[inline]
+    #[tactic(auto, using(crate::proofs::AsciiInOrder::utf32_reads_latin))]
+    fn reads_latin(&self, state: ReadState) -> Option<AsciiForm> {
+        let endian = self.0.kept_reading(state)?;
+        Some(AsciiForm::Four(endian))
+    }
+
+    #[inline]
+    #[tactic(auto, using(crate::proofs::AsciiInOrder::utf32_writes_latin))]
+    fn writes_latin(&self, state: WriteState) -> Option<AsciiForm> {
+        let endian = self.0.kept_writing(state)?;
+        Some(AsciiForm::Four(endian))
     }
 }

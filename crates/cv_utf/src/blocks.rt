@@ -8,7 +8,8 @@ use crate::utf16_spelling::Utf16In;
 use crate::utf32::Utf32;
 use crate::utf32_spelling::Utf32In;
 use cv_base::{
-    AsciiForm, BlockCodec, Endian, ReadBlock, ReadState, Scalar, WriteState, WrittenBlock, write_each,
+    AsciiForm, BlockCodec, Endian, ReadBlock, ReadState, Scalar, WriteState, WrittenBlock,
+    write_each,
 };
 use cv_block::{BigEndian, Four, LittleEndian, Two, read_spelled, unit_front, write_spelled};
 

@@ -8,3 +8,4 @@ pub mod BlockLaws
 pub mod WrittenEach
 pub mod AllWritten
 pub mod NarrowSteps
+pub mod UnchangedLaws

@@ -2,7 +2,7 @@
 use Rattle.std.specs.Prelude.{◌≡◌, ℕ, ◌≤◌, List, take, length, Option, Some, None}
 use Rattle.cv_base.specs.Items.{Taken, ItemRelation}
 use Rattle.cv_base.specs.Codecs.{Writing}
-use Rattle.cv_base.specs.Chains.{IsChain, used_bytes, read_state, characters_of, output_for}
+use Rattle.cv_base.specs.Chains.{IsChain, used_bytes, read_state, characters_of, output, output_of, output_for}
 use Rattle.cv_base.specs.Places.{IsOutput}
 use Rattle.cv_base.specs.Policies.{Allows}
 use Rattle.cv_base.specs.declared.block.ReadBlock.{ReadBlock}
@@ -30,3 +30,12 @@ abbrev pub MayWriteBlock : Policy → Writing → WriteState → List ℕ → Li
 MayWriteBlock policy writes t characters before at None after = after ≡ before
 MayWriteBlock policy writes t characters before at (Some block) after =
     Allows policy (output_for writes t characters) × IsWrittenBlock writes t characters before at block after
+
+-- So many bytes at the front of a text are items that are written as those very bytes, and both states stay.
+pub record IsUnchanged (reads : ItemRelation) (writes : Writing) (s : ReadState) (t : WriteState) (text : List ℕ) (n : ℕ) : Type 0 where
+  pub chain : List Taken
+  pub is_chain : IsChain reads s text chain
+  pub within : n ≤ length text
+  pub uses : n ≡ used_bytes chain
+  pub stays : read_state s chain ≡ s
+  pub output : output_of writes t chain ≡ output (take n text) 0 t

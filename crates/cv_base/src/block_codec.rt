@@ -1,7 +1,9 @@
 //! What an encoding offers for speed.
-ghost use Rattle.std.specs.Prelude.{◌≡◌, ◌≤◌, ◌+◌, ◌*◌, length};
-ghost use Rattle.cv_base.specs.Blocks.{IsReadBlock, MayWriteBlock};
+ghost use Rattle.std.specs.Prelude.{◌≡◌, ◌≤◌, ◌+◌, ◌*◌, length, IfSome};
+ghost use Rattle.cv_base.specs.Ascii.{ReadsBelow, WritesBelow};
+ghost use Rattle.cv_base.specs.Blocks.{IsReadBlock, IsUnchanged, MayWriteBlock};
 
+use crate::ascii_form::AsciiForm;
 use crate::block::{ReadBlock, WrittenBlock};
 use crate::codec::Codec;
 use crate::policy::Policy;
@@ -31,4 +33,31 @@ pub trait BlockCodec: Codec {
         requires room { at + 8 * length characters.now ≤ length out.old }
         ensures { MayWriteBlock policy (Self.writes self.now) state characters.now
             out.old at result out.new };
+
+    /// How many bytes at the front of a text come out as they stand where it is converted to the encoding itself. It may be
+    /// fewer than could: what is behind them goes by blocks, or one by one.
+    #[inline]
+    #[tactic(auto, using(crate::proofs::UnchangedLaws::none_unchanged))]
+    fn unchanged(&self, _reading: ReadState, _writing: WriteState, _input: &[u8]) -> usize
+        ensures { IsUnchanged (Self.reads self.now) (Self.writes self.now) _reading _writing
+            _input.now result }
+    {
+        0
+    }
+
+    /// The form in which each character below 256 is read in this state, if it is one and the state stays.
+    #[inline]
+    fn reads_latin(&self, _state: ReadState) -> Option<AsciiForm>
+        ensures { IfSome result (λ form. ReadsBelow 256 (Self.reads self.now) _state form) }
+    {
+        None
+    }
+
+    /// The form in which each character below 256 is written in this state, if it is one and the state stays.
+    #[inline]
+    fn writes_latin(&self, _state: WriteState) -> Option<AsciiForm>
+        ensures { IfSome result (λ form. WritesBelow 256 (Self.writes self.now) _state form) }
+    {
+        None
+    }
 }

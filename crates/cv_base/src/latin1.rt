@@ -101,4 +101,29 @@ impl BlockCodec for Latin1 {
             (_, Policy::Strict) => None,
         }
     }
+
+    #[inline]
+    #[tactic(auto, using(crate::proofs::UnchangedLaws::none_unchanged, crate::proofs::UnchangedLaws::bytes_unchanged))]
+    fn unchanged(&self, reading: ReadState, writing: WriteState, input: &[u8]) -> usize {
+        match (reading, writing) {
+            (ReadState::Start, WriteState::Start) => input.len(),
+            _ => 0,
+        }
+    }
+
+    #[inline]
+    fn reads_latin(&self, state: ReadState) -> Option<AsciiForm> {
+        match state {
+            ReadState::Start => Some(AsciiForm::Byte),
+            _ => None,
+        }
+    }
+
+    #[inline]
+    fn writes_latin(&self, state: WriteState) -> Option<AsciiForm> {
+        match state {
+            WriteState::Start => Some(AsciiForm::Byte),
+            _ => None,
+        }
+    }
 }

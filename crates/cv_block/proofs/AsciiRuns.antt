@@ -1,4 +1,4 @@
--- Runs of ASCII, unit by unit.
+-- Runs, unit by unit.
 use Rattle.std.proofs.Common.{◌≡◌, ℕ, ◌+◌, ◌-◌, ◌*◌, ◌<◌, ◌≤◌, List, [], ◌∷◌, ◌++◌, length, take, drop, get_or, refl, sym, ◌∙◌, ap, subst, arith, zero, suc, length-append, length-take, append_assoc, append-nil, add-zero, take-append-drop, inl, inr}
 use Rattle.std.proofs.Math.Nat.{mul-suc, mul-zero, mul-add, mul-le-mul_left}
 use Rattle.std.proofs.Math.Seq.{drop-cons, take-suc}
@@ -9,7 +9,7 @@ use Rattle.cv_base.proofs.Front.{Begins-join}
 use Rattle.cv_base.specs.Units.{unit_of, unit_size}
 use Rattle.cv_base.specs.declared.ascii_form.AsciiForm.{AsciiForm}
 use Rattle.cv_base.specs.declared.ascii_form.AsciiForm.TheVariants.{Byte}
-use Rattle.cv_block.specs.AsciiRuns.{AreAscii, units_of, offset, IsAsciiAt, IsAsciiRun, characters_in}
+use Rattle.cv_block.specs.AsciiRuns.{AreBelow, units_of, offset, IsBelowAt, IsRunBelow, characters_in}
 use Rattle.cv_block.proofs.UnitBytes.{length-unit_of, low_byte, byte_fits}
 use Rattle.cv_base.proofs.WrittenEach.{out_more}
 
@@ -26,59 +26,59 @@ length-run form target text (suc n) =
     let more = ap length (units_of-more target (characters_in form text n) c) in
     omega (arith, more, length-append (units_of target (characters_in form text n)) (unit_of target c), length-unit_of target c, length-run form target text n, mul-suc (unit_size target) n)
 
--- a unit of ASCII that stands at a place is that of its lowest byte
-unit_at : (form : AsciiForm) (text : List ℕ) (at : ℕ) → IsAsciiAt form text at → Begins (unit_of form (get_or text (at + offset form) 0)) (drop at text)
-unit_at form text at p =
+-- a unit that stands at a place is that of its lowest byte
+unit_at : (limit : ℕ) → limit ≤ 0x100 → (form : AsciiForm) (text : List ℕ) (at : ℕ) → IsBelowAt limit form text at → Begins (unit_of form (get_or text (at + offset form) 0)) (drop at text)
+unit_at limit few form text at p =
     let low = low_byte form text at p.c (record { few = byte_fits form p.c (omega (arith, p.small)); stands = p.stands }) in
     let same : p.c ≡ get_or text (at + offset form) 0 = omega (arith, low, p.small) in
     subst (λ (c : ℕ). Begins (unit_of form c) (drop at text)) same p.stands
 
-small_at : (form : AsciiForm) (text : List ℕ) (at : ℕ) → IsAsciiAt form text at → get_or text (at + offset form) 0 < 128
-small_at form text at p =
+small_at : (limit : ℕ) → limit ≤ 0x100 → (form : AsciiForm) (text : List ℕ) (at : ℕ) → IsBelowAt limit form text at → get_or text (at + offset form) 0 < limit
+small_at limit few form text at p =
     let low = low_byte form text at p.c (record { few = byte_fits form p.c (omega (arith, p.small)); stands = p.stands }) in
     omega (arith, low, p.small)
 
-AreAscii-more : (characters : List ℕ) (c : ℕ) → AreAscii characters → c < 128 → AreAscii (characters ++ c ∷ [])
-AreAscii-more [] c p h = (h, tt)
-AreAscii-more (x ∷ characters) c p h = (p.0, AreAscii-more characters c p.1 h)
+AreBelow-more : (limit : ℕ) (characters : List ℕ) (c : ℕ) → AreBelow limit characters → c < limit → AreBelow limit (characters ++ c ∷ [])
+AreBelow-more limit [] c p h = (h, tt)
+AreBelow-more limit (x ∷ characters) c p h = (p.0, AreBelow-more limit characters c p.1 h)
 
--- the characters of a run are ASCII
-pub run_is_ascii : (form : AsciiForm) (text : List ℕ) (n : ℕ) → IsAsciiRun form text n → AreAscii (characters_in form text n)
+-- the characters of a run are below its limit
+pub run_is_below : (limit : ℕ) → limit ≤ 0x100 → (form : AsciiForm) (text : List ℕ) (n : ℕ) → IsRunBelow limit form text n → AreBelow limit (characters_in form text n)
 unfolding characters_in
-run_is_ascii form text zero p = tt
-run_is_ascii form text (suc n) p = AreAscii-more (characters_in form text n) _ (run_is_ascii form text n (λ k h. p k (omega arith))) (small_at form text (unit_size form * n) (p n (omega arith)))
+run_is_below limit few form text zero p = tt
+run_is_below limit few form text (suc n) p = AreBelow-more limit (characters_in form text n) _ (run_is_below limit few form text n (λ k h. p k (omega arith))) (small_at limit few form text (unit_size form * n) (p n (omega arith)))
 
 -- the units of a run begin the text
-pub run_begins : (form : AsciiForm) (text : List ℕ) (n : ℕ) → unit_size form * n ≤ length text → IsAsciiRun form text n → Begins (units_of form (characters_in form text n)) text
+pub run_begins : (limit : ℕ) → limit ≤ 0x100 → (form : AsciiForm) (text : List ℕ) (n : ℕ) → unit_size form * n ≤ length text → IsRunBelow limit form text n → Begins (units_of form (characters_in form text n)) text
 unfolding characters_in
-run_begins form text zero h p = tt
-run_begins form text (suc n) h p =
+run_begins limit few form text zero h p = tt
+run_begins limit few form text (suc n) h p =
     let m = mul-suc (unit_size form) n in
-    let before = run_begins form text n (omega arith) (λ k l. p k (omega arith)) in
-    let last = unit_at form text (unit_size form * n) (p n (omega arith)) in
+    let before = run_begins limit few form text n (omega arith) (λ k l. p k (omega arith)) in
+    let last = unit_at limit few form text (unit_size form * n) (p n (omega arith)) in
     rw units_of-more (Begins-join (units_of form (characters_in form text n)) _ text before (rw length-run last))
 
--- units of ASCII from a place on, and one more
-pub ascii_more : (form : AsciiForm) (text : List ℕ) (at n place : ℕ) → place ≡ at + unit_size form * n → ((k : ℕ) → k < n → IsAsciiAt form text (at + unit_size form * k)) → IsAsciiAt form text place → (k : ℕ) → k < n + 1 → IsAsciiAt form text (at + unit_size form * k)
-ascii_more form text at n place e p q k h = elim (cases_lt k n) [
+-- units of small characters from a place on, and one more
+pub below_more : (limit : ℕ) (form : AsciiForm) (text : List ℕ) (at n place : ℕ) → place ≡ at + unit_size form * n → ((k : ℕ) → k < n → IsBelowAt limit form text (at + unit_size form * k)) → IsBelowAt limit form text place → (k : ℕ) → k < n + 1 → IsBelowAt limit form text (at + unit_size form * k)
+below_more limit form text at n place e p q k h = elim (cases_lt k n) [
   | inl l ↦ p k l
-  | inr l ↦ (let same : k ≡ n = omega arith in subst (λ (j : ℕ). IsAsciiAt form text j) (e ∙ ap (λ (j : ℕ). at + unit_size form * j) (sym same)) q)
+  | inr l ↦ (let same : k ≡ n = omega arith in subst (λ (j : ℕ). IsBelowAt limit form text j) (e ∙ ap (λ (j : ℕ). at + unit_size form * j) (sym same)) q)
 ]
 
--- a run, and one unit of ASCII behind it
-pub run_more : (form : AsciiForm) (text : List ℕ) (n place : ℕ) → place ≡ unit_size form * n → IsAsciiRun form text n → IsAsciiAt form text place → IsAsciiRun form text (n + 1)
-run_more form text n place e p q k h = elim (cases_lt k n) [
+-- a run, and one unit of a small character behind it
+pub run_more : (limit : ℕ) (form : AsciiForm) (text : List ℕ) (n place : ℕ) → place ≡ unit_size form * n → IsRunBelow limit form text n → IsBelowAt limit form text place → IsRunBelow limit form text (n + 1)
+run_more limit form text n place e p q k h = elim (cases_lt k n) [
   | inl l ↦ p k l
-  | inr l ↦ (let same : k ≡ n = omega arith in subst (λ (j : ℕ). IsAsciiAt form text j) (e ∙ ap (λ (j : ℕ). unit_size form * j) (sym same)) q)
+  | inr l ↦ (let same : k ≡ n = omega arith in subst (λ (j : ℕ). IsBelowAt limit form text j) (e ∙ ap (λ (j : ℕ). unit_size form * j) (sym same)) q)
 ]
 
--- a run, and units of ASCII behind it
-pub runs_join : (form : AsciiForm) (text : List ℕ) (at n m : ℕ) → at ≡ unit_size form * n → IsAsciiRun form text n → ((k : ℕ) → k < m → IsAsciiAt form text (at + unit_size form * k)) → IsAsciiRun form text (n + m)
-runs_join form text at n m e p q k h = elim (cases_lt k n) [
+-- a run, and units of small characters behind it
+pub runs_join : (limit : ℕ) (form : AsciiForm) (text : List ℕ) (at n m : ℕ) → at ≡ unit_size form * n → IsRunBelow limit form text n → ((k : ℕ) → k < m → IsBelowAt limit form text (at + unit_size form * k)) → IsRunBelow limit form text (n + m)
+runs_join limit form text at n m e p q k h = elim (cases_lt k n) [
   | inl l ↦ p k l
   | inr l ↦ (
       let place : at + unit_size form * (k - n) ≡ unit_size form * k = ap (λ (j : ℕ). j + unit_size form * (k - n)) e ∙ sym (mul-add (unit_size form) n (k - n)) ∙ ap (λ (j : ℕ). unit_size form * j) (omega arith) in
-      subst (λ (j : ℕ). IsAsciiAt form text j) place (q (k - n) (omega arith)))
+      subst (λ (j : ℕ). IsBelowAt limit form text j) place (q (k - n) (omega arith)))
 ]
 
 -- the places of one unit more
@@ -115,9 +115,9 @@ put_more form target text before at n end c now after fits e is p q =
     let units : front ++ unit_of target c ≡ take at before ++ units_of target (characters ++ c ∷ []) = append_assoc (take at before) (units_of target characters) (unit_of target c) ∙ ap (λ (x : List ℕ). take at before ++ x) (sym (units_of-more target characters c)) in
     wrote ∙ rw (units, places, is) refl
 
--- bytes of ASCII are a run
-pub bytes_run : (text : List ℕ) (n : ℕ) → n ≤ length text → ((k : ℕ) → k < n → get_or text k 0 < 128) → IsAsciiRun Byte text n
-bytes_run text n l p k h = let e : 1 * k ≡ k = omega arith in rw e (record { c = get_or text k 0; small = p k h; stands = rw (drop-cons text k 0 (omega arith)) (refl, tt) })
+-- small bytes are a run
+pub bytes_run : (limit : ℕ) (text : List ℕ) (n : ℕ) → n ≤ length text → ((k : ℕ) → k < n → get_or text k 0 < limit) → IsRunBelow limit Byte text n
+bytes_run limit text n l p k h = let e : 1 * k ≡ k = omega arith in rw e (record { c = get_or text k 0; small = p k h; stands = rw (drop-cons text k 0 (omega arith)) (refl, tt) })
 
 -- the bytes of a run of bytes are those of the text
 pub bytes_copied : (text : List ℕ) (n : ℕ) → n ≤ length text → units_of Byte (characters_in Byte text n) ≡ take n text

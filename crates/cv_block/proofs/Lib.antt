@@ -7,3 +7,4 @@ pub mod UnitRuns
 pub mod AsciiRuns
 pub mod CopiedBytes
 pub mod SixteenBelow
+pub mod SpelledFronts

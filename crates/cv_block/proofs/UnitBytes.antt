@@ -6,7 +6,7 @@ use Rattle.cv_base.specs.declared.ascii_form.AsciiForm.{AsciiForm}
 use Rattle.cv_base.specs.declared.ascii_form.AsciiForm.TheVariants.{Byte, Two, Four}
 use Rattle.cv_base.specs.declared.endian.Endian.TheVariants.{Big, Little}
 use Rattle.cv_base.proofs.Front.{Begins-agree}
-use Rattle.cv_block.specs.AsciiRuns.{offset, IsAsciiAt}
+use Rattle.cv_block.specs.AsciiRuns.{offset, IsBelowAt}
 use Rattle.cv_block.specs.Units.{IsUnitAt}
 
 -- a unit has its form's size
@@ -66,6 +66,6 @@ low_byte (Two Little) text at u p = byte_at (unit_of (Two Little) u) text at 0 p
 low_byte (Four Big) text at u p = byte_at (unit_of (Four Big) u) text at 3 p.stands (omega arith)
 low_byte (Four Little) text at u p = byte_at (unit_of (Four Little) u) text at 0 p.stands (omega arith)
 
--- a unit below 128 is one of ASCII
-pub ascii_at : (form : AsciiForm) (text : List ℕ) (at u : ℕ) → IsUnitAt form text at u → u < 128 → IsAsciiAt form text at
-ascii_at form text at u p h = record { c = u; small = h; stands = p.stands }
+-- a unit below a limit is that of a character below it
+pub below_at : (limit : ℕ) (form : AsciiForm) (text : List ℕ) (at u : ℕ) → IsUnitAt form text at u → u < limit → IsBelowAt limit form text at
+below_at limit form text at u p h = record { c = u; small = h; stands = p.stands }

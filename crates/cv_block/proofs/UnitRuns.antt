@@ -19,11 +19,11 @@ pub flat_map-more : (bytes_of : BytesOf) (characters : List ℕ) (c : ℕ) → f
 flat_map-more bytes_of characters c = flat_map-append bytes_of characters (c ∷ []) ∙ ap (λ (x : List ℕ). flat_map bytes_of characters ++ x) (append-nil (bytes_of c))
 
 -- The bytes of the first so many numbers begin a text, and each is one unit.
-record Begun (bytes_of : BytesOf) (form : AsciiForm) (text numbers : List ℕ) (n : ℕ) : Type 0 where
-  begins : Begins (flat_map bytes_of (take n numbers)) text
-  uses : length (flat_map bytes_of (take n numbers)) ≡ unit_size form * n
+pub record Begun (bytes_of : BytesOf) (form : AsciiForm) (text numbers : List ℕ) (n : ℕ) : Type 0 where
+  pub begins : Begins (flat_map bytes_of (take n numbers)) text
+  pub uses : length (flat_map bytes_of (take n numbers)) ≡ unit_size form * n
 
-begun : (bytes_of : BytesOf) (form : AsciiForm) → SpellsUnits form bytes_of → (text numbers : List ℕ) (n : ℕ) → n ≤ length numbers → AreUnits form text numbers n → Begun bytes_of form text numbers n
+pub begun : (bytes_of : BytesOf) (form : AsciiForm) → SpellsUnits form bytes_of → (text numbers : List ℕ) (n : ℕ) → n ≤ length numbers → AreUnits form text numbers n → Begun bytes_of form text numbers n
 begun bytes_of form spells text numbers zero h units = record { begins = tt; uses = sym (mul-zero (unit_size form)) }
 begun bytes_of form spells text numbers (suc n) h units =
     let before = begun bytes_of form spells text numbers n (omega arith) (λ k l. units k (omega arith)) in
@@ -39,7 +39,7 @@ begun bytes_of form spells text numbers (suc n) h units =
       uses = rw e (omega (arith, length-append (flat_map bytes_of (take n numbers)) (bytes_of c), before.uses, single, mul-suc (unit_size form) n));
     }
 
-all_scalars : (numbers : List ℕ) → AreScalarsBelow numbers (length numbers) → AreScalars numbers
+pub all_scalars : (numbers : List ℕ) → AreScalarsBelow numbers (length numbers) → AreScalars numbers
 all_scalars [] h = tt
 all_scalars (c ∷ numbers) h = (h 0 (omega arith), all_scalars numbers (λ k l. h (suc k) (omega arith)))
 

@@ -1,4 +1,4 @@
--- Runs of ASCII: units of one form, one after the other.
+-- Runs: units of one form, one after the other, each of a character below a limit.
 use Rattle.std.specs.Prelude.{ℕ, ◌+◌, ◌*◌, ◌<◌, List, [], ◌∷◌, ◌++◌, drop, get_or, zero, suc}
 use Rattle.std.specs.List.{flat_map}
 use Rattle.cv_base.specs.Items.{Begins}
@@ -7,10 +7,10 @@ use Rattle.cv_base.specs.declared.ascii_form.AsciiForm.{AsciiForm}
 use Rattle.cv_base.specs.declared.ascii_form.AsciiForm.TheVariants.{Byte, Two, Four}
 use Rattle.cv_base.specs.declared.endian.Endian.TheVariants.{Big, Little}
 
--- each byte is below 128
-abbrev pub AreAscii : List ℕ → Type 0
-AreAscii [] = Unit {0}
-AreAscii (b ∷ bytes) = (b < 128) × AreAscii bytes
+-- each character is below a limit
+abbrev pub AreBelow : ℕ → List ℕ → Type 0
+AreBelow limit [] = Unit {0}
+AreBelow limit (c ∷ characters) = (c < limit) × AreBelow limit characters
 
 -- characters, each as its unit
 abbrev pub units_of : AsciiForm → List ℕ → List ℕ
@@ -24,17 +24,17 @@ offset (Two Little) = 0
 offset (Four Big) = 3
 offset (Four Little) = 0
 
--- A unit of ASCII stands at a place of a text.
-pub record IsAsciiAt (form : AsciiForm) (text : List ℕ) (at : ℕ) : Type 0 where
+-- The unit of a character below a limit stands at a place of a text.
+pub record IsBelowAt (limit : ℕ) (form : AsciiForm) (text : List ℕ) (at : ℕ) : Type 0 where
   pub c : ℕ
-  pub small : c < 128
+  pub small : c < limit
   pub stands : Begins (unit_of form c) (drop at text)
 
--- The first so many units of a text are ASCII.
-abbrev pub IsAsciiRun : AsciiForm → List ℕ → ℕ → Type 0
-IsAsciiRun form text n = (k : ℕ) → k < n → IsAsciiAt form text (unit_size form * k)
+-- The first so many units of a text are of characters below a limit.
+abbrev pub IsRunBelow : ℕ → AsciiForm → List ℕ → ℕ → Type 0
+IsRunBelow limit form text n = (k : ℕ) → k < n → IsBelowAt limit form text (unit_size form * k)
 
--- the characters of the first so many units of a text
+-- the lowest bytes of the first so many units of a text: where each character is one byte, the characters
 unfoldable pub characters_in : AsciiForm → List ℕ → ℕ → List ℕ
 characters_in form text zero = []
 characters_in form text (suc n) = characters_in form text n ++ get_or text (unit_size form * n + offset form) 0 ∷ []

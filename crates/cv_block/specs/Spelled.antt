@@ -34,6 +34,13 @@ pub record IsReadSpelled (bytes_of : BytesOf) (text : List ℕ) (at : ℕ) (befo
   pub fits : n + run.n ≤ length before
   pub size : length after ≡ length before
 
+-- So many bytes at the front of a text are those of characters, one after the other.
+pub record IsSpelledFront (bytes_of : BytesOf) (text : List ℕ) (n : ℕ) : Type 0 where
+  pub characters : List ℕ
+  pub scalars : AreScalars characters
+  pub begins : Begins (flat_map bytes_of characters) text
+  pub uses : n ≡ length (flat_map bytes_of characters)
+
 -- The bytes of some characters behind the first n were put at a place; what is behind them may be anything.
 pub record IsWrittenSpelled (bytes_of : BytesOf) (characters : List ℕ) (n : ℕ) (before : List ℕ) (at : ℕ) (run : Spelled) (after : List ℕ) : Type 0 where
   pub within : n + run.n ≤ length characters

@@ -1,7 +1,7 @@
 //! Runs of ASCII in which each character is one byte.
 ghost use Rattle.std.specs.Prelude.{◌≡◌, ◌≤◌, ◌<◌, ◌+◌, ◌-◌, ◌++◌, ℕ, length, take, drop, slice_index, IsTrue};
 ghost use Rattle.cv_base.specs.declared.ascii_form.AsciiForm.{AsciiForm};
-ghost use Rattle.cv_block.specs.AsciiRuns.{IsAsciiRun};
+ghost use Rattle.cv_block.specs.AsciiRuns.{IsRunBelow};
 
 use std::simd::prelude::*;
 
@@ -98,7 +98,7 @@ pub(crate) fn copy_run(rest: &[u8], out: &mut [u8], at: usize) -> usize
     requires { at ≤ length out.old }
     ensures stand { result ≤ length rest.now }
     ensures fit { at + result ≤ length out.old }
-    ensures ascii { IsAsciiRun AsciiForm.Byte rest.now result }
+    ensures ascii { IsRunBelow 128 AsciiForm.Byte rest.now result }
     ensures none { result ≡ 0 → out.new ≡ out.old }
     ensures out { out.new ≡ take at out.old ++ take result rest.now ++ drop (at + result) out.old }
 {

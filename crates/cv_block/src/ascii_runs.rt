@@ -1,28 +1,28 @@
-//! Runs of ASCII.
+//! Runs of small characters: units of one form that are written in another.
 ghost use Rattle.std.specs.Prelude.{◌≡◌, ◌≤◌, ◌<◌, ◌+◌, ◌*◌, ◌++◌, ℕ, length, take, drop, get_or, IsTrue};
 ghost use Rattle.cv_base.specs.Units.{unit_size};
 ghost use Rattle.cv_base.specs.declared.ascii_form.AsciiForm.{AsciiForm};
-ghost use Rattle.cv_block.specs.AsciiRuns.{IsAsciiAt, IsAsciiRun, characters_in, offset, units_of};
+ghost use Rattle.cv_block.specs.AsciiRuns.{IsBelowAt, IsRunBelow, characters_in, offset, units_of};
 
-use crate::ascii_bytes::{byte_run, copy_run, is_ascii_block};
 use crate::byte_order::{BigEndian, LittleEndian};
+use crate::repertoire::Repertoire;
 use crate::unit::{Byte, Four, Two, Unit};
 use cv_base::{AsciiForm, Endian};
 
 /// How many units are tested at once.
 const BLOCK: usize = 16;
 
-/// Whether a unit of ASCII stands here.
+/// Whether the unit of a character of the run stands here.
 #[inline(always)]
-#[tactic(auto, using(crate::proofs::UnitBytes::ascii_at))]
-fn is_ascii<U: Unit>(bytes: &[u8], at: usize) -> bool
+#[tactic(auto, using(crate::proofs::UnitBytes::below_at))]
+fn is_below<R: Repertoire, U: Unit>(bytes: &[u8], at: usize) -> bool
     requires { at + unit_size U.form ≤ length bytes.now }
-    ensures { IsTrue result → IsAsciiAt U.form bytes.now at }
+    ensures { IsTrue result → IsBelowAt R.limit U.form bytes.now at }
 {
-    U::number(bytes, at) < 128
+    U::number(bytes, at) < R::limit()
 }
 
-/// The character of the unit of ASCII that stands here, and of another its lowest byte.
+/// The character of the unit that stands here if it is one byte, and of another its lowest byte.
 #[inline(always)]
 #[tactic(auto, using(crate::proofs::UnitBytes::low_byte))]
 fn character<U: Unit>(bytes: &[u8], at: usize) -> u32
@@ -33,90 +33,90 @@ fn character<U: Unit>(bytes: &[u8], at: usize) -> u32
     U::number(bytes, at) % 0x100
 }
 
-/// Whether `n` units are ASCII. Each is tested, so that the loop is done by blocks.
+/// Whether `n` units are of characters of the run. Each is tested, so that the loop is done by blocks.
 #[inline(always)]
-fn are_ascii<U: Unit>(bytes: &[u8], at: usize, n: usize) -> bool
+fn are_below<R: Repertoire, U: Unit>(bytes: &[u8], at: usize, n: usize) -> bool
     requires { at + unit_size U.form * n ≤ length bytes.now }
     ensures { IsTrue result → (k : ℕ) → k < n
-        → IsAsciiAt U.form bytes.now (at + unit_size U.form * k) }
+        → IsBelowAt R.limit U.form bytes.now (at + unit_size U.form * k) }
 {
     let mut all = true;
     let mut place = at;
     for _unit in 0..n {
-        all &= is_ascii::<U>(bytes, place);
+        all &= is_below::<R, U>(bytes, place);
         place += U::size();
     }
     all
 }
 
-/// How many units of ASCII stand at the front, `most` at most.
+/// How many units of a run stand at the front, `most` at most.
 #[inline]
-fn unit_run<U: Unit>(rest: &[u8], most: usize) -> usize
+fn unit_run<R: Repertoire, U: Unit>(rest: &[u8], most: usize) -> usize
     ensures fits { result ≤ most }
     ensures within { unit_size U.form * result ≤ length rest.now }
-    ensures ascii { IsAsciiRun U.form rest.now result }
+    ensures small { IsRunBelow R.limit U.form rest.now result }
 {
     let mut n = 0;
     let mut at = 0;
     while most - n >= BLOCK
         && rest.len() - at >= U::size() * BLOCK
-        && are_ascii::<U>(rest, at, BLOCK)
+        && are_below::<R, U>(rest, at, BLOCK)
     {
         at += U::size() * BLOCK;
         n += BLOCK;
     }
-    while n < most && rest.len() - at >= U::size() && is_ascii::<U>(rest, at) {
+    while n < most && rest.len() - at >= U::size() && is_below::<R, U>(rest, at) {
         at += U::size();
         n += 1;
     }
     n
 }
 
-/// Whether a block of units at the front is ASCII, so that a run is worth while.
+/// Whether a block of units at the front is of a run, so that it is worth while.
 #[inline(always)]
-fn may_run<U: Unit>(rest: &[u8]) -> bool {
-    rest.len() >= U::size() * BLOCK && are_ascii::<U>(rest, 0, BLOCK)
+fn may_run<R: Repertoire, U: Unit>(rest: &[u8]) -> bool {
+    rest.len() >= U::size() * BLOCK && are_below::<R, U>(rest, 0, BLOCK)
 }
 
 /// Whether it is worth while to look for a run of units of this form.
 #[inline(always)]
-fn form_may_run(form: AsciiForm, rest: &[u8]) -> bool {
+fn form_may_run<R: Repertoire>(form: AsciiForm, rest: &[u8]) -> bool {
     match form {
-        AsciiForm::Byte => rest.len() >= BLOCK && is_ascii_block(rest, 0),
-        AsciiForm::Two(Endian::Big) => may_run::<Two<BigEndian>>(rest),
-        AsciiForm::Two(Endian::Little) => may_run::<Two<LittleEndian>>(rest),
-        AsciiForm::Four(Endian::Big) => may_run::<Four<BigEndian>>(rest),
-        AsciiForm::Four(Endian::Little) => may_run::<Four<LittleEndian>>(rest),
+        AsciiForm::Byte => R::bytes_may_run(rest),
+        AsciiForm::Two(Endian::Big) => may_run::<R, Two<BigEndian>>(rest),
+        AsciiForm::Two(Endian::Little) => may_run::<R, Two<LittleEndian>>(rest),
+        AsciiForm::Four(Endian::Big) => may_run::<R, Four<BigEndian>>(rest),
+        AsciiForm::Four(Endian::Little) => may_run::<R, Four<LittleEndian>>(rest),
     }
 }
 
-/// How many units of ASCII stand at the front in a form, `most` at most.
+/// How many units of a run stand at the front in a form, `most` at most.
 #[inline(never)]
-fn form_run(form: AsciiForm, rest: &[u8], most: usize) -> usize
+fn form_run<R: Repertoire>(form: AsciiForm, rest: &[u8], most: usize) -> usize
     ensures fits { result ≤ most }
     ensures within { unit_size form * result ≤ length rest.now }
-    ensures ascii { IsAsciiRun form rest.now result }
+    ensures small { IsRunBelow R.limit form rest.now result }
 {
     match form {
-        AsciiForm::Byte => byte_run(rest, most),
-        AsciiForm::Two(Endian::Big) => unit_run::<Two<BigEndian>>(rest, most),
-        AsciiForm::Two(Endian::Little) => unit_run::<Two<LittleEndian>>(rest, most),
-        AsciiForm::Four(Endian::Big) => unit_run::<Four<BigEndian>>(rest, most),
-        AsciiForm::Four(Endian::Little) => unit_run::<Four<LittleEndian>>(rest, most),
+        AsciiForm::Byte => R::byte_run(rest, most),
+        AsciiForm::Two(Endian::Big) => unit_run::<R, Two<BigEndian>>(rest, most),
+        AsciiForm::Two(Endian::Little) => unit_run::<R, Two<LittleEndian>>(rest, most),
+        AsciiForm::Four(Endian::Big) => unit_run::<R, Four<BigEndian>>(rest, most),
+        AsciiForm::Four(Endian::Little) => unit_run::<R, Four<LittleEndian>>(rest, most),
     }
 }
 
-/// How many units of ASCII stand at the front in a form, `most` at most.
+/// How many units of a run stand at the front in a form, `most` at most.
 #[inline(always)]
-fn ascii_run(form: AsciiForm, rest: &[u8], most: usize) -> usize
+fn run_in<R: Repertoire>(form: AsciiForm, rest: &[u8], most: usize) -> usize
     ensures fits { result ≤ most }
     ensures within { unit_size form * result ≤ length rest.now }
-    ensures ascii { IsAsciiRun form rest.now result }
+    ensures small { IsRunBelow R.limit form rest.now result }
 {
-    if !form_may_run(form, rest) {
+    if !form_may_run::<R>(form, rest) {
         return 0;
     }
-    form_run(form, rest, most)
+    form_run::<R>(form, rest, most)
 }
 
 /// Writes the characters of the first `n` units of one form in another. No unit is tested, so that the loop is done by blocks.
@@ -199,23 +199,29 @@ fn units_in(form: AsciiForm, room: usize) -> usize
     }
 }
 
-/// Writes the run of ASCII that stands at the front in a form in another, as far as there is room, and answers how many units it has.
+/// Writes the run that stands at the front in a form in another, as far as there is room, and answers how many units it has.
 /// It may be none where the run is shorter than a block.
 #[inline(always)]
-pub fn take_run(form: AsciiForm, target: AsciiForm, rest: &[u8], out: &mut [u8], at: usize) -> usize
+pub fn take_run<R: Repertoire>(
+    form: AsciiForm,
+    target: AsciiForm,
+    rest: &[u8],
+    out: &mut [u8],
+    at: usize,
+) -> usize
     requires { at ≤ length out.old }
     ensures stand { unit_size form * result ≤ length rest.now }
     ensures fit { at + unit_size target * result ≤ length out.old }
-    ensures ascii { IsAsciiRun form rest.now result }
+    ensures small { IsRunBelow R.limit form rest.now result }
     ensures none { result ≡ 0 → out.new ≡ out.old }
     ensures out { out.new
         ≡ take at out.old ++ units_of target (characters_in form rest.now result)
         ++ drop (at + unit_size target * result) out.old }
 {
     if let (AsciiForm::Byte, AsciiForm::Byte) = (form, target) {
-        return copy_run(rest, out, at);
+        return R::copy_run(rest, out, at);
     }
-    let n = ascii_run(form, rest, units_in(target, out.len() - at));
+    let n = run_in::<R>(form, rest, units_in(target, out.len() - at));
     if n == 0 {
         return 0;
     }

@@ -5,21 +5,25 @@
 mod ascii_bytes;
 mod ascii_runs;
 mod byte_order;
+mod repertoire;
 mod spelled_reading;
 mod spelled_writing;
 mod spelling;
 mod surrogates;
 mod unit;
+mod unit_fronts;
 mod unit_runs;
 mod words;
 
 pub use ascii_bytes::is_ascii_block;
 pub use ascii_runs::{take_run, unit_bytes};
 pub use byte_order::{BigEndian, ByteOrder, LittleEndian};
+pub use repertoire::{OfAscii, OfLatin, Repertoire};
 pub use spelled_reading::read_spelled;
 pub use spelled_writing::write_spelled;
 pub use spelling::{MANY, Spelled, Spelling};
 pub use surrogates::{first_of, is_high, is_low, is_surrogate, joined, second_of};
 pub use unit::{Byte, Four, Two, Unit};
+pub use unit_fronts::unit_front;
 pub use unit_runs::{read_units, write_units};
 pub use words::{Words, write_words};

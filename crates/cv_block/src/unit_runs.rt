@@ -20,7 +20,7 @@ fn is_scalar(number: u32) -> bool
 
 /// The numbers of the units at the front of a text. None is tested, so that the loop is done by blocks.
 #[inline(always)]
-fn numbers_of<U: Unit>(text: &[u8]) -> [u32; MANY]
+pub(crate) fn numbers_of<U: Unit>(text: &[u8]) -> [u32; MANY]
     requires { unit_size U.form * 16 ≤ length text.now }
     ensures long { length result ≡ 16 }
     ensures units { AreUnits U.form text.now result 16 }
@@ -36,7 +36,7 @@ fn numbers_of<U: Unit>(text: &[u8]) -> [u32; MANY]
 
 /// Whether the numbers are those of characters. Each is tested, so that the loop is done by blocks.
 #[inline(always)]
-fn are_scalars(numbers: &[u32; MANY]) -> bool
+pub(crate) fn are_scalars(numbers: &[u32; MANY]) -> bool
     ensures { IsTrue result → AreScalarsBelow numbers.now 16 }
 {
     let mut all = true;

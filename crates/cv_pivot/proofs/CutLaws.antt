@@ -19,7 +19,7 @@ use Rattle.cv_pivot.proofs.Allowed.{middle_allowed}
 use Rattle.cv_pivot.proofs.LongestChains.{Longer, longer, same_used, same_chain}
 
 -- A chain stays one when bytes follow.
-IsChain-more : (reads : ItemRelation) (s : ReadState) (text more : List ℕ) (chain : List Taken) → Begins text more → IsChain reads s text chain → IsChain reads s more chain
+pub IsChain-more : (reads : ItemRelation) (s : ReadState) (text more : List ℕ) (chain : List Taken) → Begins text more → IsChain reads s text chain → IsChain reads s more chain
 IsChain-more reads s text more [] b p = tt
 IsChain-more reads s text more (i ∷ chain) b p = (item_stays reads s text more i b p.0, IsChain-more reads i.next (drop i.used text) (drop i.used more) chain (Begins-drop i.used text more b) p.1)
 

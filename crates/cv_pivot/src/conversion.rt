@@ -4,6 +4,7 @@ ghost use Rattle.cv_pivot.specs.Conversions.{Converts, IsMostOutput, start};
 ghost use Rattle.cv_pivot.specs.Encodings.{encoding_reads, encoding_writes, encoding_closes};
 
 use crate::convert::run;
+use crate::copying::may_copy;
 use crate::encoding::Encoding;
 use crate::outcome::{Outcome, States, TooBig};
 use cv_base::{Codec, Piece, Policy, ReadState, WriteState};
@@ -48,6 +49,7 @@ impl Conversion {
         run(
             &self.from,
             &self.to,
+            may_copy(&self.from, &self.to),
             self.policy,
             &mut self.states,
             input,

@@ -163,4 +163,37 @@ impl BlockCodec for Encoding {
             Encoding::Utf7 => Utf7.write_block(policy, state, characters, out, at),
         }
     }
+
+    fn unchanged(&self, reading: ReadState, writing: WriteState, input: &[u8]) -> usize {
+        match self {
+            Encoding::Ascii => Ascii.unchanged(reading, writing, input),
+            Encoding::Latin1 => Latin1.unchanged(reading, writing, input),
+            Encoding::Utf8 => Utf8.unchanged(reading, writing, input),
+            Encoding::Utf16(order) => Utf16(*order).unchanged(reading, writing, input),
+            Encoding::Utf32(order) => Utf32(*order).unchanged(reading, writing, input),
+            Encoding::Utf7 => Utf7.unchanged(reading, writing, input),
+        }
+    }
+
+    fn reads_latin(&self, state: ReadState) -> Option<AsciiForm> {
+        match self {
+            Encoding::Ascii => Ascii.reads_latin(state),
+            Encoding::Latin1 => Latin1.reads_latin(state),
+            Encoding::Utf8 => Utf8.reads_latin(state),
+            Encoding::Utf16(order) => Utf16(*order).reads_latin(state),
+            Encoding::Utf32(order) => Utf32(*order).reads_latin(state),
+            Encoding::Utf7 => Utf7.reads_latin(state),
+        }
+    }
+
+    fn writes_latin(&self, state: WriteState) -> Option<AsciiForm> {
+        match self {
+            Encoding::Ascii => Ascii.writes_latin(state),
+            Encoding::Latin1 => Latin1.writes_latin(state),
+            Encoding::Utf8 => Utf8.writes_latin(state),
+            Encoding::Utf16(order) => Utf16(*order).writes_latin(state),
+            Encoding::Utf32(order) => Utf32(*order).writes_latin(state),
+            Encoding::Utf7 => Utf7.writes_latin(state),
+        }
+    }
 }

@@ -17,6 +17,7 @@ pub mod Utf8Begun
 pub mod Utf8Long
 pub mod Utf8WindowLanes
 pub mod Utf8Spelled
+pub mod Utf8Front
 pub mod Utf16Units
 pub mod Utf16Form
 pub mod Utf16Items

@@ -1,15 +1,17 @@
 //! The encoding forms by blocks.
 
 use crate::utf8::Utf8;
+use crate::utf8_front::well_formed_front;
 use crate::utf8_spelling::Utf8Spelling;
 use crate::utf16::Utf16;
 use crate::utf16_spelling::Utf16In;
 use crate::utf32::Utf32;
 use crate::utf32_spelling::Utf32In;
 use cv_base::{
-    BlockCodec, Endian, Policy, ReadBlock, ReadState, Scalar, WriteState, WrittenBlock, write_each,
+    AsciiForm, BlockCodec, Endian, Policy, ReadBlock, ReadState, Scalar, WriteState, WrittenBlock,
+    write_each,
 };
-use cv_block::{BigEndian, LittleEndian, read_spelled, write_spelled};
+use cv_block::{BigEndian, Four, LittleEndian, Two, read_spelled, unit_front, write_spelled};
 
 impl BlockCodec for Utf8 {
     #[tactic(auto, using(cv_base::proofs::BlockLaws::nothing_read))]
@@ -32,6 +34,15 @@ impl BlockCodec for Utf8 {
         match state {
             WriteState::Start => Some(write_spelled::<Utf8Spelling>(state, characters, out, at)),
             _ => Some(write_each(self, state, characters, out, at)),
+        }
+    }
+
+    #[inline]
+    #[tactic(auto, using(cv_base::proofs::UnchangedLaws::none_unchanged, crate::proofs::Utf8Front::utf8_unchanged))]
+    fn unchanged(&self, reading: ReadState, writing: WriteState, input: &[u8]) -> usize {
+        match (reading, writing) {
+            (ReadState::Start, WriteState::Start) => well_formed_front(input),
+            _ => 0,
         }
     }
 }
@@ -65,6 +76,30 @@ impl BlockCodec for Utf16 {
             None => Some(write_each(self, state, characters, out, at)),
         }
     }
+
+    #[inline]
+    #[tactic(auto, using(cv_base::proofs::UnchangedLaws::none_unchanged))]
+    fn unchanged(&self, reading: ReadState, writing: WriteState, input: &[u8]) -> usize {
+        match self.0.kept(reading, writing) {
+            Some(Endian::Big) => unit_front::<Two<BigEndian>>(input),
+            Some(Endian::Little) => unit_front::<Two<LittleEndian>>(input),
+            None => 0,
+        }
+    }
+
+    #[inline]
+    #[tactic(auto, using(crate::proofs::AsciiInOrder::utf16_reads_latin))]
+    fn reads_latin(&self, state: ReadState) -> Option<AsciiForm> {
+        let endian = self.0.kept_reading(state)?;
+        Some(AsciiForm::Two(endian))
+    }
+
+    #[inline]
+    #[tactic(auto, using(crate::proofs::AsciiInOrder::utf16_writes_latin))]
+    fn writes_latin(&self, state: WriteState) -> Option<AsciiForm> {
+        let endian = self.0.kept_writing(state)?;
+        Some(AsciiForm::Two(endian))
+    }
 }
 
 impl BlockCodec for Utf32 {
@@ -95,5 +130,29 @@ impl BlockCodec for Utf32 {
             )),
             None => Some(write_each(self, state, characters, out, at)),
         }
+    }
+
+    #[inline]
+    #[tactic(auto, using(cv_base::proofs::UnchangedLaws::none_unchanged))]
+    fn unchanged(&self, reading: ReadState, writing: WriteState, input: &[u8]) -> usize {
+        match self.0.kept(reading, writing) {
+            Some(Endian::Big) => unit_front::<Four<BigEndian>>(input),
+            Some(Endian::Little) => unit_front::<Four<LittleEndian>>(input),
+            None => 0,
+        }
+    }
+
+    #[inline]
+    #[tactic(auto, using(crate::proofs::AsciiInOrder::utf32_reads_latin))]
+    fn reads_latin(&self, state: ReadState) -> Option<AsciiForm> {
+        let endian = self.0.kept_reading(state)?;
+        Some(AsciiForm::Four(endian))
+    }
+
+    #[inline]
+    #[tactic(auto, using(crate::proofs::AsciiInOrder::utf32_writes_latin))]
+    fn writes_latin(&self, state: WriteState) -> Option<AsciiForm> {
+        let endian = self.0.kept_writing(state)?;
+        Some(AsciiForm::Four(endian))
     }
 }

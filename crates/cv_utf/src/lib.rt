@@ -14,6 +14,7 @@ mod utf16_spelling;
 mod utf32;
 mod utf32_spelling;
 mod utf8;
+mod utf8_front;
 mod utf8_long;
 mod utf8_reading;
 mod utf8_spelling;

@@ -42,4 +42,18 @@ impl Order {
             _ => None,
         }
     }
+
+    /// In which order characters stand and are written in these states, if it is the same and both states stay.
+    #[inline]
+    pub(crate) fn kept(self, reading: ReadState, writing: WriteState) -> Option<Endian>
+        ensures { IfSome result (λ endian. KeepsReading self reading endian × KeepsWriting self writing endian) }
+    {
+        let endian = self.kept_reading(reading)?;
+        let written = self.kept_writing(writing)?;
+        if endian == written {
+            Some(endian)
+        } else {
+            None
+        }
+    }
 }

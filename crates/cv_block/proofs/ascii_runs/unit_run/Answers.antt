@@ -11,7 +11,7 @@ loop-n-preserved g c =
       fits = omega arith;
       place = omega (arith, c.size-in-loop-n.ensures, mul-add (unit_size g.U.Unit.form) c.loop-n.n 16);
       within = omega (arith, c.size-in-loop-n.ensures, c.size.ensures);
-      ascii = runs_join _ c.args.rest.now c.loop-n.at c.loop-n.n 16 i.place i.ascii (rw c.if-are_ascii.true at c.are_ascii.ensures refl);
+      small = runs_join _ _ c.args.rest.now c.loop-n.at c.loop-n.n 16 i.place i.small (rw c.if-are_below.true at c.are_below.ensures refl);
     }
 
 pub loop-n-2-preserved : goal.loop-n-2-preserved
@@ -21,5 +21,5 @@ loop-n-2-preserved g c =
       fits = omega arith;
       place = omega (arith, c.size-in-loop-n-2.ensures, c.size-at.ensures, unit_more g.U.Unit.form c.loop-n-2.n);
       within = omega (arith, c.size-in-loop-n-2.ensures, c.size-at.ensures);
-      ascii = run_more _ c.args.rest.now c.loop-n-2.n c.loop-n-2.at i.place i.ascii (c.is_ascii.ensures c.if-is_ascii.true);
+      small = run_more _ _ c.args.rest.now c.loop-n-2.n c.loop-n-2.at i.place i.small (c.is_below.ensures c.if-is_below.true);
     }

@@ -1,10 +1,10 @@
 use Rattle.std.proofs.Common.{arith, mul-zero, add-zero}
 use Rattle.std.proofs.lemmas.Bool.{and_parts}
-use Rattle.cv_block.proofs.AsciiRuns.{unit_more, unit_fits, ascii_more}
-use Rattle.cv_block.proofs.ascii_runs.are_ascii.Goals as goal
+use Rattle.cv_block.proofs.AsciiRuns.{unit_more, unit_fits, below_more}
+use Rattle.cv_block.proofs.ascii_runs.are_below.Goals as goal
 
-pub is_ascii-all-requires : goal.is_ascii-all-requires
-is_ascii-all-requires g c = omega (arith, unit_fits g.U.Unit.form c.loop-unit._unit c.args.n c.loop-unit-test.true)
+pub is_below-all-requires : goal.is_below-all-requires
+is_below-all-requires g c = omega (arith, unit_fits g.U.Unit.form c.loop-unit._unit c.args.n c.loop-unit-test.true)
 
 pub overflow_add-place : goal.overflow_add-place
 overflow_add-place g c = omega (arith, unit_fits g.U.Unit.form c.loop-unit._unit c.args.n c.loop-unit-test.true)
@@ -12,7 +12,7 @@ overflow_add-place g c = omega (arith, unit_fits g.U.Unit.form c.loop-unit._unit
 pub loop-unit-init : goal.loop-unit-init
 loop-unit-init g c = record {
   place = rw (mul-zero, add-zero);
-  ascii = λ _ k h. absurd (omega arith);
+  small = λ _ k h. absurd (omega arith);
 }
 
 pub loop-unit-preserved : goal.loop-unit-preserved
@@ -20,5 +20,5 @@ loop-unit-preserved g c =
     let i = c.loop-unit.invariant in
     record {
       place = omega (arith, unit_more g.U.Unit.form c.loop-unit._unit);
-      ascii = λ h. ascii_more _ _ c.args.at c.loop-unit._unit c.loop-unit.place i.place (i.ascii (and_parts _ _ h).0) (c.is_ascii-all.ensures (and_parts _ _ h).1);
+      small = λ h. below_more _ _ _ c.args.at c.loop-unit._unit c.loop-unit.place i.place (i.small (and_parts _ _ h).0) (c.is_below-all.ensures (and_parts _ _ h).1);
     }

@@ -1,0 +1,94 @@
+//! Which characters a run has, known when the code is compiled, so that each loop over runs stands once.
+ghost use Rattle.std.specs.Prelude.{◌≡◌, ◌≤◌, ◌<◌, ◌+◌, ◌++◌, ℕ, length, take, drop, slice_index};
+ghost use Rattle.cv_base.specs.declared.ascii_form.AsciiForm.{AsciiForm};
+ghost use Rattle.cv_block.specs.AsciiRuns.{IsRunBelow};
+
+use crate::ascii_bytes;
+use crate::ascii_bytes::is_ascii_block;
+use crate::spelling::MANY;
+
+/// The characters below a limit.
+pub trait Repertoire {
+    ghost limit: { ℕ };
+
+    /// Below which number they are. Each is one byte.
+    fn limit() -> u32
+        ensures value { result ≡ limit }
+        ensures few { limit ≤ 0x100 };
+
+    /// Whether it is worth while to look for a run of bytes at the front.
+    fn bytes_may_run(rest: &[u8]) -> bool;
+
+    /// How many bytes of a run stand at the front, `most` at most.
+    fn byte_run(rest: &[u8], most: usize) -> usize
+        ensures fits { result ≤ most }
+        ensures within { result ≤ length rest.now }
+        ensures small { (k : ℕ) → k < result → slice_index rest.now k < limit };
+
+    /// Copies the bytes of a run at the front of a text, and answers how many they are. It may be none where they are few.
+    fn copy_run(rest: &[u8], out: &mut [u8], at: usize) -> usize
+        requires { at ≤ length out.old }
+        ensures stand { result ≤ length rest.now }
+        ensures fit { at + result ≤ length out.old }
+        ensures small { IsRunBelow limit AsciiForm.Byte rest.now result }
+        ensures none { result ≡ 0 → out.new ≡ out.old }
+        ensures out { out.new
+            ≡ take at out.old ++ take result rest.now ++ drop (at + result) out.old };
+}
+
+/// The characters of US-ASCII.
+pub struct OfAscii;
+
+impl Repertoire for OfAscii {
+    ghost limit = { 128 };
+
+    #[inline(always)]
+    fn limit() -> u32 {
+        128
+    }
+
+    #[inline(always)]
+    fn bytes_may_run(rest: &[u8]) -> bool {
+        rest.len() >= MANY && is_ascii_block(rest, 0)
+    }
+
+    #[inline(always)]
+    fn byte_run(rest: &[u8], most: usize) -> usize {
+        ascii_bytes::byte_run(rest, most)
+    }
+
+    #[inline(always)]
+    fn copy_run(rest: &[u8], out: &mut [u8], at: usize) -> usize {
+        ascii_bytes::copy_run(rest, out, at)
+    }
+}
+
+/// The characters of ISO-8859-1, which are all bytes.
+pub struct OfLatin;
+
+impl Repertoire for OfLatin {
+    ghost limit = { 0x100 };
+
+    #[inline(always)]
+    fn limit() -> u32 {
+        0x100
+    }
+
+    #[inline(always)]
+    fn bytes_may_run(rest: &[u8]) -> bool {
+        rest.len() >= MANY
+    }
+
+    #[inline(always)]
+    fn byte_run(rest: &[u8], most: usize) -> usize {
+        rest.len().min(most)
+    }
+
+    #[inline(always)]
+    #[tactic(auto, using(crate::proofs::AsciiRuns::bytes_run))]
+    fn copy_run(rest: &[u8], out: &mut [u8], at: usize) -> usize {
+        let n = rest.len().min(out.len() - at);
+        out[at..at + n].copy_from_slice(&rest[..n]);
+        n
+    }
+}

@@ -1,0 +1,35 @@
+//! How much of a text is characters of one unit each.
+ghost use Rattle.std.specs.Prelude.{◌*◌, ◌+◌, ◌≤◌, IsTrue, length, drop};
+ghost use Rattle.cv_base.specs.Units.{unit_size};
+ghost use Rattle.cv_block.specs.Spelled.{BytesOf, IsSpelledFront};
+ghost use Rattle.cv_block.specs.Units.{SpellsUnits};
+
+use crate::spelling::MANY;
+use crate::unit::Unit;
+use crate::unit_runs::{are_scalars, numbers_of};
+
+/// Whether many units that stand here are characters by themselves.
+#[inline(always)]
+fn are_characters<U: Unit>(input: &[u8], at: usize) -> bool
+    requires { at + unit_size U.form * 16 ≤ length input.now }
+    ensures { IsTrue result → (bytes_of : BytesOf) → SpellsUnits U.form bytes_of
+        → IsSpelledFront bytes_of (drop at input.now) (unit_size U.form * 16) }
+{
+    are_scalars(&numbers_of::<U>(&input[at..]))
+}
+
+/// How many bytes at the front are characters of one unit each, by blocks of many, up to a block in which one isn't. It serves every
+/// encoding in which such a character has the bytes of its unit.
+#[inline(never)]
+pub fn unit_front<U: Unit>(input: &[u8]) -> usize
+    ensures within { result ≤ length input.now }
+    ensures front { (bytes_of : BytesOf) → SpellsUnits U.form bytes_of
+        → IsSpelledFront bytes_of input.now result }
+{
+    let size = U::size() * MANY;
+    let mut used = 0;
+    while input.len() - used >= size && are_characters::<U>(input, used) {
+        used += size;
+    }
+    used
+}

@@ -1,0 +1,60 @@
+//! Copying the text that stays as it is where both encodings are the same.
+ghost use Rattle.std.specs.Prelude.{◌≡◌, ◌≤◌, ◌+◌, ◌++◌, length, take, drop, IsTrue, MatchOption};
+ghost use Rattle.cv_base.specs.declared.policy.Policy.{Policy};
+ghost use Rattle.cv_pivot.specs.Private.Steps.{StridesOrStops};
+
+use crate::encoding::Encoding;
+use crate::outcome::States;
+use crate::step::Step;
+use cv_base::BlockCodec;
+
+/// Whether both are one encoding of which text is copied. It may say no where they are: then it goes by blocks, or one by one.
+pub(crate) fn may_copy(from: &Encoding, to: &Encoding) -> bool
+    ensures { IsTrue result → from.now ≡ to.now }
+{
+    match (from, to) {
+        (Encoding::Latin1, Encoding::Latin1) => true,
+        (Encoding::Utf8, Encoding::Utf8) => true,
+        (Encoding::Utf16(order), Encoding::Utf16(other)) => order == other,
+        (Encoding::Utf32(order), Encoding::Utf32(other)) => order == other,
+        _ => false,
+    }
+}
+
+/// Copies the first `n` bytes to a place.
+#[inline(always)]
+fn copy_front(rest: &[u8], n: usize, out: &mut [u8], at: usize)
+    requires stand { n ≤ length rest.now }
+    requires fit { at + n ≤ length out.old }
+    ensures { out.new ≡ take at out.old ++ take n rest.now ++ drop (at + n) out.old }
+{
+    out[at..at + n].copy_from_slice(&rest[..n]);
+}
+
+/// Copies the items at the front of a text that are written as they stand there, as far as there is room, if there are such. Every
+/// policy allows it.
+#[inline(never)]
+pub(crate) fn copy_unchanged<C: BlockCodec>(
+    codec: &C,
+    states: States,
+    rest: &[u8],
+    out: &mut [u8],
+    at: usize,
+) -> Option<Step>
+    requires { at ≤ length out.old }
+    ensures { MatchOption result (out.new ≡ out.old) (λ step. (policy : Policy)
+        → StridesOrStops (C.reads codec.now) (C.writes codec.now) policy states rest.now
+        out.old at step states out.new) }
+{
+    let most = rest.len().min(out.len() - at);
+    let n = codec.unchanged(states.reading, states.writing, &rest[..most]);
+    if n == 0 {
+        return None;
+    }
+    copy_front(rest, n, out, at);
+    Some(Step::Took {
+        used: n,
+        wrote: n,
+        count: 0,
+    })
+}

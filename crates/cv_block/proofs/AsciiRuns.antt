@@ -1,16 +1,18 @@
 -- Runs, unit by unit.
-use Rattle.std.proofs.Common.{◌≡◌, ℕ, ◌+◌, ◌-◌, ◌*◌, ◌<◌, ◌≤◌, List, [], ◌∷◌, ◌++◌, length, take, drop, get_or, refl, sym, ◌∙◌, ap, subst, arith, zero, suc, length-append, length-take, append_assoc, append-nil, add-zero, take-append-drop, inl, inr}
+use Rattle.std.proofs.Common.{◌≡◌, ℕ, ◌+◌, ◌-◌, ◌*◌, ◌<◌, ◌≤◌, List, [], ◌∷◌, ◌++◌, length, take, drop, get_or, refl, sym, ◌∙◌, ap, subst, arith, zero, suc, length-append, length-take, append_assoc, append-nil, add-zero, take-append-drop, bit_or, inl, inr}
 use Rattle.std.proofs.Math.Nat.{mul-suc, mul-zero, mul-add, mul-le-mul_left}
 use Rattle.std.proofs.Math.Seq.{drop-cons, take-suc}
 use Rattle.std.proofs.lemmas.Bool.{cases_lt}
 use Rattle.std.proofs.lemmas.Grind.{flat_map-append}
+use Rattle.std.proofs.lemmas.Nat.{le_or_l, le_or_r}
 use Rattle.cv_base.specs.Items.{Begins}
 use Rattle.cv_base.proofs.Front.{Begins-join}
 use Rattle.cv_base.specs.Units.{unit_of, unit_size}
 use Rattle.cv_base.specs.declared.ascii_form.AsciiForm.{AsciiForm}
 use Rattle.cv_base.specs.declared.ascii_form.AsciiForm.TheVariants.{Byte}
 use Rattle.cv_block.specs.AsciiRuns.{AreBelow, units_of, offset, IsBelowAt, IsRunBelow, characters_in}
-use Rattle.cv_block.proofs.UnitBytes.{length-unit_of, low_byte, byte_fits}
+use Rattle.cv_block.specs.Units.{IsUnitAt}
+use Rattle.cv_block.proofs.UnitBytes.{length-unit_of, low_byte, byte_fits, below_at}
 use Rattle.cv_base.proofs.WrittenEach.{out_more}
 
 -- one unit more
@@ -64,6 +66,18 @@ below_more limit form text at n place e p q k h = elim (cases_lt k n) [
   | inl l ↦ p k l
   | inr l ↦ (let same : k ≡ n = omega arith in subst (λ (j : ℕ). IsBelowAt limit form text j) (e ∙ ap (λ (j : ℕ). at + unit_size form * j) (sym same)) q)
 ]
+
+-- below a limit is below a larger one
+pub below_weaker : (limit larger : ℕ) (form : AsciiForm) (text : List ℕ) (at : ℕ) → limit ≤ larger → IsBelowAt limit form text at → IsBelowAt larger form text at
+below_weaker limit larger form text at h p = record { c = p.c; small = omega (arith, p.small); stands = p.stands }
+
+-- no unit from a place on has more bits than all of them joined, and those of one more
+pub joined_more : (form : AsciiForm) (text : List ℕ) (at n place joined u : ℕ) → place ≡ at + unit_size form * n → ((k : ℕ) → k < n → IsBelowAt (joined + 1) form text (at + unit_size form * k)) → IsUnitAt form text place u
+    → (k : ℕ) → k < n + 1 → IsBelowAt (bit_or joined u + 1) form text (at + unit_size form * k)
+joined_more form text at n place joined u e p q =
+    below_more (bit_or joined u + 1) form text at n place e
+    (λ k h. below_weaker (joined + 1) (bit_or joined u + 1) form text (at + unit_size form * k) (omega (arith, le_or_l joined u)) (p k h))
+    (below_at (bit_or joined u + 1) form text place u q (omega (arith, le_or_r joined u)))
 
 -- a run, and one unit of a small character behind it
 pub run_more : (limit : ℕ) (form : AsciiForm) (text : List ℕ) (n place : ℕ) → place ≡ unit_size form * n → IsRunBelow limit form text n → IsBelowAt limit form text place → IsRunBelow limit form text (n + 1)

@@ -35,7 +35,7 @@ fn character<U: Unit>(bytes: &[u8], at: usize) -> u32
 
 /// Whether `n` units are of characters of the run. Each is tested, so that the loop is done by blocks.
 #[inline(always)]
-fn are_below<R: Repertoire, U: Unit>(bytes: &[u8], at: usize, n: usize) -> bool
+fn each_below<R: Repertoire, U: Unit>(bytes: &[u8], at: usize, n: usize) -> bool
     requires { at + unit_size U.form * n ≤ length bytes.now }
     ensures { IsTrue result → (k : ℕ) → k < n
         → IsBelowAt R.limit U.form bytes.now (at + unit_size U.form * k) }
@@ -47,6 +47,36 @@ fn are_below<R: Repertoire, U: Unit>(bytes: &[u8], at: usize, n: usize) -> bool
         place += U::size();
     }
     all
+}
+
+/// Whether `n` units are of characters of the run. The bits of all are joined, and those are tested once.
+#[inline(always)]
+fn joined_below<R: Repertoire, U: Unit>(bytes: &[u8], at: usize, n: usize) -> bool
+    requires { at + unit_size U.form * n ≤ length bytes.now }
+    ensures { IsTrue result → (k : ℕ) → k < n
+        → IsBelowAt R.limit U.form bytes.now (at + unit_size U.form * k) }
+{
+    let mut joined = 0;
+    let mut place = at;
+    for _unit in 0..n {
+        joined |= U::number(bytes, place);
+        place += U::size();
+    }
+    joined < R::limit()
+}
+
+/// Whether `n` units are of characters of the run.
+#[inline(always)]
+fn are_below<R: Repertoire, U: Unit>(bytes: &[u8], at: usize, n: usize) -> bool
+    requires { at + unit_size U.form * n ≤ length bytes.now }
+    ensures { IsTrue result → (k : ℕ) → k < n
+        → IsBelowAt R.limit U.form bytes.now (at + unit_size U.form * k) }
+{
+    if R::JOINS {
+        joined_below::<R, U>(bytes, at, n)
+    } else {
+        each_below::<R, U>(bytes, at, n)
+    }
 }
 
 /// How many units of a run stand at the front, `most` at most.

@@ -97,8 +97,8 @@ impl BlockCodec for Utf16 {
     #[inline]
     #[tactic(auto, using(crate::proofs::AsciiInOrder::utf16_writes_latin))]
     fn writes_latin(&self, state: WriteState) -> Option<AsciiForm> {
-        let endian = self.0.kept_writing(state)?;
-        Some(AsciiForm::Two(endian))
+        let written = self.0.kept_writing(state)?;
+        Some(AsciiForm::Two(written))
     }
 }
 
@@ -152,7 +152,7 @@ impl BlockCodec for Utf32 {
     #[inline]
     #[tactic(auto, using(crate::proofs::AsciiInOrder::utf32_writes_latin))]
     fn writes_latin(&self, state: WriteState) -> Option<AsciiForm> {
-        let endian = self.0.kept_writing(state)?;
-        Some(AsciiForm::Four(endian))
+        let written = self.0.kept_writing(state)?;
+        Some(AsciiForm::Four(written))
     }
 }

@@ -1,5 +1,5 @@
 //! What encodings read and write many characters at once with: spellings and their loops, units and orders of bytes, surrogates, words
-//! and runs of ASCII.
+//! and runs of small characters.
 #![tactic(auto)]
 
 mod ascii_bytes;

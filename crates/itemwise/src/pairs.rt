@@ -7,8 +7,8 @@ use crate::trials::{Trial, inner_trials, trials};
 use cv_pivot::{Conversion, States};
 use std::alloc::{AllocError, Global};
 
-/// How many bytes the largest room has: that of some 170 characters of at most six bytes, and ample room behind them.
-const BUFFER: usize = 2048;
+/// How many bytes the largest room has: that of some 1,030 characters of at most six bytes, and ample room behind them.
+const BUFFER: usize = 8192;
 
 /// Why not all calls were compared.
 #[derive(Debug, Drop)]

@@ -38,6 +38,18 @@ const BOUNDS: [usize; 4] = [16, 32, 64, 128];
 /// The longest run: two blocks, and one more character.
 const LONGEST: usize = 129;
 
+/// So many bytes of UTF-8 are tested at once.
+const PART: usize = 1024;
+
+/// How many bytes each character of a script has in UTF-8.
+const SIZES: [(Script, usize); 5] = [
+    (Script::Letters, 1),
+    (Script::Latin, 2),
+    (Script::Cyrillic, 2),
+    (Script::Han, 3),
+    (Script::Emoji, 4),
+];
+
 /// So near its ends each place of a text is tried: more than the smallest block.
 const NEAR: usize = 20;
 
@@ -121,6 +133,36 @@ fn rooms(trials: &mut Vec<Trial>) -> Result<(), AllocError> {
     Ok(())
 }
 
+/// Runs that end around the end of so many bytes of UTF-8 as are tested at once: whole, cut in their last character, in a room that is
+/// a little too small, and with a byte behind them that begins nothing.
+fn parts(trials: &mut Vec<Trial>) -> Result<(), AllocError> {
+    for (script, size) in SIZES {
+        let length = PART.checked_div(size).unwrap_or(0);
+        for length in length.saturating_sub(1)..=length.saturating_add(2) {
+            for cut in [Part::All, Part::AllBut(1), Part::AllBut(2)] {
+                trials.push(Trial {
+                    shape: run(script, length),
+                    cut,
+                    room: Part::All,
+                })?;
+            }
+            for room in [Part::AllBut(1), Part::AllBut(3)] {
+                trials.push(Trial {
+                    shape: run(script, length),
+                    cut: Part::All,
+                    room,
+                })?;
+            }
+            trials.push(Trial {
+                shape: interrupted(script, length.saturating_add(NEAR), length, Middle::Byte(0xff)),
+                cut: Part::All,
+                room: Part::All,
+            })?;
+        }
+    }
+    Ok(())
+}
+
 /// A long run behind another one.
 fn seams(trials: &mut Vec<Trial>) -> Result<(), AllocError> {
     for script in PLAIN {
@@ -198,6 +240,7 @@ pub fn inner_trials(alloc: Global) -> Result<Vec<Trial>, AllocError> {
     lengths(&mut trials)?;
     cuts(&mut trials)?;
     rooms(&mut trials)?;
+    parts(&mut trials)?;
     seams(&mut trials)?;
     Ok(trials)
 }

@@ -126,10 +126,10 @@ fn enter_beside(
     ensures apart { MeetsNone entries.old.items bytes.now }
 {
     let _scalar = character.value();
-    let place = entries.len();
+    let end = entries.len();
     let held = *entries[tail.place].padded();
     let first = code_of(entries[tail.place].len(), common, tail.place);
-    let second = code_of(bytes.len(), common, place);
+    let second = code_of(bytes.len(), common, end);
     entries.push(Entry::new(bytes, character))?;
     let between = &held[tail.depth + 1..common + 1];
     match steps.fork(
@@ -142,7 +142,7 @@ fn enter_beside(
     ) {
         Ok(()) => Ok(()),
         Err(_) => {
-            entries.truncate(place);
+            entries.truncate(end);
             Err(Memory)
         }
     }

@@ -46,7 +46,7 @@ returns-in-Ok-clause-indexed c =
     let mine_again = entry_bytes entries tail.place c.index-2.result.now low c.index-2.ensures in
     let held : take (length v) c.padded.result.now ≡ v = rw mine c.padded.ensures.bytes in
     let part = part_is c.padded.result.now v (length v) tail.depth l held c.requires.held c.requires.deep in
-    let place : c.len-place.result ≡ length entries = c.len-place.ensures ∙ c.args.entries.now.ok.0 in
+    let place : c.len-end.result ≡ length entries = c.len-end.ensures ∙ c.args.entries.now.ok.0 in
     let size : c.len.result ≡ length v = c.len.ensures ∙ ap length (sym mine_again) in
     let first : c.code_of-first.result ≡ end_code (length v) l tail.place = c.code_of-first.ensures.value ∙ ap (λ (n : ℕ). end_code n l tail.place) size in
     let second : c.code_of-second.result ≡ end_code (length w) l (length entries) = c.code_of-second.ensures.value ∙ ap (end_code (length w) l) place in
@@ -58,8 +58,8 @@ returns-in-Ok-clause-indexed c =
 pub returns-in-Err-clause-indexed : goal.returns-in-Err-clause-indexed
 returns-in-Err-clause-indexed c =
     let entries = c.args.entries.now.items in
-    let place : c.len-place.result ≡ length entries = c.len-place.ensures ∙ c.args.entries.now.ok.0 in
-    let same : c.truncate.new.self.items ≡ entries = c.truncate.ensures.items ∙ ap (take c.len-place.result) c.in_ok-push.ensures.items ∙ rw place (take-append_seam entries (c.new.result ∷ [])) in
+    let place : c.len-end.result ≡ length entries = c.len-end.ensures ∙ c.args.entries.now.ok.0 in
+    let same : c.truncate.new.self.items ≡ entries = c.truncate.ensures.items ∙ ap (take c.len-end.result) c.in_ok-push.ensures.items ∙ rw place (take-append_seam entries (c.new.result ∷ [])) in
     indexed_unchanged entries c.truncate.new.self.items c.args.steps.now c.fork.new.self c.requires.indexed same c.in-Err.ensures.err
 
 pub returns-in-Ok-clause-apart : goal.returns-in-Ok-clause-apart

@@ -6,8 +6,9 @@ use Rattle.cv_base.specs.Items.{Begins}
 use Rattle.cv_base.proofs.Front.{Begins-trans, Begins-meet, Begins-length, Begins-take}
 use Rattle.cv_byte_trie.specs.Entries.{Entry, bytes_at, AreEntries}
 use Rattle.cv_byte_trie.specs.Results.{MeetsNone, GoesOnBehind}
-use Rattle.cv_byte_trie.specs.Tries.{StepsBy, none, node_code, HasTrie}
-use Rattle.cv_byte_trie.specs.Private.Reading.{IsAt, IsVacant}
+use Rattle.cv_byte_trie.specs.Tries.{StepsBy, tails, tail_code, none, node_code, IsAlone, HasTrie}
+use Rattle.cv_byte_trie.specs.Private.Reading.{IsAt, IsVacant, IsTail}
+use Rattle.cv_byte_trie.specs.declared.walking.Tail.{Tail}
 use Rattle.cv_byte_trie.proofs.Ways.{Begins-more, Begins-same, Begins-self, longer_by_one}
 
 module _ (entries : List Entry) (a : AreEntries entries) (S : StepsBy) (count : ℕ) (x : List ℕ) (d i : ℕ) (r : IsAt S count entries x d i) where
@@ -41,8 +42,12 @@ module _ (entries : List Entry) (a : AreEntries entries) (S : StepsBy) (count : 
     front = Begins-same (r.way i ++ b ∷ []) (take (d + 1) x) x begun (Begins-take (d + 1) x) (size ∙ sym (length-take-le (d + 1) x (omega arith)))
 
     -- to an entry
-    pub leads_to_leaf : (p : ℕ) → p ≡ S i b → p < none → (p < length entries) × (bytes_at entries p ≡ take (d + 1) x)
+    pub leads_to_leaf : (p : ℕ) → p ≡ S i b → p < tails → (p < length entries) × (bytes_at entries p ≡ take (d + 1) x)
     leads_to_leaf p e l = let q = r.trie.leaf i b p r.low byte (sym e) l in (q.0, q.1 ∙ front)
+
+    -- to an entry of which bytes are left
+    pub leads_to_tail : (p : ℕ) → S i b ≡ tail_code p → p < tails → IsTail S count entries x (record { node = i; depth = d; place = p })
+    leads_to_tail p e l = record { here = r; more = more; byte = rw is at byte; code = rw is at e; few = l }
 
     -- a node on
     pub leads_to_node : (j : ℕ) → S i b ≡ node_code j → IsAt S count entries x (d + 1) j
@@ -71,3 +76,34 @@ module _ (entries : List Entry) (a : AreEntries entries) (S : StepsBy) (count : 
 -- what leads nowhere meets no entry
 pub vacant_meets_none : (entries : List Entry) → AreEntries entries → (S : StepsBy) (count : ℕ) (x : List ℕ) (d i : ℕ) → IsVacant S count entries x d i → MeetsNone entries x
 vacant_meets_none entries a S count x d i v = meets_none entries a S count x d i v.here (get_or x d 0) v.more refl v.byte v.vacant
+
+-- Where the next byte leads to an entry of which bytes are left.
+module _ (entries : List Entry) (a : AreEntries entries) (S : StepsBy) (count : ℕ) (x : List ℕ) (tail : Tail) (t : IsTail S count entries x tail) where
+  -- it is the only one behind the bytes
+  pub tail_alone : IsAlone entries (t.here.way tail.node ++ get_or x tail.depth 0 ∷ []) tail.place
+  tail_alone = t.here.trie.tail tail.node (get_or x tail.depth 0) tail.place t.here.low t.byte t.code t.few
+
+  -- there is such an entry
+  pub tail_low : tail.place < length entries
+  tail_low = tail_alone.on.low
+
+  -- the way to it begins the text
+  pub tail_begun : Begins (t.here.way tail.node ++ get_or x tail.depth 0 ∷ []) x
+  tail_begun = Begins-more (t.here.way tail.node) x tail.depth (get_or x tail.depth 0) t.here.at t.here.deep t.more refl
+
+  pub tail_size : length (t.here.way tail.node ++ get_or x tail.depth 0 ∷ []) ≡ tail.depth + 1
+  tail_size = longer_by_one (t.here.way tail.node) (get_or x tail.depth 0) ∙ ap (λ (n : ℕ). n + 1) t.here.deep
+
+  -- a text that does not meet that entry meets none
+  pub tail_meets_none : (Begins (bytes_at entries tail.place) x → ⊥) → (Begins x (bytes_at entries tail.place) → ⊥) → MeetsNone entries x
+  tail_meets_none not_held not_begun p low = (
+    λ f. elim (cases_lt tail.depth (length (bytes_at entries p))) [
+      | inl l ↦ (
+          let same : p ≡ tail.place = tail_alone.alone p low (Begins-meet (t.here.way tail.node ++ get_or x tail.depth 0 ∷ []) (bytes_at entries p) x tail_begun f (omega (arith, tail_size))) in
+          not_held (subst (λ (k : ℕ). Begins (bytes_at entries k) x) same f))
+      | inr l ↦ short entries a S count x tail.depth tail.node t.here p low f l
+    ],
+    λ f. (
+        let same : p ≡ tail.place = tail_alone.alone p low (Begins-trans (t.here.way tail.node ++ get_or x tail.depth 0 ∷ []) x (bytes_at entries p) tail_begun f) in
+        not_begun (subst (λ (k : ℕ). Begins x (bytes_at entries k)) same f)),
+  )

@@ -2,14 +2,14 @@
 use Rattle.std.proofs.Common.{◌≡◌, ◌≢◌, ℕ, ◌+◌, ◌-◌, ◌<◌, ◌≤◌, Bool, cond, List, [], ◌∷◌, ◌++◌, length, take, get_or, sym, ◌∙◌, ap, arith, inl, inr, length-append}
 use Rattle.std.proofs.lemmas.Bool.{cases_lt}
 use Rattle.std.proofs.lemmas.List.{get_or_push, get_or_append_left, get_or-take, take-append-le}
-use Rattle.cv_byte_trie.specs.Tries.{node_code}
-use Rattle.cv_byte_trie.specs.Tables.{node_at}
+use Rattle.cv_byte_trie.specs.Tries.{none, node_code}
+use Rattle.cv_byte_trie.specs.Tables.{node_at, edge_at, edge_of}
 use Rattle.cv_byte_trie.specs.Private.Sound.{IsSound}
 use Rattle.cv_byte_trie.specs.Private.Growth.{code_behind, LeadsOver}
 use Rattle.cv_byte_trie.specs.declared.node.Node.{Node}
-use Rattle.cv_byte_trie.specs.declared.node.Node.TheVariants.{One, Listed, Table}
+use Rattle.cv_byte_trie.specs.declared.node.Node.TheVariants.{One, Few, Table}
 use Rattle.cv_byte_trie.specs.declared.steps.Steps.{Steps}
-use Rattle.cv_byte_trie.proofs.Linked.{not_eqb}
+use Rattle.cv_byte_trie.proofs.Coded.{not_eqb}
 
 -- There are nodes for all bytes but the first n, and this code leads to them.
 pub record IsLeading (old new : Steps) (bytes : List ℕ) (code n first : ℕ) : Type 0 where
@@ -21,6 +21,10 @@ pub record IsLeading (old new : Steps) (bytes : List ℕ) (code n first : ℕ) :
 -- over bytes the newest node leads on
 pub behind_some : (code count j : ℕ) → 0 < j → code_behind code count j ≡ node_code (count + j - 1)
 behind_some code count j some = ap (λ (b : Bool). cond b code (node_code (count + j - 1))) (not_eqb j 0 (let h : j ≢ 0 = omega arith in h))
+
+-- a byte that the chain does not have leads nowhere from its nodes
+pub chain_off : (old new : Steps) (bytes : List ℕ) (code : ℕ) → LeadsOver old new bytes code → (j c : ℕ) → j < length bytes → c ≢ get_or bytes (length bytes - 1 - j) 0 → edge_of new (length old.nodes.items + j) c ≡ none
+chain_off old new bytes code l j c low h = ap (edge_at new (length old.nodes.items + j) c) (l.chain j low) ∙ ap (λ (b : Bool). cond b (code_behind code (length old.nodes.items) j) none) (not_eqb c (get_or bytes (length bytes - 1 - j) 0) h)
 
 module _ (old t u : Steps) (bytes : List ℕ) (code n first : ℕ) (some : 0 < n) (within : n ≤ length bytes) (l : IsLeading old t bytes code n first) (byte : ℕ) (is : byte ≡ get_or bytes (n - 1) 0)
     (pushed : u.nodes.items ≡ t.nodes.items ++ One byte first ∷ []) where
@@ -52,16 +56,16 @@ module _ (old t u : Steps) (bytes : List ℕ) (code n first : ℕ) (some : 0 < n
         leads = (let e : length t.nodes.items ≡ o + (length bytes - (n - 1)) - 1 = omega arith in next_is ∙ ap node_code e ∙ sym (behind_some code o (length bytes - (n - 1)) (omega arith)));
       }
 
-  -- the node has no links and no table
-  pub one_more_sound : IsSound t → u.links.items ≡ t.links.items → u.tables.items ≡ t.tables.items → IsSound u
-  one_more_sound s links tables =
+  -- the node has no block and no table
+  pub one_more_sound : IsSound t → first ≢ none → u.edges.items ≡ t.edges.items → u.tables.items ≡ t.tables.items → IsSound u
+  one_more_sound s leads edges tables =
       let not_table : (m k : ℕ) → m < length u.nodes.items → node_at u m ≡ Table k → (m < length t.nodes.items) × (node_at t m ≡ Table k) = λ m k low e. elim (cases_lt m (length t.nodes.items)) [
         | inl l ↦ (l, sym (below m l) ∙ e)
         | inr l ↦ absurd (let bad : One byte first ≡ Table k = sym (last m (omega (arith, longer))) ∙ e in cc)
       ] in
-      let not_listed : (m w c : ℕ) → m < length u.nodes.items → node_at u m ≡ Listed c w → (m < length t.nodes.items) × (node_at t m ≡ Listed c w) = λ m w c low e. elim (cases_lt m (length t.nodes.items)) [
+      let not_few : (m w c : ℕ) → m < length u.nodes.items → node_at u m ≡ Few w c → (m < length t.nodes.items) × (node_at t m ≡ Few w c) = λ m w c low e. elim (cases_lt m (length t.nodes.items)) [
         | inl l ↦ (l, sym (below m l) ∙ e)
-        | inr l ↦ absurd (let bad : One byte first ≡ Listed c w = sym (last m (omega (arith, longer))) ∙ e in cc)
+        | inr l ↦ absurd (let bad : One byte first ≡ Few w c = sym (last m (omega (arith, longer))) ∙ e in cc)
       ] in
       record {
         some = omega (arith, longer);
@@ -69,15 +73,14 @@ module _ (old t u : Steps) (bytes : List ℕ) (code n first : ℕ) (some : 0 < n
         full = rw tables s.full;
         whole = λ m k low e. (let h = not_table m k low e in rw tables (s.whole m k h.0 h.1));
         apart = λ m k j lm lk e f. (let h = not_table m j lm e in let g = not_table k j lk f in s.apart m k j h.0 g.0 h.1 g.1);
-        own = λ k low. rw links (let h = s.own k (rw links at low) in omega (arith, longer));
-        alone = λ m b c k lm e low. rw links (elim (cases_lt m (length t.nodes.items)) [
-          | inl l ↦ s.alone m b c k l (sym (below m l) ∙ e) (rw links at low)
-          | inr l ↦ (let h = s.own k (rw links at low) in λ same. omega arith)
-        ]);
-        head = λ m w c low e. rw links (let h = not_listed m w c low e in s.head m w c h.0 h.1);
-        headed = λ m w c k low e is. rw links (let h = not_listed m w c low e in s.headed m w c k h.0 h.1 is);
-        newest = λ m w c j low e lj is. (let h = not_listed m w c low e in s.newest m w c j h.0 h.1 (rw links at lj) (rw links at is));
-        before = λ k low. rw links (s.before k (rw links at low));
-        chained = λ j k low e. rw links (s.chained j k (rw links at low) (rw links at e));
-        older = λ j k low less e. rw links (s.older j k (rw links at low) less (rw links at e));
+        filled = λ m w c low e. (let h = not_few m w c low e in s.filled m w c h.0 h.1);
+        small = λ m w c low e. (let h = not_few m w c low e in s.small m w c h.0 h.1);
+        within = λ m w c low e. rw edges (let h = not_few m w c low e in s.within m w c h.0 h.1);
+        own = λ m n w c v d k lm ln e f. (let h = not_few m w c lm e in let g = not_few n v d ln f in s.own m n w c v d k h.0 g.0 h.1 g.1);
+        once = λ m w c j k low e lj lk same b. (let h = not_few m w c low e in s.once m w c j k h.0 h.1 lj lk (rw edges at same) (rw edges at b));
+        led_one = λ m b c low e z. elim (cases_lt m (length t.nodes.items)) [
+          | inl l ↦ s.led_one m b c l (sym (below m l) ∙ e) z
+          | inr l ↦ leads (let same : One byte first ≡ One b c = sym (last m (omega (arith, longer))) ∙ e in cc)
+        ];
+        led = λ m w c k low e lk b. rw edges (let h = not_few m w c low e in s.led m w c k h.0 h.1 lk (rw edges at b));
       }

@@ -1,9 +1,13 @@
-pub mod Linked
+pub mod Coded
 pub mod Edges
 pub mod Setting
+pub mod Keeping
+pub mod Doubling
 pub mod Ways
+pub mod Agreeing
 pub mod Followed
 pub mod Leading
 pub mod OneMore
+pub mod Lowering
 pub mod Indexing
 pub mod Walked

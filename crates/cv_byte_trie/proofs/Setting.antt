@@ -1,22 +1,31 @@
 -- Setting an edge of a node.
-use Rattle.std.proofs.Common.{◌≡◌, ◌≢◌, ℕ, ◌+◌, ◌*◌, Bool, List, [], ◌∷◌, ◌++◌, length, get_or, refl, sym, ◌∙◌, ap, arith, inl, inr, slice_set, eq-eqb, cond, ◌<◌}
+use Rattle.std.proofs.Common.{◌≡◌, ◌≢◌, ℕ, ◌+◌, ◌*◌, ◌<◌, ◌≤◌, Bool, List, [], ◌∷◌, ◌++◌, length, get_or, refl, sym, ◌∙◌, ap, arith, inl, inr, slice_set, eq-eqb, cond}
 use Rattle.std.proofs.lemmas.Bool.{cases_eq}
-use Rattle.std.proofs.lemmas.List.{get_or-set_same, get_or-set_other}
+use Rattle.std.proofs.lemmas.List.{get_or-set_same, get_or-set_other, get_or_append_left}
 use Rattle.cv_byte_trie.specs.Tries.{none}
-use Rattle.cv_byte_trie.specs.Tables.{linked, node_at, edge_at, edge_of}
+use Rattle.cv_byte_trie.specs.Tables.{coded, edge_in, node_at, edge_at, edge_of}
 use Rattle.cv_byte_trie.specs.Private.Sound.{IsSound}
 use Rattle.cv_byte_trie.specs.Private.Growth.{SetsEdge}
-use Rattle.cv_byte_trie.specs.declared.node.Link.{Link}
+use Rattle.cv_byte_trie.specs.declared.node.Edge.{Edge}
 use Rattle.cv_byte_trie.specs.declared.node.Node.{Node}
-use Rattle.cv_byte_trie.specs.declared.node.Node.TheVariants.{One, Listed, Table}
+use Rattle.cv_byte_trie.specs.declared.node.Node.TheVariants.{One, Few, Table}
 use Rattle.cv_byte_trie.specs.declared.steps.Steps.{Steps}
-use Rattle.cv_byte_trie.proofs.Linked.{not_eqb, over, over_other, over_same, linked_none, linked_push}
+use Rattle.cv_byte_trie.proofs.Coded.{not_eqb, coded_same, coded_other, coded_at, coded_more}
+use Rattle.cv_byte_trie.proofs.Edges.{edge_found}
 
--- a node's edges stay where its links and the tables do
-pub edge_same : (t u : Steps) (n b : ℕ) (x : Node) → u.tables.items ≡ t.tables.items → linked u.links.items n b ≡ linked t.links.items n b → edge_at u n b x ≡ edge_at t n b x
+-- the places of a block stay
+abbrev pub SameBlock : Steps → Steps → ℕ → ℕ → Type 0
+SameBlock t u size start = (k : ℕ) → k < size → edge_in u.edges.items (start + k) ≡ edge_in t.edges.items (start + k)
+
+-- a node's edges stay where its block and the tables do
+pub edge_same : (t u : Steps) (n b : ℕ) (x : Node) → u.tables.items ≡ t.tables.items → ((size start : ℕ) → x ≡ Few size start → SameBlock t u size start) → edge_at u n b x ≡ edge_at t n b x
 edge_same t u n b (One byte code) e f = refl
-edge_same t u n b (Listed count newest) e f = f
+edge_same t u n b (Few size start) e f = coded_same t.edges.items u.edges.items start start size b (f size start refl)
 edge_same t u n b (Table number) e f = ap (λ (x : List ℕ). get_or x (number * 256 + b) none) e
+
+-- a block stays where more places follow
+pub block_before : (t u : Steps) (more : List Edge) → u.edges.items ≡ t.edges.items ++ more → (size start : ℕ) → start + size ≤ length t.edges.items → SameBlock t u size start
+block_before t u more e size start within k low = ap (λ (x : List Edge). get_or x (start + k) (record { byte = 256; code = none })) e ∙ get_or_append_left t.edges.items more (record { byte = 256; code = none }) (start + k) (omega arith)
 
 module _ (t u : Steps) (s : IsSound t) (n : ℕ) (low : n < length t.nodes.items) (x : Node) (nodes : u.nodes.items ≡ slice_set t.nodes.items n x) (tables : u.tables.items ≡ t.tables.items) where
   now : node_at u n ≡ x
@@ -25,58 +34,67 @@ module _ (t u : Steps) (s : IsSound t) (n : ℕ) (low : n < length t.nodes.items
   other : (m : ℕ) → m ≢ n → node_at u m ≡ node_at t m
   other m h = ap (λ (y : List Node). get_or y m (Table 0)) nodes ∙ get_or-set_other t.nodes.items n m x (Table 0) h
 
-  -- the edges of another node
-  others : (m b : ℕ) → m ≢ n → linked u.links.items m b ≡ linked t.links.items m b → edge_of u m b ≡ edge_of t m b
-  others m b h e = ap (edge_at u m b) (other m h) ∙ edge_same t u m b (node_at t m) tables e
+  -- the edges of another node, where more places follow
+  others : (more : List Edge) → u.edges.items ≡ t.edges.items ++ more → (m b : ℕ) → m < length t.nodes.items → m ≢ n → edge_of u m b ≡ edge_of t m b
+  others more e m b lm h = ap (edge_at u m b) (other m h) ∙ edge_same t u m b (node_at t m) tables (λ size start is. block_before t u more e size start (s.within m size start lm is))
 
-  module _ (b code next w c v d : ℕ) (is : x ≡ Listed d v) where
-    -- one more link
-    pub link_sets : node_at t n ≡ Listed c w → u.links.items ≡ t.links.items ++ record { node = n; byte = b; code = code; next = next } ∷ [] → SetsEdge t u n b code
-    link_sets was links =
-        let l : Link = record { node = n; byte = b; code = code; next = next } in
-        let more : (m a : ℕ) → linked u.links.items m a ≡ over m a (linked t.links.items m a) l = λ m a. ap (λ (y : List Link). linked y m a) links ∙ linked_push t.links.items l m a in
-        record {
-          set = ap (edge_at u n b) (now ∙ is) ∙ more n b ∙ over_same n b (linked t.links.items n b) l refl refl;
-          same = λ m a lm la h. elim (cases_eq m n) [
-            | inl p ↦ (
-                let f : linked u.links.items n a ≡ linked t.links.items n a = more n a ∙ over_other n a (linked t.links.items n a) l (λ _ q. h (p, sym q)) in
-                ap (λ (y : ℕ). edge_of u y a) p ∙ ap (edge_at u n a) (now ∙ is) ∙ f ∙ ap (edge_at t n a) (sym was) ∙ ap (λ (y : ℕ). edge_of t y a) (sym p))
-            | inr p ↦ others m a p (more m a ∙ over_other m a (linked t.links.items m a) l (λ q _. p (sym q)))
-          ];
-        }
+  -- A node gets a block of so many places behind all others, where the byte b has the place k and each other byte leads as it did.
+  pub block_sets : (more : List Edge) → u.edges.items ≡ t.edges.items ++ more → (b code size start k : ℕ) → x ≡ Few size start → k < size → (edge_in u.edges.items (start + k)).byte ≡ b → (edge_in u.edges.items (start + k)).code ≡ code
+      → ((j : ℕ) → j < size → (edge_in u.edges.items (start + j)).byte ≡ b → j ≡ k) → ((c : ℕ) → c < 256 → c ≢ b → coded u.edges.items start size c ≡ edge_of t n c) → SetsEdge t u n b code
+  block_sets more e b code size start k is here has leads once rest = record {
+    set = ap (edge_at u n b) (now ∙ is) ∙ coded_at u.edges.items start size b k here has once ∙ leads;
+    same = λ m c lm lc h. elim (cases_eq m n) [
+      | inl p ↦ ap (λ (y : ℕ). edge_of u y c) p ∙ ap (edge_at u n c) (now ∙ is) ∙ rest c lc (λ q. h (p, q)) ∙ ap (λ (y : ℕ). edge_of t y c) (sym p)
+      | inr p ↦ others more e m c lm p
+    ];
+  }
 
-    -- a list of two links
-    pub two_set : (own led first : ℕ) → node_at t n ≡ One own led
-        → u.links.items ≡ (t.links.items ++ record { node = n; byte = own; code = led; next = first } ∷ []) ++ record { node = n; byte = b; code = code; next = next } ∷ [] → SetsEdge t u n b code
-    two_set own led first was links =
-        let k : Link = record { node = n; byte = own; code = led; next = first } in
-        let l : Link = record { node = n; byte = b; code = code; next = next } in
-        let more : (m a : ℕ) → linked u.links.items m a ≡ over m a (over m a (linked t.links.items m a) k) l = λ m a.
-        ap (λ (y : List Link). linked y m a) links ∙ linked_push (t.links.items ++ k ∷ []) l m a ∙ ap (λ (y : ℕ). over m a y l) (linked_push t.links.items k m a) in
-        let before : (a : ℕ) → linked t.links.items n a ≡ none = λ a. linked_none t.links.items n a (λ j lj _ p _. s.alone n own led j low was lj p) in
-        let first_edge : (a : ℕ) → over n a none k ≡ edge_at t n a (One own led) = λ a. elim (cases_eq a own) [
-          | inl p ↦ over_same n a none k refl (sym p) ∙ sym (ap (λ (y : Bool). cond y led none) (eq-eqb a own p))
-          | inr p ↦ over_other n a none k (λ _ q. p (sym q)) ∙ sym (ap (λ (y : Bool). cond y led none) (not_eqb a own p))
-        ] in
-        record {
-          set = ap (edge_at u n b) (now ∙ is) ∙ more n b ∙ over_same n b (over n b (linked t.links.items n b) k) l refl refl;
-          same = λ m a lm la h. elim (cases_eq m n) [
-            | inl p ↦ (
-                let f : linked u.links.items n a ≡ edge_at t n a (One own led) = more n a ∙ over_other n a (over n a (linked t.links.items n a) k) l (λ _ q. h (p, sym q)) ∙ ap (λ (y : ℕ). over n a y k) (before a) ∙ first_edge a in
-                ap (λ (y : ℕ). edge_of u y a) p ∙ ap (edge_at u n a) (now ∙ is) ∙ f ∙ ap (edge_at t n a) (sym was) ∙ ap (λ (y : ℕ). edge_of t y a) (sym p))
-            | inr p ↦ others m a p (more m a ∙ over_other m a (over m a (linked t.links.items m a) k) l (λ q _. p (sym q)) ∙ over_other m a (linked t.links.items m a) k (λ q _. p (sym q)))
-          ];
-        }
+  -- the one edge of a node leads elsewhere
+  pub one_turns : (b led code : ℕ) → node_at t n ≡ One b led → x ≡ One b code → u.edges.items ≡ t.edges.items → SetsEdge t u n b code
+  one_turns b led code was is edges = record {
+    set = ap (edge_at u n b) (now ∙ is) ∙ ap (λ (y : Bool). cond y code none) (eq-eqb b b refl);
+    same = λ m c lm lc h. elim (cases_eq m n) [
+      | inl p ↦ (
+          let apart : c ≢ b = λ q. h (p, q) in
+          ap (λ (y : ℕ). edge_of u y c) p ∙ ap (edge_at u n c) (now ∙ is) ∙ ap (λ (y : Bool). cond y code none) (not_eqb c b apart) ∙ sym (ap (λ (y : Bool). cond y led none) (not_eqb c b apart)) ∙ sym (ap (edge_at t n c) was) ∙ ap (λ (y : ℕ). edge_of t y c) (sym p))
+      | inr p ↦ ap (edge_at u m c) (other m p) ∙ edge_same t u m c (node_at t m) tables (λ size start _ k _. ap (λ (y : List Edge). edge_in y (start + k)) edges)
+    ];
+  }
+
+-- an edge in a block
+pub place_sets : (t u : Steps) → IsSound t → (n b code size start k : ℕ) → n < length t.nodes.items → b < 256 → node_at t n ≡ Few size start → k < size
+    → ((j : ℕ) → j < size → (edge_in t.edges.items (start + j)).byte ≡ b → j ≡ k) → ((c : ℕ) → c < 256 → c ≢ b → (edge_in t.edges.items (start + k)).byte ≢ c)
+    → u.nodes.items ≡ t.nodes.items → u.tables.items ≡ t.tables.items → u.edges.items ≡ slice_set t.edges.items (start + k) (record { byte = b; code = code }) → SetsEdge t u n b code
+place_sets t u s n b code size start k low byte few here once was nodes tables edges =
+    let within = s.within n size start low few in
+    let e : Edge = record { byte = b; code = code } in
+    let nothing : Edge = record { byte = 256; code = none } in
+    let there : edge_in u.edges.items (start + k) ≡ e = ap (λ (y : List Edge). get_or y (start + k) nothing) edges ∙ get_or-set_same t.edges.items (start + k) e nothing (omega arith) in
+    let apart : (i : ℕ) → i ≢ start + k → edge_in u.edges.items i ≡ edge_in t.edges.items i = λ i h. ap (λ (y : List Edge). get_or y i nothing) edges ∙ get_or-set_other t.edges.items (start + k) i e nothing h in
+    let stays : (m : ℕ) → node_at u m ≡ node_at t m = λ m. ap (λ (y : List Node). get_or y m (Table 0)) nodes in
+    record {
+      set = ap (edge_at u n b) (stays n ∙ few) ∙ coded_at u.edges.items start size b k here (ap (λ (y : Edge). y.byte) there) (λ j l h. elim (cases_eq j k) [
+        | inl p ↦ p
+        | inr p ↦ once j l (ap (λ (y : Edge). y.byte) (sym (apart (start + j) (λ q. p (omega arith)))) ∙ h)
+      ]) ∙ ap (λ (y : Edge). y.code) there;
+      same = λ m c lm lc h. elim (cases_eq m n) [
+        | inl p ↦ (
+            let other : c ≢ b = λ q. h (p, q) in
+            ap (λ (y : ℕ). edge_of u y c) p ∙ ap (edge_at u n c) (stays n ∙ few) ∙ coded_other t.edges.items u.edges.items start size c k (λ j l q. apart (start + j) (λ r. q (omega arith))) (was c lc other) (λ q. other (sym q ∙ ap (λ (y : Edge). y.byte) there))
+            ∙ sym (ap (edge_at t n c) few) ∙ ap (λ (y : ℕ). edge_of t y c) (sym p))
+        | inr p ↦ ap (edge_at u m c) (stays m) ∙ edge_same t u m c (node_at t m) tables (λ width from is j l. apart (from + j) (λ q. p (s.own m n width from size start (from + j) lm low is few (omega arith) (omega arith) (omega arith) (omega arith))))
+      ];
+    }
 
 -- an edge in a table
-pub table_sets : (t u : Steps) → IsSound t → (n b code k : ℕ) → n < length t.nodes.items → b < 256 → node_at t n ≡ Table k → u.nodes.items ≡ t.nodes.items → u.links.items ≡ t.links.items
+pub table_sets : (t u : Steps) → IsSound t → (n b code k : ℕ) → n < length t.nodes.items → b < 256 → node_at t n ≡ Table k → u.nodes.items ≡ t.nodes.items → u.edges.items ≡ t.edges.items
     → u.tables.items ≡ slice_set t.tables.items (k * 256 + b) code → SetsEdge t u n b code
-table_sets t u s n b code k low byte is nodes links tables =
+table_sets t u s n b code k low byte is nodes edges tables =
     let whole = s.whole n k low is in
     let stays : (m : ℕ) → node_at u m ≡ node_at t m = λ m. ap (λ (y : List Node). get_or y m (Table 0)) nodes in
     let others : (m c : ℕ) → m < length t.nodes.items → c < 256 → ((m ≡ n) × (c ≡ b) → ⊥) → (x : Node) → node_at t m ≡ x → edge_at u m c x ≡ edge_at t m c x = λ m c lm lc h x e. elim x as (λ x. node_at t m ≡ x → edge_at u m c x ≡ edge_at t m c x) [
       | One own led ↦ λ e. refl
-      | Listed count newest ↦ λ e. ap (λ (y : List Link). linked y m c) links
+      | Few size start ↦ λ e. ap (λ (y : List Edge). coded y start size c) edges
       | Table j ↦ λ e.
           let apart : j * 256 + c ≢ k * 256 + b = λ same. (
           let c_same : c ≡ b = omega arith in

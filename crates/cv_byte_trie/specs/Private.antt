@@ -1,4 +1,6 @@
+pub mod Blocks
 pub mod Sound
 pub mod Growth
 pub mod Reading
+pub mod Meetings
 pub mod Indexed

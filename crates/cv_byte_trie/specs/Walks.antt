@@ -1,18 +1,20 @@
 -- Where whole byte strings lead through a trie.
-use Rattle.std.specs.Prelude.{◌≡◌, ◌==◌, ℕ, suc, ◌-◌, ◌<◌, List, [], ◌∷◌, ◌++◌, length, take, nat_lt, if◌then◌else◌}
+use Rattle.std.specs.Prelude.{◌≡◌, ◌==◌, ℕ, suc, ◌-◌, ◌<◌, ◌⊎◌, List, [], ◌∷◌, ◌++◌, length, take, nat_lt, if◌then◌else◌}
 use Rattle.cv_byte_trie.specs.Entries.{Entry, bytes_at}
 use Rattle.cv_byte_trie.specs.Results.{GoesOnBehind}
-use Rattle.cv_byte_trie.specs.Tries.{StepsBy, none}
+use Rattle.cv_byte_trie.specs.Tries.{StepsBy, tails, none, IsAlone}
 
--- a walk ends at the place of an entry, after so many bytes; or at a node; or it leads nowhere
+-- a walk ends at the place of an entry, after so many bytes, its last or with others left; or at a node; or it leads nowhere
 pub data Destination : Type 0 where
   Leaf : (place count : ℕ) → Destination
+  Tail : (place count : ℕ) → Destination
   Node : (node : ℕ) → Destination
   Nowhere : Destination
 
 -- the same, one byte later
 abbrev pub later : Destination → Destination
 later (Leaf place count) = Leaf place (suc count)
+later (Tail place count) = Tail place (suc count)
 later (Node node) = Node node
 later Nowhere = Nowhere
 
@@ -20,7 +22,8 @@ later Nowhere = Nowhere
 abbrev pub walk : StepsBy → ℕ → List ℕ → Destination
 walk step node [] = Node node
 walk step node (b ∷ bytes) =
-    if nat_lt (step node b) none then Leaf (step node b) 1 else
+    if nat_lt (step node b) tails then Leaf (step node b) 1 else
+    if nat_lt (step node b) none then Tail (step node b - 0x40000000) 1 else
     if step node b == none then Nowhere else later (walk step (step node b - 0x80000001) bytes)
 
 -- all numbers are those of bytes
@@ -30,8 +33,10 @@ AreBytes (b ∷ bytes) = (b < 256) × AreBytes bytes
 
 -- Where byte strings lead from the root.
 pub record Leads (step : StepsBy) (entries : List Entry) : Type 0 where
-  -- each that was entered leads to its own place, whatever follows it
-  pub own : (p : ℕ) (rest : List ℕ) → p < length entries → AreBytes (bytes_at entries p) → walk step 0 (bytes_at entries p ++ rest) ≡ Leaf p (length (bytes_at entries p))
+  -- each that was entered leads to its own place, whatever follows it, all of it or a front
+  pub own : (p : ℕ) (rest : List ℕ) → p < length entries → AreBytes (bytes_at entries p) → (walk step 0 (bytes_at entries p ++ rest) ≡ Leaf p (length (bytes_at entries p))) ⊎ ((n : ℕ) × (n < length (bytes_at entries p)) × (walk step 0 (bytes_at entries p ++ rest) ≡ Tail p n))
+  -- a front leads to the place of the only one that it begins
+  pub alone : (bytes : List ℕ) (p n : ℕ) → AreBytes bytes → walk step 0 bytes ≡ Tail p n → IsAlone entries (take n bytes) p
   -- no other leads to a place
   pub only : (bytes : List ℕ) (p n : ℕ) → AreBytes bytes → walk step 0 bytes ≡ Leaf p n → (p < length entries) × (bytes_at entries p ≡ take n bytes)
   -- each node but the root lies on the way of one that was entered

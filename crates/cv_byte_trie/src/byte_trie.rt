@@ -1,19 +1,23 @@
 //! Entries with a trie of them.
-ghost use Rattle.std.specs.Prelude.{◌≡◌, ◌<◌, ◌≤◌, ◌+◌, ℕ, [], ◌∷◌, ◌++◌, length, take, slice_get, slice_index, OnOk, OnErr, IfOk};
+ghost use Rattle.std.specs.Prelude.{◌≡◌, ◌≢◌, ◌<◌, ◌≤◌, ◌+◌, ◌^◌, ℕ, [], ◌∷◌, ◌++◌, length, take, slice_get, slice_index, OnOk, OnErr, IfOk};
 ghost use Rattle.std.specs.Option.{option_copied};
+ghost use Rattle.cv_base.specs.Items.{Begins};
 ghost use Rattle.cv_byte_trie.specs.Entries.{bytes_at, AreEntries};
-ghost use Rattle.cv_byte_trie.specs.Tries.{HasTrie};
+ghost use Rattle.cv_byte_trie.specs.Tries.{tails, none, HasTrie};
 ghost use Rattle.cv_byte_trie.specs.Tables.{node_count, edge_of};
 ghost use Rattle.cv_byte_trie.specs.Walks.{Leads};
 ghost use Rattle.cv_byte_trie.specs.Private.Indexed.{IsIndexed};
-ghost use Rattle.cv_byte_trie.specs.Private.Reading.{IsVacant};
-ghost use Rattle.cv_byte_trie.specs.Results.{Finds, Adds};
+ghost use Rattle.cv_byte_trie.specs.Private.Growth.{end_code};
+ghost use Rattle.cv_byte_trie.specs.Private.Reading.{IsVacant, IsTail};
+ghost use Rattle.cv_byte_trie.specs.Private.Meetings.{AgreeFor};
+ghost use Rattle.cv_byte_trie.specs.Results.{Finds, Adds, MeetsNone};
 
 use crate::added::Added;
 use crate::entry::Entry;
 use crate::found::Found;
-use crate::steps::Steps;
-use crate::walking::{Reached, walk};
+use crate::meeting::{Meeting, meet};
+use crate::steps::{Steps, TAIL};
+use crate::walking::{Reached, Tail, walk};
 use cv_base::{Memory, Scalar};
 use std::alloc::Global;
 use std::marker::Model;
@@ -37,21 +41,34 @@ impl Model for ByteTrie {
     ghost invariant = { λ t. IsIndexed t.entries.items t.steps };
 }
 
-/// What bytes are that lead to the entry at a place, by the one behind `depth` others.
-fn met(_entries: &[Entry], bytes: &[u8], place: usize, depth: usize) -> Added
-    requires low { place < length _entries.now }
-    requires deep { depth < length bytes.now }
-    requires leads { bytes_at _entries.now place ≡ take (depth + 1) bytes.now }
-    ensures { (c : ℕ) → Adds _entries.now (bytes.now, c) result _entries.now }
+/// What bytes are to the entry at a place, whose bytes begin them.
+fn met(entries: &[Entry], bytes: &[u8], place: usize) -> Added
+    requires low { place < length entries.now }
+    requires front { Begins (bytes_at entries.now place) bytes.now }
+    ensures { (c : ℕ) → Adds entries.now (bytes.now, c) result entries.now }
 {
-    if depth + 1 == bytes.len() {
+    if entries[place].len() == bytes.len() {
         Added::Held(place)
     } else {
         Added::Continues(place)
     }
 }
 
-/// Adds an entry whose bytes behind the first `depth` lead nowhere from a node.
+/// The code by which the byte behind `depth` others leads to the entry at a place, of so many bytes.
+fn code_of(len: usize, depth: usize, place: usize) -> u32
+    requires few { depth < 2 ^ 32 }
+    requires low { place < tails }
+    ensures value { result ≡ end_code len depth place }
+    ensures leads { result ≢ none }
+{
+    if len == depth + 1 {
+        place as u32
+    } else {
+        TAIL + place as u32
+    }
+}
+
+/// Adds an entry of which the byte behind the first `depth` leads nowhere from a node.
 fn enter(
     entries: &mut Vec<Entry>,
     steps: &mut Steps,
@@ -69,14 +86,63 @@ fn enter(
     ensures ok { OnOk result
         (entries.new.items ≡ entries.old.items ++ (bytes.now, character) ∷ []) }
     ensures err { OnErr result (entries.new.items ≡ entries.old.items) }
+    ensures apart { MeetsNone entries.old.items bytes.now }
 {
     let _scalar = character.value();
     let place = entries.len();
+    let code = code_of(bytes.len(), depth, place);
     entries.push(Entry::new(bytes, character))?;
-    match steps.grow(node, bytes[depth], &bytes[depth + 1..], place as u32) {
+    match steps.set(node, bytes[depth], code) {
         Ok(()) => Ok(()),
         Err(_) => {
             entries.truncate(place);
+            Err(Memory)
+        }
+    }
+}
+
+/// Adds an entry beside the one at a place, to which a node leads by the byte behind the first `depth`, and with which it has `common` bytes in common.
+fn enter_beside(
+    entries: &mut Vec<Entry>,
+    steps: &mut Steps,
+    bytes: &[u8],
+    character: Scalar,
+    tail: Tail,
+    common: usize,
+) -> Result<(), Memory>
+    requires indexed { IsIndexed entries.old.items steps.old }
+    requires tail { IsTail (edge_of steps.old) (node_count steps.old) entries.old.items
+        bytes.now tail }
+    requires agree { AgreeFor (bytes_at entries.old.items tail.place) bytes.now common }
+    requires held { common < length (bytes_at entries.old.items tail.place) }
+    requires more { common < length bytes.now }
+    requires deep { tail.depth < common }
+    requires short { length bytes.now ≤ 8 }
+    requires room { length entries.old.items < 0x1000000 }
+    ensures indexed { IsIndexed entries.new.items steps.new }
+    ensures ok { OnOk result
+        (entries.new.items ≡ entries.old.items ++ (bytes.now, character) ∷ []) }
+    ensures err { OnErr result (entries.new.items ≡ entries.old.items) }
+    ensures apart { MeetsNone entries.old.items bytes.now }
+{
+    let _scalar = character.value();
+    let end = entries.len();
+    let held = *entries[tail.place].padded();
+    let first = code_of(entries[tail.place].len(), common, tail.place);
+    let second = code_of(bytes.len(), common, end);
+    entries.push(Entry::new(bytes, character))?;
+    let between = &held[tail.depth + 1..common + 1];
+    match steps.fork(
+        tail.node,
+        bytes[tail.depth],
+        between,
+        first,
+        bytes[common],
+        second,
+    ) {
+        Ok(()) => Ok(()),
+        Err(_) => {
+            entries.truncate(end);
             Err(Memory)
         }
     }
@@ -120,7 +186,7 @@ impl ByteTrie {
         &self.entries
     }
 
-    /// Where a byte leads from a node, as a code: below [`NONE`] it is the place of an entry, and above it a node. Node 0 is the root.
+    /// Where a byte leads from a node, as a code: below [`TAIL`] it is the place of an entry by its last byte, from there to [`NONE`] an entry of which bytes are left, and above it a node. Node 0 is the root.
     #[inline]
     pub fn step(&self, node: u32, byte: u8) -> u32
         requires { node < node_count self.now.steps }
@@ -154,6 +220,13 @@ impl ByteTrie {
     {
         match walk(&self.steps, &self.entries, text) {
             Reached::Leaf { place, .. } => Found::Entry(place),
+            Reached::Tail(tail) => {
+                match meet(&self.entries, tail.place, text) {
+                    Meeting::Held => Found::Entry(tail.place),
+                    Meeting::Inside => Found::Inside,
+                    Meeting::Parts(_) => Found::Nothing,
+                }
+            }
             Reached::Inside => Found::Inside,
             Reached::Vacant { .. } => Found::Nothing,
         }
@@ -170,7 +243,24 @@ impl ByteTrie {
         ensures entries { AreEntries self.new.entries }
     {
         match walk(&self.steps, &self.entries, bytes) {
-            Reached::Leaf { place, depth } => Ok(met(&self.entries, bytes, place, depth)),
+            Reached::Leaf { place, .. } => Ok(met(&self.entries, bytes, place)),
+            Reached::Tail(tail) => {
+                match meet(&self.entries, tail.place, bytes) {
+                    Meeting::Held => Ok(met(&self.entries, bytes, tail.place)),
+                    Meeting::Inside => Ok(Added::Begins),
+                    Meeting::Parts(common) => {
+                        enter_beside(
+                            &mut self.entries,
+                            &mut self.steps,
+                            bytes,
+                            character,
+                            tail,
+                            common,
+                        )?;
+                        Ok(Added::Entered)
+                    }
+                }
+            }
             Reached::Inside => Ok(Added::Begins),
             Reached::Vacant { node, depth } => {
                 enter(

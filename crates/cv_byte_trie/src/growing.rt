@@ -1,8 +1,9 @@
-//! Growing a branch: new nodes that lead over the bytes of an entry to its place.
-ghost use Rattle.std.specs.Prelude.{◌≡◌, ◌≤◌, ◌<◌, ◌+◌, ◌^◌, length, take, OnOk, OnErr, IfOk};
-ghost use Rattle.cv_byte_trie.specs.Tables.{node_count, link_count, code_count};
+//! Growing a branch: new nodes that lead over the bytes of an entry to the place where another parts from it.
+ghost use Rattle.std.specs.Prelude.{◌≡◌, ◌≢◌, ◌≤◌, ◌<◌, ◌+◌, ◌-◌, ◌^◌, length, take, OnOk, OnErr, IfOk, slice_index_or};
+ghost use Rattle.cv_byte_trie.specs.Tries.{none};
+ghost use Rattle.cv_byte_trie.specs.Tables.{node_count, edge_count, code_count, edge_of};
 ghost use Rattle.cv_byte_trie.specs.Private.Sound.{IsSound};
-ghost use Rattle.cv_byte_trie.specs.Private.Growth.{IsUnchanged, LeadsOver, Branches, code_behind};
+ghost use Rattle.cv_byte_trie.specs.Private.Growth.{IsUnchanged, SameEdges, LeadsOver, Branches, Forks, code_behind};
 
 use crate::node::Node;
 use crate::steps::{NODE, Steps};
@@ -13,12 +14,13 @@ impl Steps {
     pub(crate) fn lead(&mut self, bytes: &[u8], code: u32) -> Result<u32, AllocError>
         requires sound { IsSound self.old }
         requires room { node_count self.old + length bytes.now < 2 ^ 30 }
+        requires leads { code ≢ none }
         ensures sound { OnOk result (IsSound self.new) }
         ensures leads { OnOk result (LeadsOver self.old self.new bytes.now code) }
         ensures first { IfOk result (λ first.
             first ≡ code_behind code (node_count self.old) (length bytes.now)) }
         ensures front { take (node_count self.old) self.new.nodes.items ≡ self.old.nodes.items }
-        ensures links { self.new.links.items ≡ self.old.links.items }
+        ensures edges { self.new.edges.items ≡ self.old.edges.items }
         ensures tables { self.new.tables.items ≡ self.old.tables.items }
     {
         let mut first = code;
@@ -35,50 +37,70 @@ impl Steps {
         Ok(first)
     }
 
-    /// Makes bytes lead from a node to a place. Where memory lacks, some of the new nodes stay behind the others.
-    fn branch(&mut self, node: u32, byte: u8, rest: &[u8], place: u32) -> Result<(), AllocError>
+    /// Adds nodes that lead over bytes to a code, and from the last of them by another byte to another.
+    fn branch(&mut self, bytes: &[u8], code: u32, other: u8, place: u32) -> Result<u32, AllocError>
         requires sound { IsSound self.old }
-        requires low { node < node_count self.old }
-        requires nodes { node_count self.old + length rest.now < 2 ^ 30 }
-        requires links { link_count self.old + 1 < 2 ^ 31 }
+        requires some { 0 < length bytes.now }
+        requires apart { other ≢ slice_index_or bytes.now (length bytes.now - 1) 0 }
+        requires leads { code ≢ none }
+        requires leads_too { place ≢ none }
+        requires nodes { node_count self.old + length bytes.now < 2 ^ 30 }
+        requires edges { edge_count self.old < 2 ^ 31 }
         requires tables { code_count self.old < 2 ^ 33 }
         ensures sound { OnOk result (IsSound self.new) }
-        ensures branches { OnOk result (Branches self.old self.new node byte rest.now place) }
-        ensures links { OnOk result (link_count self.new ≤ link_count self.old + 2) }
+        ensures branches { OnOk result (Branches self.old self.new bytes.now code other place) }
+        ensures same { OnOk result (SameEdges self.old self.new) }
+        ensures first { IfOk result (λ first.
+            first ≡ code_behind code (node_count self.old) (length bytes.now)) }
+        ensures edges { OnOk result (edge_count self.new ≤ edge_count self.old + 32) }
         ensures tables { OnOk result (code_count self.new ≤ code_count self.old + 256) }
         ensures front { OnErr result
             (take (node_count self.old) self.new.nodes.items ≡ self.old.nodes.items) }
-        ensures links_kept { OnErr result (self.new.links.items ≡ self.old.links.items) }
+        ensures edges_kept { OnErr result (self.new.edges.items ≡ self.old.edges.items) }
         ensures tables_kept { OnErr result (self.new.tables.items ≡ self.old.tables.items) }
     {
-        let code = self.lead(rest, place)?;
-        self.set(node, byte, code)
+        let last = self.nodes.len() as u32;
+        let first = self.lead(bytes, code)?;
+        self.set(last, other, place)?;
+        Ok(first)
     }
 
-    /// Makes bytes lead from a node to a place.
-    pub(crate) fn grow(
+    /// Makes a byte of a node, which has an edge of it, lead over bytes to a code, and before the last of them by another byte to another code.
+    pub(crate) fn fork(
         &mut self,
         node: u32,
         byte: u8,
-        rest: &[u8],
+        bytes: &[u8],
+        code: u32,
+        other: u8,
         place: u32,
     ) -> Result<(), AllocError>
         requires sound { IsSound self.old }
         requires low { node < node_count self.old }
-        requires nodes { node_count self.old + length rest.now < 2 ^ 30 }
-        requires links { link_count self.old + 1 < 2 ^ 31 }
+        requires there { edge_of self.old node byte ≢ none }
+        requires some { 0 < length bytes.now }
+        requires apart { other ≢ slice_index_or bytes.now (length bytes.now - 1) 0 }
+        requires leads { code ≢ none }
+        requires leads_too { place ≢ none }
+        requires nodes { node_count self.old + length bytes.now < 2 ^ 30 }
+        requires edges { edge_count self.old < 2 ^ 31 }
         requires tables { code_count self.old < 2 ^ 33 }
         ensures sound { OnOk result (IsSound self.new) }
-        ensures branches { OnOk result (Branches self.old self.new node byte rest.now place) }
-        ensures links { OnOk result (link_count self.new ≤ link_count self.old + 2) }
+        ensures forks { OnOk result (Forks self.old self.new node byte bytes.now code other place) }
+        ensures edges { OnOk result (edge_count self.new ≤ edge_count self.old + 32) }
         ensures tables { OnOk result (code_count self.new ≤ code_count self.old + 256) }
         ensures err { OnErr result (IsUnchanged self.old self.new) }
     {
         let before = self.nodes.len();
-        let done = self.branch(node, byte, rest, place);
-        if done.is_err() {
-            self.nodes.truncate(before);
+        match self.branch(bytes, code, other, place) {
+            Ok(first) => {
+                self.turn(node, byte, first);
+                Ok(())
+            }
+            Err(_) => {
+                self.nodes.truncate(before);
+                Err(AllocError)
+            }
         }
-        done
     }
 }

@@ -6,6 +6,7 @@ mod byte_trie;
 mod entry;
 mod found;
 mod growing;
+mod meeting;
 mod node;
 mod setting_edges;
 mod steps;
@@ -15,8 +16,8 @@ pub use added::Added;
 pub use byte_trie::ByteTrie;
 pub use entry::Entry;
 pub use found::Found;
-pub use node::{Link, Node};
-pub use steps::{NODE, NONE, Steps};
+pub use node::{Edge, Node};
+pub use steps::{NODE, NONE, Steps, TAIL};
 
 #[cfg(test)]
 mod tests;

@@ -1,4 +1,4 @@
-//! The nodes of a trie, and the links between them.
+//! The nodes of a trie, and the edges in their blocks.
 
 /// The edges of a node: where each byte leads, as a code.
 #[derive(Clone, Copy, Debug)]
@@ -10,12 +10,12 @@ pub enum Node {
         /// Where the byte leads.
         code: u32,
     },
-    /// There are a few, in a list of links.
-    Listed {
-        /// How many links there are; 255 stands for more, too.
-        count: u8,
-        /// The number of the newest link, from 1 on.
-        newest: u32,
+    /// There are a few, in a block.
+    Few {
+        /// How many edges the block has room for.
+        size: u8,
+        /// Where it begins.
+        start: u32,
     },
     /// There are many, in a table.
     Table {
@@ -24,13 +24,13 @@ pub enum Node {
     },
 }
 
-/// An edge in the list of a node.
+/// In place of a byte, where a block has room for an edge.
+pub(crate) const VACANT: u16 = 256;
+
+/// An edge in the block of a node, or room for one.
 #[derive(Clone, Copy, Debug)]
-pub struct Link {
-    pub(crate) node: u32,
-    pub(crate) byte: u8,
+pub struct Edge {
+    pub(crate) byte: u16,
     /// Where the byte leads.
     pub(crate) code: u32,
-    /// The number of the node's link before this one, from 1 on, or 0.
-    pub(crate) next: u32,
 }

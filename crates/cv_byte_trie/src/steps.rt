@@ -1,14 +1,18 @@
 //! The steps of a trie, and where a byte leads by them.
-ghost use Rattle.std.specs.Prelude.{◌≡◌, ◌<◌, ℕ, length, slice_index, IfOk};
+ghost use Rattle.std.specs.Prelude.{◌≡◌, ◌<◌, ◌≤◌, ◌+◌, ℕ, length, slice_index, IfOk};
 ghost use Rattle.cv_byte_trie.specs.Tries.{none};
-ghost use Rattle.cv_byte_trie.specs.Tables.{node_count, link_count, code_count, node_at, edge_of};
+ghost use Rattle.cv_byte_trie.specs.Tables.{node_count, edge_count, code_count, node_at, edge_of};
+ghost use Rattle.cv_byte_trie.specs.Private.Blocks.{FindsEdge};
 ghost use Rattle.cv_byte_trie.specs.Private.Sound.{IsSound};
-ghost use Rattle.cv_byte_trie.specs.declared.node.Node.TheVariants.{Listed};
+ghost use Rattle.cv_byte_trie.specs.declared.node.Node.TheVariants.{Few};
 
-use crate::node::{Link, Node};
+use crate::node::{Edge, Node};
 use std::alloc::{AllocError, Global};
 
-/// The code of no edge. Those below it are the places of entries, and those above it nodes.
+/// The code of the entry at place 0, where bytes of it are left. Those below it are the places of entries by their last byte.
+pub const TAIL: u32 = 0x4000_0000;
+
+/// The code of no edge. Those below it are entries, and those above it nodes.
 pub const NONE: u32 = 0x8000_0000;
 
 /// The code of node 0.
@@ -18,30 +22,30 @@ pub const NODE: u32 = 0x8000_0001;
 #[derive(Debug, Drop)]
 pub struct Steps {
     pub(crate) nodes: Vec<Node>,
-    /// The links of all lists. Those of a node that got a table stay.
-    pub(crate) links: Vec<Link>,
+    /// The blocks of nodes, one behind another. A node that outgrew its block leaves it behind.
+    pub(crate) edges: Vec<Edge>,
     /// Tables of 256 codes, one behind another.
     pub(crate) tables: Vec<u32>,
 }
 
 impl Steps {
-    /// Where a byte leads by the list of a node.
-    fn listed(&self, node: u32, newest: u32, byte: u8) -> u32
-        requires sound { IsSound self.now }
-        requires low { node < node_count self.now }
-        requires listed { (c : ℕ) × (node_at self.now node ≡ Listed c newest) }
-        ensures { result ≡ edge_of self.now node byte }
+    /// Finds the edge of a byte, or room for one, in a block. The place that the byte's last bits name is tried first.
+    #[inline]
+    pub(crate) fn find(&self, start: u32, size: u8, byte: u8, sought: u16) -> Option<usize>
+        requires some { 0 < size }
+        requires within { start + size ≤ edge_count self.now }
+        ensures { FindsEdge self.now.edges.items start size sought result }
     {
-        let _ = node;
-        let mut at = newest;
-        while at > 0 {
-            let link = self.links[at as usize - 1];
-            if link.byte == byte {
-                return link.code;
-            }
-            at = link.next;
+        let first = (byte & (size - 1)) as usize;
+        if self.edges[start as usize + first].byte == sought {
+            return Some(first);
         }
-        NONE
+        for at in 0..size as usize {
+            if self.edges[start as usize + at].byte == sought {
+                return Some(at);
+            }
+        }
+        None
     }
 
     /// Where a byte leads from a node.
@@ -54,7 +58,12 @@ impl Steps {
         match self.nodes[node as usize] {
             Node::Table { number } => self.tables[number as usize * 256 + byte as usize],
             Node::One { byte: own, code } => { if byte == own { code } else { NONE } }
-            Node::Listed { newest, .. } => self.listed(node, newest, byte),
+            Node::Few { size, start } => {
+                match self.find(start, size, byte, byte as u16) {
+                    Some(at) => self.edges[start as usize + at].code,
+                    None => NONE,
+                }
+            }
         }
     }
 
@@ -72,13 +81,13 @@ impl Steps {
     pub(crate) fn new(alloc: Global) -> Result<Steps, AllocError>
         ensures sound { IfOk result IsSound }
         ensures nodes { IfOk result (λ t. node_count t ≡ 1) }
-        ensures links { IfOk result (λ t. link_count t ≡ 0) }
+        ensures edges { IfOk result (λ t. edge_count t ≡ 0) }
         ensures tables { IfOk result (λ t. code_count t ≡ 256) }
         ensures empty { IfOk result (λ t. (b : ℕ) → b < 256 → edge_of t 0 b ≡ none) }
     {
         Ok(Steps {
             nodes: vec![in alloc; Node::Table { number: 0 }]?,
-            links: Vec::new(alloc),
+            edges: Vec::new(alloc),
             tables: vec![in alloc; NONE; 256]?,
         })
     }

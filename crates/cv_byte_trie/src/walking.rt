@@ -7,13 +7,23 @@ ghost use Rattle.cv_byte_trie.specs.Private.Sound.{IsSound};
 ghost use Rattle.cv_byte_trie.specs.Private.Reading.{LeadsTo};
 
 use crate::entry::Entry;
-use crate::steps::{NODE, NONE, Steps};
+use crate::steps::{NODE, NONE, Steps, TAIL};
+
+/// The first `depth` bytes lead to a node, and the next from there to the entry at a place, which goes on behind it.
+#[derive(Clone, Copy, Debug)]
+pub(crate) struct Tail {
+    pub(crate) node: u32,
+    pub(crate) depth: usize,
+    pub(crate) place: usize,
+}
 
 /// Where bytes lead from the root.
 #[derive(Clone, Copy, Debug)]
 pub(crate) enum Reached {
-    /// To an entry, by the byte that stands behind `depth` others.
+    /// To an entry, by the byte that stands behind `depth` others, its last.
     Leaf { place: usize, depth: usize },
+    /// To an entry, by a byte that is not its last.
+    Tail(Tail),
     /// To a node, by all of them.
     Inside,
     /// Nowhere: from a node, to which the first `depth` of them lead, the next has no edge.
@@ -31,11 +41,18 @@ pub(crate) fn walk(steps: &Steps, _entries: &[Entry], text: &[u8]) -> Reached
     let mut node = 0;
     for depth in 0..text.len() {
         let code = steps.edge(node, text[depth]);
-        if code < NONE {
+        if code < TAIL {
             return Reached::Leaf {
                 place: code as usize,
                 depth,
             };
+        }
+        if code < NONE {
+            return Reached::Tail(Tail {
+                node,
+                depth,
+                place: (code - TAIL) as usize,
+            });
         }
         if code == NONE {
             return Reached::Vacant { node, depth };

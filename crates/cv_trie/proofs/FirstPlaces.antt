@@ -7,7 +7,7 @@ use Rattle.std.proofs.lemmas.List.{get_or-replicate, get_or-set_same, get_or-set
 use Rattle.cv_base.specs.declared.state.WriteState.{WriteState}
 use Rattle.cv_base.specs.declared.state.WriteState.TheVariants as write
 use Rattle.cv_byte_trie.specs.Entries.{Entry, bytes_at, character_at}
-use Rattle.cv_byte_trie.proofs.Linked.{not_eqb}
+use Rattle.cv_byte_trie.proofs.Coded.{not_eqb}
 use Rattle.cv_trie.specs.Charmaps.{as_written, map_writes}
 use Rattle.cv_trie.specs.Private.Paging.{nowhere, cell_of, place_of, AreNumbered, NameFirst}
 

@@ -1,20 +1,24 @@
 -- Following bytes through the trie, and reading characters one after another.
-use Rattle.std.proofs.Common.{◌≡◌, ℕ, ◌<◌, ◌≤◌, ◌+◌, ◌-◌, List, [], ◌∷◌, ◌++◌, length, take, drop, get_or, slice_set, refl, sym, subst, ◌∙◌, ap, arith, Some}
-use Rattle.std.specs.Prelude.{Contains}
+use Rattle.std.proofs.Common.{Bool, true, ◌≡◌, ℕ, ◌<◌, ◌≤◌, ◌+◌, ◌-◌, List, [], ◌∷◌, ◌++◌, length, take, drop, get_or, slice_set, refl, sym, subst, ◌∙◌, ap, arith, Some}
+use Rattle.std.specs.Prelude.{Contains, nat_eq}
+use Rattle.std.specs.Cmp.Lexicographic.{pointwise}
+use Rattle.std.proofs.lemmas.Bool.Decides.{Decides-eqb}
+use Rattle.std.proofs.lemmas.Slice.Eq.{starts_is}
 use Rattle.std.proofs.lemmas.List.{get_or_read, get_or-drop, length-drop, length-take-le, take_more_set, length-set}
 use Rattle.cv_base.specs.Items.{Taken, taken, Begins, ItemRelation, Stands}
 use Rattle.cv_base.specs.Chains.{IsChain, used_bytes, read_state, characters_of}
 use Rattle.cv_base.specs.Blocks.{IsReadBlock}
 use Rattle.cv_base.specs.declared.state.ReadState.TheVariants as read
-use Rattle.cv_base.proofs.Front.{Begins-take}
+use Rattle.cv_base.proofs.Front.{Begins-take, Begins-length, Begins-append}
+use Rattle.cv_byte_trie.proofs.Ways.{Begins-same}
 use Rattle.cv_base.proofs.ChainLaws.{used_bytes-append, read_state-append, characters_of-append, IsChain-append}
 use Rattle.cv_byte_trie.specs.Entries.{Entry, no_entry, bytes_at, character_at, AreEntries}
-use Rattle.cv_byte_trie.specs.Tries.{StepsBy, none, HasTrie}
+use Rattle.cv_byte_trie.specs.Tries.{StepsBy, tails, tail_code, none, HasTrie}
 use Rattle.cv_byte_trie.specs.Private.Reading.{IsAt}
-use Rattle.cv_byte_trie.proofs.Followed.{leads_to_leaf, leads_to_node}
+use Rattle.cv_byte_trie.proofs.Followed.{leads_to_leaf, leads_to_tail, leads_to_node, tail_low}
 use Rattle.cv_trie.specs.Charmaps.{map_reads}
 use Rattle.cv_trie.specs.Private.Fronts.{IsReadFront}
-use Rattle.cv_trie.specs.Private.Followed.{IsFollowed}
+use Rattle.cv_trie.specs.Private.Followed.{IsFollowed, IsFound}
 use Rattle.cv_trie.specs.declared.front.Front.{Front}
 use Rattle.cv_trie.proofs.MapLaws.{holds_place}
 use Rattle.cv_trie.proofs.MapItems.{pair_stands}
@@ -24,7 +28,7 @@ at_root : (S : StepsBy) (count : ℕ) (entries : List Entry) (x : List ℕ) → 
 at_root S count entries x t = record { way = t.way; trie = t.trie; low = t.trie.some; at = rw t.trie.root tt; deep = rw t.trie.root refl }
 
 -- a byte that leads from the root to an entry is all of its bytes
-pub root_leaf : (entries : List Entry) (S : StepsBy) (count : ℕ) → HasTrie S count entries → (b code : ℕ) → b < 256 → code ≡ S 0 b → code < none → (code < length entries) × (bytes_at entries code ≡ b ∷ [])
+pub root_leaf : (entries : List Entry) (S : StepsBy) (count : ℕ) → HasTrie S count entries → (b code : ℕ) → b < 256 → code ≡ S 0 b → code < tails → (code < length entries) × (bytes_at entries code ≡ b ∷ [])
 root_leaf entries S count t b code byte e l = let p = t.trie.leaf 0 b code t.trie.some byte (sym e) l in (p.0, p.1 ∙ ap (λ (x : List ℕ). x ++ b ∷ []) t.trie.root)
 
 -- such a byte reads as the entry's character
@@ -45,6 +49,7 @@ pub followed_on : (entries : List Entry) → AreEntries entries → (S : StepsBy
 followed_on entries a S count text d i at b code more is byte e = record {
   low = λ l. (leads_to_leaf entries a S count text d i at b more is byte code e l).0;
   leaf = λ l. (leads_to_leaf entries a S count text d i at b more is byte code e l).1;
+  tail = λ p f few. tail_low entries a S count text (record { node = i; depth = d; place = p }) (leads_to_tail entries a S count text d i at b more is byte p (sym e ∙ f) few);
   node = λ n f. leads_to_node entries a S count text d i at b more is byte n (sym e ∙ f);
 }
 
@@ -55,12 +60,23 @@ followed_first entries a S count t text used b code low is byte e =
     followed_on entries a S count (drop used text) 0 0 (at_root S count entries (drop used text) t) b code (omega (arith, length-drop used text)) (is ∙ ap (λ (k : ℕ). get_or text k 0) here ∙ sym (get_or-drop used text 0 0)) byte e
 
 -- an entry to which the bytes lead stands there
-pub followed_stands : (S : StepsBy) (count : ℕ) (entries : List Entry) (text : List ℕ) (size code : ℕ) → IsFollowed S count entries text size code → code < none → size ≤ length text → Stands (map_reads entries) read.Start text (taken size (Some (character_at entries code)) read.Start)
-followed_stands S count entries text size code f l fits =
+pub followed_stands : (entries : List Entry) (text : List ℕ) (size code : ℕ) → IsFound entries text size code → code < none → size ≤ length text → Stands (map_reads entries) read.Start text (taken size (Some (character_at entries code)) read.Start)
+followed_stands entries text size code f l fits =
     let e = f.leaf l in
     let long : length (bytes_at entries code) ≡ size = ap length e ∙ length-take-le size text fits in
     let front : Begins (bytes_at entries code) text = rw e (Begins-take size text) in
     subst (λ (n : ℕ). Stands (map_reads entries) read.Start text (taken n (Some (character_at entries code)) read.Start)) long (pair_stands entries read.Start text code (f.low l) front)
+
+-- what was followed to its end is found
+pub followed_found : (S : StepsBy) (count : ℕ) (entries : List Entry) (text : List ℕ) (size code : ℕ) → IsFollowed S count entries text size code → (code < none → code < tails) → IsFound entries text size code
+followed_found S count entries text size code f end = record { low = λ l. f.low (end l); leaf = λ l. f.leaf (end l) }
+
+-- the entry whose bytes begin a text
+pub begun_found : (entries : List Entry) (text : List ℕ) (place : ℕ) (x : Entry) → place < length entries → x ≡ get_or entries place x → Begins x.0 text → IsFound entries text (length x.0) place
+begun_found entries text place x low is front = record {
+  low = λ _. low;
+  leaf = λ _. entry_bytes entries place x low is ∙ Begins-same x.0 (take (length x.0) text) text front (Begins-take (length x.0) text) (sym (length-take-le (length x.0) text (Begins-length x.0 text front)));
+}
 
 -- one more character in a block
 pub block_more : (reads : ItemRelation) (text buffer : List ℕ) (n used m c : ℕ) → IsReadBlock reads read.Start text (record { n = n; used = used; next = read.Start }) buffer → n < length buffer
@@ -84,3 +100,7 @@ front_more entries text buffer n used m c f room s fits = record {
   block = block_more (map_reads entries) text buffer n used m c f.block room s;
   within = omega (arith, fits, length-drop used text, f.within);
 }
+
+-- a text that begins with bytes
+pub begins_test : (a b : List ℕ) (r : Bool) → r ≡ pointwise nat_eq a (take (length a) b) → r ≡ true → Begins a b
+begins_test a b r e h = let both = starts_is Decides-eqb b a r e in subst (λ (w : List ℕ). Begins a w) (sym (both.0 h)) (Begins-append a (drop (length a) b))

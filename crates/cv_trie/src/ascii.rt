@@ -8,7 +8,7 @@ ghost use Rattle.cv_trie.specs.Charmaps.{map_reads, map_writes};
 ghost use Rattle.cv_trie.specs.Private.Paging.{AreFirst};
 
 use crate::pages::{NOWHERE, Pages};
-use cv_byte_trie::{ByteTrie, Entry, NONE};
+use cv_byte_trie::{ByteTrie, Entry, TAIL};
 
 /// Whether each ASCII byte is read as its character.
 pub(crate) fn does_read_ascii(trie: &ByteTrie) -> bool
@@ -18,7 +18,7 @@ pub(crate) fn does_read_ascii(trie: &ByteTrie) -> bool
     trie.assert_leads();
     for byte in 0..128u8 {
         let code = trie.step(0, byte);
-        if code >= NONE || trie.entries()[code as usize].character().value() != byte as u32 {
+        if code >= TAIL || trie.entries()[code as usize].character().value() != byte as u32 {
             return false;
         }
     }

@@ -2,22 +2,45 @@
 ghost use Rattle.std.specs.Prelude.{◌≡◌, ◌≤◌, ◌<◌, ℕ, length, drop, slice_index};
 ghost use Rattle.cv_base.specs.Blocks.{IsReadBlock};
 ghost use Rattle.cv_base.specs.declared.state.ReadState.{ReadState};
+ghost use Rattle.cv_byte_trie.specs.Tries.{tails};
 ghost use Rattle.cv_byte_trie.specs.Tables.{edge_of};
 ghost use Rattle.cv_trie.specs.Charmaps.{map_reads};
 ghost use Rattle.cv_trie.specs.Private.Fronts.{IsReadFront};
-ghost use Rattle.cv_trie.specs.Private.Followed.{IsFollowed};
+ghost use Rattle.cv_trie.specs.Private.Followed.{IsFound};
 
 use crate::front::Front;
 use cv_base::{ReadBlock, ReadState, Scalar};
-use cv_byte_trie::{ByteTrie, NODE, NONE};
+use cv_byte_trie::{ByteTrie, Entry, NODE, NONE, TAIL};
 
-/// Where the bytes at a place of a text lead.
+/// The entry that stands at a place of a text, or none.
 #[derive(Clone, Copy, Debug)]
 struct Followed {
-    /// The place of the entry that stands there, or the code of no edge, or of the node at which the text ends.
+    /// The place of the entry, or the code of no edge, or that of the node at which the text ends.
     code: u32,
     /// How many bytes were followed.
     size: usize,
+}
+
+/// The entry at a place to which a front of its bytes leads, where all of them stand at a place of a text.
+fn whole(entries: &[Entry], place: usize, input: &[u8], used: usize) -> Followed
+    requires low { place < length entries.now }
+    requires few { place < tails }
+    requires within { used ≤ length input.now }
+    ensures found { IsFound entries.now (drop used input.now) result.size result.code }
+    ensures within { result.size ≤ length (drop used input.now) }
+{
+    let bytes = entries[place].bytes();
+    if input[used..].starts_with(bytes) {
+        Followed {
+            code: place as u32,
+            size: bytes.len(),
+        }
+    } else {
+        Followed {
+            code: NONE,
+            size: 0,
+        }
+    }
 }
 
 /// Follows the bytes at a place of a text through the trie. It answers two numbers and no option, which would go through memory.
@@ -26,8 +49,7 @@ fn follow(trie: &ByteTrie, root: &[u32], input: &[u8], used: usize) -> Followed
     requires root { (b : ℕ) → b < 256 → slice_index root.now b ≡ edge_of trie.now.steps 0 b }
     requires size { length root.now ≡ 256 }
     requires within { used < length input.now }
-    ensures follows { IsFollowed (edge_of trie.now.steps) (length trie.now.steps.nodes.items)
-        trie.now.entries (drop used input.now) result.size result.code }
+    ensures found { IsFound trie.now.entries (drop used input.now) result.size result.code }
     ensures within { result.size ≤ length (drop used input.now) }
 {
     trie.assert_leads();
@@ -38,6 +60,9 @@ fn follow(trie: &ByteTrie, root: &[u32], input: &[u8], used: usize) -> Followed
     while code > NONE && size < input.len() - used {
         code = trie.step(code - NODE, input[used + size]);
         size += 1;
+    }
+    if code >= TAIL && code < NONE {
+        return whole(trie.entries(), (code - TAIL) as usize, input, used);
     }
     Followed { code, size }
 }
@@ -56,7 +81,7 @@ fn read_ones(trie: &ByteTrie, input: &[u8], buffer: &mut [Scalar], front: Front)
     let mut k = 0;
     while k < most {
         let code = root[input[front.used + k] as usize];
-        if code >= NONE {
+        if code >= TAIL {
             break;
         }
         buffer[front.n + k] = entries[code as usize].character();

@@ -1,6 +1,6 @@
 -- How the edges of a trie change.
 use Rattle.std.specs.Prelude.{◌≡◌, ◌≢◌, ℕ, ◌+◌, ◌-◌, ◌<◌, ◌==◌, List, length, slice_index_or, if◌then◌else◌}
-use Rattle.cv_byte_trie.specs.Tries.{none, node_code}
+use Rattle.cv_byte_trie.specs.Tries.{none, node_code, tail_code}
 use Rattle.cv_byte_trie.specs.Tables.{node_at, edge_of}
 use Rattle.cv_byte_trie.specs.declared.node.Node.TheVariants.{One}
 use Rattle.cv_byte_trie.specs.declared.steps.Steps.{Steps}
@@ -17,8 +17,12 @@ SameEdges old new = (n b : ℕ) → n < length old.nodes.items → b < 256 → e
 -- Nothing was added, removed or written.
 pub record IsUnchanged (old new : Steps) : Type 0 where
   pub nodes : new.nodes.items ≡ old.nodes.items
-  pub links : new.links.items ≡ old.links.items
+  pub edges : new.edges.items ≡ old.edges.items
   pub tables : new.tables.items ≡ old.tables.items
+
+-- the code by which the byte behind `depth` others leads to the entry at a place, of so many bytes
+abbrev pub end_code : (size depth place : ℕ) → ℕ
+end_code size depth place = if size == depth + 1 then place else tail_code place
 
 -- the code that leads on over the last so many bytes of a chain, whose nodes begin at `count`
 abbrev pub code_behind : ℕ → ℕ → ℕ → ℕ
@@ -31,10 +35,15 @@ pub record LeadsOver (old new : Steps) (bytes : List ℕ) (code : ℕ) : Type 0 
   pub chain : (j : ℕ) → j < length bytes → node_at new (length old.nodes.items + j)
       ≡ One (slice_index_or bytes (length bytes - 1 - j) 0) (code_behind code (length old.nodes.items) j)
 
--- A byte of a node and then the bytes behind it lead to a place, over new nodes; all other edges stay.
-pub record Branches (old new : Steps) (n b : ℕ) (rest : List ℕ) (place : ℕ) : Type 0 where
-  pub count : length new.nodes.items ≡ length old.nodes.items + length rest
-  pub set : edge_of new n b ≡ code_behind place (length old.nodes.items) (length rest)
+-- New nodes lead over bytes to a code, and the node before the last of them leads by another byte to another code. Edges of old nodes stay, but for one that may lead to the first of the new ones.
+pub record Branches (old new : Steps) (bytes : List ℕ) (code other place : ℕ) : Type 0 where
+  pub count : length new.nodes.items ≡ length old.nodes.items + length bytes
+  pub on : (j : ℕ) → j < length bytes → slice_index_or bytes (length bytes - 1 - j) 0 < 256 → edge_of new (length old.nodes.items + j) (slice_index_or bytes (length bytes - 1 - j) 0) ≡ code_behind code (length old.nodes.items) j
+  pub fork : edge_of new (length old.nodes.items) other ≡ place
+  pub off : (j c : ℕ) → j < length bytes → c < 256 → c ≢ slice_index_or bytes (length bytes - 1 - j) 0 → ((j ≡ 0) × (c ≡ other) → ⊥) → edge_of new (length old.nodes.items + j) c ≡ none
+
+-- A byte of a node leads to the first of these nodes; all other edges stay.
+pub record Forks (old new : Steps) (n b : ℕ) (bytes : List ℕ) (code other place : ℕ) : Type 0 where
+  pub branches : Branches old new bytes code other place
+  pub set : edge_of new n b ≡ code_behind code (length old.nodes.items) (length bytes)
   pub same : (m c : ℕ) → m < length old.nodes.items → c < 256 → ((m ≡ n) × (c ≡ b) → ⊥) → edge_of new m c ≡ edge_of old m c
-  pub on : (j : ℕ) → j < length rest → slice_index_or rest (length rest - 1 - j) 0 < 256 → edge_of new (length old.nodes.items + j) (slice_index_or rest (length rest - 1 - j) 0) ≡ code_behind place (length old.nodes.items) j
-  pub off : (j c : ℕ) → j < length rest → c < 256 → c ≢ slice_index_or rest (length rest - 1 - j) 0 → edge_of new (length old.nodes.items + j) c ≡ none

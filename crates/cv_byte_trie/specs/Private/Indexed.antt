@@ -6,12 +6,12 @@ use Rattle.cv_byte_trie.specs.Tables.{edge_of}
 use Rattle.cv_byte_trie.specs.Private.Sound.{IsSound}
 use Rattle.cv_byte_trie.specs.declared.steps.Steps.{Steps}
 
--- Entries with a trie of them, of so many nodes, links and tables that each has a number.
+-- Entries with a trie of them, of so many nodes, edges and tables that each has a number.
 pub record IsIndexed (entries : List Entry) (steps : Steps) : Type 0 where
   pub apart : AreEntries entries
   pub sound : IsSound steps
   pub leads : HasTrie (edge_of steps) (length steps.nodes.items) entries
   pub few : length entries ≤ 16777216
   pub nodes : length steps.nodes.items ≤ 8 * length entries + 1
-  pub links : length steps.links.items ≤ 2 * length entries
+  pub edges : length steps.edges.items ≤ 32 * length entries
   pub tables : length steps.tables.items ≤ 256 * (length entries + 1)

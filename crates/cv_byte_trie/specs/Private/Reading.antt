@@ -3,9 +3,10 @@ use Rattle.std.specs.Prelude.{◌≡◌, ℕ, ◌+◌, ◌<◌, List, length, ta
 use Rattle.cv_base.specs.Items.{Begins}
 use Rattle.cv_byte_trie.specs.Entries.{Entry, bytes_at}
 use Rattle.cv_byte_trie.specs.Results.{GoesOnBehind}
-use Rattle.cv_byte_trie.specs.Tries.{StepsBy, none, IsTrie}
+use Rattle.cv_byte_trie.specs.Tries.{StepsBy, none, tails, tail_code, IsTrie}
 use Rattle.cv_byte_trie.specs.declared.walking.Reached.{Reached}
-use Rattle.cv_byte_trie.specs.declared.walking.Reached.TheVariants.{Leaf, Inside, Vacant}
+use Rattle.cv_byte_trie.specs.declared.walking.Reached.TheVariants as reached
+use Rattle.cv_byte_trie.specs.declared.walking.Tail.{Tail}
 
 -- The first so many bytes of a text lead to a node.
 pub record IsAt (step : StepsBy) (count : ℕ) (entries : List Entry) (text : List ℕ) (depth node : ℕ) : Type 0 where
@@ -22,9 +23,18 @@ pub record IsVacant (step : StepsBy) (count : ℕ) (entries : List Entry) (text 
   pub byte : slice_index_or text depth 0 < 256
   pub vacant : step node (slice_index_or text depth 0) ≡ none
 
+-- The next byte leads to an entry of which bytes are left.
+pub record IsTail (step : StepsBy) (count : ℕ) (entries : List Entry) (text : List ℕ) (tail : Tail) : Type 0 where
+  pub here : IsAt step count entries text tail.depth tail.node
+  pub more : tail.depth < length text
+  pub byte : slice_index_or text tail.depth 0 < 256
+  pub code : step tail.node (slice_index_or text tail.depth 0) ≡ tail_code tail.place
+  pub few : tail.place < tails
+
 -- where a text leads
 abbrev pub LeadsTo : StepsBy → ℕ → List Entry → List ℕ → Reached → Type 0
-LeadsTo step count entries text (Leaf place depth) =
+LeadsTo step count entries text (reached.Leaf place depth) =
     (place < length entries) × (depth < length text) × (bytes_at entries place ≡ take (depth + 1) text)
-LeadsTo step count entries text Inside = (p : ℕ) × GoesOnBehind entries text p
-LeadsTo step count entries text (Vacant node depth) = IsVacant step count entries text depth node
+LeadsTo step count entries text (reached.Tail tail) = IsTail step count entries text tail
+LeadsTo step count entries text reached.Inside = (p : ℕ) × GoesOnBehind entries text p
+LeadsTo step count entries text (reached.Vacant node depth) = IsVacant step count entries text depth node

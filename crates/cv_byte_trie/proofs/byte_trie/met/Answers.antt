@@ -1,10 +1,19 @@
-use Rattle.std.proofs.Common.{◌≡◌, ◌+◌, length, ap, ◌∙◌, refl, arith}
-use Rattle.std.proofs.lemmas.List.{length-take-le}
+use Rattle.std.proofs.Common.{◌≡◌, length, sym, ap, ◌∙◌, refl, arith}
+use Rattle.cv_base.proofs.Front.{Begins-length}
 use Rattle.cv_byte_trie.specs.Entries.{bytes_at}
-use Rattle.cv_byte_trie.proofs.Indexing.{leaf_begins}
+use Rattle.cv_byte_trie.proofs.Ways.{Begins-same, Begins-self}
+use Rattle.cv_byte_trie.proofs.Agreeing.{entry_bytes}
 use Rattle.cv_byte_trie.proofs.byte_trie.met.Goals as goal
 
-pub returns-else-depth-bytes : goal.returns-else-depth-bytes
-returns-else-depth-bytes c = λ _.
-    (let size : length (bytes_at c.args._entries.now c.args.place) ≡ c.args.depth + 1 = ap length c.requires.leads ∙ length-take-le (c.args.depth + 1) c.args.bytes.now (omega (arith, c.requires.deep)) in
-    (c.requires.low, leaf_begins c.args._entries.now c.args.bytes.now c.args.place (c.args.depth + 1) c.requires.leads, omega (arith, c.requires.deep, c.if-depth-bytes.false), refl))
+pub returns-then-len-bytes : goal.returns-then-len-bytes
+returns-then-len-bytes c = λ _.
+    (let v = bytes_at c.args.entries.now c.args.place in
+    let x = c.args.bytes.now in
+    let size : length v ≡ length x = ap length (entry_bytes c.args.entries.now c.args.place c.index-entries-place.result c.requires.low c.index-entries-place.is) ∙ sym c.len.ensures ∙ c.if-len-bytes.true in
+    (c.requires.low, Begins-same v x x c.requires.front (Begins-self x) size, refl))
+
+pub returns-else-len-bytes : goal.returns-else-len-bytes
+returns-else-len-bytes c = λ _.
+    (let v = bytes_at c.args.entries.now c.args.place in
+    let size : length v ≡ c.len.result = ap length (entry_bytes c.args.entries.now c.args.place c.index-entries-place.result c.requires.low c.index-entries-place.is) ∙ sym c.len.ensures in
+    (c.requires.low, c.requires.front, omega (arith, size, c.if-len-bytes.false, Begins-length v c.args.bytes.now c.requires.front), refl))

@@ -1,8 +1,8 @@
-use Rattle.std.proofs.Common.{◌≡◌, ◌+◌, ◌-◌, ◌<◌, ℕ, refl, sym, ◌∙◌, arith, get_or, length, drop, length-drop}
+use Rattle.std.proofs.Common.{◌≡◌, ◌+◌, ◌-◌, ◌<◌, List, ℕ, refl, sym, ◌∙◌, arith, get_or, length, drop, length-drop}
 use Rattle.std.proofs.lemmas.List.{get_or-drop}
-use Rattle.cv_byte_trie.specs.Tries.{node_code}
+use Rattle.cv_byte_trie.specs.Tries.{tail_code, none, tails, node_code}
 use Rattle.cv_byte_trie.specs.Tables.{edge_of}
-use Rattle.cv_trie.proofs.Following.{followed_first, followed_on}
+use Rattle.cv_trie.proofs.Following.{followed_first, followed_on, followed_found}
 use Rattle.cv_trie.proofs.reading.follow.Goals as goal
 
 pub loop-code-init : goal.loop-code-init
@@ -31,3 +31,9 @@ loop-code-preserved c =
       follows = followed_on c.args.trie.now.entries c.len-pairs.ensures.entries (edge_of c.args.trie.now.steps) _ rest c.loop-code.size n (c.loop-code.invariant.follows.node n code) b c.step-code.result more (sym (get_or-drop c.args.used c.args.input.now c.loop-code.size 0)) byte c.step-code.ensures;
       within = omega arith;
     }
+
+pub whole-requires-clause-low : goal.whole-requires-clause-low
+whole-requires-clause-low c =
+    let p = c.loop-code.code - 1073741824 in
+    let code : c.loop-code.code ≡ tail_code p = omega (arith, c.if-code-ge-TAIL.true) in
+    rw c.entries.ensures.value (c.loop-code.invariant.follows.tail p code (omega (arith, c.if-code-lt-NONE.true)))

@@ -8,9 +8,9 @@ pub loop-n-preserved : goal.loop-n-preserved
 loop-n-preserved c =
     let i = c.loop-n.invariant in
     let entries = c.args.trie.now.entries in
-    let f = c.follow-followed.ensures.follows in
+    let f = c.follow-followed.ensures.found in
     let code = c.follow-followed.result.code in
-    let s = followed_stands (edge_of c.args.trie.now.steps) _ entries (drop c.loop-n.used c.args.input.now) c.follow-followed.result.size code f c.if-followed-ge-NONE.false c.follow-followed.ensures.within in
+    let s = followed_stands entries (drop c.loop-n.used c.args.input.now) c.follow-followed.result.size code f c.if-followed-ge-NONE.false c.follow-followed.ensures.within in
     let there = subst (λ (x : List Entry). code < length x → character_at x code ≡ c.index-entries-followed.result.1) c.entries-entries.ensures.value (λ l. entry_character c.entries-entries.result.now code c.index-entries-followed.result l c.index-entries-followed.is) in
     let character : character_at entries code ≡ c.character.result = there (f.low c.if-followed-ge-NONE.false) ∙ sym c.character.ensures in
     record {

@@ -1,4 +1,5 @@
-use Rattle.std.proofs.Common.{◌≡◌, ◌≤◌, length, take}
+use Rattle.std.proofs.Common.{◌≡◌, ◌≢◌, ◌≤◌, length, take}
+use Rattle.cv_byte_trie.specs.Tries.{none}
 use Rattle.cv_byte_trie.specs.Private.Sound.{IsSound}
 use Rattle.cv_byte_trie.proofs.Leading.{IsLeading}
 use Rattle.cv_byte_trie.proofs.steps.Steps.lead.Given as goal
@@ -9,7 +10,8 @@ invariant-loop-rest l = record {
   within : length l.rest ≤ length l.bytes;
   rest : l.rest ≡ take (length l.rest) l.bytes;
   leading : IsLeading l.initial.self l.self l.bytes l.code (length l.rest) l.first;
-  links : l.self.links.items ≡ l.initial.self.links.items;
+  edges : l.self.edges.items ≡ l.initial.self.edges.items;
+  leads : l.first ≢ none;
   tables : l.self.tables.items ≡ l.initial.self.tables.items;
 }
 

@@ -1,22 +1,37 @@
-use Rattle.std.proofs.Common.{◌≡◌, arith, refl, ◌*◌, ◌+◌}
+use Rattle.std.proofs.Common.{◌≡◌, ◌+◌, ◌∙◌, ◌<◌, ℕ, arith, refl}
 use Rattle.std.specs.Vec.{with_item}
-use Rattle.cv_byte_trie.specs.declared.node.Node.TheVariants.{Table}
+use Rattle.cv_byte_trie.specs.Tables.{node_at, edge_in}
+use Rattle.cv_byte_trie.specs.declared.node.Node.TheVariants.{Few}
 use Rattle.cv_byte_trie.specs.declared.steps.Steps.{Steps}
-use Rattle.cv_byte_trie.specs.Tables.{node_at}
-use Rattle.cv_byte_trie.proofs.Edges.{node_read}
-use Rattle.cv_byte_trie.proofs.Setting.{table_sets}
+use Rattle.cv_byte_trie.proofs.Edges.{node_read, lacks}
+use Rattle.cv_byte_trie.proofs.Keeping.{place_keeps}
+use Rattle.cv_byte_trie.proofs.Setting.{place_sets}
 use Rattle.cv_byte_trie.proofs.steps.Steps.set.Goals as goal
 
-pub index_mut-requires : goal.index_mut-requires
-index_mut-requires c =
+pub double-requires-clause-lacks : goal.double-requires-clause-lacks
+double-requires-clause-lacks c =
     let t = c.args.self.now in
-    let whole = c.requires.sound.whole c.args.node c.in-Table.number c.requires.low (node_read t c.args.node c.index.result.now (Table c.in-Table.number) c.requires.low c.index.ensures c.in-Table.is) in
-    omega (arith, t.tables.ok.0)
+    let few : node_at t c.args.node ≡ Few c.in-Few.size c.in-Few.start = node_read t c.args.node c.index.result.now (Few c.in-Few.size c.in-Few.start) c.requires.low c.index.ensures c.in-Few.is in
+    lacks t c.requires.sound c.args.node c.in-Few.size c.in-Few.start c.requires.low few c.args.byte (omega arith) c.requires.vacant
 
-pub returns-in-Table-clause-sets : goal.returns-in-Table-clause-sets
-returns-in-Table-clause-sets c =
+pub returns-in-Some-clause-sound : goal.returns-in-Some-clause-sound
+returns-in-Some-clause-sound c =
     let t = c.args.self.now in
-    let k = c.in-Table.number in
-    let u : Steps = record { nodes = t.nodes; links = t.links; tables = with_item t.tables (k * 256 + c.args.byte) c.args.code } in
-    let is : node_at t c.args.node ≡ Table k = node_read t c.args.node c.index.result.now (Table k) c.requires.low c.index.ensures c.in-Table.is in
-    table_sets t u c.requires.sound c.args.node c.args.byte c.args.code k c.requires.low (omega arith) is refl refl refl
+    let size = c.in-Few.size in
+    let start = c.in-Few.start in
+    let f = c.in-Some.ensures in
+    let few : node_at t c.args.node ≡ Few size start = node_read t c.args.node c.index.result.now (Few size start) c.requires.low c.index.ensures c.in-Few.is in
+    let none_has = lacks t c.requires.sound c.args.node size start c.requires.low few c.args.byte (omega arith) c.requires.vacant in
+    let u : Steps = record { nodes = t.nodes; edges = with_item t.edges (start + c.in-Some.at) (record { byte = c.args.byte; code = c.args.code }); tables = t.tables } in
+    place_keeps t u c.requires.sound c.args.node c.args.byte c.args.code size start c.in-Some.at c.requires.low few f.0 (λ j l e. absurd (none_has j l e)) c.requires.leads refl refl refl
+
+pub returns-in-Some-clause-sets : goal.returns-in-Some-clause-sets
+returns-in-Some-clause-sets c =
+    let t = c.args.self.now in
+    let size = c.in-Few.size in
+    let start = c.in-Few.start in
+    let f = c.in-Some.ensures in
+    let few : node_at t c.args.node ≡ Few size start = node_read t c.args.node c.index.result.now (Few size start) c.requires.low c.index.ensures c.in-Few.is in
+    let none_has = lacks t c.requires.sound c.args.node size start c.requires.low few c.args.byte (omega arith) c.requires.vacant in
+    let u : Steps = record { nodes = t.nodes; edges = with_item t.edges (start + c.in-Some.at) (record { byte = c.args.byte; code = c.args.code }); tables = t.tables } in
+    place_sets t u c.requires.sound c.args.node c.args.byte c.args.code size start c.in-Some.at c.requires.low (omega arith) few f.0 (λ j l e. absurd (none_has j l e)) (λ d l _ e. omega (arith, f.1)) refl refl refl

@@ -1,7 +1,7 @@
 -- Where a byte leads from a node: by its block, or by its table.
-use Rattle.std.proofs.Common.{◌≡◌, ◌≢◌, slice_set, ℕ, ◌<◌, ◌≤◌, ◌+◌, ◌*◌, List, length, get_or, suc, refl, sym, ◌∙◌, ap, arith, inl, inr, Option, Some, None}
+use Rattle.std.proofs.Common.{◌≡◌, ◌≢◌, slice_set, ℕ, ◌<◌, ◌≤◌, ◌+◌, List, length, get_or, suc, sym, ◌∙◌, ap, arith, inl, inr, None}
 use Rattle.std.proofs.Math.ListN.{replicate}
-use Rattle.std.proofs.lemmas.Bool.{cases_eq, cases_lt}
+use Rattle.std.proofs.lemmas.Bool.{cases_eq}
 use Rattle.std.proofs.lemmas.List.{get_or_read, get_or-set_same, get_or-set_other, get_or-replicate}
 use Rattle.cv_byte_trie.specs.Tries.{none}
 use Rattle.cv_byte_trie.specs.Tables.{coded, edge_in, node_at, edge_at, edge_of}

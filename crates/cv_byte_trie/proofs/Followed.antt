@@ -6,7 +6,7 @@ use Rattle.cv_base.specs.Items.{Begins}
 use Rattle.cv_base.proofs.Front.{Begins-trans, Begins-meet, Begins-length, Begins-take}
 use Rattle.cv_byte_trie.specs.Entries.{Entry, bytes_at, AreEntries}
 use Rattle.cv_byte_trie.specs.Results.{MeetsNone, GoesOnBehind}
-use Rattle.cv_byte_trie.specs.Tries.{StepsBy, tails, tail_code, none, node_code, IsAlone, HasTrie}
+use Rattle.cv_byte_trie.specs.Tries.{StepsBy, tails, tail_code, none, node_code, IsAlone}
 use Rattle.cv_byte_trie.specs.Private.Reading.{IsAt, IsVacant, IsTail}
 use Rattle.cv_byte_trie.specs.declared.walking.Tail.{Tail}
 use Rattle.cv_byte_trie.proofs.Ways.{Begins-more, Begins-same, Begins-self, longer_by_one}

@@ -1,7 +1,7 @@
 -- New nodes that lead over bytes, one by one from the last.
 use Rattle.std.proofs.Common.{◌≡◌, ◌≢◌, ℕ, ◌+◌, ◌-◌, ◌<◌, ◌≤◌, Bool, cond, List, [], ◌∷◌, ◌++◌, length, take, get_or, sym, ◌∙◌, ap, arith, inl, inr, length-append}
 use Rattle.std.proofs.lemmas.Bool.{cases_lt}
-use Rattle.std.proofs.lemmas.List.{get_or_push, get_or_append_left, get_or-take, take-append-le}
+use Rattle.std.proofs.lemmas.List.{get_or_push, get_or_append_left, take-append-le}
 use Rattle.cv_byte_trie.specs.Tries.{none, node_code}
 use Rattle.cv_byte_trie.specs.Tables.{node_at, edge_at, edge_of}
 use Rattle.cv_byte_trie.specs.Private.Sound.{IsSound}

@@ -1,5 +1,5 @@
 -- Setting an edge of a node.
-use Rattle.std.proofs.Common.{◌≡◌, ◌≢◌, ℕ, ◌+◌, ◌*◌, ◌<◌, ◌≤◌, Bool, List, [], ◌∷◌, ◌++◌, length, get_or, refl, sym, ◌∙◌, ap, arith, inl, inr, slice_set, eq-eqb, cond}
+use Rattle.std.proofs.Common.{◌≡◌, ◌≢◌, ℕ, ◌+◌, ◌*◌, ◌<◌, ◌≤◌, Bool, List, ◌++◌, length, get_or, refl, sym, ◌∙◌, ap, arith, inl, inr, slice_set, eq-eqb, cond}
 use Rattle.std.proofs.lemmas.Bool.{cases_eq}
 use Rattle.std.proofs.lemmas.List.{get_or-set_same, get_or-set_other, get_or_append_left}
 use Rattle.cv_byte_trie.specs.Tries.{none}
@@ -10,8 +10,7 @@ use Rattle.cv_byte_trie.specs.declared.node.Edge.{Edge}
 use Rattle.cv_byte_trie.specs.declared.node.Node.{Node}
 use Rattle.cv_byte_trie.specs.declared.node.Node.TheVariants.{One, Few, Table}
 use Rattle.cv_byte_trie.specs.declared.steps.Steps.{Steps}
-use Rattle.cv_byte_trie.proofs.Coded.{not_eqb, coded_same, coded_other, coded_at, coded_more}
-use Rattle.cv_byte_trie.proofs.Edges.{edge_found}
+use Rattle.cv_byte_trie.proofs.Coded.{not_eqb, coded_same, coded_other, coded_at}
 
 -- the places of a block stay
 abbrev pub SameBlock : Steps → Steps → ℕ → ℕ → Type 0

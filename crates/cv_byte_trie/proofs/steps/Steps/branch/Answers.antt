@@ -1,4 +1,4 @@
-use Rattle.std.proofs.Common.{◌≡◌, ◌+◌, ◌-◌, ◌≢◌, ◌∙◌, ℕ, length, get_or, sym, ap, arith}
+use Rattle.std.proofs.Common.{◌≡◌, ◌+◌, ◌-◌, ◌∙◌, ℕ, length, ap, arith}
 use Rattle.cv_byte_trie.specs.Tables.{edge_of}
 use Rattle.cv_byte_trie.proofs.Leading.{chain_off}
 use Rattle.cv_byte_trie.proofs.steps.Steps.branch.Goals as goal

@@ -1,5 +1,5 @@
 use Rattle.std.proofs.Common.{◌≡◌, ◌∙◌, ◌<◌, ◌+◌, length, sym, ap, arith}
-use Rattle.cv_byte_trie.specs.Tables.{node_at, edge_in}
+use Rattle.cv_byte_trie.specs.Tables.{node_at}
 use Rattle.cv_byte_trie.specs.declared.node.Edge.{Edge}
 use Rattle.cv_byte_trie.specs.declared.node.Node.TheVariants.{Few, Table}
 use Rattle.cv_byte_trie.proofs.Edges.{node_read, place_read, edge_found, edge_none}

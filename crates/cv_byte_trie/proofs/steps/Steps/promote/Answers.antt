@@ -1,4 +1,4 @@
-use Rattle.std.proofs.Common.{◌≡◌, ◌+◌, ◌*◌, ◌/◌, ◌∙◌, ◌++◌, ℕ, [], length, sym, ap, arith, refl, append-nil, length-append}
+use Rattle.std.proofs.Common.{◌≡◌, ◌+◌, ◌*◌, ◌/◌, ◌∙◌, ℕ, [], length, sym, ap, arith, refl, append-nil}
 use Rattle.std.specs.Vec.{with_item}
 use Rattle.cv_byte_trie.specs.declared.node.Node.TheVariants.{Few, Table}
 use Rattle.cv_byte_trie.specs.declared.steps.Steps.{Steps}

@@ -1,6 +1,6 @@
-use Rattle.std.proofs.Common.{◌≡◌, ◌+◌, ◌∙◌, ◌<◌, ℕ, arith, refl}
+use Rattle.std.proofs.Common.{◌≡◌, ◌+◌, arith, refl}
 use Rattle.std.specs.Vec.{with_item}
-use Rattle.cv_byte_trie.specs.Tables.{node_at, edge_in}
+use Rattle.cv_byte_trie.specs.Tables.{node_at}
 use Rattle.cv_byte_trie.specs.declared.node.Node.TheVariants.{Few}
 use Rattle.cv_byte_trie.specs.declared.steps.Steps.{Steps}
 use Rattle.cv_byte_trie.proofs.Edges.{node_read, lacks}

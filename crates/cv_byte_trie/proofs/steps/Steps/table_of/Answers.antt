@@ -1,5 +1,5 @@
 use Rattle.std.proofs.Common.{refl}
-use Rattle.cv_byte_trie.proofs.Edges.{fill_start, fill_more, fill_same}
+use Rattle.cv_byte_trie.proofs.Edges.{fill_start}
 use Rattle.cv_byte_trie.proofs.steps.Steps.table_of.Goals as goal
 
 pub loop-at-init : goal.loop-at-init

@@ -1,7 +1,6 @@
-use Rattle.std.proofs.Common.{◌≡◌, ◌+◌, ◌∙◌, ◌<◌, ◌≢◌, ℕ, [], append-nil, sym, ap, arith, refl}
+use Rattle.std.proofs.Common.{◌≡◌, ◌+◌, ◌∙◌, ◌<◌, [], append-nil, sym, arith, refl}
 use Rattle.std.specs.Vec.{with_item}
-use Rattle.cv_byte_trie.specs.Tables.{node_at, edge_in}
-use Rattle.cv_byte_trie.specs.declared.node.Edge.{Edge}
+use Rattle.cv_byte_trie.specs.Tables.{node_at}
 use Rattle.cv_byte_trie.specs.declared.node.Node.TheVariants.{One, Few}
 use Rattle.cv_byte_trie.specs.declared.steps.Steps.{Steps}
 use Rattle.cv_byte_trie.proofs.Edges.{node_read, edge_none}

@@ -232,7 +232,7 @@ fn units_in(form: AsciiForm, room: usize) -> usize
 /// Writes the run that stands at the front in a form in another, as far as there is room, and answers how many units it has.
 /// It may be none where the run is shorter than a block.
 #[inline(always)]
-pub fn take_run<R: Repertoire>(
+pub(crate) fn take_run<R: Repertoire>(
     form: AsciiForm,
     target: AsciiForm,
     rest: &[u8],

@@ -8,7 +8,7 @@ use crate::ascii_bytes::is_ascii_block;
 use crate::spelling::MANY;
 
 /// The characters below a limit.
-pub trait Repertoire {
+pub(crate) trait Repertoire {
     ghost limit: { ℕ };
 
     /// Below which number they are. Each is one byte.
@@ -40,7 +40,7 @@ pub trait Repertoire {
 }
 
 /// The characters of US-ASCII.
-pub struct OfAscii;
+pub(crate) struct OfAscii;
 
 impl Repertoire for OfAscii {
     ghost limit = { 128 };
@@ -70,7 +70,7 @@ impl Repertoire for OfAscii {
 }
 
 /// The characters of ISO-8859-1, which are all bytes.
-pub struct OfLatin;
+pub(crate) struct OfLatin;
 
 impl Repertoire for OfLatin {
     ghost limit = { 0x100 };

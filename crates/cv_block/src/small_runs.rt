@@ -1,0 +1,63 @@
+//! Runs of ASCII, and of all characters below 256.
+ghost use Rattle.std.specs.Prelude.{◌≡◌, ◌≤◌, ◌+◌, ◌*◌, ◌++◌, length, take, drop};
+ghost use Rattle.cv_base.specs.Units.{unit_size};
+ghost use Rattle.cv_block.specs.AsciiRuns.{IsRunBelow, characters_in, units_of};
+
+use crate::ascii_runs::take_run;
+use crate::repertoire::{OfAscii, OfLatin};
+use cv_base::{AsciiForm, Endian};
+
+/// Writes the run of ASCII that stands at the front, as `take_run`.
+#[inline(always)]
+pub fn take_ascii_run(
+    form: AsciiForm,
+    target: AsciiForm,
+    rest: &[u8],
+    out: &mut [u8],
+    at: usize,
+) -> usize
+    requires { at ≤ length out.old }
+    ensures stand { unit_size form * result ≤ length rest.now }
+    ensures fit { at + unit_size target * result ≤ length out.old }
+    ensures small { IsRunBelow 128 form rest.now result }
+    ensures none { result ≡ 0 → out.new ≡ out.old }
+    ensures out { out.new
+        ≡ take at out.old ++ units_of target (characters_in form rest.now result)
+        ++ drop (at + unit_size target * result) out.old }
+{
+    take_run::<OfAscii>(form, target, rest, out, at)
+}
+
+/// Writes the run of characters below 256 that stands at the front, as `take_run`. It stands apart, so that loops around it stay small.
+#[inline(never)]
+pub fn take_latin_run(
+    form: AsciiForm,
+    target: AsciiForm,
+    rest: &[u8],
+    out: &mut [u8],
+    at: usize,
+) -> usize
+    requires { at ≤ length out.old }
+    ensures stand { unit_size form * result ≤ length rest.now }
+    ensures fit { at + unit_size target * result ≤ length out.old }
+    ensures small { IsRunBelow 256 form rest.now result }
+    ensures none { result ≡ 0 → out.new ≡ out.old }
+    ensures out { out.new
+        ≡ take at out.old ++ units_of target (characters_in form rest.now result)
+        ++ drop (at + unit_size target * result) out.old }
+{
+    take_run::<OfLatin>(form, target, rest, out, at)
+}
+
+/// Whether the first unit of a form may be below 256, by the byte that has the next bits. It decides speed alone.
+#[inline(always)]
+pub fn begins_latin(form: AsciiForm, rest: &[u8]) -> bool {
+    let beside = match form {
+        AsciiForm::Byte => return true,
+        AsciiForm::Two(Endian::Big) => 0,
+        AsciiForm::Two(Endian::Little) => 1,
+        AsciiForm::Four(Endian::Big) => 2,
+        AsciiForm::Four(Endian::Little) => 1,
+    };
+    beside < rest.len() && rest[beside] == 0
+}

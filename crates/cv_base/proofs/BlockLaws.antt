@@ -1,5 +1,5 @@
 -- Characters that were read by their bytes are a block.
-use Rattle.std.proofs.Common.{◌≡◌, ℕ, ◌≤◌, ◌<◌, suc, get_or, get_or-take, length-take, List, [], ◌∷◌, length, take, drop, refl, sym, ◌∙◌, ap, arith, Some, length-append, zero-add}
+use Rattle.std.proofs.Common.{◌≡◌, ℕ, ◌≤◌, ◌<◌, suc, get_or, get_or-take, length-take, List, [], ◌∷◌, length, take, drop, refl, sym, ◌∙◌, ap, arith, Some, length-append}
 use Rattle.std.specs.List.{flat_map}
 use Rattle.cv_base.specs.Items.{Taken, taken, ItemRelation, Begins}
 use Rattle.cv_base.specs.Chains.{IsChain, used_bytes, read_state, characters_of}

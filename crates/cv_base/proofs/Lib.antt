@@ -7,3 +7,4 @@ pub mod ReadBacks
 pub mod BlockLaws
 pub mod WrittenEach
 pub mod AllWritten
+pub mod NarrowSteps

@@ -1,11 +1,13 @@
 -- Blocks: characters that are read at once, and written at once. They serve speed: no contract of a conversion cites them.
-use Rattle.std.specs.Prelude.{◌≡◌, ℕ, ◌≤◌, List, take, length}
+use Rattle.std.specs.Prelude.{◌≡◌, ℕ, ◌≤◌, List, take, length, Option, Some, None}
 use Rattle.cv_base.specs.Items.{Taken, ItemRelation}
 use Rattle.cv_base.specs.Codecs.{Writing}
 use Rattle.cv_base.specs.Chains.{IsChain, used_bytes, read_state, characters_of, output_for}
 use Rattle.cv_base.specs.Places.{IsOutput}
+use Rattle.cv_base.specs.Policies.{Allows}
 use Rattle.cv_base.specs.declared.block.ReadBlock.{ReadBlock}
 use Rattle.cv_base.specs.declared.block.WrittenBlock.{WrittenBlock}
+use Rattle.cv_base.specs.declared.policy.Policy.{Policy}
 use Rattle.cv_base.specs.declared.state.ReadState.{ReadState}
 use Rattle.cv_base.specs.declared.state.WriteState.{WriteState}
 
@@ -18,11 +20,13 @@ pub record IsReadBlock (reads : ItemRelation) (s : ReadState) (text : List ℕ) 
   pub uses : block.used ≡ used_bytes chain
   pub next : block.next ≡ read_state s chain
 
--- An encoding has each of these characters: in no state does `?` stand for one.
-abbrev pub HasAll : Writing → List ℕ → Type 0
-HasAll writes characters = (t : WriteState) → (output_for writes t characters).count ≡ 0
-
 -- What is written for characters was put at a place.
 abbrev pub IsWrittenBlock : Writing → WriteState → List ℕ → List ℕ → ℕ → WrittenBlock → List ℕ → Type 0
 IsWrittenBlock writes t characters before at block after =
     IsOutput (output_for writes t characters) before at block.wrote block.count block.next after
+
+-- What came of writing characters at a place under a policy: a block that the policy allows, or nothing.
+abbrev pub MayWriteBlock : Policy → Writing → WriteState → List ℕ → List ℕ → ℕ → Option WrittenBlock → List ℕ → Type 0
+MayWriteBlock policy writes t characters before at None after = after ≡ before
+MayWriteBlock policy writes t characters before at (Some block) after =
+    Allows policy (output_for writes t characters) × IsWrittenBlock writes t characters before at block after

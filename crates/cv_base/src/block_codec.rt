@@ -1,9 +1,10 @@
 //! What an encoding offers for speed.
-ghost use Rattle.std.specs.Prelude.{◌≡◌, ◌≤◌, ◌+◌, ◌*◌, length, IsTrue};
-ghost use Rattle.cv_base.specs.Blocks.{HasAll, IsReadBlock, IsWrittenBlock};
+ghost use Rattle.std.specs.Prelude.{◌≡◌, ◌≤◌, ◌+◌, ◌*◌, length};
+ghost use Rattle.cv_base.specs.Blocks.{IsReadBlock, MayWriteBlock};
 
 use crate::block::{ReadBlock, WrittenBlock};
 use crate::codec::Codec;
+use crate::policy::Policy;
 use crate::scalar::Scalar;
 use crate::state::{ReadState, WriteState};
 
@@ -15,24 +16,19 @@ pub trait BlockCodec: Codec {
         ensures block { IsReadBlock (Self.reads self.now) state input.now result buffer.new }
         ensures size { length buffer.new ≡ length buffer.old };
 
-    /// Writes at most 64 characters at a place of a slice, or `?` for each that the encoding lacks. Bytes of the slice around them stay.
+    /// Writes at most 64 characters at a place of a slice, or `?` for each that the encoding lacks, where the policy allows it.
+    /// Bytes of the slice around them stay. It may write none also where the policy allows all: the characters are put one by
+    /// one then.
     fn write_block(
         &self,
+        policy: Policy,
         state: WriteState,
         characters: &[Scalar],
         out: &mut [u8],
         at: usize,
-    ) -> WrittenBlock
+    ) -> Option<WrittenBlock>
         requires few { length characters.now ≤ 64 }
         requires room { at + 8 * length characters.now ≤ length out.old }
-        ensures { IsWrittenBlock (Self.writes self.now) state characters.now
+        ensures { MayWriteBlock policy (Self.writes self.now) state characters.now
             out.old at result out.new };
-
-    /// Whether the encoding has all of these characters, in whatever state. It may say no where it can't tell at once: then the
-    /// characters are put one by one.
-    fn has_all(&self, _characters: &[Scalar]) -> bool
-        ensures { IsTrue result → HasAll (Self.writes self.now) _characters.now }
-    {
-        false
-    }
 }

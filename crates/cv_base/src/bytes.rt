@@ -2,12 +2,13 @@
 ghost use Rattle.std.specs.Prelude.{◌≡◌, ◌≤◌, ◌<◌, ◌+◌, [], ◌∷◌, ℕ, length, take, slice_index, Some, IsTrue};
 ghost use Rattle.cv_base.specs.Scalars.{question};
 ghost use Rattle.cv_base.specs.Chains.{output, written};
-ghost use Rattle.cv_base.specs.Blocks.{HasAll, IsReadBlock, IsWrittenBlock};
+ghost use Rattle.cv_base.specs.Blocks.{IsReadBlock, IsWrittenBlock, MayWriteBlock};
 ghost use Rattle.cv_base.specs.SingleBytes.{byte_reads, byte_writes};
 ghost use Rattle.cv_base.specs.declared.state.ReadState.{ReadState};
 ghost use Rattle.cv_base.specs.declared.state.WriteState.{WriteState};
 
 use crate::block::{ReadBlock, WrittenBlock};
+use crate::policy::Policy;
 use crate::scalar::Scalar;
 use crate::state::{ReadState, WriteState};
 
@@ -73,9 +74,43 @@ fn byte_of(limit: u32, c: Scalar) -> (u8, usize)
     }
 }
 
+/// Whether all characters are below a limit, which is a power of two. The bits of all are joined, so that the loop is done by
+/// blocks.
+#[inline(always)]
+fn are_below(limit: u32, characters: &[Scalar]) -> bool
+    ensures { IsTrue result → (k : ℕ) → k < length characters.now
+        → slice_index characters.now k < limit }
+{
+    let mut joined = 0;
+    for k in 0..characters.len() {
+        joined |= characters[k].value();
+    }
+    joined < limit
+}
+
+/// Writes characters that are all below a limit. None is tested, so that the loop is done by blocks.
+#[inline(always)]
+fn narrow(_limit: u32, characters: &[Scalar], out: &mut [u8], at: usize) -> WrittenBlock
+    requires below { (k : ℕ) → k < length characters.now → slice_index characters.now k < _limit }
+    requires to { _limit ≤ 256 }
+    requires room { at + length characters.now ≤ length out.old }
+    ensures block { IsWrittenBlock (byte_writes _limit) WriteState.Start characters.now
+        out.old at result out.new }
+    ensures all { result.count ≡ 0 }
+{
+    for k in 0..characters.len() {
+        out[at + k] = characters[k].value() as u8;
+    }
+    WrittenBlock {
+        wrote: characters.len(),
+        count: 0,
+        next: WriteState::Start,
+    }
+}
+
 /// Writes characters below a limit, and `?` for others. Bytes of the slice around them stay.
 #[inline(always)]
-pub(crate) fn write_bytes(
+fn narrow_or_substitute(
     limit: u32,
     characters: &[Scalar],
     out: &mut [u8],
@@ -100,15 +135,26 @@ pub(crate) fn write_bytes(
     }
 }
 
-/// Whether all characters are below a limit, which is a power of two. The bits of all are joined, so that the loop is done by
-/// blocks.
+/// Writes characters below a limit, and what the policy says for others. Bytes of the slice around them stay.
 #[inline(always)]
-pub(crate) fn are_below(limit: u32, characters: &[Scalar]) -> bool
-    ensures { IsTrue result → HasAll (byte_writes limit) characters.now }
+pub(crate) fn write_bytes(
+    limit: u32,
+    policy: Policy,
+    characters: &[Scalar],
+    out: &mut [u8],
+    at: usize,
+) -> Option<WrittenBlock>
+    requires room { at + length characters.now ≤ length out.old }
+    requires from { question < limit }
+    requires to { limit ≤ 256 }
+    ensures { MayWriteBlock policy (byte_writes limit) WriteState.Start characters.now
+        out.old at result out.new }
 {
-    let mut joined = 0;
-    for k in 0..characters.len() {
-        joined |= characters[k].value();
+    if are_below(limit, characters) {
+        return Some(narrow(limit, characters, out, at));
     }
-    joined < limit
+    match policy {
+        Policy::Substitute => Some(narrow_or_substitute(limit, characters, out, at)),
+        Policy::Strict => None,
+    }
 }

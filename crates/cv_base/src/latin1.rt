@@ -5,12 +5,13 @@ ghost use Rattle.cv_base.specs.SingleBytes.{byte_reads, byte_writes};
 use crate::ascii_form::AsciiForm;
 use crate::block::{ReadBlock, WrittenBlock};
 use crate::block_codec::BlockCodec;
-use crate::bytes::{are_below, read_bytes, write_bytes};
+use crate::bytes::{read_bytes, write_bytes};
 use crate::codec::Codec;
 use crate::item::Item;
 use crate::piece::Piece;
 use crate::place::{Put, write_slice};
 use crate::placing::write_each;
+use crate::policy::Policy;
 use crate::scalar::Scalar;
 use crate::state::{ReadState, WriteState};
 
@@ -88,18 +89,16 @@ impl BlockCodec for Latin1 {
 
     fn write_block(
         &self,
+        policy: Policy,
         state: WriteState,
         characters: &[Scalar],
         out: &mut [u8],
         at: usize,
-    ) -> WrittenBlock {
-        match state {
-            WriteState::Start => write_bytes(256, characters, out, at),
-            _ => write_each(self, state, characters, out, at),
+    ) -> Option<WrittenBlock> {
+        match (state, policy) {
+            (WriteState::Start, _) => write_bytes(256, policy, characters, out, at),
+            (_, Policy::Substitute) => Some(write_each(self, state, characters, out, at)),
+            (_, Policy::Strict) => None,
         }
-    }
-
-    fn has_all(&self, characters: &[Scalar]) -> bool {
-        are_below(256, characters)
     }
 }

@@ -1,4 +1,7 @@
 //! What becomes of characters that a target lacks.
+ghost use Rattle.std.specs.Prelude.{◌≡◌, ◌↔◌, IsTrue};
+ghost use Rattle.cv_base.specs.Chains.{Output};
+ghost use Rattle.cv_base.specs.Policies.{Allows};
 
 /// What a conversion does where the target lacks a character (POSIX `iconv()` leaves it to the implementation).
 #[derive(Clone, Copy, Debug, PartialEq, Eq)]
@@ -7,4 +10,17 @@ pub enum Policy {
     Substitute,
     /// It stops in front of the character, and writes nothing for it.
     Strict,
+}
+
+impl Policy {
+    /// Whether it allows an output in which `?` stands for so many characters.
+    #[inline]
+    pub fn allows(self, count: usize) -> bool
+        ensures { (o : Output) → o.count ≡ count → (IsTrue result ↔ Allows self o) }
+    {
+        match self {
+            Policy::Substitute => true,
+            Policy::Strict => count == 0,
+        }
+    }
 }

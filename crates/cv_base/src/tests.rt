@@ -55,13 +55,22 @@ fn blocks_are_read_and_written(rt: HostRuntime) -> Result<(), Fail> {
             assert_eq!(rt; put.is_some(), c.value() < 128, "{text:?}");
         }
         let mut out = [0; 65];
-        let wrote = Ascii.write_block(WriteState::Start, characters, &mut out, 1);
+        let wrote = Ascii.write_block(
+            Policy::Substitute,
+            WriteState::Start,
+            characters,
+            &mut out,
+            1,
+        );
+        let wrote = wrote.ok_or("no block")?;
         assert_eq!(rt; wrote.count, lacking, "{text:?}");
         assert_eq!(rt; &out[1..1 + wrote.wrote], spelled);
-        assert_eq!(rt; Ascii.has_all(characters), lacking == 0, "{text:?}");
-        let wrote = Latin1.write_block(WriteState::Start, characters, &mut out, 1);
+        let strict = Ascii.write_block(Policy::Strict, WriteState::Start, characters, &mut out, 1);
+        assert_eq!(rt; strict.is_some(), lacking == 0, "{text:?}");
+        let wrote = Latin1.write_block(Policy::Strict, WriteState::Start, characters, &mut out, 1);
+        let wrote = wrote.ok_or("no block")?;
+        assert_eq!(rt; wrote.count, 0, "{text:?}");
         assert_eq!(rt; &out[1..1 + wrote.wrote], text);
-        assert!(rt; Latin1.has_all(characters), "{text:?}");
     }
     Ok(())
 }

@@ -1,14 +1,9 @@
 -- What a policy allows, part by part.
-use Rattle.std.proofs.Common.{◌≡◌, arith}
+use Rattle.std.proofs.Common.{arith}
 use Rattle.cv_base.specs.declared.policy.Policy.{Policy}
 use Rattle.cv_base.specs.declared.policy.Policy.TheVariants.{Substitute, Strict}
 use Rattle.cv_base.specs.Chains.{Output, followed}
 use Rattle.cv_base.specs.Policies.{Allows}
-
--- an output in which `?` stands for no character is allowed
-pub none_allowed : (policy : Policy) (o : Output) → o.count ≡ 0 → Allows policy o
-none_allowed Substitute o e = tt
-none_allowed Strict o e = e
 
 -- outputs that are allowed are allowed one after the other
 pub followed_allowed : (policy : Policy) (a b : Output) → Allows policy a → Allows policy b → Allows policy (followed a b)

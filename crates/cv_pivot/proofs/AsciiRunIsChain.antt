@@ -14,7 +14,7 @@ use Rattle.cv_pivot.specs.declared.outcome.States.{States}
 use Rattle.cv_base.specs.Chains.{IsChain, used_bytes, read_state, Output, output, output_of}
 use Rattle.cv_block.specs.AsciiRuns.{AreAscii, units_of, IsAsciiRun, characters_in}
 use Rattle.cv_pivot.specs.Private.Steps.{TakesSome}
-use Rattle.cv_pivot.proofs.Allowed.{none_allowed}
+use Rattle.cv_base.proofs.AllWritten.{none_allowed}
 use Rattle.cv_block.proofs.UnitBytes.{length-unit_of, some_bytes}
 use Rattle.cv_block.proofs.AsciiRuns.{length-run, run_is_ascii, run_begins}
 

@@ -3,8 +3,8 @@ ghost use Rattle.std.specs.Prelude.{◌≡◌};
 ghost use Rattle.cv_pivot.specs.Encodings.{builtin_of, encoding_reads, encoding_writes, encoding_closes};
 
 use cv_base::{
-    Ascii, AsciiForm, BlockCodec, Codec, Item, Latin1, Piece, Put, ReadBlock, ReadState, Scalar,
-    WriteState, WrittenBlock, same_name,
+    Ascii, AsciiForm, BlockCodec, Codec, Item, Latin1, Piece, Policy, Put, ReadBlock, ReadState,
+    Scalar, WriteState, WrittenBlock, same_name,
 };
 use cv_utf::{Order, Utf8, Utf16, Utf32};
 use cv_utf7::Utf7;
@@ -148,29 +148,19 @@ impl BlockCodec for Encoding {
 
     fn write_block(
         &self,
+        policy: Policy,
         state: WriteState,
         characters: &[Scalar],
         out: &mut [u8],
         at: usize,
-    ) -> WrittenBlock {
+    ) -> Option<WrittenBlock> {
         match self {
-            Encoding::Ascii => Ascii.write_block(state, characters, out, at),
-            Encoding::Latin1 => Latin1.write_block(state, characters, out, at),
-            Encoding::Utf8 => Utf8.write_block(state, characters, out, at),
-            Encoding::Utf16(order) => Utf16(*order).write_block(state, characters, out, at),
-            Encoding::Utf32(order) => Utf32(*order).write_block(state, characters, out, at),
-            Encoding::Utf7 => Utf7.write_block(state, characters, out, at),
-        }
-    }
-
-    fn has_all(&self, characters: &[Scalar]) -> bool {
-        match self {
-            Encoding::Ascii => Ascii.has_all(characters),
-            Encoding::Latin1 => Latin1.has_all(characters),
-            Encoding::Utf8 => Utf8.has_all(characters),
-            Encoding::Utf16(order) => Utf16(*order).has_all(characters),
-            Encoding::Utf32(order) => Utf32(*order).has_all(characters),
-            Encoding::Utf7 => Utf7.has_all(characters),
+            Encoding::Ascii => Ascii.write_block(policy, state, characters, out, at),
+            Encoding::Latin1 => Latin1.write_block(policy, state, characters, out, at),
+            Encoding::Utf8 => Utf8.write_block(policy, state, characters, out, at),
+            Encoding::Utf16(order) => Utf16(*order).write_block(policy, state, characters, out, at),
+            Encoding::Utf32(order) => Utf32(*order).write_block(policy, state, characters, out, at),
+            Encoding::Utf7 => Utf7.write_block(policy, state, characters, out, at),
         }
     }
 }

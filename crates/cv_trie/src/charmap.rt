@@ -10,7 +10,7 @@ use crate::pages::Pages;
 use crate::reading::read_front;
 use crate::writing::{put_character, write_run};
 use cv_base::{
-    AsciiForm, BlockCodec, Codec, Item, Memory, Piece, Put, ReadBlock, ReadState, Scalar,
+    AsciiForm, BlockCodec, Codec, Item, Memory, Piece, Policy, Put, ReadBlock, ReadState, Scalar,
     WriteState, WrittenBlock, write_each,
 };
 use cv_byte_trie::ByteTrie;
@@ -136,14 +136,23 @@ impl BlockCodec for Charmap {
 
     fn write_block(
         &self,
+        policy: Policy,
         state: WriteState,
         characters: &[Scalar],
         out: &mut [u8],
         at: usize,
-    ) -> WrittenBlock {
-        match state {
-            WriteState::Start => write_run(&self.pages, self.trie.entries(), characters, out, at),
-            _ => write_each(self, state, characters, out, at),
+    ) -> Option<WrittenBlock> {
+        match (state, policy) {
+            (WriteState::Start, _) => write_run(
+                &self.pages,
+                self.trie.entries(),
+                policy,
+                characters,
+                out,
+                at,
+            ),
+            (_, Policy::Substitute) => Some(write_each(self, state, characters, out, at)),
+            (_, Policy::Strict) => None,
         }
     }
 }

@@ -1,6 +1,6 @@
 //! Small charmaps, read and written item by item and by blocks.
 use super::*;
-use cv_base::{BlockCodec, Codec, Item, ReadState, Scalar, WriteState};
+use cv_base::{BlockCodec, Codec, Item, Policy, ReadState, Scalar, WriteState};
 use cv_charmap::read;
 use std::alloc::Global;
 use std::test::Fail;
@@ -123,13 +123,34 @@ fn blocks_are_written(rt: HostRuntime) -> Result<(), Fail> {
     let map = compiled(rt.alloc(), MIXED)?;
     let characters = [scalar(0x4E00)?, scalar(0x41)?, scalar(0x1_FFFE)?];
     let mut out = [0x2D; 32];
-    let block = map.write_block(WriteState::Start, &characters, &mut out, 1);
+    let strict = map.write_block(Policy::Strict, WriteState::Start, &characters, &mut out, 1);
+    assert_eq!(rt; strict, None);
+    assert!(rt; out == [0x2D; 32]);
+    let block = map.write_block(
+        Policy::Substitute,
+        WriteState::Start,
+        &characters,
+        &mut out,
+        1,
+    );
+    let block = block.ok_or("no block")?;
     assert_eq!(rt;
         (block.wrote, block.count, block.next),
         (6, 1, WriteState::Start)
     );
     assert!(rt; out.get(..8) == Some(b"-\x81\x40\x6F\x00\xFF\xFE-".as_slice()));
-    let again = map.write_block(WriteState::Marked, &characters, &mut out, 2);
+    let again = map.write_block(
+        Policy::Substitute,
+        WriteState::Marked,
+        &characters,
+        &mut out,
+        2,
+    );
+    let again = again.ok_or("no block")?;
     assert_eq!(rt; (again.wrote, again.count), (6, 1));
+    let had = [characters[0], characters[2]];
+    let whole = map.write_block(Policy::Strict, WriteState::Start, &had, &mut out, 3);
+    let whole = whole.ok_or("no block")?;
+    assert_eq!(rt; (whole.wrote, whole.count), (5, 0));
     Ok(())
 }

@@ -3,7 +3,7 @@ ghost use Rattle.std.specs.Prelude.{◌≡◌, ◌≢◌, ◌≤◌, ◌<◌, �
 ghost use Rattle.cv_base.specs.Scalars.{question};
 ghost use Rattle.cv_base.specs.Chains.{output, written};
 ghost use Rattle.cv_base.specs.Places.{IsPut, PutsAt};
-ghost use Rattle.cv_base.specs.Blocks.{IsWrittenBlock};
+ghost use Rattle.cv_base.specs.Blocks.{MayWriteBlock};
 ghost use Rattle.cv_base.specs.declared.state.WriteState.{WriteState};
 ghost use Rattle.cv_byte_trie.specs.Entries.{bytes_at};
 ghost use Rattle.cv_charmap.specs.Maps.{IsMap};
@@ -12,7 +12,7 @@ ghost use Rattle.cv_trie.specs.Private.Paging.{place_of, nowhere, AreFirst};
 ghost use Rattle.cv_trie.specs.Private.Fronts.{IsWrittenFront};
 
 use crate::pages::{NOWHERE, Pages};
-use cv_base::{Put, Scalar, WriteState, WrittenBlock};
+use cv_base::{Policy, Put, Scalar, WriteState, WrittenBlock};
 use cv_byte_trie::Entry;
 
 /// Puts bytes at a place.
@@ -110,28 +110,33 @@ fn write_front(
     (used, count)
 }
 
-/// Writes at most 64 characters at a place, or `?` for each that the charmap lacks. Bytes of the slice around them stay.
+/// Writes at most 64 characters at a place, or `?` for each that the charmap lacks, where the policy allows it. Bytes of the
+/// slice around them stay.
 #[inline(never)]
 pub(crate) fn write_run(
     pages: &Pages,
     entries: &[Entry],
+    policy: Policy,
     characters: &[Scalar],
     out: &mut [u8],
     at: usize,
-) -> WrittenBlock
+) -> Option<WrittenBlock>
     requires map { IsMap entries.now }
     requires names { AreFirst pages.now.tops.items pages.now.cells.items entries.now }
     requires few { length characters.now ≤ 64 }
     requires room { at + 8 * length characters.now ≤ length out.old }
-    ensures { IsWrittenBlock (map_writes entries.now) WriteState.Start characters.now
+    ensures { MayWriteBlock policy (map_writes entries.now) WriteState.Start characters.now
         out.old at result out.new }
 {
     let mut front = [0u8; 512];
     let (wrote, count) = write_front(pages, entries, characters, &mut front);
+    if !policy.allows(count) {
+        return None;
+    }
     put_bytes(out, at, &front[..wrote]);
-    WrittenBlock {
+    Some(WrittenBlock {
         wrote,
         count,
         next: WriteState::Start,
-    }
+    })
 }

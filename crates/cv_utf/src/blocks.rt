@@ -7,7 +7,7 @@ use crate::utf16_spelling::Utf16In;
 use crate::utf32::Utf32;
 use crate::utf32_spelling::Utf32In;
 use cv_base::{
-    BlockCodec, Endian, ReadBlock, ReadState, Scalar, WriteState, WrittenBlock, write_each,
+    BlockCodec, Endian, Policy, ReadBlock, ReadState, Scalar, WriteState, WrittenBlock, write_each,
 };
 use cv_block::{BigEndian, LittleEndian, read_spelled, write_spelled};
 
@@ -20,23 +20,19 @@ impl BlockCodec for Utf8 {
         }
     }
 
+    #[tactic(auto, using(crate::proofs::AllWritten::utf8_allowed))]
     fn write_block(
         &self,
+        _policy: Policy,
         state: WriteState,
         characters: &[Scalar],
         out: &mut [u8],
         at: usize,
-    ) -> WrittenBlock {
+    ) -> Option<WrittenBlock> {
         match state {
-            WriteState::Start => write_spelled::<Utf8Spelling>(state, characters, out, at),
-            _ => write_each(self, state, characters, out, at),
+            WriteState::Start => Some(write_spelled::<Utf8Spelling>(state, characters, out, at)),
+            _ => Some(write_each(self, state, characters, out, at)),
         }
-    }
-
-    #[inline]
-    #[tactic(auto, using(crate::proofs::AllWritten::utf8_has))]
-    fn has_all(&self, _characters: &[Scalar]) -> bool {
-        true
     }
 }
 
@@ -50,25 +46,24 @@ impl BlockCodec for Utf16 {
         }
     }
 
+    #[tactic(auto, using(crate::proofs::AllWritten::in_allowed))]
     fn write_block(
         &self,
+        _policy: Policy,
         state: WriteState,
         characters: &[Scalar],
         out: &mut [u8],
         at: usize,
-    ) -> WrittenBlock {
+    ) -> Option<WrittenBlock> {
         match self.0.kept_writing(state) {
-            Some(Endian::Big) => { write_spelled::<Utf16In<BigEndian>>(state, characters, out, at) }
-            Some(Endian::Little) => {
-                write_spelled::<Utf16In<LittleEndian>>(state, characters, out, at)
-            }
-            None => write_each(self, state, characters, out, at),
+            Some(Endian::Big) => Some(write_spelled::<Utf16In<BigEndian>>(
+                state, characters, out, at,
+            )),
+            Some(Endian::Little) => Some(write_spelled::<Utf16In<LittleEndian>>(
+                state, characters, out, at,
+            )),
+            None => Some(write_each(self, state, characters, out, at)),
         }
-    }
-
-    #[inline]
-    fn has_all(&self, _characters: &[Scalar]) -> bool {
-        true
     }
 }
 
@@ -82,24 +77,23 @@ impl BlockCodec for Utf32 {
         }
     }
 
+    #[tactic(auto, using(crate::proofs::AllWritten::in_allowed))]
     fn write_block(
         &self,
+        _policy: Policy,
         state: WriteState,
         characters: &[Scalar],
         out: &mut [u8],
         at: usize,
-    ) -> WrittenBlock {
+    ) -> Option<WrittenBlock> {
         match self.0.kept_writing(state) {
-            Some(Endian::Big) => { write_spelled::<Utf32In<BigEndian>>(state, characters, out, at) }
-            Some(Endian::Little) => {
-                write_spelled::<Utf32In<LittleEndian>>(state, characters, out, at)
-            }
-            None => write_each(self, state, characters, out, at),
+            Some(Endian::Big) => Some(write_spelled::<Utf32In<BigEndian>>(
+                state, characters, out, at,
+            )),
+            Some(Endian::Little) => Some(write_spelled::<Utf32In<LittleEndian>>(
+                state, characters, out, at,
+            )),
+            None => Some(write_each(self, state, characters, out, at)),
         }
-    }
-
-    #[inline]
-    fn has_all(&self, _characters: &[Scalar]) -> bool {
-        true
     }
 }

@@ -4,7 +4,7 @@ use crate::read_blocks::{read_on, read_one};
 use crate::utf7::Utf7;
 use crate::write_blocks::write_on;
 use crate::write_sequences::Reached;
-use cv_base::{BlockCodec, ReadBlock, ReadState, Scalar, WriteState, WrittenBlock};
+use cv_base::{BlockCodec, Policy, ReadBlock, ReadState, Scalar, WriteState, WrittenBlock};
 
 impl BlockCodec for Utf7 {
     fn read_block(&self, state: ReadState, input: &[u8], buffer: &mut [Scalar]) -> ReadBlock {
@@ -22,13 +22,15 @@ impl BlockCodec for Utf7 {
         }
     }
 
+    #[tactic(auto, using(crate::proofs::AllWritten::utf7_allowed))]
     fn write_block(
         &self,
+        _policy: Policy,
         state: WriteState,
         characters: &[Scalar],
         out: &mut [u8],
         at: usize,
-    ) -> WrittenBlock {
+    ) -> Option<WrittenBlock> {
         let mut reached = Reached {
             n: 0,
             end: at,
@@ -37,16 +39,10 @@ impl BlockCodec for Utf7 {
         while reached.n < characters.len() {
             reached = write_on(characters, reached, out);
         }
-        WrittenBlock {
+        Some(WrittenBlock {
             wrote: reached.end - at,
             count: 0,
             next: reached.next,
-        }
-    }
-
-    #[inline]
-    #[tactic(auto, using(crate::proofs::AllWritten::utf7_has))]
-    fn has_all(&self, _characters: &[Scalar]) -> bool {
-        true
+        })
     }
 }

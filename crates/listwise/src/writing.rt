@@ -1,7 +1,7 @@
 //! Characters that are written.
 
 use crate::forms::Form;
-use cv_base::{BlockCodec, Codec, Scalar, WriteState};
+use cv_base::{BlockCodec, Codec, Policy, Scalar, WriteState};
 use cv_trie::Charmap;
 use std::alloc::{AllocError, Global};
 
@@ -59,7 +59,29 @@ fn wanted(form: Form, firsts: &[u32]) -> ([u8; 512], usize, usize) {
     (bytes, end, lacking)
 }
 
-/// Whether a block of 64 characters is written as the list says.
+/// Whether a block of characters is written under a policy as the list says.
+fn is_written_under(
+    map: &Charmap,
+    policy: Policy,
+    characters: &[Scalar; 64],
+    form: Form,
+    firsts: &[u32],
+) -> bool {
+    let mut out = [0u8; 512];
+    let written = map.write_block(policy, WriteState::Start, characters, &mut out, 0);
+    let (bytes, end, lacking) = wanted(form, firsts);
+    match written {
+        Some(block) => {
+            policy.allows(lacking)
+                && block.wrote == end
+                && block.count == lacking
+                && out.get(..end) == bytes.get(..end)
+        }
+        None => !policy.allows(lacking),
+    }
+}
+
+/// Whether a block of 64 characters is written as the list says, under each policy.
 fn is_block_written(map: &Charmap, form: Form, top: u32, firsts: &[u32]) -> bool {
     let mut characters = [Scalar::substitute(); 64];
     for (k, character) in characters.iter_mut().enumerate() {
@@ -68,10 +90,8 @@ fn is_block_written(map: &Charmap, form: Form, top: u32, firsts: &[u32]) -> bool
         };
         *character = scalar;
     }
-    let mut out = [0u8; 512];
-    let block = map.write_block(WriteState::Start, &characters, &mut out, 0);
-    let (bytes, end, lacking) = wanted(form, firsts);
-    block.wrote == end && block.count == lacking && out.get(..end) == bytes.get(..end)
+    is_written_under(map, Policy::Substitute, &characters, form, firsts)
+        && is_written_under(map, Policy::Strict, &characters, form, firsts)
 }
 
 /// How many blocks of 64 numbers are written as the list says. Those of surrogates count, too.

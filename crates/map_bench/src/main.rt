@@ -2,7 +2,7 @@
 //! nanoseconds of building and how many pairs there are, and those of reading and of writing half a million characters of the map by chance.
 #![tactic(auto)]
 
-use cv_base::{BlockCodec, ReadState, Scalar, WriteState};
+use cv_base::{BlockCodec, Policy, ReadState, Scalar, WriteState};
 use cv_charmap::{CompileFault, Pairs, read};
 use cv_trie::Charmap;
 use std::alloc::{AllocError, Global};
@@ -64,8 +64,8 @@ fn write_all(map: &Charmap, characters: &[Scalar]) -> usize {
         for (place, character) in block.iter_mut().zip(chunk) {
             *place = *character;
         }
-        let written = map.write_block(WriteState::Start, &block, &mut out, 0);
-        count = count.saturating_add(written.wrote);
+        let written = map.write_block(Policy::Substitute, WriteState::Start, &block, &mut out, 0);
+        count = count.saturating_add(written.map_or(0, |block| block.wrote));
     }
     count
 }

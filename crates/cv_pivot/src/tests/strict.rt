@@ -1,7 +1,7 @@
 //! Conversions under the strict policy, against bytes from outside.
 use super::{Call, all_answer};
 use crate::{Conversion, Outcome, Stop, builtin};
-use cv_base::{BlockCodec, Policy, Scalar};
+use cv_base::{BlockCodec, Policy, Scalar, WriteState};
 use std::alloc::{AllocError, Global};
 use std::test::Fail;
 
@@ -73,38 +73,36 @@ fn marks_and_shifts_in_front_are_used(rt: HostRuntime) {
     }
 }
 
+/// How many bytes an encoding writes for characters at once under the strict policy, if it writes them.
+fn strict_block(name: &[u8], characters: &[Scalar; 3]) -> Result<Option<usize>, Fail> {
+    let encoding = builtin(name).ok_or("no such encoding")?;
+    let mut out = [0; 64];
+    let block = encoding.write_block(Policy::Strict, WriteState::Start, characters, &mut out, 1);
+    Ok(block.map(|written| written.wrote))
+}
+
 #[test]
-fn encodings_know_what_they_have(rt: HostRuntime) -> Result<(), Fail> {
+fn encodings_write_the_blocks_that_they_have(rt: HostRuntime) -> Result<(), Fail> {
     let letter = Scalar::new(0x41).ok_or("no A")?;
-    let rows: [(&[u8], u32, bool); 6] = [
-        (b"US-ASCII", 0x7f, true),
-        (b"US-ASCII", 0x80, false),
-        (b"ISO-8859-1", 0xff, true),
-        (b"ISO-8859-1", 0x100, false),
-        (b"ISO-8859-1", 0x1_0000, false),
-        (b"UTF-8", 0x10_ffff, true),
+    let rows: [(&[u8], u32, Option<usize>); 13] = [
+        (b"US-ASCII", 0x7f, Some(3)),
+        (b"US-ASCII", 0x80, None),
+        (b"ISO-8859-1", 0xff, Some(3)),
+        (b"ISO-8859-1", 0x100, None),
+        (b"ISO-8859-1", 0x1_0000, None),
+        (b"UTF-8", 0x10_ffff, Some(6)),
+        (b"UTF-16", 0x41, Some(8)),
+        (b"UTF-16BE", 0x41, Some(6)),
+        (b"UTF-16LE", 0x10_ffff, Some(8)),
+        (b"UTF-32", 0x41, Some(16)),
+        (b"UTF-32BE", 0x41, Some(12)),
+        (b"UTF-32LE", 0x10_ffff, Some(12)),
+        (b"UTF-7", 0x41, Some(3)),
     ];
-    for (name, number, has) in rows {
-        let encoding = builtin(name).ok_or("no such encoding")?;
+    for (name, number, want) in rows {
         let other = Scalar::new(number).ok_or("no such character")?;
-        assert_eq!(rt;
-            encoding.has_all(&[letter, other, letter]),
-            has,
-            "{name:?} {number}"
-        );
-    }
-    let wide: [&[u8]; 7] = [
-        b"UTF-16",
-        b"UTF-16BE",
-        b"UTF-16LE",
-        b"UTF-32",
-        b"UTF-32BE",
-        b"UTF-32LE",
-        b"UTF-7",
-    ];
-    for name in wide {
-        let encoding = builtin(name).ok_or("no such encoding")?;
-        assert!(rt; encoding.has_all(&[letter; 64]), "{name:?}");
+        let wrote = strict_block(name, &[letter, other, letter])?;
+        assert_eq!(rt; wrote, want, "{name:?} {number}");
     }
     Ok(())
 }

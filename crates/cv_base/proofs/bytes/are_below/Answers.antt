@@ -1,5 +1,5 @@
 use Rattle.std.proofs.Common.{◌<◌, arith, ltb-true}
-use Rattle.cv_base.proofs.AllWritten.{joined_more, below_written}
+use Rattle.cv_base.proofs.AllWritten.{joined_more}
 use Rattle.cv_base.proofs.bytes.are_below.Goals as goal
 
 pub loop-k-preserved : goal.loop-k-preserved
@@ -8,4 +8,4 @@ loop-k-preserved c = rw c.value-joined.ensures.number (joined_more c.args.charac
 pub returns : goal.returns
 returns c t =
     let small : c.loop-k.joined < c.args.limit = ltb-true c.loop-k.joined c.args.limit t in
-    below_written c.args.limit c.args.characters.now (λ j h. omega (arith, c.loop-k.invariant j (omega arith)))
+    λ j h. omega (arith, c.loop-k.invariant j (omega arith))

@@ -4,10 +4,14 @@ use Rattle.cv_block.proofs.SpelledBlocks.{spelled_written}
 use Rattle.cv_utf.specs.Orders.{writes_in}
 use Rattle.cv_utf.specs.Private.Kept.{KeepsWriting}
 use Rattle.cv_utf.specs.Utf16.{utf16}
+use Rattle.cv_utf.proofs.AllWritten.{in_allowed}
 use Rattle.cv_utf.proofs.blocks.Utf16BlockCodec.write_block.Goals as goal
 
 pub returns-in-Some-Big : goal.returns-in-Some-Big
-returns-in-Some-Big c = spelled_written (writes_in utf16 c.args.self.now.0) _ _ (subst (λ (e : Endian). KeepsWriting c.args.self.now.0 c.args.state e) c.in-Some-Big.field-0-is c.in-Some-Big.ensures utf16) c.args.characters.now c.args.out.now c.args.at _ _ c.write_spelled.ensures
+returns-in-Some-Big c = (in_allowed utf16 c.args.self.now.0 c.args._policy c.args.state c.args.characters.now, spelled_written (writes_in utf16 c.args.self.now.0) _ _ (subst (λ (e : Endian). KeepsWriting c.args.self.now.0 c.args.state e) c.in-Some-Big.field-0-is c.in-Some-Big.ensures utf16) c.args.characters.now c.args.out.now c.args.at _ _ c.write_spelled.ensures)
 
 pub returns-in-Some-Little : goal.returns-in-Some-Little
-returns-in-Some-Little c = spelled_written (writes_in utf16 c.args.self.now.0) _ _ (subst (λ (e : Endian). KeepsWriting c.args.self.now.0 c.args.state e) c.in-Some-Little.field-0-is c.in-Some-Little.ensures utf16) c.args.characters.now c.args.out.now c.args.at _ _ c.write_spelled-in-Some-Little.ensures
+returns-in-Some-Little c = (in_allowed utf16 c.args.self.now.0 c.args._policy c.args.state c.args.characters.now, spelled_written (writes_in utf16 c.args.self.now.0) _ _ (subst (λ (e : Endian). KeepsWriting c.args.self.now.0 c.args.state e) c.in-Some-Little.field-0-is c.in-Some-Little.ensures utf16) c.args.characters.now c.args.out.now c.args.at _ _ c.write_spelled-in-Some-Little.ensures)
+
+pub returns-in-None : goal.returns-in-None
+returns-in-None c = (in_allowed utf16 c.args.self.now.0 c.args._policy c.args.state c.args.characters.now, c.write_each.ensures)

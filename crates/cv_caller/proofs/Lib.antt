@@ -1,3 +1,4 @@
 pub mod Standing
 pub mod Stored
 pub mod Emptiness
+pub mod Finding

@@ -22,16 +22,21 @@ fn policy(word: &str) -> Option<Policy> {
     }
 }
 
+fn size(word: &str) -> Option<usize> {
+    usize::try_from(number(word)?).ok()
+}
+
 fn asked<'a>(words: &[&'a str]) -> Option<Asked<'a>> {
-    let [_, to, from, call, rounds, how] = words else {
+    let [_, to, from, call, rounds, how, charmap] = words else {
         return None;
     };
     Some(Asked {
         to,
         from,
         policy: policy(how)?,
-        call: usize::try_from(number(call)?).ok()?,
+        call: size(call)?,
         rounds: number(rounds)?,
+        charmap: size(charmap)?,
     })
 }
 
@@ -45,7 +50,7 @@ fn bench<R: Env + Clock + Input + Print + AllocGlobal>(rt: &R) -> io::Result<()>
     let words = words_of(alloc, &owned)?;
     let Some(asked) = asked(&words) else {
         return println!(rt;
-            "bench TO FROM CALL ROUNDS substitute|strict: the text on standard input"
+            "bench TO FROM CALL ROUNDS substitute|strict SIZE: on standard input SIZE bytes of a charmap, which TO or FROM 'charmap' is, and the text"
         );
     };
     match measure(rt, &asked)? {

@@ -1,11 +1,14 @@
 //! Converting a text over and over.
 
 use cv_base::Policy;
-use cv_pivot::{Conversion, builtin};
+use cv_charmap::{CompileFault, read};
+use cv_pivot::{Conversion, Encoding, builtin};
+use cv_trie::Charmap;
 use std::alloc::Global;
 use std::io;
 use std::io::Read;
 use std::rt::Clock;
+use std::sync::Arc;
 use std::time::Instant;
 
 /// What is to be measured.
@@ -18,6 +21,27 @@ pub struct Asked<'a> {
     pub call: usize,
     /// How often the text is converted.
     pub rounds: u64,
+    /// How many bytes of standard input are the text of a charmap, in front of the text that is converted.
+    pub charmap: usize,
+}
+
+/// The encoding of a name: `charmap` is that of a charmap's text, and others are built in.
+fn encoding(alloc: Global, name: &str, charmap: &[u8]) -> io::Result<Option<Encoding>> {
+    if name != "charmap" {
+        return Ok(builtin(name.as_bytes()));
+    }
+    let pairs = match read(alloc, charmap) {
+        Ok(pairs) => pairs,
+        Err(CompileFault::Map(_)) => return Ok(None),
+        Err(CompileFault::Memory) => return Err(io::ErrorKind::OutOfMemory.into()),
+    };
+    let Ok(map) = Charmap::build(alloc, pairs) else {
+        return Err(io::ErrorKind::OutOfMemory.into());
+    };
+    match Arc::new(alloc, map) {
+        Ok(shared) => Ok(Some(Encoding::Charmap(shared))),
+        Err(_) => Err(io::ErrorKind::OutOfMemory.into()),
+    }
 }
 
 /// The part of a text that a call is given.
@@ -51,18 +75,21 @@ pub fn measure<R: Clock + Input + AllocGlobal>(
     rt: &R,
     asked: &Asked<'_>,
 ) -> io::Result<Option<u128>> {
-    let (Some(to), Some(from)) = (builtin(asked.to.as_bytes()), builtin(asked.from.as_bytes()))
-    else {
+    let alloc = rt.alloc();
+    let input = read_text(rt, alloc)?;
+    let charmap = input.get(..asked.charmap).unwrap_or(&[]);
+    let text = input.get(asked.charmap..).unwrap_or(&[]);
+    let to = encoding(alloc, asked.to, charmap)?;
+    let from = encoding(alloc, asked.from, charmap)?;
+    let (Some(to), Some(from)) = (to, from) else {
         return Ok(None);
     };
-    let alloc = rt.alloc();
-    let text = read_text(rt, alloc)?;
     let mut out = vec![in alloc; 0u8; asked.call.saturating_mul(8)]?;
     let mut fastest = u128::MAX;
     for _round in 0..asked.rounds {
-        let mut conversion = Conversion::new(to, from, asked.policy);
+        let mut conversion = Conversion::new(to.clone()?, from.clone()?, asked.policy);
         let start = Instant::now(rt)?;
-        convert_all(&mut conversion, &text, asked.call, &mut out);
+        convert_all(&mut conversion, text, asked.call, &mut out);
         fastest = fastest.min(start.elapsed(rt)?.as_nanos());
     }
     Ok(Some(fastest))

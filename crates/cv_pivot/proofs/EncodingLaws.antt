@@ -9,24 +9,31 @@ use Rattle.cv_utf.proofs.Utf16Form.{utf16_is_form}
 use Rattle.cv_utf.specs.Utf32.{utf32}
 use Rattle.cv_utf.proofs.Utf32Form.{utf32_is_form}
 use Rattle.cv_utf7.proofs.OneItem.{utf7_readable, utf7_substitutable}
-use Rattle.cv_pivot.specs.declared.encoding.Encoding.{Encoding}
-use Rattle.cv_pivot.specs.declared.encoding.Encoding.TheVariants.{Ascii, Latin1, Utf8, Utf16, Utf32, Utf7}
-use Rattle.cv_pivot.specs.Encodings.{encoding_reads, encoding_writes}
+use Rattle.cv_trie.proofs.MapLaws.{map_readable, map_substitutes}
+use Rattle.cv_pivot.specs.Encodings.{Builtin, Ascii, Latin1, Utf8, Utf16, Utf32, Utf7, Form, Own, Mapped, IsForm, builtin_reads, builtin_writes, form_reads, form_writes}
+
+builtin_readable : (builtin : Builtin) → IsReadable (builtin_reads builtin)
+builtin_readable Ascii = byte_readable 128
+builtin_readable Latin1 = byte_readable 256
+builtin_readable Utf8 = utf8_readable
+builtin_readable (Utf16 order) = in_readable utf16 utf16_is_form order
+builtin_readable (Utf32 order) = in_readable utf32 utf32_is_form order
+builtin_readable Utf7 = utf7_readable
+
+builtin_substitutable : (builtin : Builtin) → CanSubstitute (builtin_writes builtin)
+builtin_substitutable Ascii t = refl
+builtin_substitutable Latin1 t = refl
+builtin_substitutable Utf8 t = refl
+builtin_substitutable (Utf16 order) t = in_substitutable utf16 order t
+builtin_substitutable (Utf32 order) t = in_substitutable utf32 order t
+builtin_substitutable Utf7 t = utf7_substitutable t
 
 -- each encoding is readable
-pub encoding_readable : (encoding : Encoding) → IsReadable (encoding_reads encoding)
-encoding_readable Ascii = byte_readable 128
-encoding_readable Latin1 = byte_readable 256
-encoding_readable Utf8 = utf8_readable
-encoding_readable (Utf16 order) = in_readable utf16 utf16_is_form order
-encoding_readable (Utf32 order) = in_readable utf32 utf32_is_form order
-encoding_readable Utf7 = utf7_readable
+pub form_readable : (form : Form) → IsForm form → IsReadable (form_reads form)
+form_readable (Own builtin) is = builtin_readable builtin
+form_readable (Mapped pairs) is = map_readable pairs is
 
 -- each encoding can write `?`
-pub encoding_substitutable : (encoding : Encoding) → CanSubstitute (encoding_writes encoding)
-encoding_substitutable Ascii t = refl
-encoding_substitutable Latin1 t = refl
-encoding_substitutable Utf8 t = refl
-encoding_substitutable (Utf16 order) t = in_substitutable utf16 order t
-encoding_substitutable (Utf32 order) t = in_substitutable utf32 order t
-encoding_substitutable Utf7 t = utf7_substitutable t
+pub form_substitutable : (form : Form) → IsForm form → CanSubstitute (form_writes form)
+form_substitutable (Own builtin) is = builtin_substitutable builtin
+form_substitutable (Mapped pairs) is = map_substitutes pairs is

@@ -1,15 +1,15 @@
 //! One descriptor's conversion.
 ghost use Rattle.std.specs.Prelude.{◌≡◌, ◌≤◌, ◌<◌, ◌*◌, ◌^◌, [], length, IsErr};
 ghost use Rattle.cv_pivot.specs.Conversions.{Converts, IsMostOutput, start};
-ghost use Rattle.cv_pivot.specs.Encodings.{encoding_reads, encoding_writes, encoding_closes};
+ghost use Rattle.cv_pivot.specs.Encodings.{form_of, form_reads, form_writes, form_closes};
 
 use crate::convert::run;
 use crate::encoding::Encoding;
 use crate::outcome::{Outcome, States, TooBig};
-use cv_base::{Codec, Piece, Policy, ReadState, WriteState};
+use cv_base::{Codec, Piece, Policy};
 
 /// A conversion from one encoding to another, between two calls.
-#[derive(Clone, Copy, Debug, PartialEq, Eq)]
+#[derive(Drop)]
 pub struct Conversion {
     pub to: Encoding,
     pub from: Encoding,
@@ -26,17 +26,14 @@ impl Conversion {
             to,
             from,
             policy,
-            states: States {
-                reading: ReadState::Start,
-                writing: WriteState::Start,
-            },
+            states: States::start(),
         }
     }
 
     /// Converts the longest run of items whose bytes fit in `out`. A character that the target lacks is written as `?` and
     /// counted, or ends the run where the policy is strict. Bytes of `out` past the output stay.
     pub fn convert(&mut self, input: &[u8], out: &mut [u8]) -> Outcome
-        ensures converts { Converts (encoding_reads self.old.from) (encoding_writes self.old.to)
+        ensures converts { Converts (form_reads (form_of self.old.from)) (form_writes (form_of self.old.to))
             self.old.policy self.old.states input.now out.old result self.new.states out.new }
         ensures same { (self.new.from ≡ self.old.from) × (self.new.to ≡ self.old.to)
             × (self.new.policy ≡ self.old.policy) }
@@ -45,6 +42,7 @@ impl Conversion {
         ensures few { (result.left ≤ length input.now) × (result.count ≤ length input.now) × (result.room_left ≤ length out.old) }
         ensures size { length out.new ≡ length out.old }
     {
+        self.from.assert_valid();
         run(
             &self.from,
             &self.to,
@@ -58,7 +56,7 @@ impl Conversion {
     /// How many bytes so many bytes of input are written as at most.
     pub fn most_output(&self, len: usize) -> usize
         requires { 8 * len < 2 ^ 64 }
-        ensures { IsMostOutput (encoding_reads self.now.from) (encoding_writes self.now.to) len result }
+        ensures { IsMostOutput (form_reads (form_of self.now.from)) (form_writes (form_of self.now.to)) len result }
     {
         self.from.assert_valid();
         self.to.most_bytes() * len
@@ -69,9 +67,9 @@ impl Conversion {
     /// unchanged.
     pub fn reset(&mut self, room: usize) -> Result<Piece, TooBig>
         ensures gives_up { room ≡ 0 → (result ≡ Ok []) × (self.new ≡ record self.old { states = start }) }
-        ensures closes { 0 < room → length (encoding_closes self.old.to self.old.states.writing) ≤ room
-            → (result ≡ Ok (encoding_closes self.old.to self.old.states.writing)) × (self.new ≡ record self.old { states = start }) }
-        ensures too_big { 0 < room → room < length (encoding_closes self.old.to self.old.states.writing)
+        ensures closes { 0 < room → length (form_closes (form_of self.old.to) self.old.states.writing) ≤ room
+            → (result ≡ Ok (form_closes (form_of self.old.to) self.old.states.writing)) × (self.new ≡ record self.old { states = start }) }
+        ensures too_big { 0 < room → room < length (form_closes (form_of self.old.to) self.old.states.writing)
             → IsErr result × (self.new ≡ self.old) }
     {
         let closing = if room == 0 {
@@ -82,7 +80,7 @@ impl Conversion {
         if closing.as_slice().len() > room {
             return Err(TooBig);
         }
-        *self = Conversion::new(self.to, self.from, self.policy);
+        self.states = States::start();
         Ok(closing)
     }
 }

@@ -1,16 +1,19 @@
-//! The encodings that are built in.
-ghost use Rattle.std.specs.Prelude.{◌≡◌};
-ghost use Rattle.cv_pivot.specs.Encodings.{builtin_of, encoding_reads, encoding_writes, encoding_closes};
+//! The encodings: the built-in ones, and charmaps.
+ghost use Rattle.std.specs.Prelude.{◌≡◌, option_map};
+ghost use Rattle.cv_pivot.specs.Encodings.{builtin_of, encoding_of, form_of, form_reads, form_writes, form_closes, IsForm};
 
 use cv_base::{
     Ascii, AsciiForm, BlockCodec, Codec, Item, Latin1, Piece, Policy, Put, ReadBlock, ReadState,
     Scalar, WriteState, WrittenBlock, same_name,
 };
+use cv_trie::Charmap;
 use cv_utf::{Order, Utf8, Utf16, Utf32};
 use cv_utf7::Utf7;
+use std::alloc::AllocError;
+use std::sync::Arc;
 
 /// An encoding.
-#[derive(Clone, Copy, Debug, PartialEq, Eq)]
+#[derive(Drop)]
 pub enum Encoding {
     /// US-ASCII.
     Ascii,
@@ -24,12 +27,14 @@ pub enum Encoding {
     Utf32(Order),
     /// UTF-7.
     Utf7,
+    /// A charmap, which several encodings may share.
+    Charmap(Arc<Charmap>),
 }
 
 /// The built-in encoding of a name, in any case of its ASCII letters.
 #[tactic(auto, unfolding(crate::specs::Encodings::builtin_of))]
 pub fn builtin(name: &[u8]) -> Option<Encoding>
-    ensures { result ≡ builtin_of name.now }
+    ensures { result ≡ option_map encoding_of (builtin_of name.now) }
 {
     let encoding = if same_name(name, b"US-ASCII") {
         Encoding::Ascii
@@ -57,15 +62,46 @@ pub fn builtin(name: &[u8]) -> Option<Encoding>
     Some(encoding)
 }
 
+impl Clone for Encoding {
+    ghost is_clone = { λ encoding other. form_of other ≡ form_of encoding };
+
+    /// The same encoding again. It takes no memory, and fails only where a charmap has too many owners.
+    fn clone(&self) -> Result<Encoding, AllocError> {
+        match self {
+            Encoding::Ascii => Ok(Encoding::Ascii),
+            Encoding::Latin1 => Ok(Encoding::Latin1),
+            Encoding::Utf8 => Ok(Encoding::Utf8),
+            Encoding::Utf16(order) => Ok(Encoding::Utf16(*order)),
+            Encoding::Utf32(order) => Ok(Encoding::Utf32(*order)),
+            Encoding::Utf7 => Ok(Encoding::Utf7),
+            Encoding::Charmap(map) => Ok(Encoding::Charmap(map.clone()?)),
+        }
+    }
+}
+
+impl Encoding {
+    /// States that the list of a charmap is that of a charmap, for callers that need it. It does nothing.
+    pub fn assert_form(&self)
+        ensures { IsForm (form_of self.now) }
+    {
+        if let Encoding::Charmap(map) = self {
+            // What it ensures says so.
+            let _pairs = map.len();
+        }
+    }
+}
+
 impl Codec for Encoding {
-    ghost reads = { encoding_reads };
+    ghost reads = { λ e. form_reads (form_of e) };
 
-    ghost writes = { encoding_writes };
+    ghost writes = { λ e. form_writes (form_of e) };
 
-    ghost closes = { encoding_closes };
+    ghost closes = { λ e. form_closes (form_of e) };
 
-    #[tactic(auto, using(crate::proofs::EncodingLaws::encoding_readable, crate::proofs::EncodingLaws::encoding_substitutable))]
-    fn assert_valid(&self) {}
+    #[tactic(auto, using(crate::proofs::EncodingLaws::form_readable, crate::proofs::EncodingLaws::form_substitutable))]
+    fn assert_valid(&self) {
+        self.assert_form();
+    }
 
     fn item(&self, state: ReadState, input: &[u8]) -> Item {
         match self {
@@ -75,6 +111,7 @@ impl Codec for Encoding {
             Encoding::Utf16(order) => Utf16(*order).item(state, input),
             Encoding::Utf32(order) => Utf32(*order).item(state, input),
             Encoding::Utf7 => Utf7.item(state, input),
+            Encoding::Charmap(map) => map.item(state, input),
         }
     }
 
@@ -86,6 +123,7 @@ impl Codec for Encoding {
             Encoding::Utf16(order) => Utf16(*order).put_at(state, c, out, at),
             Encoding::Utf32(order) => Utf32(*order).put_at(state, c, out, at),
             Encoding::Utf7 => Utf7.put_at(state, c, out, at),
+            Encoding::Charmap(map) => map.put_at(state, c, out, at),
         }
     }
 
@@ -97,6 +135,7 @@ impl Codec for Encoding {
             Encoding::Utf16(order) => Utf16(*order).close(state),
             Encoding::Utf32(order) => Utf32(*order).close(state),
             Encoding::Utf7 => Utf7.close(state),
+            Encoding::Charmap(map) => map.close(state),
         }
     }
 
@@ -108,6 +147,7 @@ impl Codec for Encoding {
             Encoding::Utf16(order) => Utf16(*order).most_bytes(),
             Encoding::Utf32(order) => Utf32(*order).most_bytes(),
             Encoding::Utf7 => Utf7.most_bytes(),
+            Encoding::Charmap(map) => map.most_bytes(),
         }
     }
 
@@ -119,6 +159,7 @@ impl Codec for Encoding {
             Encoding::Utf16(order) => Utf16(*order).reads_ascii(state),
             Encoding::Utf32(order) => Utf32(*order).reads_ascii(state),
             Encoding::Utf7 => Utf7.reads_ascii(state),
+            Encoding::Charmap(map) => map.reads_ascii(state),
         }
     }
 
@@ -130,6 +171,7 @@ impl Codec for Encoding {
             Encoding::Utf16(order) => Utf16(*order).writes_ascii(state),
             Encoding::Utf32(order) => Utf32(*order).writes_ascii(state),
             Encoding::Utf7 => Utf7.writes_ascii(state),
+            Encoding::Charmap(map) => map.writes_ascii(state),
         }
     }
 }
@@ -143,6 +185,7 @@ impl BlockCodec for Encoding {
             Encoding::Utf16(order) => Utf16(*order).read_block(state, input, buffer),
             Encoding::Utf32(order) => Utf32(*order).read_block(state, input, buffer),
             Encoding::Utf7 => Utf7.read_block(state, input, buffer),
+            Encoding::Charmap(map) => map.read_block(state, input, buffer),
         }
     }
 
@@ -161,6 +204,7 @@ impl BlockCodec for Encoding {
             Encoding::Utf16(order) => Utf16(*order).write_block(policy, state, characters, out, at),
             Encoding::Utf32(order) => Utf32(*order).write_block(policy, state, characters, out, at),
             Encoding::Utf7 => Utf7.write_block(policy, state, characters, out, at),
+            Encoding::Charmap(map) => map.write_block(policy, state, characters, out, at),
         }
     }
 }

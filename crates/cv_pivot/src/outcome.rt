@@ -1,4 +1,7 @@
 //! What a conversion answers.
+ghost use Rattle.std.specs.Prelude.{◌≡◌};
+ghost use Rattle.cv_pivot.specs.Conversions.{start};
+
 use cv_base::{ReadState, WriteState};
 
 /// Why a conversion stopped (POSIX `iconv()`).
@@ -34,6 +37,18 @@ pub struct Outcome {
 pub struct States {
     pub reading: ReadState,
     pub writing: WriteState,
+}
+
+impl States {
+    /// Both sides at their start.
+    pub fn start() -> States
+        ensures { result ≡ start }
+    {
+        States {
+            reading: ReadState::Start,
+            writing: WriteState::Start,
+        }
+    }
 }
 
 /// The closing bytes don't fit in the room.

@@ -3,3 +3,4 @@ pub mod MapItems
 pub mod Following
 pub mod FirstPlaces
 pub mod Written
+pub mod MapReadBack

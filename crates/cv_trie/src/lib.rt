@@ -5,6 +5,7 @@ mod ascii;
 mod charmap;
 mod front;
 mod items;
+pub mod laws;
 mod longest;
 mod pages;
 mod reading;

@@ -1,9 +1,9 @@
 -- Each request has one answer, and want of memory beside it at most.
-use Rattle.std.proofs.Common.{◌≡◌, ◌≢◌, ◌⊎◌, inl, inr, ◌==◌, ℕ, Bool, true, false, List, [], length, nat_lt, Option, Some, None, sym, ap, ◌∙◌}
+use Rattle.std.proofs.Common.{◌≡◌, ◌≢◌, ◌⊎◌, inl, inr, ◌==◌, ℕ, Bool, true, false, List, [], length, nat_lt, Option, Some, None, option_map, sym, ap, ◌∙◌}
 use Rattle.cv_pivot.specs.Conversions.{Converted}
 use Rattle.cv_base.specs.declared.policy.Policy.{Policy}
-use Rattle.cv_pivot.specs.Encodings.{builtin_of, encoding_closes}
-use Rattle.cv_pivot.proofs.EncodingLaws.{encoding_readable}
+use Rattle.cv_pivot.specs.Encodings.{builtin_of, encoding_of, form_of, form_closes}
+use Rattle.cv_pivot.proofs.EncodingLaws.{form_readable}
 use Rattle.cv_pivot.specs.declared.conversion.Conversion.{Conversion}
 use Rattle.cv_pivot.specs.declared.encoding.Encoding.{Encoding}
 use Rattle.cv_pivot.specs.declared.outcome.Stop.{Stop}
@@ -55,7 +55,7 @@ one_bind table number policy None from = one_does table _ _ (λ e. absurd cc)
 
 one_open : (table : Table) (number : Option ℕ) (to from : List ℕ) (policy : Policy) → HasOneAct table (Opens table number to from policy)
 one_open table None to from policy = one_does table _ _ (λ e. absurd cc)
-one_open table (Some number) to from policy = one_bind table number policy (builtin_of to) (builtin_of from)
+one_open table (Some number) to from policy = one_bind table number policy (option_map encoding_of (builtin_of to)) (option_map encoding_of (builtin_of from))
 
 other_code : (s : Stop) → status_number (stop_status s) ≢ no_memory
 other_code stop.Done e = absurd cc
@@ -68,7 +68,7 @@ other_code stop.Incomplete e = absurd cc
 one_convert : (table : Table) (number : ℕ) (d : Conversion) (room : ℕ) (input : List ℕ) → HasOneAct table (IsConversion table number d room input)
 one_convert table number d room input = record {
   one = λ t u a b p q m n.
-      let e : p.came ≡ q.came = one_conversion _ _ d.policy (encoding_readable d.from) d.states input room p.came q.came p.is_converted q.is_converted in (
+      let e : p.came ≡ q.came = one_conversion _ _ d.policy (form_readable (form_of d.from) p.is_form) d.states input room p.came q.came p.is_converted q.is_converted in (
         p.does.0 ∙ ap (λ (c : Converted). with_states table number d c.states) e ∙ sym q.does.0,
         p.does.1 ∙ ap (λ (c : Converted). answers.Converted c.stop c.left c.count c.output) e ∙ sym q.does.1,
       );
@@ -84,7 +84,7 @@ one_reset table number None room = one_does table _ _ (λ e. absurd cc)
 one_reset table number (Some d) room =
     one_when table (nat_lt most_room room) _ _ (one_does table _ _ (λ e. absurd cc))
     (one_when table (room == 0) _ _ (one_does table _ _ (λ e. absurd cc))
-    (one_when table (nat_lt room (length (encoding_closes d.to d.states.writing))) _ _ (one_does table _ _ (λ e. absurd cc)) (one_does table _ _ (λ e. absurd cc))))
+    (one_when table (nat_lt room (length (form_closes (form_of d.to) d.states.writing))) _ _ (one_does table _ _ (λ e. absurd cc)) (one_does table _ _ (λ e. absurd cc))))
 
 one_close : (table : Table) (number : ℕ) (d : Option Conversion) → HasOneAct table (Closes table number d)
 one_close table number None = one_does table _ _ (λ e. absurd cc)

@@ -1,7 +1,7 @@
 -- Each request has some answer: where it takes memory, want of it is one.
-use Rattle.std.proofs.Common.{◌⊎◌, inr, ◌==◌, ℕ, Bool, true, false, List, length, nat_lt, Option, Some, None, refl}
+use Rattle.std.proofs.Common.{◌⊎◌, inr, ◌==◌, ℕ, Bool, true, false, List, length, nat_lt, Option, Some, None, option_map, refl}
 use Rattle.cv_base.specs.declared.policy.Policy.{Policy}
-use Rattle.cv_pivot.specs.Encodings.{builtin_of, encoding_closes}
+use Rattle.cv_pivot.specs.Encodings.{builtin_of, encoding_of, form_of, form_closes}
 use Rattle.cv_pivot.specs.declared.conversion.Conversion.{Conversion}
 use Rattle.cv_pivot.specs.declared.encoding.Encoding.{Encoding}
 use Rattle.cv_machine.specs.Machine.{IsSomeAnswer, When}
@@ -36,7 +36,7 @@ some_bind table number policy None from = does _ _
 
 some_open : (table : Table) (number : Option ℕ) (to from : List ℕ) (policy : Policy) → HasSomeAct (Opens table number to from policy)
 some_open table None to from policy = does _ _
-some_open table (Some number) to from policy = some_bind table number policy (builtin_of to) (builtin_of from)
+some_open table (Some number) to from policy = some_bind table number policy (option_map encoding_of (builtin_of to)) (option_map encoding_of (builtin_of from))
 
 some_conv : (table : Table) (number : ℕ) (d : Option Conversion) (room : ℕ) (input : List ℕ) → HasSomeAct (Convs table number d room input)
 some_conv table number None room input = does _ _
@@ -47,7 +47,7 @@ some_reset table number None room = does _ _
 some_reset table number (Some d) room =
     some_when (nat_lt most_room room) _ _ (does _ _)
     (some_when (room == 0) _ _ (does _ _)
-    (some_when (nat_lt room (length (encoding_closes d.to d.states.writing))) _ _ (does _ _) (does _ _)))
+    (some_when (nat_lt room (length (form_closes (form_of d.to) d.states.writing))) _ _ (does _ _) (does _ _)))
 
 some_close : (table : Table) (number : ℕ) (d : Option Conversion) → HasSomeAct (Closes table number d)
 some_close table number None = does _ _

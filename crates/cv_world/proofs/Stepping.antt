@@ -1,7 +1,7 @@
 -- One request, answered by a turn of its caller's table.
-use Rattle.std.proofs.Common.{◌≡◌, ℕ, List, Some, refl, sym, subst, inr, ap}
+use Rattle.std.proofs.Common.{◌≡◌, ℕ, List, Some, option_map, refl, sym, subst, inr, ap}
 use Rattle.cv_base.specs.declared.policy.Policy.{Policy}
-use Rattle.cv_pivot.specs.Encodings.{builtin_of}
+use Rattle.cv_pivot.specs.Encodings.{builtin_of, encoding_of}
 use Rattle.cv_pivot.specs.declared.encoding.Encoding.{Encoding}
 use Rattle.cv_frame.specs.Message.{Message, FitsFrame}
 use Rattle.cv_machine.specs.Machine.{with_table, Steps}
@@ -27,11 +27,9 @@ stepped s t m r action answer asks acts others is fits =
     }
 
 -- an OPEN for which there was no memory
-pub unbound : (table held next : Table) (number : ℕ) (to from : List ℕ) (policy : Policy) (t f : Encoding) → held ≡ table → next ≡ table → least_free held ≡ Some number → builtin_of to ≡ Some t → builtin_of from ≡ Some f
+pub unbound : (table next : Table) (number : ℕ) (to from : List ℕ) (policy : Policy) (t f : Encoding) → next ≡ table → least_free table ≡ Some number → option_map encoding_of (builtin_of to) ≡ Some t → option_map encoding_of (builtin_of from) ≡ Some f
     → Opens table (least_free table) to from policy next (answers.Refused status.NoMemory)
-unbound table held next number to from policy t f is same free a b =
-    let least : least_free table ≡ Some number = rw is at free in
-    rw (least, a, b) (inr (same, refl))
+unbound table next number to from policy t f same least a b = rw (least, a, b) (inr (same, refl))
 
 -- What holds of tables holds of the same tables.
 pub acts_same : (s t u : ℕ → Table) (c : ℕ) (action : Action) (answer : Answer) → u ≡ t → Acts (s c) action (t c) answer → Acts (s c) action (u c) answer

@@ -1,9 +1,9 @@
 -- What each request may do to its caller's table, and what it answers: the cases in the order of refusal
 -- (POSIX iconv_open(), iconv(), iconv_close()).
-use Rattle.std.specs.Prelude.{◌≡◌, ◌⊎◌, ℕ, List, [], length, ◌==◌, nat_lt, Option, Some, None}
+use Rattle.std.specs.Prelude.{◌≡◌, ◌⊎◌, ℕ, List, [], length, ◌==◌, nat_lt, Option, Some, None, option_map}
 use Rattle.cv_base.specs.declared.policy.Policy.{Policy}
 use Rattle.cv_pivot.specs.Conversions.{start, Converted, IsConverted}
-use Rattle.cv_pivot.specs.Encodings.{builtin_of, encoding_reads, encoding_writes, encoding_closes}
+use Rattle.cv_pivot.specs.Encodings.{builtin_of, encoding_of, form_of, form_reads, form_writes, form_closes, IsForm}
 use Rattle.cv_pivot.specs.declared.conversion.Conversion.{Conversion}
 use Rattle.cv_pivot.specs.declared.encoding.Encoding.{Encoding}
 use Rattle.cv_pivot.specs.declared.outcome.States.{States}
@@ -38,7 +38,7 @@ Binds table number policy None from next answer = Refuses table next answer stat
 -- A number has to be free, and both names have to be those of encodings.
 abbrev pub Opens : Table → Option ℕ → List ℕ → List ℕ → Policy → Table → Answer → Type 0
 Opens table None to from policy next answer = Refuses table next answer status.TooManyDescriptors
-Opens table (Some number) to from policy next answer = Binds table number policy (builtin_of to) (builtin_of from) next answer
+Opens table (Some number) to from policy next answer = Binds table number policy (option_map encoding_of (builtin_of to)) (option_map encoding_of (builtin_of from)) next answer
 
 -- ---- CONV
 
@@ -46,10 +46,11 @@ Opens table (Some number) to from policy next answer = Binds table number policy
 abbrev pub with_states : Table → ℕ → Conversion → States → Table
 with_states table number d states = with_descriptor table number (Some (record d { states = states }))
 
--- The longest conversion is answered, and its states are kept.
+-- The longest conversion is answered, and its states are kept. A charmap that is read is one, so that one item stands next.
 pub record IsConversion (table : Table) (number : ℕ) (d : Conversion) (room : ℕ) (input : List ℕ) (next : Table) (answer : Answer) : Type 0 where
+  pub is_form : IsForm (form_of d.from)
   pub came : Converted
-  pub is_converted : IsConverted (encoding_reads d.from) (encoding_writes d.to) d.policy d.states input room came
+  pub is_converted : IsConverted (form_reads (form_of d.from)) (form_writes (form_of d.to)) d.policy d.states input room came
   pub does : Does next answer (with_states table number d came.states) (answers.Converted came.stop came.left came.count came.output)
 
 -- The descriptor has to be open, and the room no more than the most.
@@ -73,7 +74,7 @@ abbrev pub Resets : Table → ℕ → Option Conversion → ℕ → Table → An
 Resets table number None room next answer = Refuses table next answer status.BadDescriptor
 Resets table number (Some d) room next answer =
     When (nat_lt most_room room) (Refuses table next answer status.Room)
-    (Restarts table number d room (encoding_closes d.to d.states.writing) next answer)
+    (Restarts table number d room (form_closes (form_of d.to) d.states.writing) next answer)
 
 -- ---- CLOSE
 

@@ -1,9 +1,9 @@
 //! The callers of a shard.
-ghost use Rattle.std.specs.Prelude.{◌≡◌, ◌≤◌, OnOk, OnErr, length};
+ghost use Rattle.std.specs.Prelude.{◌≡◌, ◌≤◌, ◌<◌, IfSome, IsTrue, Some, OnOk, OnErr, length};
 ghost use Rattle.cv_machine.specs.Machine.{Steps, with_table};
 ghost use Rattle.cv_world.specs.Actions.{asked, Open, Conv, Reset, Close, InputFits};
 ghost use Rattle.cv_world.specs.Answers.{AnswerFits};
-ghost use Rattle.cv_world.specs.Tables.{no_tables};
+ghost use Rattle.cv_world.specs.Tables.{empty_table, no_tables, least_free, with_descriptor};
 ghost use Rattle.cv_world.specs.Turn.{Acts, turn as world_turn};
 ghost use Rattle.cv_world.specs.declared.table.Table.{Table as WorldTable};
 ghost use Rattle.cv_world.specs.Worlds.{world_tables};
@@ -48,28 +48,54 @@ impl World {
         }
     }
 
-    /// The table of a caller.
-    fn table(&self, caller: u32) -> Table
-        ensures { result ≡ world_tables self.now caller }
+    /// The least number of a caller that is free.
+    fn least_free(&self, caller: u32) -> Option<u32>
+        ensures free { result ≡ least_free (world_tables self.now caller) }
+        ensures within { IfSome result (λ number. number < 16) }
     {
-        self.callers.get(&caller).copied().unwrap_or(Table::new())
+        match self.callers.get(&caller) {
+            Some(table) => table.least_free(),
+            None => Some(0),
+        }
     }
 
-    /// Sets the table of a caller.
-    fn store(&mut self, caller: u32, table: Table) -> Result<(), Memory>
-        ensures own { OnOk result (world_tables self.new caller ≡ table) }
+    /// Binds a number of a caller, which takes memory where the caller has no descriptor yet.
+    fn bind(&mut self, caller: u32, number: u32, conversion: Conversion) -> Result<(), Memory>
+        requires { number < 16 }
+        ensures own { OnOk result (world_tables self.new caller
+            ≡ with_descriptor (world_tables self.old caller) number (Some conversion)) }
         ensures others { world_tables self.new ≡ with_table (world_tables self.old) caller (world_tables self.new caller) }
         ensures err { OnErr result (world_tables self.new ≡ world_tables self.old) }
     {
-        self.callers.insert(caller, table)?;
-        Ok(())
+        match self.callers.get_mut(&caller) {
+            Some(table) => {
+                table.set(number, Some(conversion));
+                Ok(())
+            }
+            None => {
+                let mut table = Table::new();
+                table.set(number, Some(conversion));
+                self.callers.insert(caller, table)?;
+                Ok(())
+            }
+        }
+    }
+
+    /// Whether a caller is known that has no descriptor open.
+    fn is_idle(&self, caller: u32) -> bool
+        ensures { IsTrue result → world_tables self.now caller ≡ empty_table }
+    {
+        match self.callers.get(&caller) {
+            Some(table) => table.is_empty(),
+            None => false,
+        }
     }
 
     /// Gives back the memory of a caller that has no descriptor open.
     fn forget_empty(&mut self, caller: u32)
         ensures { world_tables self.new ≡ world_tables self.old }
     {
-        if self.table(caller).is_empty() {
+        if self.is_idle(caller) {
             self.callers.remove(&caller);
         }
     }
@@ -80,8 +106,7 @@ impl World {
         ensures others { world_tables self.new ≡ with_table (world_tables self.old) caller (world_tables self.new caller) }
         ensures fits { AnswerFits result }
     {
-        let mut table = self.table(caller);
-        let Some(number) = table.least_free() else {
+        let Some(number) = self.least_free(caller) else {
             return Answer::Refused(Status::TooManyDescriptors);
         };
         let Some(to) = builtin(to) else {
@@ -90,8 +115,7 @@ impl World {
         let Some(from) = builtin(from) else {
             return Answer::Refused(Status::Unsupported);
         };
-        table.set(number, Some(Conversion::new(to, from, policy)));
-        match self.store(caller, table) {
+        match self.bind(caller, number, Conversion::new(to, from, policy)) {
             Ok(()) => Answer::Number(number),
             Err(Memory) => Answer::Refused(Status::NoMemory),
         }

@@ -49,7 +49,7 @@ pub fn read_back(alloc: Global, encoding: Encoding, text: &[u8]) -> Result<usize
     let Some(wide) = builtin(b"UTF-32BE") else {
         return Ok(0);
     };
-    let there = converted(alloc, encoding, wide, text)?;
+    let there = converted(alloc, encoding.clone()?, wide.clone()?, text)?;
     let back = converted(alloc, wide, encoding, &there)?;
     let pairs = text.chunks(4).zip(back.chunks(4));
     Ok(pairs.filter(|(a, b)| *a == *b).count())

@@ -39,8 +39,8 @@ fn compare_trial(
     let mut count: usize = 0;
     for target in targets {
         let conversion = Conversion {
-            from: text.encoding,
-            to: target.encoding,
+            from: text.encoding.clone()?,
+            to: target.encoding.clone()?,
             policy: target.policy,
             states: States {
                 reading: text.reading,

@@ -24,7 +24,7 @@ const ENCODINGS: [(&str, usize); 10] = [
 const STRICT: [&str; 3] = ["US-ASCII", "ISO-8859-1", "UTF-8"];
 
 /// An encoding to write to, under which policy, and where a writer is.
-#[derive(Clone, Copy, Debug)]
+#[derive(Drop)]
 pub struct Target {
     pub name: &'static str,
     pub encoding: Encoding,
@@ -43,7 +43,7 @@ pub fn targets(alloc: Global) -> Result<Vec<Target>, AllocError> {
         for lead in 0..=leads {
             targets.push(Target {
                 name,
-                encoding,
+                encoding: encoding.clone()?,
                 policy: Policy::Substitute,
                 writing,
             })?;

@@ -156,7 +156,7 @@ fn blocks_end_before_a_lacking_character(rt: HostRuntime) -> Result<(), Fail> {
                     },
                 };
                 let mut out = vec![in rt.alloc(); 0u8; room]?;
-                let mut conversion = Conversion::new(to, from, Policy::Strict);
+                let mut conversion = Conversion::new(to.clone()?, from.clone()?, Policy::Strict);
                 let outcome = conversion.convert(text.as_slice(), &mut out);
                 assert_eq!(rt; outcome, want, "{name:?} {place} {room}");
                 let bytes = out.get(..taken).unwrap_or(&[]);

@@ -1,5 +1,6 @@
-use Rattle.cv_pivot.proofs.EncodingsReadBack.{encoding_reads_back}
+use Rattle.cv_pivot.specs.Encodings.{form_of}
+use Rattle.cv_pivot.proofs.EncodingsReadBack.{form_reads_back}
 use Rattle.cv_pivot.proofs.laws.read_back.Goals as goal
 
 pub returns : goal.returns
-returns c = encoding_reads_back c.args.encoding
+returns c = form_reads_back (form_of c.args._encoding.now)

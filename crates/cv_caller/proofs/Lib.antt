@@ -1,4 +1,3 @@
 pub mod Standing
 pub mod Stored
 pub mod Emptiness
-pub mod Finding

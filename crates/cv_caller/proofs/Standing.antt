@@ -1,12 +1,12 @@
 -- Places of charmaps: what stands at those that were found, and what a change of one does to the others.
-use Rattle.std.proofs.Common.{◌≡◌, ◌<◌, ◌+◌, ◌||◌, ◌==◌, ℕ, zero, suc, not, Bool, true, false, cond, List, [], ◌∷◌, length, map, get_or, set, Option, Some, None, refl, sym, ap, ◌∙◌}
+use Rattle.std.proofs.Common.{◌≡◌, ◌+◌, ℕ, zero, suc, not, Bool, true, cond, List, [], ◌∷◌, map, get_or, set, Option, Some, None, refl, sym, ap, ◌∙◌}
 use Rattle.std.specs.Prelude.{is_none, is_some, IfSome, option_map}
-use Rattle.std.specs.List.{position, prefix_len, list_any}
+use Rattle.std.specs.List.{position, prefix_len}
 use Rattle.std.proofs.Math.Path.{fun_ext}
 use Rattle.std.proofs.lemmas.List.{length-map}
 use Rattle.std.proofs.lemmas.List.Quantifiers.{position-Some}
 use Rattle.cv_charmap.specs.Meaning.{Charmap}
-use Rattle.cv_caller.specs.Tables.{Charmaps, charmap_at, has_name, place_of, least_place}
+use Rattle.cv_caller.specs.Tables.{Charmaps, charmap_at, has_name, place_of}
 
 -- ---- what is found over a mapped list
 

@@ -1,5 +1,5 @@
 -- What is seen of a store by what it has.
-use Rattle.std.proofs.Common.{◌≡◌, ℕ, List, Option, Some, None, refl, sym, ap, ◌∙◌}
+use Rattle.std.proofs.Common.{◌≡◌, ℕ, List, Option, Some, sym, ap, ◌∙◌}
 use Rattle.std.specs.Prelude.{is_none, option_map}
 use Rattle.std.specs.Arc.{arc_value}
 use Rattle.std.specs.Global.{Box, Global}
@@ -8,7 +8,7 @@ use Rattle.std.specs.declared.sync.Arc.{Arc}
 use Rattle.cv_charmap.specs.Meaning.{Charmap}
 use Rattle.cv_caller.specs.Tables.{Charmaps, has_name, place_of, least_place}
 use Rattle.cv_caller.specs.Private.Uploaded.{Uploaded}
-use Rattle.cv_caller.specs.Private.Views.{charmaps_of, part_of, uploaded_of}
+use Rattle.cv_caller.specs.Private.Views.{charmaps_of, uploaded_of}
 use Rattle.cv_caller.specs.declared.store.Store.{Store}
 use Rattle.cv_caller.proofs.Standing.{position-map, position_none-map}
 

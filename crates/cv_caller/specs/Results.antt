@@ -1,5 +1,5 @@
 -- What the calls of a caller's table come to, the refusals in their order.
-use Rattle.std.specs.Prelude.{◌≡◌, ◌||◌, ◌+◌, ◌<◌, ◌≤◌, ℕ, Bool, true, false, List, [], ◌∷◌, ◌++◌, length, Option, Some, None, Result, Ok, Err, nat_lt, is_some, is_none}
+use Rattle.std.specs.Prelude.{◌≡◌, ◌||◌, ◌+◌, ◌<◌, ◌≤◌, ℕ, Bool, true, false, List, [], ◌∷◌, ◌++◌, length, Some, None, Result, Ok, Err, nat_lt, is_some, is_none}
 use Rattle.std.specs.List.{list_any}
 use Rattle.cv_charmap.specs.Meaning.{Charmap}
 use Rattle.cv_pivot.specs.Encodings.{Own, form_of}

@@ -1,5 +1,5 @@
 -- What a caller has uploaded.
-use Rattle.std.specs.Prelude.{◌≤◌, ℕ, List, [], length, Option, None, replicate}
+use Rattle.std.specs.Prelude.{◌≤◌, ℕ, List, [], length, None, replicate}
 use Rattle.cv_caller.specs.Tables.{Charmaps, AreCharmaps}
 use Rattle.cv_caller.specs.declared.limits.TheConstants.{CHARMAPS, MOST_PART}
 

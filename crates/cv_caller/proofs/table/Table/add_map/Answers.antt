@@ -1,9 +1,7 @@
-use Rattle.std.proofs.Common.{◌≡◌, ℕ, Bool, false, length, List, ap, sym, ◌∙◌, Some, refl}
-use Rattle.std.specs.Prelude.{slice_set}
+use Rattle.std.proofs.Common.{◌≡◌, ℕ, length, List, ap, sym, ◌∙◌}
 use Rattle.std.specs.Arc.{arc_value}
 use Rattle.cv_charmap.specs.Meaning.{Charmap}
-use Rattle.cv_caller.specs.Tables.{least_place}
-use Rattle.cv_caller.specs.Keyed.{Keyed, keyed_with_charmap}
+use Rattle.cv_caller.specs.Keyed.{Keyed}
 use Rattle.cv_caller.specs.Results.{is_taken, is_full}
 use Rattle.cv_caller.specs.Private.Uploaded.{Uploaded}
 use Rattle.cv_caller.specs.Private.Views.{keyed_of}

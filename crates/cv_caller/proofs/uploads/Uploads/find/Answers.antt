@@ -1,5 +1,4 @@
-use Rattle.std.proofs.Common.{◌≡◌, Option, Some, None, ℕ}
-use Rattle.cv_caller.specs.Tables.{place_of}
+use Rattle.std.proofs.Common.{None}
 use Rattle.cv_caller.proofs.Standing.{named_there}
 use Rattle.cv_caller.proofs.Stored.{charmaps_seen, name_seen}
 use Rattle.cv_caller.proofs.uploads.Uploads.find.Goals as goal

@@ -1,0 +1,95 @@
+-- A caller's table as the program keeps it: in place of conversions it has the keys that they have among those of all callers.
+use Rattle.std.specs.Prelude.{◌≡◌, ◌==◌, ◌||◌, ◌≤◌, ℕ, Bool, true, false, List, [], length, map, Option, Some, None, IfSome, option_map, slice_index_or, slice_set, replicate, is_some}
+use Rattle.std.specs.Option.{option_and_then}
+use Rattle.cv_charmap.specs.Meaning.{Charmap}
+use Rattle.cv_pivot.specs.Encodings.{Builtin, Ascii, Form, Own, Mapped, form_of}
+use Rattle.cv_pivot.specs.declared.conversion.Conversion.{Conversion}
+use Rattle.cv_pivot.specs.declared.encoding.Encoding.{Encoding}
+use Rattle.cv_caller.specs.Tables.{Named, BuiltIn, Held, Charmaps, Descriptor, Table, charmap_at, form_in, AreCharmaps}
+use Rattle.cv_caller.specs.declared.limits.TheConstants.{DESCRIPTORS, CHARMAPS, MOST_PART}
+use Rattle.cv_caller.specs.declared.place.Place.{Place}
+
+-- What contracts see of a caller's table.
+pub record Keyed : Type 0 where
+  pub charmaps : Charmaps
+  pub places : List (Option Place)
+  pub part : List ℕ
+
+-- nothing is held or open
+abbrev pub no_keys : Keyed
+no_keys = record { charmaps = replicate CHARMAPS None; places = replicate DESCRIPTORS None; part = [] }
+
+-- what a number stands for
+abbrev pub place_at : Keyed → ℕ → Option Place
+place_at keyed number = slice_index_or keyed.places number None
+
+-- the table with this at a number
+abbrev pub with_place : Keyed → ℕ → Option Place → Keyed
+with_place keyed number place = record keyed { places = slice_set keyed.places number place }
+
+-- the table with this at a place of charmaps
+abbrev pub keyed_with_charmap : Keyed → ℕ → Option Charmap → Keyed
+keyed_with_charmap keyed place charmap = record keyed { charmaps = slice_set keyed.charmaps place charmap }
+
+-- the table with this part
+abbrev pub keyed_with_part : Keyed → List ℕ → Keyed
+keyed_with_part keyed part = record keyed { part = part }
+
+-- whether this is the place
+abbrev pub is_place : ℕ → Option ℕ → Bool
+is_place place (Some other) = other == place
+is_place place None = false
+
+-- whether a number reads or writes the charmap at a place
+abbrev pub refers : ℕ → Option Place → Bool
+refers map (Some place) = is_place map place.to || is_place map place.from
+refers map None = false
+
+-- ---- what every table keeps
+
+-- A charmap stands at the place, where there is one.
+abbrev pub IsHeld : Charmaps → Option ℕ → Type 0
+IsHeld charmaps None = Unit {0}
+IsHeld charmaps (Some place) = is_some (charmap_at charmaps place) ≡ true
+
+-- The charmaps that a number writes and reads are held.
+abbrev pub AreHeld : Charmaps → Place → Type 0
+AreHeld charmaps place = IsHeld charmaps place.to × IsHeld charmaps place.from
+
+-- What numbers stand for: there are sixteen, and each charmap that one writes or reads is held.
+pub record ArePlaces (charmaps : Charmaps) (places : List (Option Place)) : Type 0 where
+  pub numbers : length places ≡ DESCRIPTORS
+  pub held : (number : ℕ) → IfSome (slice_index_or places number None) (AreHeld charmaps)
+
+-- A table that the program may have: it is within the limits.
+pub record IsKeyed (keyed : Keyed) : Type 0 where
+  pub charmaps : AreCharmaps keyed.charmaps
+  pub places : ArePlaces keyed.charmaps keyed.places
+  pub part : length keyed.part ≤ MOST_PART
+
+-- ---- the private table that it stands for
+
+-- the built-in encoding that a form is; this is asked of no other form
+abbrev pub own_of : Form → Builtin
+own_of (Own builtin) = builtin
+own_of (Mapped pairs) = Ascii
+
+-- how a descriptor names an encoding: by the place of its charmap, where it has one
+abbrev pub named : Option ℕ → Encoding → Named
+named (Some place) encoding = Held place
+named None encoding = BuiltIn (own_of (form_of encoding))
+
+-- a number's descriptor, by the conversions that stand under the keys
+abbrev pub descriptor_of : (ℕ → Option Conversion) → Place → Option Descriptor
+descriptor_of conversions place =
+    option_map (λ c. record { to = named place.to c.to; from = named place.from c.from; policy = c.policy; states = c.states }) (conversions place.key)
+
+-- the private table, by the conversions that stand under the keys
+abbrev pub table_of : (ℕ → Option Conversion) → Keyed → Table
+table_of conversions keyed =
+    record { charmaps = keyed.charmaps; descriptors = map (option_and_then (descriptor_of conversions)) keyed.places; part = keyed.part }
+
+-- A conversion's encodings are what the place says.
+pub record Fits (charmaps : Charmaps) (place : Place) (conversion : Conversion) : Type 0 where
+  pub to : form_of conversion.to ≡ form_in charmaps (named place.to conversion.to)
+  pub from : form_of conversion.from ≡ form_in charmaps (named place.from conversion.from)

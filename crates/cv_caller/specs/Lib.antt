@@ -1,0 +1,4 @@
+pub mod Tables
+pub mod Keyed
+pub mod Results
+pub mod Private

@@ -1,0 +1,2 @@
+pub mod Uploaded
+pub mod Views

@@ -1,0 +1,19 @@
+//! One caller's table: the charmaps that it holds, its descriptors by number, and the part of an upload.
+#![tactic(auto)]
+
+mod charmaps;
+mod faults;
+mod limits;
+mod place;
+mod places;
+mod store;
+mod table;
+mod uploads;
+
+pub use faults::{AddFault, DropFault, PartFault};
+pub use limits::{CHARMAPS, DESCRIPTORS, MOST_MAPPINGS, MOST_PART};
+pub use place::{Found, Place};
+pub use table::Table;
+
+#[cfg(test)]
+mod tests;

@@ -1,0 +1,39 @@
+//! Descriptors' places by number.
+ghost use Rattle.std.specs.Prelude.{◌≡◌, ◌<◌, IfSome, is_none, is_some};
+ghost use Rattle.std.specs.List.{position, list_any};
+ghost use Rattle.cv_caller.specs.Keyed.{refers};
+
+use crate::limits::DESCRIPTORS;
+use crate::place::Place;
+
+/// The least number that is free.
+pub(crate) fn first_free(places: &[Option<Place>; DESCRIPTORS]) -> Option<usize>
+    ensures least { result ≡ position is_none places.now }
+    ensures within { IfSome result (λ number. number < DESCRIPTORS) }
+{
+    places.iter().position(|place| place.is_none())
+}
+
+/// Whether some number stands for something.
+pub(crate) fn has_places(places: &[Option<Place>; DESCRIPTORS]) -> bool
+    ensures { result ≡ list_any is_some places.now }
+{
+    places.iter().any(|place| place.is_some())
+}
+
+/// Whether a number writes or reads the charmap at a place.
+fn does_refer(place: &Option<Place>, map: u8) -> bool
+    ensures { result ≡ refers map place.now }
+{
+    match place {
+        Some(place) => place.to == Some(map) || place.from == Some(map),
+        None => false,
+    }
+}
+
+/// Whether some number writes or reads the charmap at a place.
+pub(crate) fn is_busy(places: &[Option<Place>; DESCRIPTORS], map: u8) -> bool
+    ensures { result ≡ list_any (refers map) places.now }
+{
+    places.iter().any(|place| does_refer(place, map))
+}

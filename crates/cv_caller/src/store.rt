@@ -1,0 +1,102 @@
+//! Where uploads are stored.
+ghost use Rattle.std.specs.Prelude.{◌≡◌, ◌<◌, ◌++◌, ◌↔◌, [], IsTrue, IsSome, length, OnOk, OnErr, slice_set, option_map};
+ghost use Rattle.std.specs.Arc.{arc_value};
+ghost use Rattle.cv_caller.specs.Private.Uploaded.{no_uploads};
+ghost use Rattle.cv_caller.specs.Private.Views.{part_of, stored_in, uploaded_of};
+
+use crate::charmaps::has_charmaps;
+use crate::limits::CHARMAPS;
+use cv_base::Memory;
+use cv_trie::Charmap;
+use std::alloc::Global;
+use std::sync::Arc;
+
+/// Charmaps at their places, and the part of one that is on its way.
+#[derive(Drop)]
+pub(crate) struct Store {
+    pub(crate) charmaps: [Option<Arc<Charmap>>; CHARMAPS],
+    pub(crate) part: Option<Vec<u8>>,
+}
+
+/// How many bytes a part has.
+fn part_len(part: &Option<Vec<u8>>) -> usize
+    ensures { result ≡ length (part_of part.now) }
+{
+    match part {
+        Some(bytes) => bytes.len(),
+        None => 0,
+    }
+}
+
+/// Whether nothing stands in a store.
+pub(crate) fn is_bare(store: &Store) -> bool
+    ensures { IsTrue result ↔ (stored_in store.now ≡ no_uploads) }
+{
+    if has_charmaps(&store.charmaps) {
+        return false;
+    }
+    part_len(&store.part) == 0
+}
+
+/// Makes an empty store where there is none.
+pub(crate) fn make_store(alloc: Global, store: &mut Option<Box<Store>>) -> Result<(), Memory>
+    ensures same { uploaded_of store.new ≡ uploaded_of store.old }
+    ensures there { OnOk result (IsSome store.new) }
+{
+    if store.is_none() {
+        let empty = Store {
+            charmaps: [None, None, None, None, None, None, None, None],
+            part: None,
+        };
+        *store = Some(Box::new(alloc, empty)?);
+    }
+    Ok(())
+}
+
+/// Sets what stands at a place.
+pub(crate) fn set_charmap(store: &mut Option<Box<Store>>, place: u8, charmap: Option<Arc<Charmap>>)
+    requires there { IsSome store.old }
+    requires within { place < CHARMAPS }
+    ensures { uploaded_of store.new ≡ record (uploaded_of store.old)
+        { charmaps = slice_set (uploaded_of store.old).charmaps place (option_map arc_value charmap) } }
+{
+    let Some(store) = store else { unreachable!() };
+    store.charmaps[place as usize] = charmap;
+}
+
+/// Puts bytes behind the part of a store.
+fn extend(alloc: Global, store: &mut Store, bytes: &[u8]) -> Result<(), Memory>
+    ensures ok { OnOk result (part_of store.new.part ≡ part_of store.old.part ++ bytes.now) }
+    ensures err { OnErr result (part_of store.new.part ≡ part_of store.old.part) }
+    ensures same { store.new.charmaps ≡ store.old.charmaps }
+{
+    match &mut store.part {
+        Some(part) => part.extend_from_slice(bytes)?,
+        None => store.part = Some(Vec::from_slice(alloc, bytes)?),
+    }
+    Ok(())
+}
+
+/// Puts bytes behind the part that is stored.
+pub(crate) fn append(
+    alloc: Global,
+    store: &mut Option<Box<Store>>,
+    bytes: &[u8],
+) -> Result<(), Memory>
+    requires { IsSome store.old }
+    ensures ok { OnOk result (uploaded_of store.new ≡ record (uploaded_of store.old)
+        { part = (uploaded_of store.old).part ++ bytes.now }) }
+    ensures err { OnErr result (uploaded_of store.new ≡ uploaded_of store.old) }
+{
+    let Some(store) = store else { unreachable!() };
+    extend(alloc, store, bytes)
+}
+
+/// Lets the part go that is stored.
+pub(crate) fn clear(store: &mut Option<Box<Store>>)
+    ensures { uploaded_of store.new ≡ record (uploaded_of store.old) { part = [] } }
+{
+    if let Some(store) = store {
+        store.part = None;
+    }
+}

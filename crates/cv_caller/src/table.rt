@@ -1,0 +1,208 @@
+//! One caller's table.
+ghost use Rattle.std.specs.Prelude.{◌≡◌, ◌<◌, ◌≤◌, ◌↔◌, [], true, length, None, Some, IsTrue, IfSome, IfOk, is_none, is_some};
+ghost use Rattle.std.specs.Arc.{arc_value};
+ghost use Rattle.std.specs.List.{position};
+ghost use Rattle.std.specs.Option.{option_map};
+ghost use Rattle.cv_pivot.specs.Encodings.{form_of, Mapped};
+ghost use Rattle.cv_caller.specs.Tables.{charmap_at, pairs_in, named_of};
+ghost use Rattle.cv_caller.specs.Keyed.{no_keys, place_at, with_place, keyed_with_part, AreHeld, IsKeyed};
+ghost use Rattle.cv_caller.specs.Results.{is_taken, named_found, IsFound, IsAdded, IsDropped, IsPart};
+
+use crate::faults::{AddFault, DropFault, PartFault};
+use crate::limits::{DESCRIPTORS, MOST_PART};
+use crate::place::{Found, Place};
+use crate::places::{first_free, has_places, is_busy};
+use crate::uploads::Uploads;
+use cv_base::Memory;
+use cv_pivot::{Encoding, builtin};
+use cv_trie::Charmap;
+use std::alloc::Global;
+use std::marker::Model;
+use std::sync::Arc;
+
+/// One caller's charmaps, its descriptors by number, and the part of an upload. Contracts see charmaps as their names and lists, and
+/// descriptors as the keys of their conversions.
+#[derive(Drop)]
+pub struct Table {
+    places: [Option<Place>; DESCRIPTORS],
+    uploads: Uploads,
+}
+
+impl Model for Table {
+    ghost use Rattle.cv_caller.specs.Keyed.{Keyed, ArePlaces};
+    ghost use Rattle.cv_caller.specs.Private.Views.{keyed_of};
+
+    ghost Value = { Keyed };
+
+    ghost view = { λ t. keyed_of t.uploads t.places };
+
+    ghost invariant = { λ t. ArePlaces t.uploads.charmaps t.places };
+}
+
+impl Table {
+    /// Nothing is held or open.
+    pub fn new() -> Table
+        ensures { result ≡ no_keys }
+    {
+        Table {
+            places: [None; DESCRIPTORS],
+            uploads: Uploads::new(),
+        }
+    }
+
+    /// States what every table keeps. It does nothing.
+    pub fn assert_keyed(&self)
+        ensures { IsKeyed self.now }
+    {
+        self.uploads.assert_uploaded();
+    }
+
+    /// Whether nothing is held or open, and there is no part.
+    pub fn is_empty(&self) -> bool
+        ensures { IsTrue result ↔ (self.now ≡ no_keys) }
+    {
+        if has_places(&self.places) {
+            return false;
+        }
+        self.uploads.is_empty()
+    }
+
+    /// The least number that is free.
+    pub fn least_free(&self) -> Option<u32>
+        ensures least { result ≡ position is_none self.now.places }
+        ensures within { IfSome result (λ number. number < DESCRIPTORS) }
+        ensures free { IfSome result (λ number. place_at self.now number ≡ None) }
+    {
+        match first_free(&self.places) {
+            Some(number) => Some(number as u32),
+            None => None,
+        }
+    }
+
+    /// What a number stands for.
+    pub fn place(&self, number: u32) -> Option<Place>
+        ensures place { result ≡ place_at self.now number }
+        ensures within { IfSome result (λ _. number < DESCRIPTORS) }
+    {
+        let number = number as usize;
+        if number < DESCRIPTORS {
+            self.places[number]
+        } else {
+            None
+        }
+    }
+
+    /// Binds a number that is free.
+    pub fn bind(&mut self, number: u32, place: Place)
+        requires within { number < DESCRIPTORS }
+        requires free { place_at self.old number ≡ None }
+        requires held { AreHeld self.old.charmaps place }
+        ensures { self.new ≡ with_place self.old number (Some place) }
+    {
+        self.places[number as usize] = Some(place);
+    }
+
+    /// Gives a number back, and answers what it stood for.
+    pub fn unbind(&mut self, number: u32) -> Option<Place>
+        ensures place { result ≡ place_at self.old number }
+        ensures free { self.new ≡ with_place self.old number None }
+    {
+        let place = self.place(number);
+        if place.is_some() {
+            self.places[number as usize] = None;
+        }
+        place
+    }
+
+    /// What a name stands for: a built-in encoding, or else a charmap that is held.
+    pub fn find(&self, name: &[u8]) -> Option<Found>
+        ensures named { option_map named_found result ≡ named_of self.now.charmaps name.now }
+        ensures found { IfSome result (IsFound self.now.charmaps) }
+    {
+        if let Some(encoding) = builtin(name) {
+            return Some(Found::Builtin(encoding));
+        }
+        match self.uploads.find(name) {
+            Some(map) => Some(Found::Map(map)),
+            None => None,
+        }
+    }
+
+    /// Whether a name stands for something.
+    fn is_taken(&self, name: &[u8]) -> bool
+        ensures { result ≡ is_taken self.now.charmaps name.now }
+    {
+        self.find(name).is_some()
+    }
+
+    /// The charmap at a place, as an encoding.
+    pub fn encoding(&self, map: u8) -> Result<Encoding, Memory>
+        requires { is_some (charmap_at self.now.charmaps map) ≡ true }
+        ensures { IfOk result (λ e. form_of e ≡ Mapped (pairs_in (charmap_at self.now.charmaps map))) }
+    {
+        self.uploads.encoding(map)
+    }
+
+    /// Holds a charmap, at the least place that is free. One that is refused is dropped.
+    pub fn add_map(&mut self, alloc: Global, charmap: Arc<Charmap>) -> Result<(), AddFault>
+        ensures { IsAdded self.old (arc_value charmap) result self.new }
+    {
+        if self.is_taken(charmap.name()) {
+            return Err(AddFault::Exists);
+        }
+        let Some(map) = self.uploads.place_for(charmap.len()) else {
+            return Err(AddFault::Quota);
+        };
+        let Ok(()) = self.uploads.put(alloc, map, charmap) else {
+            return Err(AddFault::Memory);
+        };
+        Ok(())
+    }
+
+    /// Gives up the charmap of a name, unless a descriptor reads or writes it.
+    pub fn drop_map(&mut self, name: &[u8]) -> Result<(), DropFault>
+        ensures { IsDropped self.old name.now result self.new }
+    {
+        let Some(map) = self.uploads.find(name) else {
+            return Err(DropFault::NoName);
+        };
+        if is_busy(&self.places, map) {
+            return Err(DropFault::Busy);
+        }
+        self.uploads.remove(map);
+        Ok(())
+    }
+
+    /// The part of an upload.
+    pub fn part(&self) -> &[u8]
+        ensures value { result.now ≡ self.now.part }
+        ensures short { length result.now ≤ MOST_PART }
+    {
+        self.uploads.part()
+    }
+
+    /// Puts a part behind the one that was sent before, and answers how many bytes they have. An empty one takes back what was sent, and
+    /// takes no memory.
+    pub fn add_part(&mut self, alloc: Global, bytes: &[u8]) -> Result<u32, PartFault>
+        ensures { IsPart self.old bytes.now result self.new }
+    {
+        if bytes.is_empty() {
+            self.clear_part();
+            return Ok(0);
+        }
+        if bytes.len() > MOST_PART - self.part().len() {
+            return Err(PartFault::Quota);
+        }
+        match self.uploads.append(alloc, bytes) {
+            Ok(()) => Ok(self.part().len() as u32),
+            Err(Memory) => Err(PartFault::Memory),
+        }
+    }
+
+    /// Lets the part go, as what it was sent for is done.
+    pub fn clear_part(&mut self)
+        ensures { self.new ≡ keyed_with_part self.old [] }
+    {
+        self.uploads.clear_part();
+    }
+}

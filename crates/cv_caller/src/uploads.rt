@@ -1,0 +1,201 @@
+//! What a caller has uploaded.
+ghost use Rattle.std.specs.Prelude.{◌≡◌, ◌+◌, ◌<◌, ◌≤◌, ◌++◌, ◌↔◌, [], true, length, None, Some, IsTrue, IfSome, IfOk, OnOk, OnErr, is_none, is_some, slice_set};
+ghost use Rattle.std.specs.Arc.{arc_value};
+ghost use Rattle.cv_pivot.specs.Encodings.{form_of, Mapped};
+ghost use Rattle.cv_caller.specs.Tables.{charmap_at, pairs_in, place_of, least_place, mappings};
+ghost use Rattle.cv_caller.specs.Results.{is_full};
+ghost use Rattle.cv_caller.specs.Private.Uploaded.{no_uploads, IsUploaded};
+
+use crate::charmaps::{count_mappings, first_place, place_named};
+use crate::limits::{CHARMAPS, MOST_MAPPINGS, MOST_PART};
+use crate::store::{Store, append, clear, is_bare, make_store, set_charmap};
+use cv_base::Memory;
+use cv_pivot::Encoding;
+use cv_trie::Charmap;
+use std::alloc::Global;
+use std::marker::Model;
+use std::sync::Arc;
+
+/// What a caller has uploaded: charmaps, and the part of one that is on its way. Most callers upload nothing, so there is a store
+/// only once something was. Contracts see the names and lists of the charmaps, and the part.
+#[derive(Drop)]
+pub(crate) struct Uploads {
+    store: Option<Box<Store>>,
+}
+
+impl Model for Uploads {
+    ghost use Rattle.cv_caller.specs.Private.Uploaded.{Uploaded, IsUploaded};
+    ghost use Rattle.cv_caller.specs.Private.Views.{uploaded_of};
+
+    ghost Value = { Uploaded };
+
+    ghost view = { λ u. uploaded_of u.store };
+
+    ghost invariant = { λ u. IsUploaded (uploaded_of u.store) };
+}
+
+impl Uploads {
+    /// Nothing was uploaded.
+    pub(crate) fn new() -> Uploads
+        ensures { result ≡ no_uploads }
+    {
+        Uploads { store: None }
+    }
+
+    /// States what is kept of all uploads. It does nothing.
+    pub(crate) fn assert_uploaded(&self)
+        ensures { IsUploaded self.now }
+    {
+        let _ = &self.store;
+    }
+
+    /// Whether nothing is held, and there is no part.
+    pub(crate) fn is_empty(&self) -> bool
+        ensures { IsTrue result ↔ (self.now ≡ no_uploads) }
+    {
+        match &self.store {
+            Some(store) => is_bare(store),
+            None => true,
+        }
+    }
+
+    /// Gives the store's memory back where nothing stands in it.
+    fn release(&mut self)
+        ensures { self.new ≡ self.old }
+    {
+        if self.is_empty() {
+            *self = Uploads::new();
+        }
+    }
+
+    /// The place of the charmap of a name.
+    pub(crate) fn find(&self, name: &[u8]) -> Option<u8>
+        ensures place { result ≡ place_of self.now.charmaps name.now }
+        ensures held { IfSome result (λ place. is_some (charmap_at self.now.charmaps place) ≡ true) }
+        ensures within { IfSome result (λ place. place < CHARMAPS) }
+    {
+        let Some(store) = &self.store else {
+            return None;
+        };
+        match place_named(&store.charmaps, name) {
+            Some(place) => Some(place as u8),
+            None => None,
+        }
+    }
+
+    /// The least place that is free.
+    pub(crate) fn least_place(&self) -> Option<u8>
+        ensures place { result ≡ least_place self.now.charmaps }
+        ensures within { IfSome result (λ place. place < CHARMAPS) }
+    {
+        let Some(store) = &self.store else {
+            return Some(0);
+        };
+        match first_place(&store.charmaps) {
+            Some(place) => Some(place as u8),
+            None => None,
+        }
+    }
+
+    /// How many mappings the charmaps have in all.
+    pub(crate) fn mappings(&self) -> usize
+        ensures value { result ≡ mappings self.now.charmaps }
+        ensures few { result ≤ MOST_MAPPINGS }
+    {
+        match &self.store {
+            Some(store) => count_mappings(&store.charmaps),
+            None => 0,
+        }
+    }
+
+    /// The least place that is free, unless so many mappings more are too many.
+    pub(crate) fn place_for(&self, more: usize) -> Option<u8>
+        ensures full { is_none result ≡ is_full self.now.charmaps more }
+        ensures place { IfSome result (λ place. least_place self.now.charmaps ≡ Some place) }
+
+        // So a charmap of so many mappings may be put there.
+        ensures within { IfSome result (λ place. place < CHARMAPS) }
+        ensures free { IfSome result (λ place. charmap_at self.now.charmaps place ≡ None) }
+        ensures few { IfSome result (λ _. mappings self.now.charmaps + more ≤ MOST_MAPPINGS) }
+    {
+        if more > MOST_MAPPINGS - self.mappings() {
+            return None;
+        }
+        self.least_place()
+    }
+
+    /// The charmap at a place, as an encoding.
+    pub(crate) fn encoding(&self, place: u8) -> Result<Encoding, Memory>
+        requires { is_some (charmap_at self.now.charmaps place) ≡ true }
+        ensures { IfOk result (λ e. form_of e ≡ Mapped (pairs_in (charmap_at self.now.charmaps place))) }
+    {
+        let Some(store) = &self.store else {
+            unreachable!()
+        };
+        let Some(charmap) = &store.charmaps[place as usize] else {
+            unreachable!()
+        };
+        Ok(Encoding::Charmap(Arc::try_clone(charmap)?))
+    }
+
+    /// Puts a charmap at a place that is free.
+    pub(crate) fn put(
+        &mut self,
+        alloc: Global,
+        place: u8,
+        charmap: Arc<Charmap>,
+    ) -> Result<(), Memory>
+        requires within { place < CHARMAPS }
+        requires free { charmap_at self.old.charmaps place ≡ None }
+        requires few { mappings self.old.charmaps + length (arc_value charmap).pairs ≤ MOST_MAPPINGS }
+        ensures ok { OnOk result (self.new ≡ record self.old
+            { charmaps = slice_set self.old.charmaps place (Some (arc_value charmap)) }) }
+        ensures err { OnErr result (self.new ≡ self.old) }
+    {
+        let _ = charmap.len();
+        make_store(alloc, &mut self.store)?;
+        set_charmap(&mut self.store, place, Some(charmap));
+        Ok(())
+    }
+
+    /// Gives up the charmap at a place.
+    pub(crate) fn remove(&mut self, place: u8)
+        requires { is_some (charmap_at self.old.charmaps place) ≡ true }
+        ensures { self.new ≡ record self.old { charmaps = slice_set self.old.charmaps place None } }
+    {
+        set_charmap(&mut self.store, place, None);
+        self.release();
+    }
+
+    /// The part.
+    pub(crate) fn part(&self) -> &[u8]
+        ensures value { result.now ≡ self.now.part }
+        ensures short { length result.now ≤ MOST_PART }
+    {
+        let Some(store) = &self.store else {
+            return &[];
+        };
+        match &store.part {
+            Some(bytes) => bytes.as_slice(),
+            None => &[],
+        }
+    }
+
+    /// Puts bytes behind the part.
+    pub(crate) fn append(&mut self, alloc: Global, bytes: &[u8]) -> Result<(), Memory>
+        requires { length (self.old.part ++ bytes.now) ≤ MOST_PART }
+        ensures ok { OnOk result (self.new ≡ record self.old { part = self.old.part ++ bytes.now }) }
+        ensures err { OnErr result (self.new ≡ self.old) }
+    {
+        make_store(alloc, &mut self.store)?;
+        append(alloc, &mut self.store, bytes)
+    }
+
+    /// Lets the part go.
+    pub(crate) fn clear_part(&mut self)
+        ensures { self.new ≡ record self.old { part = [] } }
+    {
+        clear(&mut self.store);
+        self.release();
+    }
+}

@@ -1,5 +1,5 @@
 -- What was read or written of a spelling is a block.
-use Rattle.std.proofs.Common.{◌≡◌, ℕ, ◌≤◌, List, [], ◌∷◌, length, take, refl, sym, ◌∙◌, ap, arith, Some, zero-add}
+use Rattle.std.proofs.Common.{◌≡◌, ℕ, List, [], ◌∷◌, length, take, refl, sym, ◌∙◌, ap, arith, Some, zero-add}
 use Rattle.std.specs.List.{flat_map}
 use Rattle.cv_base.specs.Items.{taken, ItemRelation}
 use Rattle.cv_base.specs.Codecs.{Writing}

@@ -1,5 +1,5 @@
 -- The bytes of a unit.
-use Rattle.std.proofs.Common.{◌≡◌, ℕ, ◌+◌, ◌%◌, ◌<◌, ◌≤◌, List, length, drop, get_or, get_or-drop, refl, sym, ◌∙◌, ap, arith}
+use Rattle.std.proofs.Common.{◌≡◌, ℕ, ◌+◌, ◌%◌, ◌<◌, ◌≤◌, List, length, drop, get_or, get_or-drop, refl, sym, ◌∙◌, arith}
 use Rattle.cv_base.specs.Items.{Begins}
 use Rattle.cv_base.specs.Units.{unit_of, unit_size, unit_limit}
 use Rattle.cv_base.specs.declared.ascii_form.AsciiForm.{AsciiForm}

@@ -1,18 +1,17 @@
 -- UTF-16 is an encoding form with an order of bytes.
-use Rattle.std.proofs.Common.{◌≡◌, ℕ, ◌<◌, ◌≤◌, inl, inr, ◌/◌, List, [], ◌∷◌, length, drop, sym, ◌∙◌, ap, subst, arith}
+use Rattle.std.proofs.Common.{◌≡◌, ℕ, ◌<◌, inl, inr, ◌/◌, List, [], ◌∷◌, length, drop, ◌∙◌, ap, subst, arith}
 use Rattle.std.proofs.lemmas.Bool.{cases_lt}
 use Rattle.cv_base.specs.Scalars.{IsScalar}
 use Rattle.cv_base.specs.Items.{Begins}
 use Rattle.cv_base.specs.Units.{high_unit, low_unit, unit_of}
 use Rattle.cv_base.specs.declared.ascii_form.AsciiForm.TheVariants.{Two}
 use Rattle.cv_base.specs.declared.endian.Endian.{Endian}
-use Rattle.cv_base.specs.declared.endian.Endian.TheVariants.{Big, Little}
+use Rattle.cv_base.specs.declared.endian.Endian.TheVariants.{Big}
 use Rattle.cv_base.proofs.Front.{Begins-front, Begins-back}
 use Rattle.cv_block.proofs.UnitBytes.{one_number, length-unit_of}
-use Rattle.cv_utf.specs.Orders.{mark}
 use Rattle.cv_utf.specs.Private.Forms.{IsUnique, IsForm}
 use Rattle.cv_utf.specs.Utf16.{utf16}
-use Rattle.cv_utf.proofs.Utf16Units.{one_unit, IsOne, IsTwo, one_or_two, size_one, size_two, four_at_most}
+use Rattle.cv_utf.proofs.Utf16Units.{IsOne, IsTwo, one_or_two, size_one, size_two, four_at_most}
 
 -- What begins a text with a scalar of two units: its high surrogate, and the low one behind it.
 record Pair (e : Endian) (text : List ℕ) (c : ℕ) : Type 0 where

@@ -3,13 +3,12 @@ use Rattle.std.proofs.Common.{◌≡◌, ℕ, ◌+◌, ◌*◌, ◌/◌, ◌%◌
 use Rattle.std.proofs.lemmas.Bool.{cases_lt}
 use Rattle.cv_base.specs.Scalars.{IsScalar}
 use Rattle.cv_base.specs.Items.{taken, Begins, Stands, IsNext}
-use Rattle.cv_base.specs.Units.{unit_of}
 use Rattle.cv_base.specs.declared.ascii_form.AsciiForm.TheVariants.{Four}
 use Rattle.cv_base.specs.declared.endian.Endian.{Endian}
 use Rattle.cv_base.specs.declared.endian.Endian.TheVariants.{Big, Little}
 use Rattle.cv_base.specs.declared.state.ReadState.{ReadState}
 use Rattle.cv_base.specs.declared.item.Item.TheVariants.{Incomplete, Ill}
-use Rattle.cv_base.proofs.Front.{Agree, Begins-refl, Begins-length, Begins-agree}
+use Rattle.cv_base.proofs.Front.{Begins-refl, Begins-length, Begins-agree}
 use Rattle.cv_block.specs.Units.{IsUnitAt}
 use Rattle.cv_block.proofs.UnitBytes.{one_number}
 use Rattle.cv_utf.specs.Private.AnyState.{always_gives}

@@ -1,5 +1,5 @@
 -- Which bytes of a window of UTF-8 are of whole characters.
-use Rattle.std.proofs.Common.{◌≡◌, ℕ, ◌+◌, ◌-◌, ◌*◌, ◌%◌, ◌^◌, ◌<◌, ◌≤◌, ◌⊎◌, inl, inr, Bool, true, false, Fits, List, [], get_or, sym, ◌∙◌, ap, arith, zero, suc, w8, w64, lit≤}
+use Rattle.std.proofs.Common.{◌≡◌, ℕ, ◌+◌, ◌-◌, ◌*◌, ◌%◌, ◌^◌, ◌<◌, ◌≤◌, ◌⊎◌, inl, inr, Bool, true, false, Fits, List, get_or, sym, ◌∙◌, ap, arith, zero, suc, w8, w64, lit≤}
 use Rattle.std.specs.Int.{bit_at, trailing_ones}
 use Rattle.std.specs.Int.RustNames.{bit_or}
 use Rattle.std.proofs.lemmas.Nat.{or_lt}

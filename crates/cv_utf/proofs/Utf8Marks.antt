@@ -1,5 +1,5 @@
 -- Which bytes of a window of UTF-8 are of one kind, as bits.
-use Rattle.std.proofs.Common.{◌≡◌, ℕ, ◌+◌, ◌-◌, ◌%◌, ◌^◌, ◌<◌, ◌≤◌, ◌⊎◌, inl, inr, Bool, true, false, cond, Fits, List, [], length, take, drop, get_or, map, refl, sym, ◌∙◌, ap, arith, zero, suc, w8, lit≤, min, max}
+use Rattle.std.proofs.Common.{◌≡◌, ℕ, ◌+◌, ◌-◌, ◌%◌, ◌^◌, ◌<◌, ◌≤◌, ◌⊎◌, inl, inr, Bool, true, false, cond, Fits, List, length, take, drop, get_or, map, refl, sym, ◌∙◌, ap, arith, zero, suc, w8, lit≤, min, max}
 use Rattle.std.specs.Int.{bit_at}
 use Rattle.std.specs.Int.RustNames.{bit_or}
 use Rattle.std.specs.Int.Bits.{bit_and}

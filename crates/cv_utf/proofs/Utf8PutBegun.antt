@@ -1,5 +1,5 @@
 -- Characters of UTF-8 that begin in sixteen lanes, put into a buffer lane by lane.
-use Rattle.std.proofs.Common.{◌≡◌, ℕ, ◌+◌, ◌-◌, ◌<◌, ◌≤◌, inl, inr, List, [], length, get_or, ◌∙◌, arith, slice_set}
+use Rattle.std.proofs.Common.{◌≡◌, ℕ, ◌+◌, ◌<◌, ◌≤◌, inl, inr, List, length, get_or, ◌∙◌, arith, slice_set}
 use Rattle.std.proofs.lemmas.List.{length-set, take-set}
 use Rattle.cv_block.specs.Spelled.{IsSpelledAt, IsReadSpelled}
 use Rattle.cv_block.proofs.SpelledRuns.{spelled, read_one_more}

@@ -6,7 +6,6 @@ use Rattle.std.proofs.Math.Dec.{ltb, eqb}
 use Rattle.std.proofs.lemmas.Simd.{length-chunk, get_or-chunk}
 use Rattle.cv_utf.specs.Private.Utf8Short.{is_behind}
 use Rattle.cv_utf.specs.Private.Utf8Windows.{whole_of, whole_value}
-use Rattle.cv_utf.proofs.Utf8Short.{two}
 use Rattle.cv_utf.proofs.Utf8Marks.{one_if}
 use Rattle.cv_utf.proofs.Utf8Begun.{begins_if}
 

@@ -1,4 +1,4 @@
-use Rattle.std.proofs.Common.{◌≡◌, ◌+◌, ℕ, List, length, refl, sym, ◌∙◌, ap, subst}
+use Rattle.std.proofs.Common.{◌≡◌, ◌+◌, ℕ, length, refl, sym, ◌∙◌, ap, subst}
 use Rattle.cv_base.specs.Places.{IsPut}
 use Rattle.cv_base.specs.declared.endian.Endian.TheVariants.{Big}
 use Rattle.cv_utf.specs.Orders.{mark}

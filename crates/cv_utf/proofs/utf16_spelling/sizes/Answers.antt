@@ -1,5 +1,4 @@
 use Rattle.std.proofs.Common.{arith, ◌∙◌, get_or}
-use Rattle.cv_base.specs.declared.endian.Endian.TheVariants.{Big, Little}
 use Rattle.cv_utf.proofs.Utf16Lanes.{sizes_at, lane_size_is}
 use Rattle.cv_utf.proofs.utf16_spelling.sizes.Goals as goal
 

@@ -1,11 +1,10 @@
 -- How much of a text is characters, and that it stays where they are written as they were read.
-use Rattle.std.proofs.Common.{◌≡◌, ℕ, ◌+◌, ◌-◌, ◌*◌, ◌≤◌, List, [], ◌∷◌, ◌++◌, length, take, drop, refl, sym, ◌∙◌, ap, subst, arith, length-append, length-drop}
-use Rattle.std.proofs.lemmas.List.{take_all, take_rest}
+use Rattle.std.proofs.Common.{◌≡◌, ℕ, ◌+◌, ◌*◌, List, [], ◌∷◌, ◌++◌, length, take, drop, refl, sym, ◌∙◌, ap, arith, length-append}
+use Rattle.std.proofs.lemmas.List.{take_all}
 use Rattle.std.proofs.lemmas.List.Concat.{flat_map-append}
 use Rattle.std.specs.List.{flat_map}
 use Rattle.cv_base.specs.Items.{ItemRelation, Begins}
 use Rattle.cv_base.specs.Codecs.{Writing}
-use Rattle.cv_base.specs.Scalars.{AreScalars}
 use Rattle.cv_base.specs.Blocks.{IsUnchanged}
 use Rattle.cv_base.specs.Units.{unit_size}
 use Rattle.cv_base.specs.declared.ascii_form.AsciiForm.{AsciiForm}

@@ -1,9 +1,8 @@
 -- Small characters in UTF-16 and UTF-32, in the states that stay.
-use Rattle.std.proofs.Common.{◌≡◌, ℕ, ◌<◌, refl, sym, ◌∙◌, ap, subst, arith, Some}
+use Rattle.std.proofs.Common.{ℕ, ◌<◌, ◌∙◌, ap, subst, arith, Some}
 use Rattle.cv_base.specs.Scalars.{IsScalar}
 use Rattle.cv_base.specs.Items.{taken}
 use Rattle.cv_base.specs.Ascii.{ReadsAscii, WritesAscii, ReadsBelow, WritesBelow}
-use Rattle.cv_base.specs.Units.{unit_of}
 use Rattle.cv_base.specs.declared.ascii_form.AsciiForm.TheVariants.{Two, Four}
 use Rattle.cv_base.specs.declared.endian.Endian.{Endian}
 use Rattle.cv_base.specs.declared.state.ReadState.{ReadState}

@@ -154,7 +154,12 @@ fn parts(trials: &mut Vec<Trial>) -> Result<(), AllocError> {
                 })?;
             }
             trials.push(Trial {
-                shape: interrupted(script, length.saturating_add(NEAR), length, Middle::Byte(0xff)),
+                shape: interrupted(
+                    script,
+                    length.saturating_add(NEAR),
+                    length,
+                    Middle::Byte(0xff),
+                ),
                 cut: Part::All,
                 room: Part::All,
             })?;

@@ -1,25 +1,24 @@
 -- Following bytes through the trie, and reading characters one after another.
-use Rattle.std.proofs.Common.{Bool, true, ◌≡◌, ℕ, ◌<◌, ◌≤◌, ◌+◌, ◌-◌, List, [], ◌∷◌, ◌++◌, length, take, drop, get_or, slice_set, refl, sym, subst, ◌∙◌, ap, arith, Some}
+use Rattle.std.proofs.Common.{Bool, true, ◌≡◌, ℕ, ◌<◌, ◌≤◌, ◌+◌, List, [], ◌∷◌, ◌++◌, length, take, drop, get_or, slice_set, refl, sym, subst, ◌∙◌, ap, arith, Some}
 use Rattle.std.specs.Prelude.{Contains, nat_eq}
 use Rattle.std.specs.Cmp.Lexicographic.{pointwise}
 use Rattle.std.proofs.lemmas.Bool.Decides.{Decides-eqb}
 use Rattle.std.proofs.lemmas.Slice.Eq.{starts_is}
 use Rattle.std.proofs.lemmas.List.{get_or_read, get_or-drop, length-drop, length-take-le, take_more_set, length-set}
 use Rattle.cv_base.specs.Items.{Taken, taken, Begins, ItemRelation, Stands}
-use Rattle.cv_base.specs.Chains.{IsChain, used_bytes, read_state, characters_of}
+use Rattle.cv_base.specs.Chains.{used_bytes, read_state}
 use Rattle.cv_base.specs.Blocks.{IsReadBlock}
 use Rattle.cv_base.specs.declared.state.ReadState.TheVariants as read
 use Rattle.cv_base.proofs.Front.{Begins-take, Begins-length, Begins-append}
 use Rattle.cv_byte_trie.proofs.Ways.{Begins-same}
 use Rattle.cv_base.proofs.ChainLaws.{used_bytes-append, read_state-append, characters_of-append, IsChain-append}
 use Rattle.cv_byte_trie.specs.Entries.{Entry, no_entry, bytes_at, character_at, AreEntries}
-use Rattle.cv_byte_trie.specs.Tries.{StepsBy, tails, tail_code, none, HasTrie}
+use Rattle.cv_byte_trie.specs.Tries.{StepsBy, tails, none, HasTrie}
 use Rattle.cv_byte_trie.specs.Private.Reading.{IsAt}
 use Rattle.cv_byte_trie.proofs.Followed.{leads_to_leaf, leads_to_tail, leads_to_node, tail_low}
 use Rattle.cv_trie.specs.Charmaps.{map_reads}
 use Rattle.cv_trie.specs.Private.Fronts.{IsReadFront}
 use Rattle.cv_trie.specs.Private.Followed.{IsFollowed, IsFound}
-use Rattle.cv_trie.specs.declared.front.Front.{Front}
 use Rattle.cv_trie.proofs.MapLaws.{holds_place}
 use Rattle.cv_trie.proofs.MapItems.{pair_stands}
 

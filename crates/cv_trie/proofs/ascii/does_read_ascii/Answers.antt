@@ -1,10 +1,7 @@
-use Rattle.std.proofs.Common.{◌≡◌, ◌<◌, ℕ, List, length, subst, sym, ◌∙◌, ap, arith, inl, inr}
+use Rattle.std.proofs.Common.{◌≡◌, ◌<◌, List, length, subst, sym, ◌∙◌, ap, arith, inl, inr}
 use Rattle.std.proofs.lemmas.Bool.{cases_lt}
-use Rattle.cv_base.specs.Items.{taken}
-use Rattle.cv_base.specs.declared.state.ReadState.TheVariants as read
 use Rattle.cv_byte_trie.specs.Entries.{Entry, character_at}
 use Rattle.cv_byte_trie.specs.Tables.{edge_of}
-use Rattle.cv_trie.specs.Charmaps.{map_reads}
 use Rattle.cv_trie.proofs.Following.{root_leaf, root_reads, entry_character}
 use Rattle.cv_trie.proofs.ascii.does_read_ascii.Goals as goal
 

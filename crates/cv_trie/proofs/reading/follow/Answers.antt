@@ -1,8 +1,8 @@
-use Rattle.std.proofs.Common.{◌≡◌, ◌+◌, ◌-◌, ◌<◌, List, ℕ, refl, sym, ◌∙◌, arith, get_or, length, drop, length-drop}
+use Rattle.std.proofs.Common.{◌≡◌, ◌+◌, ◌-◌, ◌<◌, refl, sym, arith, get_or, length, drop, length-drop}
 use Rattle.std.proofs.lemmas.List.{get_or-drop}
-use Rattle.cv_byte_trie.specs.Tries.{tail_code, none, tails, node_code}
+use Rattle.cv_byte_trie.specs.Tries.{tail_code, node_code}
 use Rattle.cv_byte_trie.specs.Tables.{edge_of}
-use Rattle.cv_trie.proofs.Following.{followed_first, followed_on, followed_found}
+use Rattle.cv_trie.proofs.Following.{followed_first, followed_on}
 use Rattle.cv_trie.proofs.reading.follow.Goals as goal
 
 pub loop-code-init : goal.loop-code-init

@@ -1,6 +1,5 @@
-use Rattle.std.proofs.Common.{◌≡◌, ◌<◌, ℕ, List, sym, subst, ◌∙◌, arith, length, drop}
+use Rattle.std.proofs.Common.{◌≡◌, ◌<◌, List, sym, subst, ◌∙◌, arith, length, drop}
 use Rattle.cv_byte_trie.specs.Entries.{Entry, character_at}
-use Rattle.cv_byte_trie.specs.Tables.{edge_of}
 use Rattle.cv_trie.proofs.Following.{followed_stands, front_more, entry_character}
 use Rattle.cv_trie.proofs.reading.read_longer.Goals as goal
 

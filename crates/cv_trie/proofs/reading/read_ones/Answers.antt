@@ -1,4 +1,4 @@
-use Rattle.std.proofs.Common.{◌≡◌, ◌+◌, ◌<◌, ◌≤◌, ℕ, List, refl, sym, subst, ◌∙◌, arith, get_or, length, drop, length-drop}
+use Rattle.std.proofs.Common.{◌≡◌, ◌+◌, ◌<◌, ◌≤◌, List, refl, sym, subst, ◌∙◌, arith, get_or, length, drop, length-drop}
 use Rattle.cv_byte_trie.specs.Entries.{Entry, AreEntries, character_at}
 use Rattle.cv_byte_trie.specs.Tries.{none}
 use Rattle.cv_byte_trie.specs.Tables.{edge_of}

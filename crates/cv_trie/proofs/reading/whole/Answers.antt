@@ -1,4 +1,4 @@
-use Rattle.std.proofs.Common.{◌≡◌, ◌∙◌, List, ℕ, length, drop, sym, subst, ap, arith}
+use Rattle.std.proofs.Common.{◌≡◌, List, ℕ, length, drop, sym, subst, ap}
 use Rattle.std.proofs.lemmas.List.{take_rest}
 use Rattle.cv_base.specs.Items.{Begins}
 use Rattle.cv_trie.specs.Private.Followed.{IsFound}

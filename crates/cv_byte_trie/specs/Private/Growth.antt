@@ -35,7 +35,7 @@ pub record LeadsOver (old new : Steps) (bytes : List ℕ) (code : ℕ) : Type 0 
   pub chain : (j : ℕ) → j < length bytes → node_at new (length old.nodes.items + j)
       ≡ One (slice_index_or bytes (length bytes - 1 - j) 0) (code_behind code (length old.nodes.items) j)
 
--- New nodes lead over bytes to a code, and the node before the last of them leads by another byte to another code. Edges of old nodes stay, but for one that may lead to the first of the new ones.
+-- New nodes lead over bytes to a code, and the one before the last byte leads by another byte to another code, and by no further one.
 pub record Branches (old new : Steps) (bytes : List ℕ) (code other place : ℕ) : Type 0 where
   pub count : length new.nodes.items ≡ length old.nodes.items + length bytes
   pub on : (j : ℕ) → j < length bytes → slice_index_or bytes (length bytes - 1 - j) 0 < 256 → edge_of new (length old.nodes.items + j) (slice_index_or bytes (length bytes - 1 - j) 0) ≡ code_behind code (length old.nodes.items) j

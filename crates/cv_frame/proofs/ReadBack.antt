@@ -3,11 +3,10 @@ use Rattle.std.proofs.Common.{◌≡◌, ℕ, ◌^◌, ◌<◌, ◌≤◌, false
 use Rattle.std.specs.Int.{w32, to_be_bytes}
 use Rattle.std.specs.Option.{option_and_then, option_map}
 use Rattle.std.proofs.lemmas.Bool.{ltb-false, le-ltb, eqb-true}
-use Rattle.std.proofs.lemmas.Bool.Decides.{nat_tests}
 use Rattle.std.proofs.lemmas.List.{take_at, drop_at, take_all, append-nil, take-append-drop, length-take, length-drop, drop-drop}
 use Rattle.std.proofs.lemmas.Nat.{from_be_bytes-to_be_bytes_4}
 use Rattle.cv_frame.specs.Cut.{number_at, IsBytes}
-use Rattle.cv_frame.specs.Bodies.{name_body, name_at, policy_body, policy_of, Opening, IsOpenBody, open_body, conv_body, number_body, reset_body, open_of, conv_of, number_of, reset_of, ReadBack}
+use Rattle.cv_frame.specs.Bodies.{name_body, name_at, name_alone, drop_of, policy_body, policy_of, Opening, IsOpenBody, open_body, conv_body, number_body, reset_body, open_of, conv_of, number_of, reset_of, ReadBack}
 use Rattle.cv_base.specs.declared.policy.Policy.{Policy}
 use Rattle.cv_base.specs.declared.policy.Policy.TheVariants.{Substitute, Strict}
 use Rattle.cv_frame.proofs.Cuts.{chosen, IsBytes-drop, number_spelled}
@@ -16,6 +15,11 @@ name_back : (name rest : List ℕ) → name_at (name_body name ++ rest) ≡ Some
 name_back name rest =
     let long : ltb (length (name ++ rest)) (length name) ≡ false = le-ltb _ _ (omega (arith, length-append name rest)) in
     rw (long, take_at name rest (length name) refl, drop_at name rest (length name) refl) refl
+
+drop_back : (name : List ℕ) → length name ≤ 255 → drop_of (name_body name) ≡ Some name
+drop_back name _ =
+    let front : name_at (name_body name) ≡ Some (name, []) = ap (λ (x : List ℕ). name_at (length name ∷ x)) (sym (append-nil name)) ∙ name_back name [] in
+    ap (option_and_then name_alone) front
 
 policy_back : (policy : Policy) → policy_of (policy_body policy) ≡ Some policy
 policy_back Substitute = refl
@@ -80,6 +84,18 @@ mapped f None y e = absurd cc
 bound : {A B : Type 0} (f : A → Option B) (o : Option A) (y : B) → option_and_then f o ≡ Some y → (x : A) × (o ≡ Some x) × (f x ≡ Some y)
 bound f (Some x) y e = (x, refl, e)
 bound f None y e = absurd cc
+
+alone_only : (taken : List ℕ × List ℕ) (name : List ℕ) → name_alone taken ≡ Some name → taken ≡ (name, [])
+alone_only (taken, []) name e =
+    let is : taken ≡ name = cc in
+    ap (λ (x : List ℕ). (x, [])) is
+alone_only (taken, b ∷ bytes) name e = absurd cc
+
+drop_only : (body name : List ℕ) → drop_of body ≡ Some name → body ≡ name_body name
+drop_only body name e =
+    let taken = bound name_alone (name_at body) name e in
+    let front : name_at body ≡ Some (name, []) = taken.1 ∙ ap Some (alone_only taken.0 name taken.2) in
+    name_only body name [] front ∙ append-nil (name_body name)
 
 open_only : (body : List ℕ) (o : Opening) → open_of body ≡ Some o → IsOpenBody o body
 unfolding open_of
@@ -152,10 +168,12 @@ number_only body number fits e =
 
 pub read_back : ReadBack
 read_back = record {
+  drops = drop_back;
   opens = open_back;
   converts = conv_back;
   resets = reset_back;
   closes = number_back;
+  drops_only = drop_only;
   opens_only = open_only;
   converts_only = conv_only;
   resets_only = reset_only;

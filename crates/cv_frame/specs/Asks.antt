@@ -1,26 +1,34 @@
 -- What a client asks, as a message. The numbers of the ops are this project's own.
-use Rattle.std.specs.Prelude.{ℕ, ◌≤◌, List, length}
+use Rattle.std.specs.Prelude.{ℕ, ◌≤◌, List, [], length}
 use Rattle.cv_frame.specs.Message.{Message}
-use Rattle.cv_frame.specs.Bodies.{open_body, conv_body, number_body, reset_body}
+use Rattle.cv_frame.specs.Bodies.{name_body, open_body, conv_body, number_body, reset_body}
 use Rattle.cv_frame.specs.declared.ask.Ask.{Ask}
-use Rattle.cv_frame.specs.declared.ops.TheConstants.{OPEN, CONV, RESET, CLOSE}
+use Rattle.cv_frame.specs.declared.ops.TheConstants.{PUT, DROP, OPEN, CONV, RESET, CLOSE, BYE, PART}
 use Rattle.cv_frame.specs.declared.sizes.TheConstants.{MOST_BODY}
-use Rattle.cv_frame.specs.declared.ask.Ask.TheVariants.{Open, Conv, Reset, Close, Raw}
+use Rattle.cv_frame.specs.declared.ask.Ask.TheVariants.{Put, DropMap, Open, Conv, Reset, Close, Bye, Part, Raw}
 
 -- the number of its op
 abbrev pub ask_code : Ask → ℕ
+ask_code (Put text) = PUT
+ask_code (DropMap name) = DROP
 ask_code (Open to from policy) = OPEN
 ask_code (Conv number room input) = CONV
 ask_code (Reset number room) = RESET
 ask_code (Close number) = CLOSE
+ask_code Bye = BYE
+ask_code (Part bytes) = PART
 ask_code (Raw op body) = op
 
 -- its body
 abbrev pub ask_body : Ask → List ℕ
+ask_body (Put text) = text.now
+ask_body (DropMap name) = name_body name.now
 ask_body (Open to from policy) = open_body to.now from.now policy
 ask_body (Conv number room input) = conv_body number room input.now
 ask_body (Reset number room) = reset_body number room
 ask_body (Close number) = number_body number
+ask_body Bye = []
+ask_body (Part bytes) = bytes.now
 ask_body (Raw op body) = body.now
 
 -- the request that a caller sends
@@ -29,10 +37,14 @@ request_of caller tag ask = record { caller = caller; tag = tag; code = ask_code
 
 -- Each name's length is one byte.
 abbrev pub NamesFit : Ask → Type 0
+NamesFit (Put text) = Unit {0}
+NamesFit (DropMap name) = length name.now ≤ 255
 NamesFit (Open to from policy) = (length to.now ≤ 255) × (length from.now ≤ 255)
 NamesFit (Conv number room input) = Unit {0}
 NamesFit (Reset number room) = Unit {0}
 NamesFit (Close number) = Unit {0}
+NamesFit Bye = Unit {0}
+NamesFit (Part bytes) = Unit {0}
 NamesFit (Raw op body) = Unit {0}
 
 -- It has a frame: each name has at most 255 bytes, and the body at most 1,048,567.

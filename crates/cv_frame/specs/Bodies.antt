@@ -40,6 +40,15 @@ abbrev pub name_at : List ℕ → Option (List ℕ × List ℕ)
 name_at [] = None
 name_at (n ∷ bytes) = if nat_lt (length bytes) n then None else Some (take n bytes, drop n bytes)
 
+-- a name behind which nothing stands
+abbrev pub name_alone : List ℕ × List ℕ → Option (List ℕ)
+name_alone (name, []) = Some name
+name_alone (name, b ∷ bytes) = None
+
+-- the name that a DROP has
+abbrev pub drop_of : List ℕ → Option (List ℕ)
+drop_of body = option_and_then name_alone (name_at body)
+
 -- the policy, of what stands behind the names: a byte 0 says what nothing says
 abbrev pub policy_of : List ℕ → Option Policy
 policy_of [] = Some Substitute
@@ -77,10 +86,12 @@ IsOpenBody o body = (body ≡ open_body o.to o.from o.policy) ⊎ ((o.policy ≡
 
 -- Bodies that are spelled of names of at most 255 bytes, and of numbers of 32 bits, are read as those; and a body that is read was spelled so.
 pub record ReadBack : Type 0 where
+  pub drops : (name : List ℕ) → length name ≤ 255 → drop_of (name_body name) ≡ Some name
   pub opens : (o : Opening) → length o.to ≤ 255 → length o.from ≤ 255 → open_of (open_body o.to o.from o.policy) ≡ Some o
   pub converts : (number room : ℕ) (input : List ℕ) → number < 2 ^ 32 → room < 2 ^ 32 → conv_of (conv_body number room input) ≡ Some (number, room, input)
   pub resets : (number room : ℕ) → number < 2 ^ 32 → room < 2 ^ 32 → reset_of (reset_body number room) ≡ Some (number, room)
   pub closes : (number : ℕ) → number < 2 ^ 32 → number_of (number_body number) ≡ Some number
+  pub drops_only : (body name : List ℕ) → drop_of body ≡ Some name → body ≡ name_body name
   pub opens_only : (body : List ℕ) (o : Opening) → open_of body ≡ Some o → IsOpenBody o body
   pub converts_only : (body : List ℕ) (number room : ℕ) (input : List ℕ) → IsBytes body → conv_of body ≡ Some (number, room, input) → body ≡ conv_body number room input
   pub resets_only : (body : List ℕ) (number room : ℕ) → IsBytes body → reset_of body ≡ Some (number, room) → body ≡ reset_body number room

@@ -3,7 +3,7 @@
 
 ghost use Rattle.std.specs.Prelude.{◌≡◌, ◌≤◌, ◌+◌, IfSome, length};
 ghost use Rattle.std.specs.Option.{option_map};
-ghost use Rattle.cv_frame.specs.Bodies.{name_at, policy_of, open_of, conv_of, number_of, reset_of};
+ghost use Rattle.cv_frame.specs.Bodies.{name_at, drop_of, policy_of, open_of, conv_of, number_of, reset_of};
 
 use crate::reading::number;
 use cv_base::Policy;
@@ -29,6 +29,14 @@ fn read_name_at(bytes: &[u8]) -> Option<(&[u8], &[u8])>
         return None;
     }
     Some(rest.split_at(n))
+}
+
+/// The body of a DROP: a charmap's name, which may be empty.
+pub fn read_name(body: &[u8]) -> Option<&[u8]>
+    ensures { option_map (λ name. name.now) result ≡ drop_of body.now }
+{
+    let (name, rest) = read_name_at(body)?;
+    if rest.is_empty() { Some(name) } else { None }
 }
 
 /// The policy that stands behind the names of an OPEN.

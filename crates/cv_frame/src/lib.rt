@@ -14,7 +14,7 @@ mod status;
 mod writing;
 
 pub use ask::Ask;
-pub use bodies::{OpenBody, read_conv, read_number, read_open, read_reset};
+pub use bodies::{OpenBody, read_conv, read_name, read_number, read_open, read_reset};
 pub use bytes::Bytes;
 pub use reading::{Frame, ReplyFrame, next_reply, next_request};
 pub use reply::Reply;

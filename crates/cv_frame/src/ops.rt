@@ -1,5 +1,11 @@
 //! The ops of requests, by their numbers.
 
+/// Compiles a charmap, and keeps it under its name.
+pub const PUT: u8 = 1;
+
+/// Gives a charmap back.
+pub const DROP: u8 = 2;
+
 /// Opens a descriptor.
 pub const OPEN: u8 = 3;
 
@@ -11,3 +17,9 @@ pub const RESET: u8 = 5;
 
 /// Gives a descriptor back.
 pub const CLOSE: u8 = 6;
+
+/// Gives back all that a caller has.
+pub const BYE: u8 = 7;
+
+/// Holds a part of a charmap's text, which the next `PUT` ends.
+pub const PART: u8 = 8;

@@ -103,6 +103,46 @@ fn conv_request(rt: HostRuntime) -> Result<(), Fail> {
 }
 
 #[test]
+fn charmap_requests(rt: HostRuntime) -> Result<(), Fail> {
+    let asks = [
+        (
+            Ask::Put(b"CHARMAP"),
+            b"\0\0\0\x10\0\0\0\x07\0\0\0\x02\x01CHARMAP".as_slice(),
+        ),
+        (Ask::Put(b""), b"\0\0\0\x09\0\0\0\x07\0\0\0\x02\x01"),
+        (
+            Ask::DropMap(b"TOY"),
+            b"\0\0\0\x0d\0\0\0\x07\0\0\0\x02\x02\x03TOY",
+        ),
+        (Ask::DropMap(b""), b"\0\0\0\x0a\0\0\0\x07\0\0\0\x02\x02\0"),
+        (Ask::Bye, b"\0\0\0\x09\0\0\0\x07\0\0\0\x02\x07"),
+        (Ask::Part(b"q"), b"\0\0\0\x0a\0\0\0\x07\0\0\0\x02\x08q"),
+        (Ask::Part(b""), b"\0\0\0\x09\0\0\0\x07\0\0\0\x02\x08"),
+    ];
+    for (ask, frame) in asks {
+        let mut out = Vec::new(rt.alloc());
+        write_request(&mut out, 7, 2, &ask)?;
+        assert_eq!(rt; out.as_slice(), frame, "{ask:?}");
+    }
+    Ok(())
+}
+
+#[test]
+fn names(rt: HostRuntime) {
+    let bodies = [
+        (b"\x03TOY".as_slice(), Some(b"TOY".as_slice())),
+        (b"\0", Some(b"")),
+        (b"", None),
+        (b"\x04TOY", None),
+        (b"\x02TOY", None),
+        (b"\0\0", None),
+    ];
+    for (body, name) in bodies {
+        assert_eq!(rt; read_name(body), name, "{body:?}");
+    }
+}
+
+#[test]
 fn lengths(rt: HostRuntime) {
     for length in [0u32, 8, 1_048_577, 4_294_967_295] {
         let bytes = length.to_be_bytes();

@@ -3,10 +3,10 @@
 ghost use Rattle.std.specs.Prelude.{◌≡◌, ◌≤◌, ◌+◌, ◌++◌, List, ℕ, OnOk, OnErr, length, vec_len, vec_capacity};
 ghost use Rattle.cv_frame.specs.Message.{FitsFrame, spelling};
 ghost use Rattle.cv_frame.specs.Bodies.{name_body, policy_body};
-ghost use Rattle.cv_frame.specs.Asks.{AskFits, request_of};
+ghost use Rattle.cv_frame.specs.Asks.{AskFits, ask_code, ask_body, request_of};
 
 use crate::ask::Ask;
-use crate::ops::{CLOSE, CONV, OPEN, RESET};
+use crate::ops::{BYE, CLOSE, CONV, DROP, OPEN, PART, PUT, RESET};
 use crate::reply::Reply;
 use crate::sizes::MOST_BODY;
 use cv_base::{Memory, Policy};
@@ -74,6 +74,71 @@ pub fn write_reply(out: &mut Vec<u8>, reply: &Reply) -> Result<(), Memory>
     Ok(())
 }
 
+/// The number of an ask's op.
+fn op_of(ask: &Ask<'_>) -> u8
+    ensures { result ≡ ask_code ask.now }
+{
+    match *ask {
+        Ask::Put(_) => PUT,
+        Ask::DropMap(_) => DROP,
+        Ask::Open { .. } => OPEN,
+        Ask::Conv { .. } => CONV,
+        Ask::Reset { .. } => RESET,
+        Ask::Close(_) => CLOSE,
+        Ask::Bye => BYE,
+        Ask::Part(_) => PART,
+        Ask::Raw { op, .. } => op,
+    }
+}
+
+/// How many bytes an ask's body has.
+fn body_len(ask: &Ask<'_>) -> usize
+    requires { AskFits ask.now }
+    ensures { result ≡ length (ask_body ask.now) }
+{
+    match *ask {
+        Ask::DropMap(name) => 1 + name.len(),
+        Ask::Open { to, from, policy } => 2 + to.len() + from.len() + policy_bytes(policy).len(),
+        Ask::Conv { input, .. } => 8 + input.len(),
+        Ask::Reset { .. } => 8,
+        Ask::Close(_) => 4,
+        Ask::Bye => 0,
+        Ask::Put(body) | Ask::Part(body) | Ask::Raw { body, .. } => body.len(),
+    }
+}
+
+/// Appends an ask's body.
+fn append_body(out: &mut Vec<u8>, ask: &Ask<'_>)
+    requires fits { AskFits ask.now }
+    requires room { vec_len out.old + length (ask_body ask.now) ≤ vec_capacity out.old }
+    ensures { out.new.items ≡ out.old.items ++ ask_body ask.now }
+{
+    match *ask {
+        Ask::DropMap(name) => append_name(out, name),
+        Ask::Open { to, from, policy } => {
+            append_name(out, to);
+            append_name(out, from);
+            append(out, policy_bytes(policy));
+        }
+        Ask::Conv {
+            number,
+            room,
+            input,
+        } => {
+            append(out, &number.to_be_bytes());
+            append(out, &room.to_be_bytes());
+            append(out, input);
+        }
+        Ask::Reset { number, room } => {
+            append(out, &number.to_be_bytes());
+            append(out, &room.to_be_bytes());
+        }
+        Ask::Close(number) => append(out, &number.to_be_bytes()),
+        Ask::Bye => {}
+        Ask::Put(body) | Ask::Part(body) | Ask::Raw { body, .. } => append(out, body),
+    }
+}
+
 /// Appends the frame of a request. Names have at most 255 bytes and the body at most 1,048,567, so the input of a
 /// `Conv` at most 1,048,559. Where memory lacks the buffer is as it was.
 pub fn write_request(out: &mut Vec<u8>, caller: u32, tag: u32, ask: &Ask<'_>) -> Result<(), Memory>
@@ -82,47 +147,7 @@ pub fn write_request(out: &mut Vec<u8>, caller: u32, tag: u32, ask: &Ask<'_>) ->
     ensures fits { FitsFrame (request_of caller tag ask.now) }
     ensures err { OnErr result (out.new.items ≡ out.old.items) }
 {
-    match *ask {
-        Ask::Open { to, from, policy } => {
-            let behind = policy_bytes(policy);
-            begin_frame(
-                out,
-                caller,
-                tag,
-                OPEN,
-                2 + to.len() + from.len() + behind.len(),
-            )?;
-            append_name(out, to);
-            append_name(out, from);
-            append(out, behind);
-            Ok(())
-        }
-        Ask::Conv {
-            number,
-            room,
-            input,
-        } => {
-            begin_frame(out, caller, tag, CONV, 8 + input.len())?;
-            append(out, &number.to_be_bytes());
-            append(out, &room.to_be_bytes());
-            append(out, input);
-            Ok(())
-        }
-        Ask::Reset { number, room } => {
-            begin_frame(out, caller, tag, RESET, 8)?;
-            append(out, &number.to_be_bytes());
-            append(out, &room.to_be_bytes());
-            Ok(())
-        }
-        Ask::Close(number) => {
-            begin_frame(out, caller, tag, CLOSE, 4)?;
-            append(out, &number.to_be_bytes());
-            Ok(())
-        }
-        Ask::Raw { op, body } => {
-            begin_frame(out, caller, tag, op, body.len())?;
-            append(out, body);
-            Ok(())
-        }
-    }
+    begin_frame(out, caller, tag, op_of(ask), body_len(ask))?;
+    append_body(out, ask);
+    Ok(())
 }

@@ -1,0 +1,7 @@
+pub mod Owned
+pub mod Buffers
+pub mod Keeping
+pub mod Changes
+pub mod Stepping
+pub mod Converting
+pub mod OpeningSteps

@@ -1,0 +1,5 @@
+pub mod Actions
+pub mod Answers
+pub mod Turn
+pub mod Worlds
+pub mod Opening

@@ -1,0 +1,13 @@
+//! The callers of a shard, each with its own charmaps and descriptors, and what one request does.
+#![tactic(auto)]
+
+mod answer;
+mod callers;
+mod conversions;
+mod op;
+mod opening;
+mod world;
+
+pub use answer::Answer;
+pub use op::Op;
+pub use world::World;

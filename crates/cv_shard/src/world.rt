@@ -1,0 +1,233 @@
+//! The callers of a shard.
+ghost use Rattle.std.specs.Prelude.{◌≡◌, ◌≤◌, ◌++◌, length, IfOk};
+ghost use Rattle.cv_cache.specs.Compiled.{compiled};
+ghost use Rattle.cv_machine.specs.Machine.{with_table};
+ghost use Rattle.cv_caller.specs.Tables.{IsTable};
+ghost use Rattle.cv_shard.specs.Actions.{Put, DropMap, Open, Conv, Reset, Close};
+ghost use Rattle.cv_shard.specs.Answers.{AnswerFits};
+ghost use Rattle.cv_shard.specs.Turn.{Acts};
+ghost use Rattle.cv_shard.specs.Worlds.{world_tables, no_tables, add_answer, drop_answer};
+
+use crate::answer::Answer;
+use crate::callers::{
+    assert_keyed, bind_in, drop_in, gather_in, make_room, place_in, prepare_in, put_in, unbind_in,
+};
+use crate::conversions::{convert_in, reserve_one, reset_in};
+use crate::opening::Opening;
+use cv_base::{Memory, Policy};
+use cv_caller::{AddFault, DropFault, Place, Table};
+use cv_charmap::CompileFault;
+use cv_frame::{Bytes, MOST_BODY, Status};
+use cv_pivot::Conversion;
+use cv_trie::Charmap;
+use slab::Slab;
+use std::alloc::Global;
+use std::collections::BTreeMap;
+use std::marker::Model;
+use std::sync::Arc;
+
+/// The most room that a request may ask for, in bytes.
+const MOST_ROOM: u32 = 1_000_000;
+
+/// The callers of a shard, each with its own table; their conversions stand in one slab. Contracts see each caller's table.
+#[derive(Drop)]
+pub struct World {
+    callers: BTreeMap<u32, Table>,
+    conversions: Slab<Conversion>,
+}
+
+impl Model for World {
+    ghost use Rattle.std.specs.Prelude.{ℕ, List};
+    ghost use Rattle.cv_caller.specs.Tables.{Table};
+
+    ghost Value = { List (ℕ × Table) };
+
+    ghost use Rattle.slab.specs.Slab.{get};
+    ghost use Rattle.cv_shard.specs.Worlds.{tables_in, keyed_in, IsWorld};
+
+    ghost view = { λ w. tables_in w.callers.entries w.conversions };
+
+    ghost invariant = { λ w. IsWorld (keyed_in w.callers) (get w.conversions) };
+}
+
+fn add_answer(count: u32, added: Result<(), AddFault>) -> Answer
+    ensures value { result ≡ add_answer count added }
+    ensures fits { AnswerFits result }
+{
+    match added {
+        Ok(()) => Answer::Count(count),
+        Err(AddFault::Exists) => Answer::Refused(Status::Exists),
+        Err(AddFault::Quota) => Answer::Refused(Status::Quota),
+        Err(AddFault::Memory) => Answer::Refused(Status::NoMemory),
+    }
+}
+
+fn drop_answer(dropped: Result<(), DropFault>) -> Answer
+    ensures value { result ≡ drop_answer dropped }
+    ensures fits { AnswerFits result }
+{
+    match dropped {
+        Ok(()) => Answer::Empty,
+        Err(DropFault::NoName) => Answer::Refused(Status::NoName),
+        Err(DropFault::Busy) => Answer::Refused(Status::Busy),
+    }
+}
+
+impl World {
+    /// No caller has asked yet.
+    pub fn new(alloc: Global) -> World
+        ensures { world_tables result ≡ no_tables }
+    {
+        World {
+            callers: BTreeMap::new(alloc),
+            conversions: Slab::new(alloc),
+        }
+    }
+
+    /// States what a caller's table keeps. It does nothing.
+    pub fn assert_table(&self, caller: u32)
+        ensures { IsTable (world_tables self.now caller) }
+    {
+        assert_keyed(&self.callers, caller);
+    }
+
+    /// The text of an upload: the caller's part, and then the body.
+    pub fn gather(&self, alloc: Global, caller: u32, body: &[u8]) -> Result<Vec<u8>, Memory>
+        ensures { IfOk result (λ text. text.items ≡ (world_tables self.now caller).part ++ body.now) }
+    {
+        gather_in(alloc, &self.callers, caller, body)
+    }
+
+    /// OPEN. All growths come before anything changes.
+    pub(crate) fn open(&mut self, caller: u32, to: &[u8], from: &[u8], policy: Policy) -> Answer
+        ensures acts { Acts (world_tables self.old caller) (Open to.now from.now policy) (world_tables self.new caller) result }
+        ensures others { world_tables self.new ≡ with_table (world_tables self.old) caller (world_tables self.new caller) }
+        ensures fits { AnswerFits result }
+    {
+        let opening = match prepare_in(&self.callers, caller, to, from, policy) {
+            Ok(opening) => opening,
+            Err(status) => return Answer::Refused(status),
+        };
+        if reserve_one(&mut self.conversions).is_err() {
+            return Answer::Refused(Status::NoMemory);
+        }
+        if make_room(&mut self.callers, caller).is_err() {
+            return Answer::Refused(Status::NoMemory);
+        }
+        let Opening {
+            number,
+            to,
+            from,
+            conversion,
+        } = opening;
+        let key = self.conversions.insert_reserved(conversion);
+        let place = Place {
+            key: key as u32,
+            to,
+            from,
+        };
+        bind_in(&mut self.callers, caller, number, place);
+        Answer::Number(number)
+    }
+
+    /// CONV
+    pub(crate) fn conv(
+        &mut self,
+        alloc: Global,
+        caller: u32,
+        number: u32,
+        room: u32,
+        input: &[u8],
+    ) -> Answer
+        requires { length input.now ≤ MOST_BODY }
+        ensures acts { Acts (world_tables self.old caller) (Conv number room input.now) (world_tables self.new caller) result }
+        ensures others { world_tables self.new ≡ with_table (world_tables self.old) caller (world_tables self.new caller) }
+        ensures fits { AnswerFits result }
+    {
+        let Some(place) = place_in(&self.callers, caller, number) else {
+            return Answer::Refused(Status::BadDescriptor);
+        };
+        if room > MOST_ROOM {
+            return Answer::Refused(Status::Room);
+        }
+        let Ok(output) = convert_in(
+            alloc,
+            &mut self.conversions,
+            place.key as usize,
+            room,
+            input,
+        ) else {
+            return Answer::Refused(Status::NoMemory);
+        };
+        Answer::Converted {
+            stop: output.outcome.stop,
+            left: output.outcome.left as u32,
+            count: output.outcome.count as u32,
+            bytes: Bytes::of(output.bytes),
+        }
+    }
+
+    /// RESET
+    pub(crate) fn reset(&mut self, caller: u32, number: u32, room: u32) -> Answer
+        ensures acts { Acts (world_tables self.old caller) (Reset number room) (world_tables self.new caller) result }
+        ensures others { world_tables self.new ≡ with_table (world_tables self.old) caller (world_tables self.new caller) }
+        ensures fits { AnswerFits result }
+    {
+        let Some(place) = place_in(&self.callers, caller, number) else {
+            return Answer::Refused(Status::BadDescriptor);
+        };
+        if room > MOST_ROOM {
+            return Answer::Refused(Status::Room);
+        }
+        let Ok(closing) = reset_in(&mut self.conversions, place.key as usize, room) else {
+            return Answer::Refused(Status::TooBig);
+        };
+        Answer::Written(closing)
+    }
+
+    /// PUT
+    pub(crate) fn put(
+        &mut self,
+        alloc: Global,
+        caller: u32,
+        charmap: Result<Arc<Charmap>, CompileFault>,
+    ) -> Answer
+        ensures acts { Acts (world_tables self.old caller) (Put (compiled charmap)) (world_tables self.new caller) result }
+        ensures others { world_tables self.new ≡ with_table (world_tables self.old) caller (world_tables self.new caller) }
+        ensures fits { AnswerFits result }
+    {
+        let charmap = match charmap {
+            Ok(charmap) => charmap,
+            Err(CompileFault::Map(fault)) => return Answer::BadMap(fault),
+            Err(CompileFault::Memory) => return Answer::Refused(Status::NoMemory),
+        };
+        let count = charmap.len() as u32;
+        assert_keyed(&self.callers, caller);
+        let added = put_in(&mut self.callers, alloc, caller, charmap);
+        add_answer(count, added)
+    }
+
+    /// CLOSE
+    pub(crate) fn close(&mut self, caller: u32, number: u32) -> Answer
+        ensures acts { Acts (world_tables self.old caller) (Close number) (world_tables self.new caller) result }
+        ensures others { world_tables self.new ≡ with_table (world_tables self.old) caller (world_tables self.new caller) }
+        ensures fits { AnswerFits result }
+    {
+        let Some(place) = place_in(&self.callers, caller, number) else {
+            return Answer::Refused(Status::BadDescriptor);
+        };
+        unbind_in(&mut self.callers, caller, number);
+        self.conversions.try_remove(place.key as usize);
+        Answer::Empty
+    }
+
+    /// DROP
+    pub(crate) fn drop_map(&mut self, caller: u32, name: &[u8]) -> Answer
+        ensures acts { Acts (world_tables self.old caller) (DropMap name.now) (world_tables self.new caller) result }
+        ensures others { world_tables self.new ≡ with_table (world_tables self.old) caller (world_tables self.new caller) }
+        ensures fits { AnswerFits result }
+    {
+        let dropped = drop_in(&mut self.callers, caller, name);
+        drop_answer(dropped)
+    }
+}

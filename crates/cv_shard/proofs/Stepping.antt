@@ -98,7 +98,7 @@ within (x ∷ xs) (suc n) p h = let l = within xs n p h in omega (arith, l)
 
 -- ---- nothing yet
 
-none_of : (m n : ℕ) → get_or (let xs : List (Option Place) = replicate m None in xs) n None ≡ None
+pub none_of : (m n : ℕ) → get_or (let xs : List (Option Place) = replicate m None in xs) n None ≡ None
 none_of zero n = refl
 none_of (suc m) zero = refl
 none_of (suc m) (suc n) = none_of m n

@@ -6,6 +6,7 @@ mod callers;
 mod conversions;
 mod op;
 mod opening;
+mod outcomes;
 mod world;
 
 pub use answer::Answer;

@@ -164,6 +164,13 @@ pub(crate) fn part_in(
     }
 }
 
+/// Forgets a caller.
+pub(crate) fn remove_in(callers: &mut BTreeMap<u32, Table>, caller: u32)
+    ensures { SetsKeyed (keyed_in callers.old) (keyed_in callers.new) caller no_keys }
+{
+    callers.remove(&caller);
+}
+
 /// Gives the memory back of a caller whose table is empty.
 pub(crate) fn forget_empty(callers: &mut BTreeMap<u32, Table>, caller: u32)
     ensures { (c : ℕ) → keyed_in callers.new c ≡ keyed_in callers.old c }
@@ -172,15 +179,8 @@ pub(crate) fn forget_empty(callers: &mut BTreeMap<u32, Table>, caller: u32)
         return;
     };
     if table.is_empty() {
-        callers.remove(&caller);
+        remove_in(callers, caller);
     }
-}
-
-/// Forgets a caller.
-pub(crate) fn remove_in(callers: &mut BTreeMap<u32, Table>, caller: u32)
-    ensures { SetsKeyed (keyed_in callers.old) (keyed_in callers.new) caller no_keys }
-{
-    callers.remove(&caller);
 }
 
 /// A caller's part of an upload, and then these bytes.

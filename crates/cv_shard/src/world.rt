@@ -229,6 +229,7 @@ impl World {
         for number in 0..DESCRIPTORS as u32 {
             let _ = self.close(caller, number);
         }
+        // There are no numbers beyond these.
         self.assert_table(caller);
     }
 

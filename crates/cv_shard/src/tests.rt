@@ -8,12 +8,13 @@ use std::alloc::Global;
 use std::test::Fail;
 
 /// An OPEN that substitutes.
-fn open<'a>(to: &'a [u8], from: &'a [u8]) -> Op<'a> {
-    Op::Open {
+fn open(world: &mut World, alloc: Global, caller: u32, to: &[u8], from: &[u8]) -> Answer {
+    let op = Op::Open {
         to,
         from,
         policy: Policy::Substitute,
-    }
+    };
+    world.step(alloc, caller, op)
 }
 
 /// A PUT: the caller's part and this text are compiled.
@@ -72,13 +73,13 @@ fn numbers_and_charmaps_have_limits(rt: HostRuntime) -> Result<(), Fail> {
     let mut world = World::new(alloc);
     let ascii = b"US-ASCII".as_slice();
     for wanted in 0..16 {
-        let opened = world.step(alloc, 1, open(ascii, b"UTF-8"));
+        let opened = open(&mut world, alloc, 1, ascii, b"UTF-8");
         assert!(rt;
             matches!(&opened, Answer::Number(number) if *number == wanted),
             "{wanted}"
         );
     }
-    let full = world.step(alloc, 1, open(ascii, b"UTF-8"));
+    let full = open(&mut world, alloc, 1, ascii, b"UTF-8");
     assert!(rt; is_refused(&full, Status::TooManyDescriptors));
     for name in ["A", "B", "C", "D", "E", "F", "G", "H"] {
         let held = put_map(&mut world, alloc, 1, name, "")?;
@@ -105,7 +106,7 @@ fn a_charmap_in_use_stays(rt: HostRuntime) -> Result<(), Fail> {
     let alloc = rt.alloc();
     let mut world = World::new(alloc);
     let _ = put_map(&mut world, alloc, 1, "TOY", "<U0100> \\x80")?;
-    let opened = world.step(alloc, 1, open(b"UTF-8", b"toy"));
+    let opened = open(&mut world, alloc, 1, b"UTF-8", b"toy");
     assert!(rt; matches!(&opened, Answer::Number(0)));
     let busy = world.step(alloc, 1, Op::DropMap(b"TOY"));
     assert!(rt; is_refused(&busy, Status::Busy));
@@ -121,7 +122,7 @@ fn a_charmap_in_use_stays(rt: HostRuntime) -> Result<(), Fail> {
         let unknown = conv(&mut world, alloc, 1, number, 0x80);
         assert!(rt; is_refused(&unknown, Status::BadDescriptor), "{number}");
     }
-    let misspelled = world.step(alloc, 1, open(b"UTF8", b"UTF-8"));
+    let misspelled = open(&mut world, alloc, 1, b"UTF8", b"UTF-8");
     assert!(rt; is_refused(&misspelled, Status::Unsupported));
     Ok(())
 }
@@ -132,7 +133,7 @@ fn bye_empties_one_table(rt: HostRuntime) -> Result<(), Fail> {
     let mut world = World::new(alloc);
     for caller in [1, 2] {
         let _ = put_map(&mut world, alloc, caller, "TOY", "<U0100> \\x80")?;
-        let opened = world.step(alloc, caller, open(b"UTF-8", b"TOY"));
+        let opened = open(&mut world, alloc, caller, b"UTF-8", b"TOY");
         assert!(rt; matches!(&opened, Answer::Number(0)), "{caller}");
     }
     let _ = world.step(alloc, 1, Op::Part(b"xyz"));
@@ -140,15 +141,15 @@ fn bye_empties_one_table(rt: HostRuntime) -> Result<(), Fail> {
     assert!(rt; matches!(&bye, Answer::Empty));
     let unknown = conv(&mut world, alloc, 1, 0, 0x80);
     assert!(rt; is_refused(&unknown, Status::BadDescriptor));
-    let dropped = world.step(alloc, 1, open(b"UTF-8", b"TOY"));
+    let dropped = open(&mut world, alloc, 1, b"UTF-8", b"TOY");
     assert!(rt; is_refused(&dropped, Status::Unsupported));
     let part = world.step(alloc, 1, Op::Part(b"q"));
     assert!(rt; matches!(&part, Answer::Count(1)));
-    let opened = world.step(alloc, 1, open(b"UTF-8", b"US-ASCII"));
+    let opened = open(&mut world, alloc, 1, b"UTF-8", b"US-ASCII");
     assert!(rt; matches!(&opened, Answer::Number(0)));
     let read = conv(&mut world, alloc, 2, 0, 0x80);
     assert!(rt; is_converted(&read, b"\xc4\x80"));
-    let next = world.step(alloc, 2, open(b"UTF-8", b"TOY"));
+    let next = open(&mut world, alloc, 2, b"UTF-8", b"TOY");
     assert!(rt; matches!(&next, Answer::Number(1)));
     Ok(())
 }
@@ -158,12 +159,12 @@ fn a_key_is_used_again(rt: HostRuntime) -> Result<(), Fail> {
     let alloc = rt.alloc();
     let mut world = World::new(alloc);
     for caller in [1, 2] {
-        let opened = world.step(alloc, caller, open(b"UTF-8", b"US-ASCII"));
+        let opened = open(&mut world, alloc, caller, b"UTF-8", b"US-ASCII");
         assert!(rt; matches!(&opened, Answer::Number(0)), "{caller}");
     }
     let closed = world.step(alloc, 1, Op::Close(0));
     assert!(rt; matches!(&closed, Answer::Empty));
-    let third = world.step(alloc, 3, open(b"UTF-16BE", b"US-ASCII"));
+    let third = open(&mut world, alloc, 3, b"UTF-16BE", b"US-ASCII");
     assert!(rt; matches!(&third, Answer::Number(0)));
     let gone = conv(&mut world, alloc, 1, 0, b'A');
     assert!(rt; is_refused(&gone, Status::BadDescriptor));
@@ -171,7 +172,7 @@ fn a_key_is_used_again(rt: HostRuntime) -> Result<(), Fail> {
     assert!(rt; is_converted(&wide, b"\0A"));
     let narrow = conv(&mut world, alloc, 2, 0, b'A');
     assert!(rt; is_converted(&narrow, b"A"));
-    let again = world.step(alloc, 1, open(b"UTF-8", b"US-ASCII"));
+    let again = open(&mut world, alloc, 1, b"UTF-8", b"US-ASCII");
     assert!(rt; matches!(&again, Answer::Number(0)));
     Ok(())
 }
@@ -206,7 +207,7 @@ fn parts_are_their_callers(rt: HostRuntime) -> Result<(), Fail> {
             matches!(&again, Answer::BadMap(fault) if fault.line == 2),
             "{caller}"
         );
-        let opened = world.step(alloc, caller, open(b"UTF-8", b"P"));
+        let opened = open(&mut world, alloc, caller, b"UTF-8", b"P");
         assert!(rt; matches!(&opened, Answer::Number(0)), "{caller}");
         let read = conv(&mut world, alloc, caller, 0, 0x80);
         assert!(rt; is_converted(&read, want), "{caller}");

@@ -1,17 +1,17 @@
 -- Parts of uploads, and callers who leave.
-use Rattle.std.proofs.Common.{◌≡◌, ◌≢◌, inl, inr, ◌+◌, ◌<◌, ◌≤◌, ℕ, zero, suc, Bool, true, false, eqb, List, [], ◌∷◌, ◌++◌, length, get_or, set, Option, Some, None, IsSome, Result, Ok, Err, refl, sym, ◌∙◌, ap, subst, arith}
+use Rattle.std.proofs.Common.{◌≡◌, ◌≢◌, inl, inr, ◌+◌, ◌<◌, ℕ, zero, suc, true, false, eqb, List, [], ◌∷◌, ◌++◌, length, get_or, set, Option, Some, None, IsSome, Result, Ok, Err, refl, sym, ◌∙◌, ap, subst, arith}
 use Rattle.std.specs.Prelude.{nat_lt}
-use Rattle.std.proofs.lemmas.Bool.{cases_eq, cases_lt}
+use Rattle.std.proofs.lemmas.Bool.{cases_eq}
 use Rattle.std.proofs.lemmas.Bool.Decides.{nat_tests}
 use Rattle.std.proofs.Math.Path.{fun_ext}
 use Rattle.std.specs.BTreeMap.{BTreeMap}
 use Rattle.slab.specs.Slab as slab
 use Rattle.cv_pivot.specs.declared.conversion.Conversion.{Conversion}
 use Rattle.cv_machine.specs.Machine.{with_table}
-use Rattle.cv_caller.specs.Tables.{Charmaps, Table, Descriptor, IsTable, empty_table, descriptor_at}
+use Rattle.cv_caller.specs.Tables.{Charmaps, Table, Descriptor, empty_table, descriptor_at}
 use Rattle.cv_caller.specs.Keyed.{Keyed, no_keys, place_at, table_of, Fits}
 use Rattle.cv_caller.specs.Results.{IsPart}
-use Rattle.cv_caller.specs.declared.limits.TheConstants.{DESCRIPTORS, MOST_PART}
+use Rattle.cv_caller.specs.declared.limits.TheConstants.{MOST_PART}
 use Rattle.cv_caller.specs.declared.place.Place.{Place}
 use Rattle.cv_caller.specs.declared.faults.PartFault.{PartFault}
 use Rattle.cv_caller.specs.declared.faults.PartFault.TheVariants as fault
@@ -21,7 +21,7 @@ use Rattle.cv_shard.specs.Worlds.{world_tables, keyed_in, tables_in, SetsKeyed, 
 use Rattle.cv_shard.specs.declared.answer.Answer.{Answer}
 use Rattle.cv_shard.specs.declared.answer.Answer.TheVariants as answers
 use Rattle.cv_shard.proofs.Changes.{changes_only}
-use Rattle.cv_shard.proofs.Stepping.{seen, others_seen, some_value, open_at, all_keyed, none_of}
+use Rattle.cv_shard.proofs.Stepping.{seen, others_seen, some_value, open_at, none_of}
 
 -- ---- PART
 

@@ -1,6 +1,4 @@
-use Rattle.std.proofs.Common.{◌≡◌, ℕ, refl, sym, ap, ◌∙◌, subst}
-use Rattle.cv_machine.specs.Machine.{with_table}
-use Rattle.cv_caller.specs.Tables.{Table, empty_table}
+use Rattle.std.proofs.Common.{refl}
 use Rattle.cv_shard.specs.Worlds.{world_tables}
 use Rattle.cv_shard.proofs.Leaving.{others_both, leaves_empty}
 use Rattle.cv_shard.proofs.world.World.bye.Goals as goal

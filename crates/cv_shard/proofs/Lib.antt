@@ -5,3 +5,4 @@ pub mod Changes
 pub mod Stepping
 pub mod Converting
 pub mod OpeningSteps
+pub mod Leaving

@@ -1,5 +1,5 @@
 -- OPEN, over what a world's two parts hold.
-use Rattle.std.proofs.Common.{◌≡◌, ◌≢◌, ◌⊎◌, inl, inr, ◌<◌, ℕ, Bool, true, false, cond, nat_lt, List, length, Option, Some, None, IsSome, refl, sym, ◌∙◌, ap, subst, arith}
+use Rattle.std.proofs.Common.{◌≡◌, ◌≢◌, inl, inr, ◌<◌, ℕ, Bool, true, false, cond, nat_lt, List, length, Option, Some, None, IsSome, refl, sym, ◌∙◌, ap, subst, arith}
 use Rattle.std.specs.Prelude.{is_none}
 use Rattle.std.specs.List.{position, position_or_len}
 use Rattle.std.proofs.lemmas.Bool.Decides.{nat_tests}
@@ -9,7 +9,7 @@ use Rattle.cv_pivot.specs.declared.conversion.Conversion.{Conversion}
 use Rattle.cv_frame.specs.declared.status.Status.{Status}
 use Rattle.cv_frame.specs.declared.status.Status.TheVariants as status
 use Rattle.cv_caller.specs.Tables.{Table, Descriptor, Named, named_of, with_descriptor}
-use Rattle.cv_caller.specs.Keyed.{Keyed, place_at, with_place, table_of, named, Fits}
+use Rattle.cv_caller.specs.Keyed.{Keyed, place_at, with_place, table_of, named}
 use Rattle.cv_caller.specs.declared.place.Place.{Place}
 use Rattle.cv_shard.specs.Actions.{Open}
 use Rattle.cv_shard.specs.Turn.{Acts, Opens, Binds}

@@ -1,19 +1,18 @@
 -- What becomes of tables and of what a world keeps, where one number or the conversion under one key changes.
-use Rattle.std.proofs.Common.{◌≡◌, ◌≢◌, ◌⊎◌, inl, inr, ◌==◌, ◌||◌, ◌<◌, ℕ, zero, suc, Bool, true, false, cond, List, [], ◌∷◌, length, map, get_or, set, Option, Some, None, IsSome, refl, sym, ◌∙◌, ap, subst, arith, eq-eqb}
+use Rattle.std.proofs.Common.{◌≡◌, ◌≢◌, ◌⊎◌, inl, inr, ◌||◌, ◌<◌, ℕ, zero, suc, Bool, true, false, List, [], ◌∷◌, length, map, get_or, set, Option, Some, None, IsSome, refl, sym, ◌∙◌, ap, subst, eq-eqb}
 use Rattle.std.specs.Prelude.{is_some, is_none}
 use Rattle.std.specs.List.{position, list_any}
 use Rattle.std.specs.Option.{option_map, option_and_then}
 use Rattle.std.proofs.Math.ListN.{get_or-map}
 use Rattle.std.proofs.lemmas.Bool.{cases_eq}
 use Rattle.std.specs.List.{prefix_len}
-use Rattle.std.proofs.Common.{not, nat_lt}
+use Rattle.std.proofs.Common.{not}
 use Rattle.std.proofs.lemmas.List.{set-get_or, get_or-set_same, get_or-set_other, length-map}
 use Rattle.cv_pivot.specs.declared.conversion.Conversion.{Conversion}
 use Rattle.cv_pivot.specs.declared.encoding.Encoding.{Encoding}
-use Rattle.cv_pivot.specs.Encodings.{Form, Mapped}
-use Rattle.cv_base.specs.declared.policy.Policy.{Policy}
+use Rattle.cv_pivot.specs.Encodings.{Mapped}
 use Rattle.cv_charmap.specs.Meaning.{Charmap}
-use Rattle.cv_caller.specs.Tables.{Charmaps, pairs_in, Descriptor, Table, Named, BuiltIn, Held, charmap_at, form_in, uses, is_held, with_descriptor, descriptor_at}
+use Rattle.cv_caller.specs.Tables.{Charmaps, pairs_in, Descriptor, Table, charmap_at, form_in, uses, is_held, with_descriptor, descriptor_at}
 use Rattle.cv_caller.specs.Keyed.{Keyed, place_at, with_place, table_of, descriptor_of, named, refers, is_place, Fits, IsHeld, ArePlaces}
 use Rattle.cv_caller.specs.declared.place.Place.{Place}
 use Rattle.cv_shard.specs.Worlds.{SetsKeyed, IsWorld}

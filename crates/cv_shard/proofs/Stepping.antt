@@ -1,11 +1,10 @@
 -- The steps of a world, over what its two parts hold.
-use Rattle.std.proofs.Common.{◌≡◌, ◌≢◌, inl, inr, ◌<◌, ◌+◌, ◌||◌, ℕ, zero, suc, Bool, true, false, cond, eqb, List, [], ◌∷◌, length, replicate, map, get_or, Option, Some, None, IsSome, Result, Ok, Err, refl, sym, ◌∙◌, ap, subst, arith}
-use Rattle.std.specs.Prelude.{unwrap_or, is_none, option_map, nat_lt}
-use Rattle.std.specs.List.{position, list_any}
+use Rattle.std.proofs.Common.{◌≡◌, ◌≢◌, inl, inr, ◌<◌, ◌||◌, ℕ, zero, suc, Bool, true, false, cond, eqb, List, [], ◌∷◌, length, replicate, get_or, Option, Some, None, IsSome, Result, Ok, Err, refl, sym, ◌∙◌, ap, subst, arith}
+use Rattle.std.specs.Prelude.{unwrap_or, is_none, option_map}
 use Rattle.std.proofs.lemmas.Bool.{cases_eq}
 use Rattle.std.specs.Option.{option_and_then}
 use Rattle.std.specs.Ordering.{nat_cmp}
-use Rattle.std.specs.BTreeMap.{BTreeMap, get, is_at}
+use Rattle.std.specs.BTreeMap.{BTreeMap, is_at}
 use Rattle.std.specs.Map.{lookup}
 use Rattle.std.proofs.Math.Path.{fun_ext}
 use Rattle.std.proofs.lemmas.Bool.Decides.{nat_tests}
@@ -13,11 +12,11 @@ use Rattle.slab.specs.Slab as slab
 use Rattle.cv_charmap.specs.Meaning.{Charmap}
 use Rattle.cv_cache.specs.Compiled.{Read}
 use Rattle.cv_pivot.specs.declared.conversion.Conversion.{Conversion}
-use Rattle.cv_machine.specs.Machine.{with_table, When}
+use Rattle.cv_machine.specs.Machine.{with_table}
 use Rattle.cv_frame.specs.declared.status.Status.TheVariants as status
-use Rattle.cv_caller.specs.Tables.{Table, Descriptor, empty_table, descriptor_at, with_descriptor, charmap_at, mappings, least_place}
-use Rattle.cv_caller.specs.Keyed.{Keyed, no_keys, place_at, table_of, descriptor_of, named, Fits, ArePlaces}
-use Rattle.cv_caller.specs.Results.{IsDropped, IsAdded}
+use Rattle.cv_caller.specs.Tables.{Table, Descriptor, empty_table, descriptor_at, with_descriptor, least_place}
+use Rattle.cv_caller.specs.Keyed.{Keyed, no_keys, place_at, table_of, descriptor_of, named, ArePlaces}
+use Rattle.cv_caller.specs.Results.{IsDropped}
 use Rattle.cv_caller.specs.declared.place.Place.{Place}
 use Rattle.cv_caller.specs.declared.faults.DropFault.{DropFault}
 use Rattle.cv_caller.specs.declared.faults.DropFault.TheVariants as drop
@@ -25,7 +24,7 @@ use Rattle.cv_caller.specs.declared.faults.AddFault.{AddFault}
 use Rattle.cv_caller.specs.declared.faults.AddFault.TheVariants as add
 use Rattle.cv_caller.proofs.Standing.{found_free}
 use Rattle.cv_shard.specs.Actions.{Action, Put, DropMap, Close}
-use Rattle.cv_shard.specs.Turn.{Acts, Refuses, Holds}
+use Rattle.cv_shard.specs.Turn.{Acts, Holds}
 use Rattle.cv_shard.specs.Worlds.{world_tables, keyed_in, tables_in, IsWorld, IsPut, add_answer, drop_answer}
 use Rattle.cv_shard.specs.declared.answer.Answer.{Answer}
 use Rattle.cv_shard.specs.declared.answer.Answer.TheVariants as answers
@@ -98,7 +97,7 @@ within (x ∷ xs) (suc n) p h = let l = within xs n p h in omega (arith, l)
 
 -- ---- nothing yet
 
-none_of : (m n : ℕ) → get_or (let xs : List (Option Place) = replicate m None in xs) n None ≡ None
+pub none_of : (m n : ℕ) → get_or (let xs : List (Option Place) = replicate m None in xs) n None ≡ None
 none_of zero n = refl
 none_of (suc m) zero = refl
 none_of (suc m) (suc n) = none_of m n

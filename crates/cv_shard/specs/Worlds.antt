@@ -13,6 +13,8 @@ use Rattle.cv_caller.specs.declared.faults.AddFault.{AddFault}
 use Rattle.cv_caller.specs.declared.faults.AddFault.TheVariants as add
 use Rattle.cv_caller.specs.declared.faults.DropFault.{DropFault}
 use Rattle.cv_caller.specs.declared.faults.DropFault.TheVariants as drop
+use Rattle.cv_caller.specs.declared.faults.PartFault.{PartFault}
+use Rattle.cv_caller.specs.declared.faults.PartFault.TheVariants as part
 use Rattle.cv_frame.specs.declared.status.Status.TheVariants as status
 use Rattle.cv_shard.specs.declared.answer.Answer.{Answer}
 use Rattle.cv_shard.specs.declared.answer.Answer.TheVariants as answers
@@ -68,3 +70,9 @@ abbrev pub drop_answer : Result Unit DropFault → Answer
 drop_answer (Ok u) = answers.Empty
 drop_answer (Err drop.NoName) = answers.Refused status.NoName
 drop_answer (Err drop.Busy) = answers.Refused status.Busy
+
+-- what a part that was sent is answered
+abbrev pub part_answer : Result ℕ PartFault → Answer
+part_answer (Ok count) = answers.Count count
+part_answer (Err part.Quota) = answers.Refused status.Quota
+part_answer (Err part.Memory) = answers.Refused status.NoMemory

@@ -137,21 +137,38 @@ pub(crate) fn drop_in(
     }
 }
 
-/// Takes a part of a caller that has a table.
+/// Takes a part of an upload. A first table is made whole before it takes its place, so that want of memory comes last; an empty part
+/// takes none.
 pub(crate) fn part_in(
     callers: &mut BTreeMap<u32, Table>,
     alloc: Global,
     caller: u32,
     bytes: &[u8],
 ) -> Result<u32, PartFault>
-    requires { HasTable callers.old caller }
     ensures own { IsPart (keyed_in callers.old caller) bytes.now result (keyed_in callers.new caller) }
     ensures others { (other : ℕ) → other ≢ caller → keyed_in callers.new other ≡ keyed_in callers.old other }
 {
-    match callers.get_mut(&caller) {
-        Some(table) => table.add_part(alloc, bytes),
-        None => Ok(0),
+    if let Some(table) = callers.get_mut(&caller) {
+        return table.add_part(alloc, bytes);
     }
+    if bytes.is_empty() {
+        return Ok(0);
+    }
+    let mut table = Table::new();
+    match table.add_part(alloc, bytes) {
+        Ok(count) => match callers.insert(caller, table) {
+            Ok(_) => Ok(count),
+            Err(_) => Err(PartFault::Memory),
+        },
+        Err(fault) => Err(fault),
+    }
+}
+
+/// Forgets a caller.
+pub(crate) fn remove_in(callers: &mut BTreeMap<u32, Table>, caller: u32)
+    ensures { SetsKeyed (keyed_in callers.old) (keyed_in callers.new) caller no_keys }
+{
+    callers.remove(&caller);
 }
 
 /// Gives the memory back of a caller whose table is empty.
@@ -162,7 +179,7 @@ pub(crate) fn forget_empty(callers: &mut BTreeMap<u32, Table>, caller: u32)
         return;
     };
     if table.is_empty() {
-        callers.remove(&caller);
+        remove_in(callers, caller);
     }
 }
 

@@ -6,8 +6,12 @@ mod callers;
 mod conversions;
 mod op;
 mod opening;
+mod outcomes;
 mod world;
 
 pub use answer::Answer;
 pub use op::Op;
 pub use world::World;
+
+#[cfg(test)]
+mod tests;

@@ -1,21 +1,24 @@
 //! The callers of a shard.
-ghost use Rattle.std.specs.Prelude.{◌≡◌, ◌≤◌, ◌++◌, length, IfOk};
+ghost use Rattle.std.specs.Prelude.{◌≡◌, ◌≤◌, ◌++◌, ℕ, None, length, IfOk};
 ghost use Rattle.cv_cache.specs.Compiled.{compiled};
 ghost use Rattle.cv_machine.specs.Machine.{with_table};
-ghost use Rattle.cv_caller.specs.Tables.{IsTable};
-ghost use Rattle.cv_shard.specs.Actions.{Put, DropMap, Open, Conv, Reset, Close};
+ghost use Rattle.cv_caller.specs.Tables.{IsTable, empty_table, descriptor_at};
+ghost use Rattle.cv_shard.specs.Actions.{Put, DropMap, Open, Conv, Reset, Close, Bye, Part, asked, InputFits};
 ghost use Rattle.cv_shard.specs.Answers.{AnswerFits};
 ghost use Rattle.cv_shard.specs.Turn.{Acts};
-ghost use Rattle.cv_shard.specs.Worlds.{world_tables, no_tables, add_answer, drop_answer};
+ghost use Rattle.cv_shard.specs.Worlds.{world_tables, no_tables};
 
 use crate::answer::Answer;
 use crate::callers::{
-    assert_keyed, bind_in, drop_in, gather_in, make_room, place_in, prepare_in, put_in, unbind_in,
+    assert_keyed, bind_in, drop_in, forget_empty, gather_in, make_room, part_in, place_in,
+    prepare_in, put_in, remove_in, unbind_in,
 };
 use crate::conversions::{convert_in, reserve_one, reset_in};
+use crate::op::Op;
 use crate::opening::Opening;
+use crate::outcomes::{add_answer, drop_answer, part_answer};
 use cv_base::{Memory, Policy};
-use cv_caller::{AddFault, DropFault, Place, Table};
+use cv_caller::{DESCRIPTORS, Place, Table};
 use cv_charmap::CompileFault;
 use cv_frame::{Bytes, MOST_BODY, Status};
 use cv_pivot::Conversion;
@@ -48,29 +51,6 @@ impl Model for World {
     ghost view = { λ w. tables_in w.callers.entries w.conversions };
 
     ghost invariant = { λ w. IsWorld (keyed_in w.callers) (get w.conversions) };
-}
-
-fn add_answer(count: u32, added: Result<(), AddFault>) -> Answer
-    ensures value { result ≡ add_answer count added }
-    ensures fits { AnswerFits result }
-{
-    match added {
-        Ok(()) => Answer::Count(count),
-        Err(AddFault::Exists) => Answer::Refused(Status::Exists),
-        Err(AddFault::Quota) => Answer::Refused(Status::Quota),
-        Err(AddFault::Memory) => Answer::Refused(Status::NoMemory),
-    }
-}
-
-fn drop_answer(dropped: Result<(), DropFault>) -> Answer
-    ensures value { result ≡ drop_answer dropped }
-    ensures fits { AnswerFits result }
-{
-    match dropped {
-        Ok(()) => Answer::Empty,
-        Err(DropFault::NoName) => Answer::Refused(Status::NoName),
-        Err(DropFault::Busy) => Answer::Refused(Status::Busy),
-    }
 }
 
 impl World {
@@ -229,5 +209,89 @@ impl World {
     {
         let dropped = drop_in(&mut self.callers, caller, name);
         drop_answer(dropped)
+    }
+
+    /// PART
+    pub(crate) fn part(&mut self, alloc: Global, caller: u32, bytes: &[u8]) -> Answer
+        ensures acts { Acts (world_tables self.old caller) (Part bytes.now) (world_tables self.new caller) result }
+        ensures others { world_tables self.new ≡ with_table (world_tables self.old) caller (world_tables self.new caller) }
+        ensures fits { AnswerFits result }
+    {
+        let parted = part_in(&mut self.callers, alloc, caller, bytes);
+        part_answer(parted)
+    }
+
+    /// Gives all numbers of a caller back.
+    fn close_all(&mut self, caller: u32)
+        ensures closed { (number : ℕ) → descriptor_at (world_tables self.new caller) number ≡ None }
+        ensures others { world_tables self.new ≡ with_table (world_tables self.old) caller (world_tables self.new caller) }
+    {
+        for number in 0..DESCRIPTORS as u32 {
+            let _ = self.close(caller, number);
+        }
+        // There are no numbers beyond these.
+        self.assert_table(caller);
+    }
+
+    /// Gives back the memory of a caller of whom no number is bound.
+    fn forget(&mut self, caller: u32)
+        requires { (number : ℕ) → descriptor_at (world_tables self.old caller) number ≡ None }
+        ensures { world_tables self.new ≡ with_table (world_tables self.old) caller empty_table }
+    {
+        remove_in(&mut self.callers, caller);
+    }
+
+    /// BYE. It takes no memory.
+    pub(crate) fn bye(&mut self, caller: u32) -> Answer
+        ensures acts { Acts (world_tables self.old caller) Bye (world_tables self.new caller) result }
+        ensures others { world_tables self.new ≡ with_table (world_tables self.old) caller (world_tables self.new caller) }
+        ensures fits { AnswerFits result }
+    {
+        self.close_all(caller);
+        self.forget(caller);
+        Answer::Empty
+    }
+
+    /// Gives back the memory of a caller who has nothing left.
+    fn forget_empty(&mut self, caller: u32)
+        ensures { world_tables self.new ≡ world_tables self.old }
+    {
+        forget_empty(&mut self.callers, caller);
+    }
+
+    /// One event: what the op asks is done to the caller's table, and no other caller's changes. A refusal leaves every table as it was.
+    pub fn step(&mut self, alloc: Global, caller: u32, op: Op<'_>) -> Answer
+        requires { InputFits op }
+        ensures acts { Acts (world_tables self.old caller) (asked op.entry) (world_tables self.new caller) result }
+        ensures others { world_tables self.new ≡ with_table (world_tables self.old) caller (world_tables self.new caller) }
+        ensures fits { AnswerFits result }
+    {
+        match op {
+            Op::Put(charmap) => self.put(alloc, caller, charmap),
+            Op::DropMap(name) => {
+                let answer = self.drop_map(caller, name);
+                self.forget_empty(caller);
+                answer
+            }
+            Op::Open { to, from, policy } => self.open(caller, to, from, policy),
+            Op::Conv {
+                number,
+                room,
+                input,
+            } => self.conv(alloc, caller, number, room, input),
+            Op::Reset { number, room } => self.reset(caller, number, room),
+            Op::Close(number) => {
+                let answer = self.close(caller, number);
+                self.forget_empty(caller);
+                answer
+            }
+            Op::Bye => self.bye(caller),
+            Op::Part(bytes) => {
+                let answer = self.part(alloc, caller, bytes);
+                self.forget_empty(caller);
+                answer
+            }
+            Op::Bad => Answer::Refused(Status::BadRequest),
+        }
     }
 }

@@ -1,9 +1,7 @@
-use Rattle.std.proofs.Common.{◌≡◌, ◌≢◌, ℕ, List, [], Option, Some, None, refl, sym, ◌∙◌, ap, subst}
-use Rattle.std.proofs.Math.Path.{fun_ext}
+use Rattle.std.proofs.Common.{◌≡◌, ℕ, List, sym, ◌∙◌, ap, subst}
 use Rattle.cv_caller.specs.Tables.{Table, IsTable}
 use Rattle.slab.specs.Slab.{get}
-use Rattle.cv_pivot.specs.declared.conversion.Conversion.{Conversion}
-use Rattle.cv_caller.specs.Keyed.{Keyed, place_at, table_of, Fits}
+use Rattle.cv_caller.specs.Keyed.{table_of}
 use Rattle.cv_shard.specs.Worlds.{keyed_in, world_tables}
 use Rattle.std.proofs.lemmas.List.{length-map}
 use Rattle.cv_shard.proofs.Stepping.{seen}

@@ -1,13 +1,11 @@
-use Rattle.std.proofs.Common.{◌≡◌, ◌≢◌, ℕ, List, [], Option, Some, None, refl, sym, ◌∙◌, ap, subst}
-use Rattle.std.proofs.Math.Path.{fun_ext}
+use Rattle.std.proofs.Common.{◌≡◌, Some, None, refl, sym}
 use Rattle.slab.specs.Slab.{get}
-use Rattle.cv_pivot.specs.declared.conversion.Conversion.{Conversion}
-use Rattle.cv_caller.specs.Keyed.{Keyed, place_at, table_of, Fits}
-use Rattle.cv_shard.specs.Worlds.{keyed_in, IsWorld}
+use Rattle.cv_caller.specs.Keyed.{place_at, table_of}
+use Rattle.cv_shard.specs.Worlds.{keyed_in}
 use Rattle.cv_shard.proofs.Owned.{closed_world, closed}
 use Rattle.cv_shard.proofs.Stepping.{acts_still, acts_seen, others_seen, some_value, described, open_at, closed_at, close_none, close_done, within}
 use Rattle.cv_frame.specs.declared.status.Status.TheVariants as status
-use Rattle.cv_shard.specs.Actions.{Close, DropMap}
+use Rattle.cv_shard.specs.Actions.{Close}
 use Rattle.cv_shard.specs.declared.answer.Answer.TheVariants as answers
 use Rattle.cv_shard.proofs.world.World.close.Goals as goal
 

@@ -1,16 +1,15 @@
-use Rattle.std.proofs.Common.{◌≡◌, ◌≢◌, ℕ, List, [], Option, Some, None, refl, sym, ◌∙◌, ap, subst}
-use Rattle.std.proofs.Math.Path.{fun_ext}
+use Rattle.std.proofs.Common.{◌≡◌, ℕ, Option, Some, refl, sym, ap, subst}
 use Rattle.slab.specs.Slab.{get}
 use Rattle.cv_pivot.specs.Conversions.{Converted}
-use Rattle.cv_pivot.specs.Encodings.{form_reads, form_writes, IsForm}
+use Rattle.cv_pivot.specs.Encodings.{IsForm}
 use Rattle.cv_pivot.specs.declared.conversion.Conversion.{Conversion}
-use Rattle.cv_caller.specs.Keyed.{Keyed, place_at, table_of, Fits}
+use Rattle.cv_caller.specs.Keyed.{place_at, table_of, Fits}
 use Rattle.cv_shard.specs.Worlds.{keyed_in, IsWorld}
 use Rattle.cv_shard.proofs.Owned.{written_world, written}
 use Rattle.cv_shard.proofs.Stepping.{acts_still, acts_seen, others_seen, some_value, described, open_at, closed_at, all_same}
 use Rattle.cv_shard.proofs.Converting.{conv_none, conv_room, conv_lacks, conv_done}
 use Rattle.cv_frame.specs.declared.status.Status.TheVariants as status
-use Rattle.cv_shard.specs.Actions.{Conv, Reset}
+use Rattle.cv_shard.specs.Actions.{Conv}
 use Rattle.cv_shard.specs.declared.answer.Answer.TheVariants as answers
 use Rattle.cv_shard.proofs.world.World.conv.Goals as goal
 

@@ -1,13 +1,9 @@
-use Rattle.std.proofs.Common.{◌≡◌, ◌≢◌, ℕ, List, [], Option, Some, None, refl, sym, ◌∙◌, ap, subst}
-use Rattle.std.proofs.Math.Path.{fun_ext}
+use Rattle.std.proofs.Common.{ap}
 use Rattle.slab.specs.Slab.{get}
-use Rattle.cv_pivot.specs.declared.conversion.Conversion.{Conversion}
-use Rattle.cv_caller.specs.Keyed.{Keyed, place_at, table_of, Fits}
-use Rattle.cv_shard.specs.Worlds.{keyed_in, IsWorld}
+use Rattle.cv_caller.specs.Keyed.{table_of}
+use Rattle.cv_shard.specs.Worlds.{keyed_in}
 use Rattle.cv_shard.proofs.Stepping.{acts_seen, others_seen, drop_done, drop_world}
-use Rattle.cv_frame.specs.declared.status.Status.TheVariants as status
-use Rattle.cv_shard.specs.Actions.{Close, DropMap}
-use Rattle.cv_shard.specs.declared.answer.Answer.TheVariants as answers
+use Rattle.cv_shard.specs.Actions.{DropMap}
 use Rattle.cv_shard.proofs.world.World.drop_map.Goals as goal
 
 pub invariant_of-self : goal.invariant_of-self

@@ -1,4 +1,4 @@
-use Rattle.std.proofs.Common.{◌≡◌, ◌++◌, ℕ, List, sym, ap, ◌∙◌}
+use Rattle.std.proofs.Common.{◌≡◌, ℕ, List, sym, ap, ◌∙◌}
 use Rattle.slab.specs.Slab.{get}
 use Rattle.cv_caller.specs.Tables.{Table}
 use Rattle.cv_caller.specs.Keyed.{table_of}

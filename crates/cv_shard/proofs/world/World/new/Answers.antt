@@ -1,11 +1,10 @@
-use Rattle.std.proofs.Common.{◌≡◌, ℕ, zero, suc, List, [], replicate, get_or, Option, Some, None, refl, sym, ◌∙◌, ap}
+use Rattle.std.proofs.Common.{ℕ, List, get_or, Option, None, ap}
 use Rattle.std.specs.Prelude.{unwrap_or}
 use Rattle.std.specs.Ordering.{nat_cmp}
 use Rattle.std.specs.BTreeMap.{is_at}
 use Rattle.std.specs.Map.{lookup}
 use Rattle.cv_caller.specs.Keyed.{Keyed, no_keys}
 use Rattle.cv_shard.specs.Worlds.{keyed_in}
-use Rattle.slab.specs.Slab as slab
 use Rattle.slab.specs.Slab.{get}
 use Rattle.cv_pivot.specs.declared.conversion.Conversion.{Conversion}
 use Rattle.cv_shard.proofs.Stepping.{nothing_there}

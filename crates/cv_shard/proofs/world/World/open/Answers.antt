@@ -1,9 +1,9 @@
-use Rattle.std.proofs.Common.{◌≡◌, ◌≢◌, ℕ, List, get_or, Option, Some, None, refl, sym, ◌∙◌, ap, subst}
+use Rattle.std.proofs.Common.{◌≡◌, ℕ, get_or, Option, None, sym, ◌∙◌, ap, subst}
 use Rattle.std.proofs.Math.Path.{fun_ext}
 use Rattle.slab.specs.Slab as slab
 use Rattle.slab.specs.Slab.{get}
 use Rattle.cv_pivot.specs.declared.conversion.Conversion.{Conversion}
-use Rattle.cv_caller.specs.Keyed.{Keyed, place_at, table_of}
+use Rattle.cv_caller.specs.Keyed.{Keyed, table_of}
 use Rattle.cv_shard.specs.Worlds.{keyed_in, IsWorld}
 use Rattle.cv_shard.proofs.Stepping.{acts_still, acts_seen, others_seen}
 use Rattle.cv_shard.proofs.OpeningSteps.{open_declined, open_lacks, open_done, new_world, new_tables}

@@ -1,4 +1,4 @@
-use Rattle.std.proofs.Common.{◌≡◌, length, refl, sym, ◌∙◌, ap}
+use Rattle.std.proofs.Common.{◌≡◌, length, ◌∙◌, ap}
 use Rattle.std.specs.Arc.{arc_value}
 use Rattle.slab.specs.Slab.{get}
 use Rattle.cv_charmap.specs.Meaning.{Charmap}

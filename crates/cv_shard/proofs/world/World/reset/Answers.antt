@@ -1,9 +1,9 @@
-use Rattle.std.proofs.Common.{◌≡◌, ◌≢◌, ℕ, List, Option, Some, None, refl, sym, ◌∙◌, ap, subst}
+use Rattle.std.proofs.Common.{◌≡◌, ℕ, Option, Some, refl, sym, ap, subst}
 use Rattle.slab.specs.Slab.{get}
 use Rattle.cv_pivot.specs.Conversions.{start}
 use Rattle.cv_pivot.specs.Encodings.{form_of, form_closes}
 use Rattle.cv_pivot.specs.declared.conversion.Conversion.{Conversion}
-use Rattle.cv_caller.specs.Keyed.{Keyed, place_at, table_of, Fits}
+use Rattle.cv_caller.specs.Keyed.{place_at, table_of, Fits}
 use Rattle.cv_shard.specs.Worlds.{keyed_in, IsWorld}
 use Rattle.cv_shard.proofs.Owned.{written_world, written}
 use Rattle.cv_shard.proofs.Stepping.{acts_still, acts_seen, others_seen, some_value, described, open_at, closed_at, all_same}

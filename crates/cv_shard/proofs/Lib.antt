@@ -5,3 +5,5 @@ pub mod Changes
 pub mod Stepping
 pub mod Converting
 pub mod OpeningSteps
+mod OneAnswer
+mod SomeAnswer

@@ -7,3 +7,6 @@ pub mod Converting
 pub mod OpeningSteps
 mod OneAnswer
 mod SomeAnswer
+mod OtherOps
+mod KeepsTables
+mod NotAlone

@@ -4,3 +4,4 @@ pub mod Turn
 pub mod Worlds
 pub mod Opening
 pub mod Requests
+pub mod Laws

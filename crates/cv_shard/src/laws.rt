@@ -1,5 +1,6 @@
 //! Laws of the machine of private tables; those of its runs hold of every machine.
 ghost use Rattle.cv_machine.specs.Machine.{IsOneAnswer, IsSomeAnswer};
+ghost use Rattle.cv_shard.specs.Laws.{KeepsTables, RunsKeepTables, NeverLacksAlone};
 ghost use Rattle.cv_shard.specs.Requests.{turn};
 
 pub use cv_machine::laws::{merges, one_service, one_writing, schedules, two_worlds};
@@ -16,6 +17,28 @@ pub fn one_answer()
 #[tactic(auto, using(crate::proofs::SomeAnswer::some_answer))]
 pub fn some_answer()
     ensures { IsSomeAnswer turn }
+{
+    // The contract is the law; nothing runs.
+}
+
+/// A table that is sound stays so, whatever is asked.
+#[tactic(auto, using(crate::proofs::KeepsTables::keeps_tables))]
+pub fn keeps_tables()
+    ensures { KeepsTables }
+{
+    // The contract is the law; nothing runs.
+}
+
+/// In every run from the start each caller's table is sound.
+pub fn runs_keep_tables()
+    ensures { RunsKeepTables }
+{
+    // The contract is the law; nothing runs.
+}
+
+/// At a sound table a request that may want memory may come to something else too: there is always a longest conversion.
+pub fn never_lacks_alone()
+    ensures { NeverLacksAlone }
 {
     // The contract is the law; nothing runs.
 }

@@ -10,3 +10,6 @@ mod SomeAnswer
 mod OtherOps
 mod KeepsTables
 mod NotAlone
+mod Memory
+mod JoinedParts
+mod StartAgain

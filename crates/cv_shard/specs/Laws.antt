@@ -1,8 +1,11 @@
 -- What every turn of the machine keeps, and what each request may always come to.
-use Rattle.std.specs.Prelude.{◌≡◌, ℕ, Bool, true, List, IfSome, is_some}
-use Rattle.cv_caller.specs.Tables.{Charmaps, Table, Named, BuiltIn, Held, Descriptor, IsTable, charmap_at, descriptor_at, empty_table}
+use Rattle.std.specs.Prelude.{◌≡◌, ◌==◌, ◌||◌, ◌&&◌, ◌↔◌, ℕ, Bool, true, List, [], ◌++◌, length, nat_lt, IfSome, is_some}
+use Rattle.cv_caller.specs.Tables.{Charmaps, Table, Named, BuiltIn, Held, Descriptor, IsTable, charmap_at, descriptor_at, empty_table, with_part}
 use Rattle.cv_machine.specs.Machine.{Outcome, Event, IsRun, after_all, no_memory}
-use Rattle.cv_shard.specs.Requests.{turn}
+use Rattle.cv_frame.specs.Status.{status_number}
+use Rattle.cv_frame.specs.declared.ops.TheConstants.{OPEN, CONV}
+use Rattle.cv_frame.specs.declared.status.Status.TheVariants as status
+use Rattle.cv_shard.specs.Requests.{put_op, bye_op, part_op, turn}
 use Rattle.cv_shard.specs.Worlds.{no_tables}
 
 -- An encoding of a descriptor is built in, or a charmap that is held.
@@ -31,3 +34,20 @@ RunsKeepTables = (events : List (Event Table)) → IsRun turn no_tables events �
 -- At a sound table want of memory is never all that a request may come to.
 abbrev pub NeverLacksAlone : Type 0
 NeverLacksAlone = (table : Table) (code : ℕ) (body : List ℕ) → IsSound table → ((outcome : Outcome Table) → turn table code body outcome → outcome.code ≡ no_memory) → ⊥
+
+-- whether a request takes memory: a PUT, an OPEN, a CONV, and a PART that isn't empty
+abbrev pub takes_memory : ℕ → List ℕ → Bool
+takes_memory code body = code == put_op || (code == OPEN || (code == CONV || (code == part_op && nat_lt 0 (length body))))
+
+-- No other request has want of memory as an outcome.
+abbrev pub LacksWhereTaken : Type 0
+LacksWhereTaken = (table : Table) (code : ℕ) (body : List ℕ) (outcome : Outcome Table) → turn table code body outcome → outcome.code ≡ no_memory → takes_memory code body ≡ true
+
+-- A charmap whose text was sent in parts is held as one whose text is sent whole: the answer and the table after it are the same.
+abbrev pub JoinsParts : Type 0
+JoinsParts = (table : Table) (part body : List ℕ) (outcome : Outcome Table) → outcome.code ≡ status_number status.Ok
+    → turn (with_part table part) put_op body outcome ↔ turn (with_part table []) put_op (part ++ body) outcome
+
+-- After a BYE its caller has the table of one that never asked.
+abbrev pub ByeStartsAgain : Type 0
+ByeStartsAgain = (table : Table) (outcome : Outcome Table) → turn table bye_op [] outcome → outcome.next ≡ empty_table

@@ -1,6 +1,6 @@
 //! Laws of the machine of private tables; those of its runs hold of every machine.
 ghost use Rattle.cv_machine.specs.Machine.{IsOneAnswer, IsSomeAnswer};
-ghost use Rattle.cv_shard.specs.Laws.{KeepsTables, RunsKeepTables, NeverLacksAlone};
+ghost use Rattle.cv_shard.specs.Laws.{KeepsTables, RunsKeepTables, NeverLacksAlone, LacksWhereTaken, JoinsParts, ByeStartsAgain};
 ghost use Rattle.cv_shard.specs.Requests.{turn};
 
 pub use cv_machine::laws::{merges, one_service, one_writing, schedules, two_worlds};
@@ -39,6 +39,27 @@ pub fn runs_keep_tables()
 /// At a sound table a request that may want memory may come to something else too: there is always a longest conversion.
 pub fn never_lacks_alone()
     ensures { NeverLacksAlone }
+{
+    // The contract is the law; nothing runs.
+}
+
+/// Only a PUT, an OPEN, a CONV and a PART that isn't empty may be answered that memory lacks.
+pub fn lacks_where_taken()
+    ensures { LacksWhereTaken }
+{
+    // The contract is the law; nothing runs.
+}
+
+/// A charmap that is sent in parts is held as if it were sent whole.
+pub fn joins_parts()
+    ensures { JoinsParts }
+{
+    // The contract is the law; nothing runs.
+}
+
+/// After a BYE its caller has the table of one that never asked.
+pub fn bye_starts_again()
+    ensures { ByeStartsAgain }
 {
     // The contract is the law; nothing runs.
 }

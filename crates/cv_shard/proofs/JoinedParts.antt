@@ -1,16 +1,14 @@
 -- A charmap whose text was sent in parts is held as one whose text is sent whole.
-use Rattle.std.proofs.Common.{◌≡◌, ◌⊎◌, inl, inr, ℕ, Bool, true, false, List, [], ◌++◌, length, Option, Some, None, refl, sym, ap, subst, ◌∙◌}
+use Rattle.std.proofs.Common.{◌≡◌, inl, inr, ℕ, Bool, true, false, List, [], ◌++◌, length, Option, Some, None, sym, ap, subst, ◌∙◌}
 use Rattle.cv_charmap.specs.Meaning.{Charmap}
 use Rattle.cv_cache.specs.Compiled.{Compiled, Read, Faulty, Lacking}
-use Rattle.cv_machine.specs.Machine.{Outcome, When}
-use Rattle.cv_frame.specs.Status.{status_number}
-use Rattle.cv_frame.specs.declared.status.Status.TheVariants as status
+use Rattle.cv_machine.specs.Machine.{When}
 use Rattle.cv_caller.specs.Tables.{Table, least_place, with_part}
 use Rattle.cv_caller.specs.Results.{is_taken, is_full}
-use Rattle.cv_shard.specs.Actions.{Action, Put}
+use Rattle.cv_shard.specs.Actions.{Action}
 use Rattle.cv_shard.specs.Answers.{answer_code}
 use Rattle.cv_shard.specs.Laws.{JoinsParts}
-use Rattle.cv_shard.specs.Requests.{AsksPut, MayTurn, put_op, turn}
+use Rattle.cv_shard.specs.Requests.{AsksPut}
 use Rattle.cv_shard.specs.Turn.{Does, Holds, Puts, Acts}
 use Rattle.cv_shard.specs.declared.answer.Answer.{Answer}
 

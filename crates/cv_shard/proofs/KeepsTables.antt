@@ -1,6 +1,6 @@
 -- What a turn leaves of a sound table is sound.
-use Rattle.std.proofs.Common.{◌≡◌, ◌≢◌, ◌<◌, ◌≤◌, ◌⊎◌, inl, inr, ◌+◌, ◌==◌, ◌||◌, ℕ, zero, suc, Bool, true, false, List, [], ◌∷◌, ◌++◌, length, nat_lt, replicate, get_or, set, Option, Some, None, refl, sym, ap, subst, ◌∙◌, arith, eqb}
-use Rattle.std.specs.Prelude.{is_some, is_none, IfSome, if◌then◌else◌, sum_by}
+use Rattle.std.proofs.Common.{◌≡◌, ◌≢◌, ◌<◌, ◌≤◌, ◌⊎◌, inl, inr, ◌+◌, ◌==◌, ◌||◌, ℕ, zero, suc, Bool, true, false, List, [], ◌∷◌, ◌++◌, length, nat_lt, replicate, get_or, set, Option, Some, None, refl, sym, ap, subst, ◌∙◌, arith}
+use Rattle.std.specs.Prelude.{is_some, is_none, IfSome, if◌then◌else◌}
 use Rattle.std.specs.List.{list_any}
 use Rattle.std.proofs.lemmas.Bool.Decides.{nat_tests}
 use Rattle.std.proofs.lemmas.List.{length-set}
@@ -12,20 +12,18 @@ use Rattle.cv_charmap.specs.Meaning.{Charmap}
 use Rattle.cv_charmap.proofs.MeaningLaws.{means_maps}
 use Rattle.cv_cache.specs.Compiled.{Compiled, Read, Faulty, Lacking, MayCompile}
 use Rattle.cv_pivot.specs.Encodings.{Builtin, builtin_of, form_closes}
-use Rattle.cv_machine.specs.Machine.{Outcome, Event, When, IsRun, tables_after, after_all}
-use Rattle.cv_frame.specs.declared.status.Status.TheVariants as status
-use Rattle.cv_caller.specs.Tables.{Charmaps, Table, Named, BuiltIn, Held, Descriptor, IsTable, AreCharmaps, empty_table, charmap_at, pairs_in, form_in, named_by, named_of, place_of, has_name, least_place, mappings, least_free, descriptor_at, uses, is_held, with_descriptor, with_charmap, with_part}
+use Rattle.cv_machine.specs.Machine.{Event, When, IsRun, tables_after, after_all}
+use Rattle.cv_caller.specs.Tables.{Charmaps, Table, Named, BuiltIn, Held, Descriptor, empty_table, charmap_at, pairs_in, form_in, named_by, named_of, place_of, has_name, least_place, mappings, least_free, descriptor_at, uses, is_held, with_descriptor, with_charmap, with_part}
 use Rattle.cv_caller.specs.Results.{is_taken, is_full}
-use Rattle.cv_caller.specs.declared.limits.TheConstants.{CHARMAPS, DESCRIPTORS, MOST_MAPPINGS, MOST_PART}
-use Rattle.cv_caller.proofs.Standing.{at_set, found_free, named_there}
+use Rattle.cv_caller.specs.declared.limits.TheConstants.{MOST_MAPPINGS, MOST_PART}
+use Rattle.cv_caller.proofs.Standing.{at_set, named_there}
 use Rattle.cv_shard.specs.Actions.{Action, Put, DropMap, Open, Conv, Reset, Close, Bye, Part, Bad}
 use Rattle.cv_shard.specs.Answers.{most_room}
 use Rattle.cv_shard.specs.Laws.{IsThere, AreThere, IsSound, KeepsTables, RunsKeepTables}
 use Rattle.cv_shard.specs.Requests.{AsksPut, action_of, put_op, turn}
-use Rattle.cv_shard.specs.Turn.{Does, Holds, Puts, Parts, Drops, Binds, Opens, Convs, Resets, Closes, Acts, with_states}
+use Rattle.cv_shard.specs.Turn.{Does, Holds, Puts, Parts, Drops, Binds, Opens, Convs, Resets, Closes, Acts}
 use Rattle.cv_shard.specs.Worlds.{no_tables}
 use Rattle.cv_shard.specs.declared.answer.Answer.{Answer}
-use Rattle.cv_shard.specs.declared.answer.Answer.TheVariants as answers
 use Rattle.cv_shard.proofs.OtherOps.{not_put}
 
 -- ---- the empty table

@@ -1,17 +1,17 @@
 -- Want of memory is an outcome only of requests that take memory.
-use Rattle.std.proofs.Common.{◌≡◌, ◌≢◌, ◌||◌, ◌&&◌, ◌==◌, ◌⊎◌, ℕ, Bool, true, false, List, [], ◌∷◌, ◌++◌, length, nat_lt, Option, Some, None, refl, sym, ap, ◌∙◌, arith}
+use Rattle.std.proofs.Common.{◌≡◌, ◌≢◌, ◌||◌, ◌&&◌, ◌==◌, ℕ, Bool, true, false, List, [], ◌∷◌, ◌++◌, length, nat_lt, Option, Some, None, refl, sym, ap, ◌∙◌, arith}
 use Rattle.std.specs.Prelude.{if◌then◌else◌}
 use Rattle.std.specs.List.{list_any}
 use Rattle.std.proofs.lemmas.Bool.Decides.{nat_tests}
 use Rattle.cv_pivot.specs.Encodings.{form_closes}
 use Rattle.cv_machine.specs.Machine.{When, no_memory}
-use Rattle.cv_frame.specs.Bodies.{Opening, open_of, conv_of, reset_of, number_of}
+use Rattle.cv_frame.specs.Bodies.{reset_of, number_of}
 use Rattle.cv_frame.specs.declared.ops.TheConstants.{OPEN, CONV, RESET, CLOSE}
 use Rattle.cv_caller.specs.Tables.{Table, Descriptor, form_in, place_of, descriptor_at, uses}
 use Rattle.cv_shard.specs.Actions.{Action, Put, DropMap, Open, Conv, Reset, Close, Bye, Part, Bad}
 use Rattle.cv_shard.specs.Answers.{answer_code, most_room}
-use Rattle.cv_shard.specs.Laws.{takes_memory, LacksWhereTaken}
-use Rattle.cv_shard.specs.Requests.{AsksPut, action_of, drop_action, open_action, conv_action, reset_action, close_action, bye_action, drop_of, put_op, drop_op, bye_op, part_op}
+use Rattle.cv_shard.specs.Laws.{LacksWhereTaken}
+use Rattle.cv_shard.specs.Requests.{AsksPut, action_of, drop_action, reset_action, close_action, bye_action, drop_of, put_op, drop_op, bye_op, part_op}
 use Rattle.cv_shard.specs.Turn.{Does, Drops, Resets, Closes, Acts}
 use Rattle.cv_shard.specs.declared.answer.Answer.{Answer}
 

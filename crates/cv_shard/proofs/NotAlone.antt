@@ -1,5 +1,5 @@
 -- At a sound table want of memory is never all that a request may come to.
-use Rattle.std.proofs.Common.{◌≡◌, ◌≢◌, ◌<◌, ◌≤◌, ◌⊎◌, inl, inr, ◌+◌, ◌-◌, ◌==◌, ℕ, zero, suc, Bool, true, false, List, [], ◌∷◌, ◌++◌, length, drop, nat_lt, Option, Some, None, refl, arith, Result, Ok, Err}
+use Rattle.std.proofs.Common.{◌≡◌, ◌≢◌, ◌<◌, ◌≤◌, ◌⊎◌, inl, ◌+◌, ◌-◌, ◌==◌, ℕ, zero, suc, Bool, true, false, List, [], ◌∷◌, ◌++◌, length, drop, nat_lt, Option, Some, None, refl, arith, Result, Ok, Err}
 use Rattle.std.specs.Prelude.{is_some, IfSome}
 use Rattle.std.specs.List.{list_any}
 use Rattle.std.proofs.lemmas.Bool.Decides.{nat_tests}
@@ -22,15 +22,15 @@ use Rattle.cv_pivot.proofs.EncodingLaws.{form_readable}
 use Rattle.cv_pivot.specs.declared.outcome.States.{States}
 use Rattle.cv_pivot.specs.declared.outcome.Stop.{Stop}
 use Rattle.cv_pivot.specs.declared.outcome.Stop.TheVariants as stop
-use Rattle.cv_machine.specs.Machine.{Outcome, When, no_memory}
+use Rattle.cv_machine.specs.Machine.{When, no_memory}
 use Rattle.cv_frame.specs.declared.status.Status.TheVariants as status
-use Rattle.cv_caller.specs.Tables.{Charmaps, Table, Named, BuiltIn, Held, Descriptor, charmap_at, pairs_in, form_in, named_of, place_of, least_place, least_free, descriptor_at, uses}
+use Rattle.cv_caller.specs.Tables.{Table, Named, BuiltIn, Held, Descriptor, charmap_at, pairs_in, form_in, named_of, place_of, least_place, least_free, descriptor_at, uses}
 use Rattle.cv_caller.specs.Results.{is_taken, is_full}
 use Rattle.cv_caller.specs.declared.limits.TheConstants.{MOST_PART}
 use Rattle.cv_shard.specs.Actions.{Action, Put, DropMap, Open, Conv, Reset, Close, Bye, Part, Bad}
 use Rattle.cv_shard.specs.Answers.{answer_code, answer_body, most_room}
 use Rattle.cv_shard.specs.Laws.{IsThere, AreThere, IsSound, NeverLacksAlone}
-use Rattle.cv_shard.specs.Requests.{AsksPut, action_of, put_op, turn}
+use Rattle.cv_shard.specs.Requests.{AsksPut, action_of, put_op}
 use Rattle.cv_shard.specs.Turn.{Does, Holds, Puts, Parts, Drops, Binds, Opens, IsConversion, Convs, Resets, Closes, Acts}
 use Rattle.cv_shard.specs.declared.answer.Answer.{Answer}
 use Rattle.cv_shard.specs.declared.answer.Answer.TheVariants as answers
@@ -44,7 +44,7 @@ stops : (reads : ItemRelation) (writes : Writing) (policy : Policy) (states : St
 stops reads writes policy states [] never = never stop.Done refl
 stops reads writes policy states (b ∷ rest) never =
     let none : NoneStands reads states.reading (b ∷ rest) =
-        λ item stands. never stop.Lacking (record { next = item; stands = stands; lacking = λ allowed. never stop.TooBig (record { next = item; stands = stands; allowed = allowed }) }) in
+    λ item stands. never stop.Lacking (record { next = item; stands = stands; lacking = λ allowed. never stop.TooBig (record { next = item; stands = stands; allowed = allowed }) }) in
     let some : 0 < length (b ∷ rest) = omega arith in
     never stop.Ill (some, none, λ grows. never stop.Incomplete (some, none, grows))
 
@@ -71,13 +71,13 @@ no_chain : (reads : ItemRelation) (writes : Writing) (policy : Policy) → IsRea
 no_chain reads writes policy r from text room none zero chain is fits allowed few = let w = within reads r from.reading text chain is in omega (arith, w.0, w.1, few)
 no_chain reads writes policy r from text room none (suc n) chain is fits allowed few =
     let no_longer : (other : List Taken) → IsChain reads from.reading text other → length (output_of writes from.writing other).bytes ≤ room → Allows policy (output_of writes from.writing other) → length chain < length other → ⊥ =
-        λ other p q a h. no_chain reads writes policy r from text room none n other p q a (omega (arith, few, h)) in
+    λ other p q a h. no_chain reads writes policy r from text room none n other p q a (omega (arith, few, h)) in
     let longest : IsLongest reads writes policy from.reading from.writing text room chain = record { is_chain = is; fits = fits; allowed = allowed; longest = λ other p q a. not_below _ _ (no_longer other p q a) } in
     let used = (within reads r from.reading text chain is).1 in
     let states : States = record { reading = read_state from.reading chain; writing = (output_of writes from.writing chain).next } in
     stops reads writes policy states (drop (used_bytes chain) text) (λ s h. none
-      (record { left = length text - used_bytes chain; count = (output_of writes from.writing chain).count; stop = s; output = (output_of writes from.writing chain).bytes; states = states })
-      (record { chain = chain; longest = longest; left = omega (arith, used); stop = h; count = refl; output = refl; reading = refl; writing = refl }))
+    (record { left = length text - used_bytes chain; count = (output_of writes from.writing chain).count; stop = s; output = (output_of writes from.writing chain).bytes; states = states })
+    (record { chain = chain; longest = longest; left = omega (arith, used); stop = h; count = refl; output = refl; reading = refl; writing = refl }))
 
 allowed_none : (policy : Policy) (writes : Writing) (from : States) → Allows policy (output_of writes from.writing [])
 allowed_none policies.Substitute writes from = tt

@@ -4,7 +4,7 @@ use Rattle.std.specs.Prelude.{if◌then◌else◌}
 use Rattle.cv_cache.specs.Compiled.{Compiled}
 use Rattle.cv_frame.specs.Bodies.{Opening, open_of, conv_of, reset_of, number_of}
 use Rattle.cv_frame.specs.declared.ops.TheConstants.{OPEN, CONV, RESET, CLOSE}
-use Rattle.cv_shard.specs.Actions.{Action, Put, Part, Bad}
+use Rattle.cv_shard.specs.Actions.{Action, Put}
 use Rattle.cv_shard.specs.Requests.{action_of, drop_action, open_action, conv_action, reset_action, close_action, bye_action, drop_of, drop_op, bye_op, part_op}
 
 drop_other : (name : Option (List ℕ)) (c : Compiled) → drop_action name ≢ Put c

@@ -13,3 +13,4 @@ mod NotAlone
 mod Memory
 mod JoinedParts
 mod StartAgain
+mod NamesBack

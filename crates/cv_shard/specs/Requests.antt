@@ -93,7 +93,8 @@ Asks part code body action = When (code == put_op) (AsksPut (part ++ body) actio
 
 -- ---- what a request may come to
 
--- An action that it asks for came to this table and to an answer, and the outcome spells the answer.
+-- An action that it asks for came to this table and to an answer, and the outcome spells the answer. This is said of each table, also of those that no run
+-- leaves: there a conversion from a charmap that isn't held comes to want of memory alone.
 pub record MayTurn (table : Table) (code : ℕ) (body : List ℕ) (outcome : Outcome Table) : Type 0 where
   pub action : Action
   pub asks : Asks table.part code body action

@@ -1,6 +1,6 @@
 //! Laws of the machine of private tables; those of its runs hold of every machine.
 ghost use Rattle.cv_machine.specs.Machine.{IsOneAnswer, IsSomeAnswer};
-ghost use Rattle.cv_shard.specs.Laws.{KeepsTables, RunsKeepTables, NeverLacksAlone, LacksWhereTaken, JoinsParts, ByeStartsAgain};
+ghost use Rattle.cv_shard.specs.Laws.{KeepsTables, RunsKeepTables, NeverLacksAlone, LacksWhereTaken, JoinsParts, ByeStartsAgain, NamesReadBack};
 ghost use Rattle.cv_shard.specs.Requests.{turn};
 
 pub use cv_machine::laws::{merges, one_service, one_writing, schedules, two_worlds};
@@ -51,6 +51,7 @@ pub fn lacks_where_taken()
 }
 
 /// A charmap that is sent in parts is held as if it were sent whole.
+#[tactic(auto, using(crate::proofs::JoinedParts::joins_parts))]
 pub fn joins_parts()
     ensures { JoinsParts }
 {
@@ -60,6 +61,14 @@ pub fn joins_parts()
 /// After a BYE its caller has the table of one that never asked.
 pub fn bye_starts_again()
     ensures { ByeStartsAgain }
+{
+    // The contract is the law; nothing runs.
+}
+
+/// The body of a DROP is a name, spelled as those of an OPEN are, and no other body is read as one.
+#[tactic(auto, using(crate::proofs::NamesBack::names_read_back))]
+pub fn names_read_back()
+    ensures { NamesReadBack }
 {
     // The contract is the law; nothing runs.
 }

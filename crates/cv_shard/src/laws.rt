@@ -1,6 +1,7 @@
 //! Laws of the machine of private tables; those of its runs hold of every machine.
 ghost use Rattle.cv_machine.specs.Machine.{IsOneAnswer, IsSomeAnswer};
-ghost use Rattle.cv_shard.specs.Laws.{KeepsTables, RunsKeepTables, NeverLacksAlone, LacksWhereTaken, JoinsParts, ByeStartsAgain, NamesReadBack};
+ghost use Rattle.cv_shard.specs.Laws.{KeepsTables, RunsKeepTables, NeverLacksAlone, LacksWhereTaken};
+ghost use Rattle.cv_shard.specs.Laws.{JoinsParts, ByeStartsAgain, NamesReadBack};
 ghost use Rattle.cv_shard.specs.Requests.{turn};
 
 pub use cv_machine::laws::{merges, one_service, one_writing, schedules, two_worlds};

@@ -6,3 +6,12 @@ pub mod Stepping
 pub mod Converting
 pub mod OpeningSteps
 pub mod Leaving
+mod OneAnswer
+mod SomeAnswer
+mod OtherOps
+mod KeepsTables
+mod NotAlone
+mod Memory
+mod JoinedParts
+mod StartAgain
+mod NamesBack

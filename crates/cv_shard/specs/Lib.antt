@@ -3,3 +3,5 @@ pub mod Answers
 pub mod Turn
 pub mod Worlds
 pub mod Opening
+pub mod Requests
+pub mod Laws

@@ -4,6 +4,7 @@
 mod answer;
 mod callers;
 mod conversions;
+pub mod laws;
 mod op;
 mod opening;
 mod outcomes;

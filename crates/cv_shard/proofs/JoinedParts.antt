@@ -10,7 +10,8 @@ use Rattle.cv_caller.specs.declared.limits.TheConstants.{MOST_PART}
 use Rattle.cv_shard.specs.Actions.{Action, Part}
 use Rattle.cv_shard.specs.Answers.{answer_code}
 use Rattle.cv_shard.specs.Laws.{JoinsParts}
-use Rattle.cv_shard.specs.Requests.{AsksPut, MayTurn, put_op, part_op, turn}
+use Rattle.cv_frame.specs.declared.ops.TheConstants.{PUT, PART}
+use Rattle.cv_shard.specs.Requests.{AsksPut, MayTurn, turn}
 use Rattle.cv_shard.specs.Turn.{Does, Refuses, Holds, Puts, Parts, Acts}
 use Rattle.cv_shard.specs.declared.answer.Answer.{Answer}
 use Rattle.cv_shard.specs.declared.answer.Answer.TheVariants as answers
@@ -65,11 +66,11 @@ some_more [] ys some e = some refl
 some_more (x ∷ xs) ys some e = absurd cc
 
 -- What a PART came to, by its bytes.
-parted : (table : Table) (bytes : List ℕ) (outcome : Outcome Table) (m : MayTurn table part_op bytes outcome) → Parts table bytes outcome.next m.answer
+parted : (table : Table) (bytes : List ℕ) (outcome : Outcome Table) (m : MayTurn table PART bytes outcome) → Parts table bytes outcome.next m.answer
 parted table bytes outcome m = subst (λ (x : Action). Acts table x outcome.next m.answer) m.asks m.acts
 
 two_parts : (table : Table) (first second : List ℕ) (between after : Outcome Table) → first ≢ [] → second ≢ [] → between.code ≡ 0 → after.code ≡ 0
-    → turn table part_op first between → turn between.next part_op second after → turn table part_op (first ++ second) after
+    → turn table PART first between → turn between.next PART second after → turn table PART (first ++ second) after
 two_parts table first second between after some more ok fine p q =
     let one = taken table first some between.next p.answer (sym p.code_is ∙ ok) (parted table first between p) in
     let then : Parts (with_part table (table.part ++ first)) second after.next q.answer = subst (λ (x : Table). Parts x second after.next q.answer) one.1 (parted between.next second after q) in
@@ -86,7 +87,7 @@ two_parts table first second between after some more ok fine p q =
 -- ---- both
 
 whole_put : (table : Table) (p q text : List ℕ) (outcome : Outcome Table) → outcome.code ≡ 0 → (body other : List ℕ) → text ≡ p ++ body → text ≡ q ++ other
-    → turn (with_part table p) put_op body outcome → turn (with_part table q) put_op other outcome
+    → turn (with_part table p) PUT body outcome → turn (with_part table q) PUT other outcome
 whole_put table p q text outcome ok body other e f m =
     let asks : AsksPut text m.action = subst (λ (x : List ℕ). AsksPut x m.action) (sym e) m.asks in
     record {

@@ -20,7 +20,8 @@ use Rattle.cv_caller.proofs.Standing.{at_set, named_there}
 use Rattle.cv_shard.specs.Actions.{Action, Put, DropMap, Open, Conv, Reset, Close, Bye, Part, Bad}
 use Rattle.cv_shard.specs.Answers.{most_room}
 use Rattle.cv_shard.specs.Laws.{IsThere, AreThere, IsSound, KeepsTables, RunsKeepTables}
-use Rattle.cv_shard.specs.Requests.{AsksPut, action_of, put_op, turn}
+use Rattle.cv_frame.specs.declared.ops.TheConstants.{PUT}
+use Rattle.cv_shard.specs.Requests.{AsksPut, action_of, turn}
 use Rattle.cv_shard.specs.Turn.{Does, Holds, Puts, Parts, Drops, Binds, Opens, Convs, Resets, Closes, Acts}
 use Rattle.cv_shard.specs.Worlds.{no_tables}
 use Rattle.cv_shard.specs.declared.answer.Answer.{Answer}
@@ -244,7 +245,7 @@ pub keeps_tables : KeepsTables
 keeps_tables = record {
   begins = begins;
   keeps = λ table code body outcome is turned.
-      kept_act table is turned.action (put_map (code == put_op) (table.part ++ body) (action_of code body) turned.action turned.asks (not_put code body)) outcome.next turned.answer turned.acts;
+      kept_act table is turned.action (put_map (code == PUT) (table.part ++ body) (action_of code body) turned.action turned.asks (not_put code body)) outcome.next turned.answer turned.acts;
 }
 
 -- ---- runs

@@ -6,6 +6,7 @@ pub mod Stepping
 pub mod Converting
 pub mod OpeningSteps
 pub mod Leaving
+pub mod Answered
 mod OneAnswer
 mod SomeAnswer
 mod OtherOps

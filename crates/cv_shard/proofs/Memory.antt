@@ -5,13 +5,13 @@ use Rattle.std.specs.List.{list_any}
 use Rattle.std.proofs.lemmas.Bool.Decides.{nat_tests}
 use Rattle.cv_pivot.specs.Encodings.{form_closes}
 use Rattle.cv_machine.specs.Machine.{When, no_memory}
-use Rattle.cv_frame.specs.Bodies.{reset_of, number_of}
-use Rattle.cv_frame.specs.declared.ops.TheConstants.{OPEN, CONV, RESET, CLOSE}
+use Rattle.cv_frame.specs.Bodies.{reset_of, number_of, drop_of}
+use Rattle.cv_frame.specs.declared.ops.TheConstants.{OPEN, CONV, RESET, CLOSE, PUT, DROP, BYE, PART}
 use Rattle.cv_caller.specs.Tables.{Table, Descriptor, form_in, place_of, descriptor_at, uses}
 use Rattle.cv_shard.specs.Actions.{Action, Put, DropMap, Open, Conv, Reset, Close, Bye, Part, Bad}
 use Rattle.cv_shard.specs.Answers.{answer_code, most_room}
 use Rattle.cv_shard.specs.Laws.{LacksWhereTaken}
-use Rattle.cv_shard.specs.Requests.{AsksPut, action_of, drop_action, reset_action, close_action, bye_action, drop_of, put_op, drop_op, bye_op, part_op}
+use Rattle.cv_shard.specs.Requests.{AsksPut, action_of, drop_action, reset_action, close_action, bye_action}
 use Rattle.cv_shard.specs.Turn.{Does, Drops, Resets, Closes, Acts}
 use Rattle.cv_shard.specs.declared.answer.Answer.{Answer}
 
@@ -97,15 +97,15 @@ bye_takes : (body : List ℕ) → takes (bye_action body) ≢ true
 bye_takes [] e = absurd cc
 bye_takes (b ∷ body) e = absurd cc
 
-other_takes : (code : ℕ) (body : List ℕ) → takes (action_of code body) ≡ true → (code == OPEN || (code == CONV || (code == part_op && nat_lt 0 (length body)))) ≡ true
+other_takes : (code : ℕ) (body : List ℕ) → takes (action_of code body) ≡ true → (code == OPEN || (code == CONV || (code == PART && nat_lt 0 (length body)))) ≡ true
 other_takes code body =
-    choose (code == drop_op) _ _ _ (λ _ h. absurd (drop_takes (drop_of body) h)) (
+    choose (code == DROP) _ _ _ (λ _ h. absurd (drop_takes (drop_of body) h)) (
     choose (code == OPEN) _ _ _ (λ is _. first _ _ is) (
     choose (code == CONV) _ _ _ (λ is _. second _ _ (first _ _ is)) (
     choose (code == RESET) _ _ _ (λ _ h. absurd (reset_takes (reset_of body) h)) (
     choose (code == CLOSE) _ _ _ (λ _ h. absurd (close_takes (number_of body) h)) (
-    choose (code == bye_op) _ _ _ (λ _ h. absurd (bye_takes body h)) (
-    choose (code == part_op) _ _ _ (λ is h. second _ _ (second _ _ (both _ _ is h))) (λ h. absurd cc)))))))
+    choose (code == BYE) _ _ _ (λ _ h. absurd (bye_takes body h)) (
+    choose (code == PART) _ _ _ (λ is h. second _ _ (second _ _ (both _ _ is h))) (λ h. absurd cc)))))))
 
 asks_takes : (t : Bool) (text : List ℕ) (other action : Action) (rest : Bool) → When t (AsksPut text action) (action ≡ other) → (takes other ≡ true → rest ≡ true) → takes action ≡ true → (t || rest) ≡ true
 asks_takes true text other action rest p f h = refl
@@ -114,5 +114,5 @@ asks_takes false text other action rest p f h = f (ap takes (sym p) ∙ h)
 -- Want of memory is an outcome only of requests that take memory.
 pub lacks_where_taken : LacksWhereTaken
 lacks_where_taken table code body outcome turned e =
-    asks_takes (code == put_op) (table.part ++ body) (action_of code body) turned.action _ turned.asks (other_takes code body)
+    asks_takes (code == PUT) (table.part ++ body) (action_of code body) turned.action _ turned.asks (other_takes code body)
     (acts table turned.action outcome.next turned.answer turned.acts (sym turned.code_is ∙ e))

@@ -5,9 +5,8 @@ use Rattle.std.specs.Option.{option_and_then}
 use Rattle.std.proofs.Math.Seq.{take-length, drop-length}
 use Rattle.std.proofs.lemmas.Bool.{ltb-false, le-ltb}
 use Rattle.std.proofs.lemmas.List.{append-nil, take-append-drop, length-take}
-use Rattle.cv_frame.specs.Bodies.{name_body}
+use Rattle.cv_frame.specs.Bodies.{name_body, drop_of, name_alone}
 use Rattle.cv_shard.specs.Laws.{NamesReadBack}
-use Rattle.cv_shard.specs.Requests.{drop_of, name_alone}
 
 drops : (name : List ℕ) → drop_of (name_body name) ≡ Some name
 drops name =

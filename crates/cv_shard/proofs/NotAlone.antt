@@ -30,7 +30,8 @@ use Rattle.cv_caller.specs.declared.limits.TheConstants.{MOST_PART}
 use Rattle.cv_shard.specs.Actions.{Action, Put, DropMap, Open, Conv, Reset, Close, Bye, Part, Bad}
 use Rattle.cv_shard.specs.Answers.{answer_code, answer_body, most_room}
 use Rattle.cv_shard.specs.Laws.{IsThere, AreThere, IsSound, NeverLacksAlone}
-use Rattle.cv_shard.specs.Requests.{AsksPut, action_of, put_op}
+use Rattle.cv_frame.specs.declared.ops.TheConstants.{PUT}
+use Rattle.cv_shard.specs.Requests.{AsksPut, action_of}
 use Rattle.cv_shard.specs.Turn.{Does, Holds, Puts, Parts, Drops, Binds, Opens, IsConversion, Convs, Resets, Closes, Acts}
 use Rattle.cv_shard.specs.declared.answer.Answer.{Answer}
 use Rattle.cv_shard.specs.declared.answer.Answer.TheVariants as answers
@@ -190,6 +191,6 @@ asks false text other h = (other, refl, h)
 -- At a sound table want of memory is never all that a request may come to.
 pub never_lacks_alone : NeverLacksAlone
 never_lacks_alone table code body is all =
-    let asked = asks (code == put_op) (table.part ++ body) (action_of code body) (not_put code body Lacking) in
+    let asked = asks (code == PUT) (table.part ++ body) (action_of code body) (not_put code body Lacking) in
     acts table is asked.0 asked.2 (λ t a h.
     all (record { next = t; code = answer_code a; body = answer_body a }) (record { action = asked.0; asks = asked.1; answer = a; acts = h; code_is = refl; body_is = refl }))

@@ -19,7 +19,8 @@ use Rattle.cv_caller.specs.Results.{is_taken, is_full}
 use Rattle.cv_caller.specs.declared.limits.TheConstants.{MOST_PART}
 use Rattle.cv_shard.specs.Actions.{Action, Put, DropMap, Open, Conv, Reset, Close, Bye, Part, Bad}
 use Rattle.cv_shard.specs.Answers.{answer_code, answer_body, stop_status, most_room}
-use Rattle.cv_shard.specs.Requests.{AsksPut, MayTurn, action_of, put_op, turn}
+use Rattle.cv_frame.specs.declared.ops.TheConstants.{PUT}
+use Rattle.cv_shard.specs.Requests.{AsksPut, MayTurn, action_of, turn}
 use Rattle.cv_shard.specs.Turn.{Does, Holds, Puts, Parts, Drops, Binds, Opens, IsConversion, Convs, Resets, Closes, Acts, with_states}
 use Rattle.cv_shard.specs.declared.answer.Answer.{Answer}
 use Rattle.cv_shard.specs.declared.answer.Answer.TheVariants as answers
@@ -157,7 +158,7 @@ not_lacking table code body o p h e =
 pub one_answer : IsOneAnswer turn
 one_answer table code body = record {
   one = λ a b p q m n.
-      let same : p.action ≡ q.action = one_asked (code == put_op) (table.part ++ body) (action_of code body) p.action q.action p.asks q.asks (not_lacking table code body a p m) (not_lacking table code body b q n) in
+      let same : p.action ≡ q.action = one_asked (code == PUT) (table.part ++ body) (action_of code body) p.action q.action p.asks q.asks (not_lacking table code body a p m) (not_lacking table code body b q n) in
       let there : Acts table p.action b.next q.answer = subst (λ (x : Action). Acts table x b.next q.answer) (sym same) q.acts in
       let e = (one_act table p.action).one a.next b.next p.answer q.answer p.acts there (λ h. m (p.code_is ∙ h)) (λ h. n (q.code_is ∙ h)) in
       same_outcome a b e.0 (p.code_is ∙ ap answer_code e.1 ∙ sym q.code_is) (p.body_is ∙ ap answer_body e.1 ∙ sym q.body_is);

@@ -12,7 +12,8 @@ use Rattle.cv_caller.specs.Results.{is_taken, is_full}
 use Rattle.cv_caller.specs.declared.limits.TheConstants.{MOST_PART}
 use Rattle.cv_shard.specs.Actions.{Action, Put, DropMap, Open, Conv, Reset, Close, Bye, Part, Bad}
 use Rattle.cv_shard.specs.Answers.{answer_code, answer_body, most_room}
-use Rattle.cv_shard.specs.Requests.{AsksPut, action_of, put_op, turn}
+use Rattle.cv_frame.specs.declared.ops.TheConstants.{PUT}
+use Rattle.cv_shard.specs.Requests.{AsksPut, action_of, turn}
 use Rattle.cv_shard.specs.Turn.{Does, Holds, Puts, Parts, Drops, Binds, Opens, Convs, Resets, Closes, Acts}
 use Rattle.cv_shard.specs.declared.answer.Answer.{Answer}
 use Rattle.cv_shard.specs.declared.answer.Answer.TheVariants as answers
@@ -94,7 +95,7 @@ some_asked false text other = (other, refl)
 -- Each request has some answer.
 pub some_answer : IsSomeAnswer turn
 some_answer table code body =
-    let asked = some_asked (code == put_op) (table.part ++ body) (action_of code body) in
+    let asked = some_asked (code == PUT) (table.part ++ body) (action_of code body) in
     let did = some_act table asked.0 in (
       record { next = did.0; code = answer_code did.1; body = answer_body did.1 },
       record { action = asked.0; asks = asked.1; answer = did.1; acts = did.2; code_is = refl; body_is = refl },

@@ -3,10 +3,10 @@ use Rattle.std.specs.Prelude.{◌≡◌, ◌≢◌, ◌==◌, ◌||◌, ◌&&◌
 use Rattle.cv_caller.specs.Tables.{Charmaps, Table, Named, BuiltIn, Held, Descriptor, IsTable, charmap_at, descriptor_at, empty_table, with_part}
 use Rattle.cv_machine.specs.Machine.{Outcome, Event, IsRun, after_all, no_memory}
 use Rattle.cv_frame.specs.Status.{status_number}
-use Rattle.cv_frame.specs.declared.ops.TheConstants.{OPEN, CONV}
+use Rattle.cv_frame.specs.declared.ops.TheConstants.{OPEN, CONV, PUT, BYE, PART}
 use Rattle.cv_frame.specs.declared.status.Status.TheVariants as status
-use Rattle.cv_frame.specs.Bodies.{name_body}
-use Rattle.cv_shard.specs.Requests.{put_op, bye_op, part_op, drop_of, turn}
+use Rattle.cv_frame.specs.Bodies.{name_body, drop_of}
+use Rattle.cv_shard.specs.Requests.{turn}
 use Rattle.cv_shard.specs.Worlds.{no_tables}
 
 -- An encoding of a descriptor is built in, or a charmap that is held.
@@ -38,7 +38,7 @@ NeverLacksAlone = (table : Table) (code : ℕ) (body : List ℕ) → IsSound tab
 
 -- whether a request takes memory: a PUT, an OPEN, a CONV, and a PART that isn't empty
 abbrev pub takes_memory : ℕ → List ℕ → Bool
-takes_memory code body = code == put_op || (code == OPEN || (code == CONV || (code == part_op && nat_lt 0 (length body))))
+takes_memory code body = code == PUT || (code == OPEN || (code == CONV || (code == PART && nat_lt 0 (length body))))
 
 -- No other request has want of memory as an outcome.
 abbrev pub LacksWhereTaken : Type 0
@@ -49,13 +49,13 @@ LacksWhereTaken = (table : Table) (code : ℕ) (body : List ℕ) (outcome : Outc
 pub record JoinsParts : Type 0 where
   pub parts : (table : Table) (first second : List ℕ) (between after : Outcome Table) → first ≢ [] → second ≢ []
       → between.code ≡ status_number status.Ok → after.code ≡ status_number status.Ok
-      → turn table part_op first between → turn between.next part_op second after → turn table part_op (first ++ second) after
+      → turn table PART first between → turn between.next PART second after → turn table PART (first ++ second) after
   pub put : (table : Table) (part body : List ℕ) (outcome : Outcome Table) → outcome.code ≡ status_number status.Ok
-      → turn (with_part table part) put_op body outcome ↔ turn (with_part table []) put_op (part ++ body) outcome
+      → turn (with_part table part) PUT body outcome ↔ turn (with_part table []) PUT (part ++ body) outcome
 
 -- After a BYE its caller has the table of one that never asked.
 abbrev pub ByeStartsAgain : Type 0
-ByeStartsAgain = (table : Table) (outcome : Outcome Table) → turn table bye_op [] outcome → outcome.next ≡ empty_table
+ByeStartsAgain = (table : Table) (outcome : Outcome Table) → turn table BYE [] outcome → outcome.next ≡ empty_table
 
 -- The body of a DROP is a name, spelled as those of an OPEN are, and no other body is read as one.
 pub record NamesReadBack : Type 0 where

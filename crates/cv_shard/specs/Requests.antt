@@ -4,41 +4,14 @@ use Rattle.std.specs.Option.{option_and_then}
 use Rattle.cv_cache.specs.Compiled.{Compiled, MayCompile}
 use Rattle.cv_caller.specs.Tables.{Table}
 use Rattle.cv_machine.specs.Machine.{Outcome, When, Turn}
-use Rattle.cv_frame.specs.Bodies.{Opening, open_of, conv_of, reset_of, number_of, name_at}
-use Rattle.cv_frame.specs.declared.ops.TheConstants.{OPEN, CONV, RESET, CLOSE}
+use Rattle.cv_frame.specs.Bodies.{Opening, drop_of, open_of, conv_of, reset_of, number_of}
+use Rattle.cv_frame.specs.declared.ops.TheConstants.{PUT, DROP, OPEN, CONV, RESET, CLOSE, BYE, PART}
 use Rattle.cv_shard.specs.Actions.{Action, Put, DropMap, Open, Conv, Reset, Close, Bye, Part, Bad}
 use Rattle.cv_shard.specs.Answers.{answer_code, answer_body}
 use Rattle.cv_shard.specs.Turn.{Acts}
 use Rattle.cv_shard.specs.declared.answer.Answer.{Answer}
 
--- ---- the ops beside OPEN, CONV, RESET and CLOSE
-
--- PUT has a charmap text, or what is left of one after the parts that were sent before.
-abbrev pub put_op : ℕ
-put_op = 1
-
--- DROP has the name of a charmap.
-abbrev pub drop_op : ℕ
-drop_op = 2
-
--- BYE has no bytes.
-abbrev pub bye_op : ℕ
-bye_op = 7
-
--- PART has more bytes of a charmap text; none take back what was sent before.
-abbrev pub part_op : ℕ
-part_op = 8
-
 -- ---- what the bytes of a request ask for
-
--- a name behind which nothing stands
-abbrev pub name_alone : List ℕ × List ℕ → Option (List ℕ)
-name_alone (name, []) = Some name
-name_alone (name, b ∷ bytes) = None
-
--- the name that a DROP has
-abbrev pub drop_of : List ℕ → Option (List ℕ)
-drop_of body = option_and_then name_alone (name_at body)
 
 -- what a DROP asks for, by the name that its body is
 abbrev pub drop_action : Option (List ℕ) → Action
@@ -73,13 +46,13 @@ bye_action (b ∷ body) = Bad
 -- what the op and the body of a request other than PUT ask for
 abbrev pub action_of : ℕ → List ℕ → Action
 action_of code body =
-    if code == drop_op then drop_action (drop_of body) else
+    if code == DROP then drop_action (drop_of body) else
     if code == OPEN then open_action (open_of body) else
     if code == CONV then conv_action (conv_of body) else
     if code == RESET then reset_action (reset_of body) else
     if code == CLOSE then close_action (number_of body) else
-    if code == bye_op then bye_action body else
-    if code == part_op then Part body else Bad
+    if code == BYE then bye_action body else
+    if code == PART then Part body else Bad
 
 -- PUT asks that the charmap be held which a text may be compiled to.
 pub record AsksPut (text : List ℕ) (action : Action) : Type 0 where
@@ -89,7 +62,7 @@ pub record AsksPut (text : List ℕ) (action : Action) : Type 0 where
 
 -- What a request asks for, where its caller has sent this part of an upload before: the text of a PUT is the part, and then its body.
 abbrev pub Asks : List ℕ → ℕ → List ℕ → Action → Type 0
-Asks part code body action = When (code == put_op) (AsksPut (part ++ body) action) (action ≡ action_of code body)
+Asks part code body action = When (code == PUT) (AsksPut (part ++ body) action) (action ≡ action_of code body)
 
 -- ---- what a request may come to
 

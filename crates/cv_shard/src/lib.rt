@@ -8,6 +8,7 @@ pub mod laws;
 mod op;
 mod opening;
 mod outcomes;
+mod serving;
 mod world;
 
 pub use answer::Answer;

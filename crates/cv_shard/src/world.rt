@@ -2,9 +2,10 @@
 ghost use Rattle.std.specs.Prelude.{◌≡◌, ◌≤◌, ◌++◌, ℕ, None, length, IfOk};
 ghost use Rattle.cv_cache.specs.Compiled.{compiled};
 ghost use Rattle.cv_machine.specs.Machine.{with_table};
-ghost use Rattle.cv_caller.specs.Tables.{IsTable, empty_table, descriptor_at};
+ghost use Rattle.cv_caller.specs.Tables.{Table as WorldTable, IsTable, empty_table, descriptor_at};
 ghost use Rattle.cv_shard.specs.Actions.{Put, DropMap, Open, Conv, Reset, Close, Bye, Part, asked, InputFits};
 ghost use Rattle.cv_shard.specs.Answers.{AnswerFits};
+ghost use Rattle.cv_shard.specs.Requests.{turn};
 ghost use Rattle.cv_shard.specs.Turn.{Acts};
 ghost use Rattle.cv_shard.specs.Worlds.{world_tables, no_tables};
 
@@ -14,6 +15,7 @@ use crate::callers::{
     prepare_in, put_in, remove_in, unbind_in,
 };
 use crate::conversions::{convert_in, reserve_one, reset_in};
+use crate::laws::{one_answer, some_answer};
 use crate::op::Op;
 use crate::opening::Opening;
 use crate::outcomes::{add_answer, drop_answer, part_answer};
@@ -21,6 +23,7 @@ use cv_base::{Memory, Policy};
 use cv_caller::{DESCRIPTORS, Place, Table};
 use cv_charmap::CompileFault;
 use cv_frame::{Bytes, MOST_BODY, Status};
+use cv_machine::Machine;
 use cv_pivot::Conversion;
 use cv_trie::Charmap;
 use slab::Slab;
@@ -51,6 +54,19 @@ impl Model for World {
     ghost view = { λ w. tables_in w.callers.entries w.conversions };
 
     ghost invariant = { λ w. IsWorld (keyed_in w.callers) (get w.conversions) };
+}
+
+impl Machine for World {
+    ghost Table = { WorldTable };
+
+    ghost turn = { turn };
+
+    ghost tables = { world_tables };
+
+    fn assert_valid(&self) {
+        one_answer();
+        some_answer();
+    }
 }
 
 impl World {

@@ -3,7 +3,7 @@ ghost use Rattle.std.specs.Prelude.{◌≤◌, length, IfOk, IfErr};
 ghost use Rattle.cv_commands.specs.Faults.{IsOfScript};
 
 use crate::fault::RunFault;
-use crate::lines::{decimal, hex_bytes, text_of, with_line_feeds, words};
+use crate::lines::{decimal, hex_bytes, words};
 use cv_base::{Memory, Policy};
 use cv_frame::{Ask, write_request};
 use std::alloc::{AllocError, Global};
@@ -55,48 +55,6 @@ fn bytes_of(alloc: Global, word: &[u8], most: usize) -> Result<Vec<u8>, LineFaul
         return Err(LineFault::NotACommand);
     }
     hex_bytes(alloc, word)?.ok_or(LineFault::NotACommand)
-}
-
-/// The text of a charmap, or a part of it, that stands behind the command of a line. No memory is taken for one that fits no frame.
-fn charmap_text(alloc: Global, line: &[u8]) -> Result<Vec<u8>, LineFault>
-    ensures { IfOk result (λ bytes. length bytes.items ≤ LONGEST_BODY) }
-{
-    let text = text_of(line).ok_or(LineFault::NotACommand)?;
-    if text.len() > LONGEST_BODY {
-        return Err(LineFault::NotACommand);
-    }
-    Ok(with_line_feeds(alloc, text)?)
-}
-
-fn ask_put(alloc: Global, out: &mut Vec<u8>, from: Sender, line: &[u8]) -> Result<(), LineFault> {
-    let text = charmap_text(alloc, line)?;
-    write_request(out, from.caller, from.tag, &Ask::Put(&text))?;
-    Ok(())
-}
-
-fn ask_part(alloc: Global, out: &mut Vec<u8>, from: Sender, line: &[u8]) -> Result<(), LineFault> {
-    let bytes = charmap_text(alloc, line)?;
-    write_request(out, from.caller, from.tag, &Ask::Part(&bytes))?;
-    Ok(())
-}
-
-fn ask_drop(out: &mut Vec<u8>, from: Sender, words: &[&[u8]]) -> Result<(), LineFault> {
-    let [name] = words else {
-        return Err(LineFault::NotACommand);
-    };
-    if name.len() > LONGEST_NAME {
-        return Err(LineFault::NotACommand);
-    }
-    write_request(out, from.caller, from.tag, &Ask::DropMap(name))?;
-    Ok(())
-}
-
-fn ask_bye(out: &mut Vec<u8>, from: Sender, words: &[&[u8]]) -> Result<(), LineFault> {
-    if !words.is_empty() {
-        return Err(LineFault::NotACommand);
-    }
-    write_request(out, from.caller, from.tag, &Ask::Bye)?;
-    Ok(())
 }
 
 fn ask_open(out: &mut Vec<u8>, from: Sender, words: &[&[u8]]) -> Result<(), LineFault> {
@@ -188,10 +146,6 @@ fn ask_line(alloc: Global, out: &mut Vec<u8>, line: &[u8]) -> Result<(), LineFau
         tag: number_of(tag)?,
     };
     match *command {
-        b"put" => ask_put(alloc, out, from, line),
-        b"part" => ask_part(alloc, out, from, line),
-        b"drop" => ask_drop(out, from, arguments),
-        b"bye" => ask_bye(out, from, arguments),
         b"open" => ask_open(out, from, arguments),
         b"conv" => ask_conv(alloc, out, from, arguments),
         b"reset" => ask_reset(out, from, arguments),

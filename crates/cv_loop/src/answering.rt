@@ -27,25 +27,27 @@ fn spelled_size(replies: &[Reply]) -> usize
     size
 }
 
-/// Replies one after another.
-fn spell(alloc: Global, replies: &[Reply]) -> Result<Vec<u8>, Memory>
-    ensures { IfOk result (λ bytes. bytes.items ≡ joined replies.now) }
+/// Replies one after another, in place of what the buffer held.
+fn spell(bytes: &mut Vec<u8>, replies: &[Reply]) -> Result<(), Memory>
+    ensures { OnOk result (bytes.new.items ≡ joined replies.now) }
 {
-    let mut bytes = Vec::new(alloc);
+    bytes.clear();
     bytes.reserve(spelled_size(replies))?;
     for reply in replies {
-        write_reply(&mut bytes, reply)?;
+        write_reply(bytes, reply)?;
     }
-    Ok(bytes)
+    Ok(())
 }
 
-/// Answers requests, and writes the replies. `written` counts the bytes of the run that were written.
+/// Answers requests, and writes the replies. `written` counts the bytes of the run that were written. The replies are spelled into
+/// `bytes`, which is only lent for its memory: given back after each batch it would be had anew for the next.
 pub fn answer<R, E: Engine<R>, W: Sink>(
     engine: &mut E,
     rt: &R,
     alloc: Global,
     writer: &mut W,
     requests: &[Request],
+    bytes: &mut Vec<u8>,
     written: &mut u64,
 ) -> Result<(), ServeFault>
     requires ready { E.ready engine.old }
@@ -62,8 +64,8 @@ pub fn answer<R, E: Engine<R>, W: Sink>(
         return Ok(());
     }
     let replies = engine.batch(rt, alloc, requests)?;
-    let bytes = spell(alloc, &replies)?;
-    match push_all(writer, &bytes) {
+    spell(bytes, &replies)?;
+    match push_all(writer, bytes) {
         Ok(()) => {
             *written = before.saturating_add(bytes.len() as u64);
             Ok(())

@@ -20,13 +20,14 @@ pub struct Counts {
     pub written: u64,
 }
 
-/// Answers the next batch at the front, and says how long it was and why it ended.
+/// Answers the next batch at the front, and says how long it was and why it ended. `replies` is lent for its memory.
 fn drain_batch<R, E: Engine<R>, W: Sink>(
     engine: &mut E,
     rt: &R,
     alloc: Global,
     writer: &mut W,
     bytes: &[u8],
+    replies: &mut Vec<u8>,
     counts: &mut Counts,
 ) -> Result<(usize, End), ServeFault>
     requires ready { E.ready engine.old }
@@ -47,19 +48,21 @@ fn drain_batch<R, E: Engine<R>, W: Sink>(
         alloc,
         writer,
         &batch.requests,
+        replies,
         &mut counts.written,
     )?;
     counts.requests = counts.requests.saturating_add(n);
     Ok((batch.used, batch.end))
 }
 
-/// Answers all whole frames at the front, and says how long they were.
+/// Answers all whole frames at the front, and says how long they were. `replies` is lent for its memory.
 pub fn drain<R, E: Engine<R>, W: Sink>(
     engine: &mut E,
     rt: &R,
     alloc: Global,
     writer: &mut W,
     bytes: &[u8],
+    replies: &mut Vec<u8>,
     counts: &mut Counts,
 ) -> Result<usize, ServeFault>
     requires ready { E.ready engine.old }
@@ -74,7 +77,7 @@ pub fn drain<R, E: Engine<R>, W: Sink>(
 {
     let mut used = 0;
     loop {
-        let (n, end) = drain_batch(engine, rt, alloc, writer, &bytes[used..], counts)?;
+        let (n, end) = drain_batch(engine, rt, alloc, writer, &bytes[used..], replies, counts)?;
         used += n;
         match end {
             End::Full => {}

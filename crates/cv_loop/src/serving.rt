@@ -36,6 +36,7 @@ fn serve_stream<R, E: Engine<R>, S: Source, W: Sink>(
     ensures ready { E.ready engine.new }
 {
     let mut held = Held::new(alloc);
+    let mut replies = Vec::new(alloc);
     let mut counts = Counts {
         requests: 0,
         written: 0,
@@ -48,7 +49,8 @@ fn serve_stream<R, E: Engine<R>, S: Source, W: Sink>(
             }
             return Err(ServeFault::TruncatedFrame);
         }
-        let used = drain(engine, rt, alloc, writer, held.as_slice(), &mut counts)?;
+        let bytes = held.as_slice();
+        let used = drain(engine, rt, alloc, writer, bytes, &mut replies, &mut counts)?;
         held.forget(used);
     }
     Err(ServeFault::TooManyReads)

@@ -1,3 +1,5 @@
+mod uploads;
+
 use crate::{Engine, FromReader, ServeFault, Served, ToWriter, serve, serve_new};
 use cv_frame::Request;
 use cv_world::World;

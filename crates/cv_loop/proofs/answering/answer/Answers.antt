@@ -12,14 +12,14 @@ returns-in_err-replies-clause-err g c =
     let p = err_from_is_err_and c.from_residual.result c.from_residual.ensures.1 in
     rw (p.1, p.2) (no_batch _ _ _ _ _ _ c.in_err-replies.ensures.err c.requires.works)
 
-pub returns-in_err-bytes-clause-err : goal.returns-in_err-bytes-clause-err
-returns-in_err-bytes-clause-err g c =
-    let p = err_from_is_err_and c.from_residual-in_err-bytes.result c.from_residual-in_err-bytes.ensures.1 in
+pub returns-in_err-spell-clause-err : goal.returns-in_err-spell-clause-err
+returns-in_err-spell-clause-err g c =
+    let p = err_from_is_err_and c.from_residual-in_err-spell.result c.from_residual-in_err-spell.ensures.1 in
     rw (p.1, p.2) (no_bytes _ _ _ _ _ _ _ c.in_ok-replies.ensures.runs c.requires.works)
 
 pub returns-clause-err : goal.returns-clause-err
 returns-clause-err g c =
-    no_write _ _ _ _ _ _ _ _ _ _ _ c.in_ok-replies.ensures.runs (c.deref-2.ensures.value ∙ c.in_ok-bytes.ensures ∙ ap joined c.deref.ensures.value)
+    no_write _ _ _ _ _ _ _ _ _ _ _ c.in_ok-replies.ensures.runs (c.deref-2.ensures.value ∙ c.in_ok-spell.ensures ∙ ap joined c.deref.ensures.value)
     c.in-Err.ensures.some c.in-Err.ensures.taken c.saturating_add-written.ensures c.in-Err.ensures.failed
 
 pub returns-then-is_empty-clause-ok : goal.returns-then-is_empty-clause-ok

@@ -76,7 +76,7 @@ returns-in_err-used g c =
     let more = before_the_end _ _ _ _ _ _ c.if-not-branch.false b.2 in
     let says = stopped_says _ _ _ _ _ _ _ _ _ _ more.1 more.2 c.in_err-used.ensures.err in
     rw (p.1, p.2) (record {
-      serves = Serving-stops _ _ _ _ _ _ _ _ _ _ _ _ b.0 _ _ _ _ _ _ c.loop-read.invariant.stands b.1 (c.as_slice-in-loop-read.ensures ∙ more.0) c.in_err-used.ensures.err;
+      serves = Serving-stops _ _ _ _ _ _ _ _ _ _ _ _ b.0 _ _ _ _ _ _ c.loop-read.invariant.stands b.1 (c.as_slice-bytes.ensures ∙ more.0) c.in_err-used.ensures.err;
       ends = record {
         met_end = says.0;
         none_left = λ t. absurd (differ (sym t ∙ says.3));
@@ -97,7 +97,7 @@ loop-read-preserved g c =
       reads = more.2;
       writes = c.in_ok-used.ensures.works;
       ready = c.in_ok-used.ensures.ready;
-      stands = rw (c.forget.ensures, ← c.as_slice-in-loop-read.ensures) (Standing-more _ _ _ _ _ _ _ _ _ _ _ b.0 _ _ _ _ _ _ c.loop-read.invariant.stands b.1 (c.as_slice-in-loop-read.ensures ∙ more.0) more.3 c.in_ok-used.ensures.ok c.in_ok-used.ensures.end);
+      stands = rw (c.forget.ensures, ← c.as_slice-bytes.ensures) (Standing-more _ _ _ _ _ _ _ _ _ _ _ b.0 _ _ _ _ _ _ c.loop-read.invariant.stands b.1 (c.as_slice-bytes.ensures ∙ more.0) more.3 c.in_ok-used.ensures.ok c.in_ok-used.ensures.end);
     }
 
 pub returns-clause-serves : goal.returns-clause-serves

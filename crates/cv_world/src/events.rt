@@ -27,7 +27,7 @@ impl World {
                 self.forget_empty(caller);
                 answer
             }
-            Op::Open { to, from, policy } => self.open(caller, to, from, policy),
+            Op::Open { to, from, policy } => self.open(alloc, caller, to, from, policy),
             Op::Conv {
                 number,
                 room,

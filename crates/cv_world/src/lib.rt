@@ -5,6 +5,7 @@ mod answer;
 mod callers;
 mod conversions;
 mod events;
+mod kept;
 pub mod laws;
 mod op;
 mod opening;

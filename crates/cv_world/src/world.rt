@@ -15,11 +15,12 @@ use crate::callers::{
     prepare_in, put_in, remove_in, unbind_in,
 };
 use crate::conversions::{convert_in, reserve_one, reset_in};
+use crate::kept::Kept;
 use crate::laws::{one_answer, some_answer};
 use crate::opening::Opening;
 use crate::outcomes::{add_answer, drop_answer, part_answer};
 use cv_base::{Memory, Policy};
-use cv_caller::{DESCRIPTORS, Place, Table};
+use cv_caller::{DESCRIPTORS, Place};
 use cv_charmap::CompileFault;
 use cv_frame::{Bytes, MOST_BODY, Status};
 use cv_machine::Machine;
@@ -37,7 +38,7 @@ const MOST_ROOM: u32 = 1_000_000;
 /// The callers of a shard, each with its own table; their conversions stand in one slab. Contracts see each caller's table.
 #[derive(Drop)]
 pub struct World {
-    callers: BTreeMap<u32, Table>,
+    callers: BTreeMap<u32, Kept>,
     conversions: Slab<Conversion>,
 }
 
@@ -94,7 +95,14 @@ impl World {
     }
 
     /// OPEN. All growths come before anything changes.
-    pub(crate) fn open(&mut self, caller: u32, to: &[u8], from: &[u8], policy: Policy) -> Answer
+    pub(crate) fn open(
+        &mut self,
+        alloc: Global,
+        caller: u32,
+        to: &[u8],
+        from: &[u8],
+        policy: Policy,
+    ) -> Answer
         ensures acts { Acts (world_tables self.old caller) (Open to.now from.now policy) (world_tables self.new caller) result }
         ensures others { world_tables self.new ≡ with_table (world_tables self.old) caller (world_tables self.new caller) }
         ensures fits { AnswerFits result }
@@ -106,7 +114,7 @@ impl World {
         if reserve_one(&mut self.conversions).is_err() {
             return Answer::Refused(Status::NoMemory);
         }
-        if make_room(&mut self.callers, caller).is_err() {
+        if make_room(&mut self.callers, alloc, caller).is_err() {
             return Answer::Refused(Status::NoMemory);
         }
         let Opening {

@@ -17,7 +17,7 @@ run: $(PROGRAM)
 check:
 	rt ci
 
-# Proves one crate, over what earlier runs kept: make check-cv_utf.
+# Proves one crate, over what earlier runs kept: make check-cv_utf8.
 check-%:
 	cd crates/$* && rt check
 

@@ -1,4 +1,7 @@
 //! What stands next in a text.
+ghost use Rattle.std.specs.Prelude.{◌≡◌};
+ghost use Rattle.cv_base.specs.Scalars.{IsScalar};
+
 use crate::scalar::Scalar;
 use crate::state::ReadState;
 
@@ -22,4 +25,17 @@ pub enum Item {
     Ill,
     /// No bytes.
     End,
+}
+
+/// An item of one character, from its number.
+#[inline]
+pub fn character(value: u32, n: usize, next: ReadState) -> Item
+    requires { IsScalar value }
+    ensures { result ≡ Item.Char value n next }
+{
+    Item::Char {
+        c: Scalar::known(value),
+        n,
+        next,
+    }
 }

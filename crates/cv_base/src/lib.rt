@@ -26,7 +26,7 @@ pub use block::{ReadBlock, WrittenBlock};
 pub use block_codec::BlockCodec;
 pub use codec::Codec;
 pub use endian::Endian;
-pub use item::Item;
+pub use item::{Item, character};
 pub use latin1::Latin1;
 pub use memory::Memory;
 pub use names::same_name;

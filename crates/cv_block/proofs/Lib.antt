@@ -8,3 +8,4 @@ pub mod AsciiRuns
 pub mod CopiedBytes
 pub mod SixteenBelow
 pub mod SpelledFronts
+pub mod Lanes

@@ -1,10 +1,10 @@
 -- Each encoding reads back the texts that it writes.
 use Rattle.cv_base.specs.ReadBack.{ReadsBack}
 use Rattle.cv_base.proofs.SingleByteLaws.{bytes_back}
-use Rattle.cv_utf.specs.Utf16.{utf16}
-use Rattle.cv_utf.specs.Utf32.{utf32}
-use Rattle.cv_utf.proofs.FormReadBack.{form_reads_back as utf_reads_back}
-use Rattle.cv_utf.proofs.Utf8ReadBack.{utf8_reads_back}
+use Rattle.cv_wide.specs.Utf16.{utf16}
+use Rattle.cv_wide.specs.Utf32.{utf32}
+use Rattle.cv_wide.proofs.FormReadBack.{form_reads_back as utf_reads_back}
+use Rattle.cv_utf8.proofs.Utf8ReadBack.{utf8_reads_back}
 use Rattle.cv_utf7.proofs.ReadBack.{utf7_reads_back}
 use Rattle.cv_trie.proofs.MapReadBack.{maps_back}
 use Rattle.cv_pivot.specs.Encodings.{Builtin, Ascii, Latin1, Utf8, Utf16, Utf32, Utf7, Form, Own, Mapped, builtin_reads, builtin_writes, builtin_closes, form_reads, form_writes, form_closes}

@@ -7,8 +7,9 @@ use cv_base::{
     Scalar, WriteState, WrittenBlock, same_name,
 };
 use cv_trie::Charmap;
-use cv_utf::{Order, Utf8, Utf16, Utf32};
 use cv_utf7::Utf7;
+use cv_utf8::Utf8;
+use cv_wide::{Order, Utf16, Utf32};
 use std::alloc::AllocError;
 use std::sync::Arc;
 

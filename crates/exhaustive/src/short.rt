@@ -1,7 +1,7 @@
 //! Every input of UTF-8 of one or two bytes, against a table of its own: first bytes, and the second bytes of each.
 
 use cv_base::{Codec, Item, ReadState};
-use cv_utf::Utf8;
+use cv_utf8::Utf8;
 
 /// What an input begins with.
 #[derive(Clone, Copy, Debug, PartialEq, Eq)]

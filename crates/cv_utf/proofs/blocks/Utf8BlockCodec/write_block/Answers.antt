@@ -1,9 +1,0 @@
-use Rattle.cv_block.proofs.SpelledBlocks.{spelled_written}
-use Rattle.cv_utf.specs.Utf8.{utf8_writes}
-use Rattle.cv_base.specs.declared.state.WriteState.TheVariants as write
-use Rattle.cv_utf.proofs.AllWritten.{utf8_allowed}
-use Rattle.cv_utf.proofs.Utf8Spelled.{utf8_writes_spelled}
-use Rattle.cv_utf.proofs.blocks.Utf8BlockCodec.write_block.Goals as goal
-
-pub returns-in-Start : goal.returns-in-Start
-returns-in-Start c = rw c.in-Start.is (utf8_allowed c.args._policy write.Start c.args.characters.now, spelled_written utf8_writes _ _ utf8_writes_spelled c.args.characters.now c.args.out.now c.args.at _ _ (rw c.in-Start.is at c.write_spelled.ensures))

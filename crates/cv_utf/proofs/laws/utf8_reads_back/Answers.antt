@@ -1,5 +1,0 @@
-use Rattle.cv_utf.proofs.Utf8ReadBack.{utf8_reads_back}
-use Rattle.cv_utf.proofs.laws.utf8_reads_back.Goals as goal
-
-pub returns : goal.returns
-returns c = utf8_reads_back

@@ -1,8 +1,0 @@
--- UTF-32 (Unicode 3.9, D90): the four bytes of each scalar.
-use Rattle.cv_base.specs.Units.{unit_of}
-use Rattle.cv_base.specs.declared.ascii_form.AsciiForm.TheVariants.{Four}
-use Rattle.cv_utf.specs.Orders.{Form}
-
--- UTF-32 in each order
-abbrev pub utf32 : Form
-utf32 endian c = unit_of (Four endian) c

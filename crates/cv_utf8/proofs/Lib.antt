@@ -1,0 +1,14 @@
+pub mod AllWritten
+pub mod Utf8Laws
+pub mod Utf8Items
+pub mod Utf8ReadBack
+pub mod Utf8Lanes
+pub mod Utf8Short
+pub mod Utf8PutBegun
+pub mod Utf8Marks
+pub mod Utf8Covered
+pub mod Utf8Begun
+pub mod Utf8Long
+pub mod Utf8WindowLanes
+pub mod Utf8Spelled
+pub mod Utf8Front

@@ -1,0 +1,48 @@
+-- What std calls UTF-8 are the bytes of characters.
+use Rattle.std.proofs.Common.{◌≡◌, ℕ, ◌≤◌, true, List, [], ◌∷◌, length, take, refl, sym, ◌∙◌, ap, subst, arith, inl, inr, length-take}
+use Rattle.std.specs.Prelude.{IsUtf8}
+use Rattle.std.specs.List.{flat_map}
+use Rattle.std.proofs.Math.Utf8.{encode, encodes, scalar, scalars, scalar_cases}
+use Rattle.std.proofs.lemmas.Bool.{and_parts}
+use Rattle.cv_base.specs.Items.{Begins}
+use Rattle.cv_base.specs.Scalars.{IsScalar, AreScalars}
+use Rattle.cv_base.specs.Blocks.{IsUnchanged}
+use Rattle.cv_base.specs.declared.state.ReadState.TheVariants as read
+use Rattle.cv_base.specs.declared.state.WriteState.TheVariants as write
+use Rattle.cv_base.proofs.Front.{Begins-take}
+use Rattle.cv_block.specs.Spelled.{IsSpelledFront}
+use Rattle.cv_block.proofs.SpelledFronts.{spelled_unchanged}
+use Rattle.cv_utf8.specs.Utf8.{utf8_reads, utf8_bytes, utf8_writes}
+use Rattle.cv_utf8.proofs.Utf8Spelled.{utf8_reads_spelled, utf8_writes_spelled}
+
+same_bytes : (c : ℕ) → encode c ≡ utf8_bytes c
+unfolding encode
+same_bytes c = refl
+
+all_same : (characters : List ℕ) → encodes characters ≡ flat_map utf8_bytes characters
+all_same [] = refl
+all_same (c ∷ characters) = rw (same_bytes c, all_same characters) refl
+
+is_scalar : (c : ℕ) → scalar c ≡ true → IsScalar c
+is_scalar c p = elim (scalar_cases c p) [
+  | inl l ↦ (omega arith, λ h. omega arith)
+  | inr l ↦ (l.1, λ h. l.0)
+]
+
+are_scalars : (characters : List ℕ) → scalars characters ≡ true → AreScalars characters
+are_scalars [] p = tt
+are_scalars (c ∷ characters) p =
+    let both = and_parts (scalar c) (scalars characters) p in
+    (is_scalar c both.0, are_scalars characters both.1)
+
+-- well-formed bytes at the front of a text stay
+pub utf8_unchanged : (text : List ℕ) (n : ℕ) → n ≤ length text → IsUtf8 (take n text) → IsUnchanged utf8_reads utf8_writes read.Start write.Start text n
+utf8_unchanged text n h p =
+    let same : flat_map utf8_bytes p.0 ≡ take n text = sym (all_same p.0) ∙ p.1.1 in
+    let front : IsSpelledFront utf8_bytes text n = record {
+      characters = p.0;
+      scalars = are_scalars p.0 p.1.0;
+      begins = subst (λ (x : List ℕ). Begins x text) (sym same) (Begins-take n text);
+      uses = omega (arith, ap length same, length-take n text);
+    } in
+    spelled_unchanged utf8_reads utf8_writes read.Start write.Start utf8_bytes utf8_reads_spelled utf8_writes_spelled text n front

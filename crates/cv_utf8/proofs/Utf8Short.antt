@@ -1,0 +1,193 @@
+-- Characters of one and of two bytes that are read at once, as vectors compute them.
+use Rattle.std.proofs.Common.{◌≡◌, ℕ, ◌+◌, ◌-◌, ◌*◌, ◌/◌, ◌%◌, ◌^◌, ◌<◌, ◌≤◌, ◌⊎◌, inl, inr, Bool, true, false, cond, Fits, List, [], ◌∷◌, length, take, drop, get_or, map, refl, sym, ◌∙◌, ap, ap₂, arith, zero, suc, w8, lit≤}
+use Rattle.std.specs.Prelude.{replicate}
+use Rattle.std.specs.Simd.Lanes.{mask_l, top, zip2, sel_l}
+use mir.Val.{bool_byte}
+use Rattle.std.proofs.Math.Dec.{ltb}
+use Rattle.std.proofs.Math.Seq.{drop-cons}
+use Rattle.std.proofs.lemmas.Simd.{bitmask_splat, zip2_splat, bit_mask_l, length-chunk, get_or-chunk, length-zip2, map-map}
+use Rattle.std.proofs.lemmas.List.{get_or-map}
+use Rattle.std.proofs.lemmas.Bool.{ltb-true, ltb-false, le-ltb, lt-ltb}
+use Rattle.cv_block.specs.Spelled.{IsSpelledAt}
+use Rattle.cv_utf8.specs.Utf8.{utf8_bytes}
+use Rattle.cv_utf8.specs.Private.Utf8Short.{is_among, is_behind, IsShort, IsShortAt, short_of, short_value, left_over}
+use Rattle.cv_utf8.specs.Private.Utf8Windows.{IsTwoAt, IsLane, AreBegun}
+
+-- ---- which bytes they are
+
+-- the lanes among some numbers are those of the test
+pub among_is : (xs : List ℕ) (least many : ℕ) → length xs ≡ 16 → mask_l (map (top 7) (zip2 (λ a b. cond (ltb a b) 255 0) (zip2 (λ a b. (a + (256 - b)) % 256) xs (replicate 16 least)) (replicate 16 many))) % 2 ^ 64 ≡ mask_l (map (is_among least many) xs)
+among_is xs least many long =
+    let off : List ℕ = zip2 (λ a b. (a + (256 - b)) % 256) xs (replicate 16 least) in
+    let is : off ≡ map (λ a. (a + (256 - least)) % 256) xs = zip2_splat (λ a b. (a + (256 - b)) % 256) xs 16 least long in
+    let size : length off ≡ 16 = length-zip2 (λ a b. (a + (256 - b)) % 256) xs (replicate 16 least) long ∙ long in
+    bitmask_splat w8 ltb off 16 many size (lit≤ tt) ∙ ap (λ l. mask_l (map (λ a. ltb a many) l)) is ∙ ap mask_l (map-map (λ a. ltb a many) (λ a. (a + (256 - least)) % 256) xs)
+
+abbrev one_if : Bool → ℕ
+one_if b = cond b 1 0
+
+same_bit : (a b : Bool) → one_if a ≡ one_if b → a ≡ b
+same_bit true true e = refl
+same_bit true false e = cc
+same_bit false true e = cc
+same_bit false false e = refl
+
+-- lanes that give the same bits
+same_lane : (p q : ℕ → Bool) (xs ys : List ℕ) → length xs ≡ 16 → length ys ≡ 16 → mask_l (map p xs) ≡ mask_l (map q ys) → (k : ℕ) → k < 16 → p (get_or xs k 0) ≡ q (get_or ys k 0)
+same_lane p q xs ys long also e k h =
+    let bit = same_bit _ _ (sym (bit_mask_l (map p xs) k) ∙ ap (λ m. m / 2 ^ k % 2) e ∙ bit_mask_l (map q ys) k) in
+    sym (get_or-map p xs k 0 false (omega arith)) ∙ bit ∙ get_or-map q ys k 0 false (omega arith)
+
+-- the lanes that begin two bytes are those of no other first byte
+pub short_lanes : (text : List ℕ) (at : ℕ) → at + 17 ≤ length text → mask_l (map (is_among 0xc2 0x1e) (take 16 (drop at text))) ≡ mask_l (map (is_among 0xc0 0x40) (take 16 (drop at text)))
+    → mask_l (map (is_among 0xc2 0x1e) (take 16 (drop at text))) ≡ mask_l (map is_behind (take 16 (drop (at + 1) text))) → (k : ℕ) → k < 16 → IsShortAt text (at + k)
+short_lanes text at room high behind k h =
+    let xs : List ℕ = take 16 (drop at text) in
+    let ys : List ℕ = take 16 (drop (at + 1) text) in
+    let long : length xs ≡ 16 = length-chunk at 16 text (omega arith) in
+    let also : length ys ≡ 16 = length-chunk (at + 1) 16 text (omega arith) in
+    let x : get_or xs k 0 ≡ get_or text (at + k) 0 = get_or-chunk at 16 text k 0 h in
+    let place : at + 1 + k ≡ at + k + 1 = omega arith in
+    let y : get_or ys k 0 ≡ get_or text (at + k + 1) 0 = get_or-chunk (at + 1) 16 text k 0 h ∙ ap (λ i. get_or text i 0) place in
+    let a = same_lane (is_among 0xc2 0x1e) (is_among 0xc0 0x40) xs xs long long high k h in
+    let b = same_lane (is_among 0xc2 0x1e) is_behind xs ys long also behind k h in
+    (rw x at a, rw (x, y) at b)
+
+-- ---- the numbers of the characters
+
+abbrev wide : List ℕ → List ℕ
+wide xs = map (λ a. a) xs
+
+abbrev rem_all : ℕ → ℕ → List ℕ → List ℕ
+rem_all n k xs = zip2 (λ a b. a % b) xs (replicate n k)
+
+abbrev values : ℕ → List ℕ → List ℕ → List ℕ
+values n xs ys = sel_l (map (top 15) (zip2 (λ a b. cond (ltb a b) 0xffff 0) (wide xs) (replicate n 0xc0))) (wide xs)
+    (zip2 (λ a b. (a + b) % 2 ^ 16) (zip2 (λ a b. (a * b) % 2 ^ 16) (rem_all n 32 (wide xs)) (replicate n 64)) (rem_all n 64 (wide ys)))
+
+abbrev lane_value : ℕ → ℕ → ℕ
+lane_value x y = cond (top 15 (cond (ltb x 0xc0) 0xffff 0)) x ((((x % 32) * 64) % 2 ^ 16 + y % 64) % 2 ^ 16)
+
+values_at : (n : ℕ) (xs ys : List ℕ) (k : ℕ) → length xs ≡ n → length ys ≡ n → k < n → get_or (values n xs ys) k 0 ≡ lane_value (get_or xs k 0) (get_or ys k 0)
+values_at zero xs ys k e f h = absurd (omega arith)
+values_at (suc n) [] ys k e f h = cc
+values_at (suc n) (x ∷ xs) [] k e f h = cc
+values_at (suc n) (x ∷ xs) (y ∷ ys) zero e f h = refl
+values_at (suc n) (x ∷ xs) (y ∷ ys) (suc k) e f h = values_at n xs ys k (omega arith) (omega arith) (omega arith)
+
+value_is : (x y : ℕ) → x < 256 → y < 256 → lane_value x y ≡ short_of x y
+value_is x y h k = grind arith
+
+-- the number in each lane
+pub value_at : (text : List ℕ) (at k : ℕ) → at + 17 ≤ length text → ((i : ℕ) → Fits w8 (get_or text i 0)) → k < 16 → get_or (values 16 (take 16 (drop at text)) (take 16 (drop (at + 1) text))) k 0 ≡ short_value text (at + k)
+value_at text at k room fits h =
+    let place : at + 1 + k ≡ at + k + 1 = omega arith in
+    let x = get_or-chunk at 16 text k 0 h in
+    let y = get_or-chunk (at + 1) 16 text k 0 h ∙ ap (λ i. get_or text i 0) place in
+    values_at 16 (take 16 (drop at text)) (take 16 (drop (at + 1) text)) k (length-chunk at 16 text (omega arith)) (length-chunk (at + 1) 16 text (omega arith)) h
+    ∙ ap₂ lane_value x y ∙ value_is (get_or text (at + k) 0) (get_or text (at + k + 1) 0) (fits (at + k)).fits (fits (at + k + 1)).fits
+
+-- ---- a byte and the next
+
+abbrev IsBehind : ℕ → ℕ → Type 0
+IsBehind x y = (is_behind x ≡ true) × (is_behind y ≡ false)
+
+abbrev IsOne : ℕ → ℕ → Type 0
+IsOne x y = (is_behind x ≡ false) × (is_behind y ≡ false) × (x < 128)
+
+abbrev IsTwo : ℕ → ℕ → Type 0
+IsTwo x y = (is_behind x ≡ false) × (is_behind y ≡ true) × (0xc2 ≤ x) × (x ≤ 0xdf) × (0x80 ≤ y) × (y ≤ 0xbf)
+
+which : (x y : ℕ) (b c : Bool) → x < 256 → y < 256 → IsShort x y → is_behind x ≡ b → is_behind y ≡ c → IsBehind x y ⊎ (IsOne x y ⊎ IsTwo x y)
+which x y true c h k s e f =
+    let in_range : (x + (256 - 0x80)) % 256 < 0x40 = ltb-true _ _ e in
+    inl (e, sym s.1 ∙ le-ltb _ _ (omega arith))
+which x y false false h k s e f =
+    let not_behind : 0x40 ≤ (x + (256 - 0x80)) % 256 = ltb-false _ _ e in
+    let not_high : 0x40 ≤ (x + (256 - 0xc0)) % 256 = ltb-false _ _ (sym s.0 ∙ s.1 ∙ f) in
+    inr (inl (e, f, omega arith))
+which x y false true h k s e f =
+    let first : (x + (256 - 0xc2)) % 256 < 0x1e = ltb-true _ _ (s.1 ∙ f) in
+    let second : (y + (256 - 0x80)) % 256 < 0x40 = ltb-true _ _ f in
+    inr (inr (e, f, omega arith, omega arith, omega arith, omega arith))
+
+abbrev none_if : Bool → ℕ
+none_if b = cond b 0 1
+
+-- a text from two of its bytes on
+pub two : (text : List ℕ) (at : ℕ) → at + 2 ≤ length text → drop at text ≡ get_or text at 0 ∷ get_or text (at + 1) 0 ∷ drop (suc (suc at)) text
+two text at h =
+    let first : at < length text = omega arith in
+    let second : suc at < length text = omega arith in
+    let e : suc at ≡ at + 1 = omega arith in
+    drop-cons text at 0 first ∙ ap (λ (x : List ℕ). get_or text at 0 ∷ x) (drop-cons text (suc at) 0 second ∙ ap (λ i. get_or text i 0 ∷ drop (suc (suc at)) text) e)
+
+one_value : (x y : ℕ) → x < 128 → short_of x y ≡ x
+one_value x y h = grind arith
+
+one_bytes : (x : ℕ) → x < 128 → utf8_bytes x ≡ x ∷ []
+one_bytes x h = grind arith
+
+two_value : (x y : ℕ) → 0xc2 ≤ x → short_of x y ≡ (x % 32) * 64 + y % 64
+two_value x y h = grind arith
+
+two_bytes : (x y : ℕ) → 0xc2 ≤ x → x ≤ 0xdf → 0x80 ≤ y → y ≤ 0xbf → utf8_bytes ((x % 32) * 64 + y % 64) ≡ x ∷ y ∷ []
+two_bytes x y h k l m = grind arith
+
+-- a byte below 128 spells its character
+pub one_spelled : (text : List ℕ) (at v : ℕ) → at + 2 ≤ length text → get_or text at 0 < 128 → v ≡ get_or text at 0 → IsSpelledAt utf8_bytes text at v 1
+one_spelled text at v room h is = rw (is, one_bytes (get_or text at 0) h, two text at room) ((omega arith, λ l. omega arith), (refl, tt), refl)
+
+-- two bytes spell their character
+pub two_spelled : (text : List ℕ) (at v : ℕ) → at + 2 ≤ length text → IsTwoAt text at → v ≡ (get_or text at 0 % 32) * 64 + get_or text (at + 1) 0 % 64 → IsSpelledAt utf8_bytes text at v 2
+two_spelled text at v room p is =
+    let bytes = two_bytes (get_or text at 0) (get_or text (at + 1) 0) p.0 p.1 p.2.0 p.2.1 in
+    rw (is, bytes, two text at room) ((omega arith, λ l. omega arith), (refl, (refl, tt)), refl)
+
+-- ---- a lane
+
+lane_of : (text : List ℕ) (at k v s : ℕ) → at + 18 ≤ length text → k < 16 → v ≡ short_value text (at + k) → s ≡ none_if (is_behind (get_or text (at + k) 0))
+    → IsBehind (get_or text (at + k) 0) (get_or text (at + k + 1) 0) ⊎ (IsOne (get_or text (at + k) 0) (get_or text (at + k + 1) 0) ⊎ IsTwo (get_or text (at + k) 0) (get_or text (at + k + 1) 0))
+    → IsLane text at v s (k + left_over text (at + k)) (k + 1 + left_over text (at + k + 1))
+lane_of text at k v s room l e f (inl q) =
+    let now : left_over text (at + k) ≡ 1 = ap one_if q.0 in
+    let next : left_over text (at + k + 1) ≡ 0 = ap one_if q.1 in
+    inl (f ∙ ap none_if q.0, omega arith)
+lane_of text at k v s room l e f (inr (inl q)) =
+    let now : left_over text (at + k) ≡ 0 = ap one_if q.0 in
+    let next : left_over text (at + k + 1) ≡ 0 = ap one_if q.1 in
+    let place : at + (k + left_over text (at + k)) ≡ at + k = omega arith in
+    let is = e ∙ one_value (get_or text (at + k) 0) (get_or text (at + k + 1) 0) q.2 in
+    inr (f ∙ ap none_if q.0, (1, omega arith, rw place (one_spelled text (at + k) v (omega arith) q.2 is)))
+lane_of text at k v s room l e f (inr (inr q)) =
+    let now : left_over text (at + k) ≡ 0 = ap one_if q.0 in
+    let next : left_over text (at + k + 1) ≡ 1 = ap one_if q.1 in
+    let place : at + (k + left_over text (at + k)) ≡ at + k = omega arith in
+    let is = e ∙ two_value (get_or text (at + k) 0) (get_or text (at + k + 1) 0) q.2 in
+    inr (f ∙ ap none_if q.0, (2, omega arith, rw place (two_spelled text (at + k) v (omega arith) (q.2, q.3, (q.4, q.5)) is)))
+
+byte_is : (b : Bool) → bool_byte b ≡ one_if b
+byte_is true = refl
+byte_is false = refl
+
+-- how many bytes they have, as the code adds it up
+pub all_used : (text : List ℕ) (at : ℕ) (b : Bool) → b ≡ is_behind (get_or text (at + 16) 0) → 16 + bool_byte b ≡ 16 + left_over text (at + 16)
+all_used text at b e = ap (λ n. 16 + n) (byte_is b ∙ ap one_if e)
+
+-- what begins in the lanes stands one behind the other
+pub short_begun : (text : List ℕ) (at used : ℕ) (vs beginnings : List ℕ) → at + 18 ≤ length text → ((i : ℕ) → Fits w8 (get_or text i 0)) → is_behind (get_or text at 0) ≡ false → used ≡ 16 + left_over text (at + 16) → ((k : ℕ) → k < 16 → IsShortAt text (at + k))
+    → ((k : ℕ) → k < 16 → get_or vs k 0 ≡ short_value text (at + k)) → ((k : ℕ) → k < 16 → get_or beginnings k 0 ≡ cond (is_behind (get_or text (at + k) 0)) 0 (cond (ltb k 16) 1 0)) → AreBegun text at vs beginnings used
+short_begun text at used vs beginnings room fits begins e short are begun =
+    let here : at + 0 ≡ at = omega arith in
+    let first : left_over text (at + 0) ≡ 0 = rw here (ap one_if begins) in
+    record {
+      reach = λ k. k + left_over text (at + k);
+      begins = omega (arith, first);
+      ends = sym e;
+      lanes = λ k l.
+          let x = get_or text (at + k) 0 in
+          let y = get_or text (at + k + 1) 0 in
+          let place : at + (k + 1) ≡ at + k + 1 = omega arith in
+          let one : get_or beginnings k 0 ≡ none_if (is_behind x) = begun k l ∙ ap (λ b. cond (is_behind x) 0 (cond b 1 0)) (lt-ltb k 16 l) in
+          rw place (lane_of text at k (get_or vs k 0) (get_or beginnings k 0) room l (are k l) one (which x y (is_behind x) (is_behind y) (fits (at + k)).fits (fits (at + k + 1)).fits (short k l) refl refl));
+    }

@@ -1,0 +1,3 @@
+-- The encoding form UTF-8.
+pub mod Utf8
+pub mod Private

@@ -1,0 +1,5 @@
+-- What the contracts of private functions say, which no public contract cites.
+pub mod Utf8Bytes
+pub mod Utf8Short
+pub mod Utf8Windows
+pub mod Utf8Long

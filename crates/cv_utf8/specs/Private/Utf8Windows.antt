@@ -1,0 +1,59 @@
+-- Windows of sixteen bytes of UTF-8 that are read at once.
+use Rattle.std.specs.Prelude.{◌≡◌, ℕ, ◌+◌, ◌*◌, ◌%◌, ◌≤◌, ◌<◌, ◌⊎◌, true, false, cond, nat_lt, nat_eq, List, get_or}
+use Rattle.std.specs.Int.{bit_at}
+use Rattle.cv_block.specs.Spelled.{IsSpelledAt}
+use Rattle.cv_utf8.specs.Utf8.{utf8_bytes}
+use Rattle.cv_utf8.specs.Private.Utf8Bytes.{IsTail}
+use Rattle.cv_utf8.specs.Private.Utf8Short.{is_behind}
+
+-- At a lane no character begins and the place that is reached stays, or the character at that place begins, and the next stands behind it.
+abbrev pub IsLane : List ℕ → ℕ → ℕ → ℕ → ℕ → ℕ → Type 0
+IsLane text at value beginning reached next =
+    ((beginning ≡ 0) × (next ≡ reached)) ⊎ ((beginning ≡ 1) × ((size : ℕ) × (next ≡ reached + size) × IsSpelledAt utf8_bytes text (at + reached) value size))
+
+-- The characters that begin at sixteen lanes stand one behind the other at a place of a text, and have so many bytes.
+pub record AreBegun (text : List ℕ) (at : ℕ) (values beginnings : List ℕ) (used : ℕ) : Type 0 where
+  pub reach : ℕ → ℕ
+  pub begins : reach 0 ≡ 0
+  pub ends : reach 16 ≡ used
+  pub lanes : (k : ℕ) → k < 16 → IsLane text at (get_or values k 0) (get_or beginnings k 0) (reach k) (reach (k + 1))
+
+-- The byte is ASCII.
+abbrev pub IsOneAt : List ℕ → ℕ → Type 0
+IsOneAt text i = get_or text i 0 < 128
+
+-- The byte is one behind the first of a character.
+abbrev pub IsTailAt : List ℕ → ℕ → Type 0
+IsTailAt text i = IsTail (get_or text i 0)
+
+-- A character of two bytes stands at the place.
+abbrev pub IsTwoAt : List ℕ → ℕ → Type 0
+IsTwoAt text i = (0xc2 ≤ get_or text i 0) × (get_or text i 0 ≤ 0xdf) × IsTailAt text (i + 1)
+
+-- A character of three bytes stands at the place.
+abbrev pub IsThreeAt : List ℕ → ℕ → Type 0
+IsThreeAt text i = (0xe0 ≤ get_or text i 0) × (get_or text i 0 ≤ 0xef) × IsTailAt text (i + 1) × IsTailAt text (i + 2)
+    × (get_or text i 0 ≡ 0xe0 → 0xa0 ≤ get_or text (i + 1) 0) × (get_or text i 0 ≡ 0xed → get_or text (i + 1) 0 < 0xa0)
+
+-- Each of sixteen bits that is set marks a place.
+abbrev pub AreMarks : (ℕ → Type 0) → ℕ → ℕ → Type 0
+AreMarks Is at marks = (marks < 0x10000) × ((k : ℕ) → k < 16 → bit_at marks k ≡ 1 → Is (at + k))
+
+-- The byte stands behind the first of a character, which is before it.
+abbrev pub IsFollowing : List ℕ → ℕ → ℕ → Type 0
+IsFollowing text at k = ((j : ℕ) × (k ≡ j + 1) × (0xc2 ≤ get_or text (at + j) 0)) ⊎ ((j : ℕ) × (k ≡ j + 2) × (0xe0 ≤ get_or text (at + j) 0) × (is_behind (get_or text (at + j + 1) 0) ≡ true))
+
+-- The first so many bytes of a window are whole characters of up to three bytes.
+pub record AreWhole (text : List ℕ) (at used : ℕ) : Type 0 where
+  pub most : used ≤ 18
+  pub firsts : (k : ℕ) → k < 16 → k < used → is_behind (get_or text (at + k) 0) ≡ false → IsOneAt text (at + k) ⊎ ((IsTwoAt text (at + k) × (k + 2 ≤ used)) ⊎ (IsThreeAt text (at + k) × (k + 3 ≤ used)))
+  pub over : (k : ℕ) → 16 ≤ k → k < used → is_behind (get_or text (at + k) 0) ≡ true
+  pub behind : (k : ℕ) → k < used → is_behind (get_or text (at + k) 0) ≡ true → IsFollowing text at k
+
+-- the number of the character that three bytes begin
+abbrev pub whole_of : ℕ → ℕ → ℕ → ℕ
+whole_of x y z = cond (nat_lt x 0xc0) x (cond (nat_lt x 0xe0) ((x % 32) * 64 + y % 64) ((x % 16) * 4096 + cond (nat_eq (x % 16) 13) (y % 32) (y % 64) * 64 + z % 64))
+
+-- the number of the character that the bytes at a place begin
+abbrev pub whole_value : List ℕ → ℕ → ℕ
+whole_value text at = whole_of (get_or text at 0) (get_or text (at + 1) 0) (get_or text (at + 2) 0)

@@ -1,0 +1,43 @@
+//! UTF-8 by blocks.
+
+use crate::utf8::Utf8;
+use crate::utf8_front::well_formed_front;
+use crate::utf8_spelling::Utf8Spelling;
+use cv_base::{
+    BlockCodec, Policy, ReadBlock, ReadState, Scalar, WriteState, WrittenBlock, write_each,
+};
+use cv_block::{read_spelled, write_spelled};
+
+impl BlockCodec for Utf8 {
+    #[tactic(auto, using(cv_base::proofs::BlockLaws::nothing_read))]
+    fn read_block(&self, state: ReadState, input: &[u8], buffer: &mut [Scalar]) -> ReadBlock {
+        match state {
+            ReadState::Start => read_spelled::<Utf8Spelling>(state, input, buffer),
+            _ => ReadBlock::nothing(state),
+        }
+    }
+
+    #[tactic(auto, using(crate::proofs::AllWritten::utf8_allowed))]
+    fn write_block(
+        &self,
+        _policy: Policy,
+        state: WriteState,
+        characters: &[Scalar],
+        out: &mut [u8],
+        at: usize,
+    ) -> Option<WrittenBlock> {
+        match state {
+            WriteState::Start => Some(write_spelled::<Utf8Spelling>(state, characters, out, at)),
+            _ => Some(write_each(self, state, characters, out, at)),
+        }
+    }
+
+    #[inline]
+    #[tactic(auto, using(cv_base::proofs::UnchangedLaws::none_unchanged, crate::proofs::Utf8Front::utf8_unchanged))]
+    fn unchanged(&self, reading: ReadState, writing: WriteState, input: &[u8]) -> usize {
+        match (reading, writing) {
+            (ReadState::Start, WriteState::Start) => well_formed_front(input),
+            _ => 0,
+        }
+    }
+}

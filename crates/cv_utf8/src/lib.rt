@@ -1,0 +1,15 @@
+//! The encoding form UTF-8.
+#![tactic(auto)]
+
+mod blocks;
+pub mod laws;
+#[cfg(test)]
+mod tests;
+mod utf8;
+mod utf8_front;
+mod utf8_long;
+mod utf8_reading;
+mod utf8_spelling;
+mod utf8_windows;
+
+pub use utf8::Utf8;

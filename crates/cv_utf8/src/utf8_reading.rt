@@ -1,0 +1,112 @@
+//! Reading characters of UTF-8 one by one.
+ghost use Rattle.std.specs.Prelude.{◌+◌, ◌≤◌, IfSome, length, get_or};
+ghost use Rattle.cv_block.specs.Spelled.{IsSpelledAt};
+ghost use Rattle.cv_utf8.specs.Utf8.{utf8_bytes};
+
+use cv_base::Scalar;
+
+/// The character of two bytes.
+#[inline(always)]
+fn two_at(input: &[u8], at: usize) -> Option<(Scalar, usize)>
+    requires within { at + 2 ≤ length input.now }
+    ensures { IfSome result (λ read. IsSpelledAt utf8_bytes input.now at read.0 read.1) }
+{
+    let first = input[at] as u32;
+    if first < 0xc2 || first > 0xdf {
+        return None;
+    }
+    let second = input[at + 1] as u32;
+    if second / 64 != 2 {
+        return None;
+    }
+    let number = (first - 0xc0) * 64 + (second - 0x80);
+    Some((Scalar::known(number), 2))
+}
+
+/// The character of three bytes, of which the first is E0 at least.
+#[inline(always)]
+fn three_at(input: &[u8], at: usize) -> Option<(Scalar, usize)>
+    requires within { at + 3 ≤ length input.now }
+    requires first { 0xe0 ≤ get_or input.now at 0 }
+    requires last { get_or input.now at 0 ≤ 0xef }
+    ensures { IfSome result (λ read. IsSpelledAt utf8_bytes input.now at read.0 read.1) }
+{
+    let first = input[at] as u32;
+    let second = input[at + 1] as u32;
+    let third = input[at + 2] as u32;
+    if (second / 64) * 4 + third / 64 != 10 {
+        return None;
+    }
+    let number = (first - 0xe0) * 4096 + (second - 0x80) * 64 + (third - 0x80);
+    if number < 0x800 || number / 0x800 == 27 {
+        return None;
+    }
+    Some((Scalar::known(number), 3))
+}
+
+/// The character of four bytes, of which the first is F0 at least.
+#[inline(always)]
+fn four_at(input: &[u8], at: usize) -> Option<(Scalar, usize)>
+    requires within { at + 4 ≤ length input.now }
+    requires first { 0xf0 ≤ get_or input.now at 0 }
+    ensures { IfSome result (λ read. IsSpelledAt utf8_bytes input.now at read.0 read.1) }
+{
+    let first = input[at] as u32;
+    let second = input[at + 1] as u32;
+    let third = input[at + 2] as u32;
+    let fourth = input[at + 3] as u32;
+    if (second / 64) * 16 + (third / 64) * 4 + fourth / 64 != 42 {
+        return None;
+    }
+    let tails = (second - 0x80) * 4096 + (third - 0x80) * 64 + (fourth - 0x80);
+    let number = (first - 0xf0) * 262144 + tails;
+    if number < 0x1_0000 || number >= 0x11_0000 {
+        return None;
+    }
+    Some((Scalar::known(number), 4))
+}
+
+/// The character that stands where four bytes are left at least.
+#[inline(always)]
+pub(crate) fn inner_at(input: &[u8], at: usize) -> Option<(Scalar, usize)>
+    requires { at + 4 ≤ length input.now }
+    ensures { IfSome result (λ read. IsSpelledAt utf8_bytes input.now at read.0 read.1) }
+{
+    let first = input[at];
+    if first < 0x80 {
+        return Some((Scalar::known(first as u32), 1));
+    }
+    if first < 0xe0 {
+        return two_at(input, at);
+    }
+    if first < 0xf0 {
+        return three_at(input, at);
+    }
+    four_at(input, at)
+}
+
+/// The character that stands among the last bytes.
+#[inline(never)]
+pub(crate) fn last_at(input: &[u8], at: usize) -> Option<(Scalar, usize)>
+    requires { at ≤ length input.now }
+    ensures { IfSome result (λ read. IsSpelledAt utf8_bytes input.now at read.0 read.1) }
+{
+    let left = input.len() - at;
+    if left == 0 {
+        return None;
+    }
+    let first = input[at];
+    if first < 0x80 {
+        return Some((Scalar::known(first as u32), 1));
+    }
+    if first < 0xe0 && left >= 2 {
+        return two_at(input, at);
+    }
+    if first >= 0xe0 && first < 0xf0 && left >= 3 {
+        return three_at(input, at);
+    }
+    if first >= 0xf0 && left >= 4 {
+        return four_at(input, at);
+    }
+    None
+}

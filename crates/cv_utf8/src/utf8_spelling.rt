@@ -1,0 +1,168 @@
+//! UTF-8 as a spelling.
+ghost use Rattle.std.specs.Prelude.{◌≡◌, ◌+◌, ◌≤◌, ◌<◌, ℕ, IsTrue, length, take, drop, get_or};
+ghost use Rattle.std.specs.Int.{to_le_bytes, w32};
+ghost use Rattle.cv_base.specs.Scalars.{IsScalar};
+ghost use Rattle.cv_base.specs.Items.{Begins};
+ghost use Rattle.cv_block.specs.Units.{AreScalarsBelow};
+ghost use Rattle.cv_block.specs.Words.{AreWords, AreSizes};
+ghost use Rattle.cv_utf8.specs.Utf8.{utf8_bytes};
+
+use crate::utf8_reading::{inner_at, last_at};
+use crate::utf8_windows::read_many;
+use cv_base::Scalar;
+use cv_block::{MANY, Spelled, Spelling, Words, write_words};
+use std::simd::prelude::*;
+
+/// The spelling of characters in UTF-8 (Unicode 3.9, Table 3-6).
+pub(crate) struct Utf8Spelling;
+
+/// The spelling of a character, as a number whose lowest byte is the first. What is behind the spelling may be anything.
+/// The bits of four bytes are spread once, and a shorter spelling has the last of them; which it is takes no branch.
+#[inline(always)]
+fn word(value: u32) -> u32
+    requires { IsScalar value }
+    ensures { Begins (utf8_bytes value) (to_le_bytes w32 result) }
+{
+    let low = (value / 64 % 64) * 0x1_0000 + (value % 64) * 0x100_0000;
+    let bits = value / 262144 + (value / 4096 % 64) * 0x100 + low;
+    let two = bits / 0x1_0000 + 0x80c0;
+    let three = bits / 0x100 + 0x80_80e0;
+    let four = bits + 0x8080_80f0;
+    if value < 0x80 {
+        value
+    } else if value < 0x800 {
+        two
+    } else if value < 0x1_0000 {
+        three
+    } else {
+        four
+    }
+}
+
+/// How many bytes a character has.
+#[inline(always)]
+fn size(value: u32) -> usize
+    ensures { result ≡ length (utf8_bytes value) }
+{
+    1 + (value >= 0x80) as usize + (value >= 0x800) as usize + (value >= 0x1_0000) as usize
+}
+
+/// Whether sixteen characters are ASCII. Each is tested, so that the loop is done at once.
+#[inline(always)]
+fn are_ascii(characters: &[Scalar], n: usize) -> bool
+    requires { n + 16 ≤ length characters.now }
+    ensures { IsTrue result → (k : ℕ) → k < 16 → get_or characters.now (n + k) 0 < 128 }
+{
+    let mut all = true;
+    for lane in 0..MANY {
+        all &= characters[n + lane].value() < 128;
+    }
+    all
+}
+
+/// The spellings of sixteen characters, each as `word` has it.
+#[inline(always)]
+fn words(values: u32x16) -> u32x16
+    requires { AreScalarsBelow values 16 }
+    ensures { AreWords utf8_bytes values result 16 }
+{
+    let sixty_four = u32x16::splat(64);
+    let last = values % sixty_four * u32x16::splat(0x100_0000);
+    let third = values / sixty_four % sixty_four * u32x16::splat(0x1_0000);
+    let second = values / u32x16::splat(4096) % sixty_four * u32x16::splat(0x100);
+    let bits = values / u32x16::splat(262144) + second + third + last;
+    let two = bits / u32x16::splat(0x1_0000) + u32x16::splat(0x80c0);
+    let three = bits / u32x16::splat(0x100) + u32x16::splat(0x80_80e0);
+    let four = bits + u32x16::splat(0x8080_80f0);
+    let up_to_two = values.simd_lt(u32x16::splat(0x80)).select(values, two);
+    let up_to_three = values
+        .simd_lt(u32x16::splat(0x800))
+        .select(up_to_two, three);
+    values
+        .simd_lt(u32x16::splat(0x1_0000))
+        .select(up_to_three, four)
+}
+
+/// How many bytes each of sixteen characters has.
+#[inline(always)]
+fn sizes(values: u32x16) -> u32x16
+    ensures { AreSizes utf8_bytes values result 16 }
+{
+    let one = u32x16::splat(1);
+    let none = u32x16::splat(0);
+    let second = values.simd_ge(u32x16::splat(0x80)).select(one, none);
+    let third = values.simd_ge(u32x16::splat(0x800)).select(one, none);
+    let fourth = values.simd_ge(u32x16::splat(0x1_0000)).select(one, none);
+    one + second + third + fourth
+}
+
+/// The bytes of sixteen characters of ASCII.
+#[inline(always)]
+fn narrowed(characters: &[Scalar], n: usize) -> [u8; MANY]
+    requires within { n + 16 ≤ length characters.now }
+    requires ascii { (k : ℕ) → k < 16 → get_or characters.now (n + k) 0 < 128 }
+    ensures { result ≡ take 16 (drop n characters.now) }
+{
+    let mut block = [0; MANY];
+    for lane in 0..MANY {
+        block[lane] = characters[n + lane].value() as u8;
+    }
+    block
+}
+
+impl Words for Utf8Spelling {
+    ghost bytes_of = { utf8_bytes };
+
+    #[inline(always)]
+    fn words(values: &[u32; MANY]) -> [u32; MANY] {
+        words(u32x16::from_array(*values)).to_array()
+    }
+
+    #[inline(always)]
+    fn sizes(values: &[u32; MANY]) -> [u32; MANY] {
+        sizes(u32x16::from_array(*values)).to_array()
+    }
+}
+
+impl Spelling for Utf8Spelling {
+    ghost bytes_of = { utf8_bytes };
+
+    const MANY_SIZE: usize = 1;
+
+    #[inline(always)]
+    fn assert_short() {}
+
+    #[inline(always)]
+    fn read_at(input: &[u8], at: usize) -> Option<(Scalar, usize)> {
+        if input.len() - at >= 4 {
+            return inner_at(input, at);
+        }
+        // `?` tests it here, so that it is not tested again where four bytes were left.
+        let read = last_at(input, at)?;
+        Some(read)
+    }
+
+    #[inline(always)]
+    fn read_many(input: &[u8], at: usize, buffer: &mut [Scalar], n: usize) -> Spelled {
+        read_many(input, at, buffer, n)
+    }
+
+    #[inline(always)]
+    fn write_at(c: Scalar, out: &mut [u8], at: usize) -> usize {
+        let value = c.value();
+        out[at..at + 4].copy_from_slice(&word(value).to_le_bytes());
+        size(value)
+    }
+
+    #[inline(always)]
+    fn write_many(characters: &[Scalar], n: usize, out: &mut [u8], at: usize) -> Spelled {
+        if !are_ascii(characters, n) {
+            return write_words::<Utf8Spelling>(characters, n, out, at);
+        }
+        out[at..at + MANY].copy_from_slice(&narrowed(characters, n));
+        Spelled {
+            n: MANY,
+            used: MANY,
+        }
+    }
+}

@@ -1,0 +1,267 @@
+//! Reading UTF-8 by windows of sixteen bytes, with no branch on which characters they are.
+ghost use Rattle.std.specs.Prelude.{◌≡◌, ◌+◌, ◌++◌, ◌≤◌, ◌<◌, ℕ, length, take, drop, get_or, slice_index, cond, nat_lt, IsTrue, map, Bool, false, List};
+ghost use Rattle.std.specs.Int.{bit_at};
+ghost use Rattle.std.specs.Simd.Lanes.{mask_l};
+ghost use Rattle.cv_base.specs.Scalars.{IsScalar};
+ghost use Rattle.cv_block.specs.Spelled.{IsReadSpelled};
+ghost use Rattle.cv_utf8.specs.Utf8.{utf8_bytes};
+ghost use Rattle.cv_utf8.specs.Private.Utf8Short.{is_among, is_behind, IsShortAt, short_value};
+ghost use Rattle.cv_utf8.specs.Private.Utf8Windows.{AreBegun, AreWhole, AreMarks, IsOneAt, IsTwoAt, IsThreeAt, whole_value};
+
+use crate::utf8_long::{read_fours, read_threes};
+use cv_base::Scalar;
+use cv_block::{MANY, Spelled, is_ascii_block};
+use std::simd::prelude::*;
+
+/// Which of sixteen bytes are among the `many` from `least` on, as bits.
+#[inline(always)]
+fn among(bytes: u8x16, least: u8, many: u8) -> u64
+    ensures { result ≡ mask_l (map (is_among least many) bytes) }
+{
+    (bytes - u8x16::splat(least))
+        .simd_lt(u8x16::splat(many))
+        .to_bitmask()
+}
+
+/// Whether sixteen bytes are those of characters of one and of two bytes. The last may be the first of two.
+#[inline(always)]
+fn are_short(input: &[u8], at: usize) -> bool
+    requires { at + 17 ≤ length input.now }
+    ensures { IsTrue result → (k : ℕ) → k < 16 → IsShortAt input.now (at + k) }
+{
+    let bytes = u8x16::from_slice(&input[at..]);
+    let behind = u8x16::from_slice(&input[at + 1..]);
+    let firsts = among(bytes, 0xc2, 0x1e);
+    let high = among(bytes, 0xc0, 0x40);
+    let seconds = among(behind, 0x80, 0x40);
+    firsts == high && firsts == seconds
+}
+
+/// The numbers of the characters that begin at sixteen places, if they have one or two bytes.
+#[inline(always)]
+fn short_values(input: &[u8], at: usize) -> [u16; MANY]
+    requires { at + 17 ≤ length input.now }
+    ensures { (k : ℕ) → k < 16 → get_or result k 0 ≡ short_value input.now (at + k) }
+{
+    let bytes = u8x16::from_slice(&input[at..]).cast::<u16>();
+    let behind = u8x16::from_slice(&input[at + 1..]).cast::<u16>();
+    let of_first = bytes % u16x16::splat(32) * u16x16::splat(64);
+    let two = of_first + behind % u16x16::splat(64);
+    bytes
+        .simd_lt(u16x16::splat(0xc0))
+        .select(bytes, two)
+        .to_array()
+}
+
+/// For each of sixteen bytes how many characters begin there, of those in the first `used` bytes: none where it is one behind a first.
+#[inline(always)]
+fn beginnings(input: &[u8], at: usize, used: usize) -> [u8; MANY]
+    requires within { at + 16 ≤ length input.now }
+    requires few { used ≤ 18 }
+    ensures { (k : ℕ) → k < 16 → get_or result k 0
+        ≡ cond (is_behind (get_or input.now (at + k) 0)) 0 (cond (nat_lt k used) 1 0) }
+{
+    let bytes = u8x16::from_slice(&input[at..]) - u8x16::splat(0x80);
+    let lanes = u8x16::from_array([0, 1, 2, 3, 4, 5, 6, 7, 8, 9, 10, 11, 12, 13, 14, 15]);
+    let within = lanes
+        .simd_lt(u8x16::splat(used as u8))
+        .select(u8x16::splat(1), u8x16::splat(0));
+    bytes
+        .simd_lt(u8x16::splat(0x40))
+        .select(u8x16::splat(0), within)
+        .to_array()
+}
+
+/// Puts the characters that begin among sixteen bytes into a buffer. At each byte a character is put,
+/// behind those that began before it, so that none of this takes a branch.
+#[inline(always)]
+fn put_begun(
+    values: [u16; MANY],
+    beginnings: [u8; MANY],
+    used: usize,
+    buffer: &mut [Scalar],
+    n: usize,
+) -> Spelled
+    requires room { n + 16 ≤ length buffer.old }
+    requires scalars { (k : ℕ) → k < 16 → IsScalar (get_or values k 0) }
+    requires begins { (k : ℕ) → k < 16 → get_or beginnings k 0 ≤ 1 }
+    ensures many { result.n ≤ 16 }
+    ensures read { (text : List ℕ) (at : ℕ) → AreBegun text at values beginnings used
+        → IsReadSpelled utf8_bytes text at buffer.old n result buffer.new }
+{
+    let mut more = 0;
+    for lane in 0..MANY {
+        buffer[n + more] = Scalar::known(values[lane] as u32);
+        more += beginnings[lane] as usize;
+    }
+    Spelled { n: more, used }
+}
+
+/// Whether the byte is one behind a first.
+#[inline(always)]
+fn is_behind(byte: u8) -> bool
+    ensures { result ≡ is_behind byte }
+{
+    byte / 64 == 2
+}
+
+/// Reads the characters of sixteen bytes, which have one or two bytes.
+#[inline(always)]
+fn read_short(input: &[u8], at: usize, buffer: &mut [Scalar], n: usize) -> Spelled
+    requires within { at + 18 ≤ length input.now }
+    requires room { n + 16 ≤ length buffer.old }
+    requires short { (k : ℕ) → k < 16 → IsShortAt input.now (at + k) }
+    requires begins { is_behind (get_or input.now at 0) ≡ false }
+    ensures many { result.n ≤ 16 }
+    ensures read { IsReadSpelled utf8_bytes input.now at buffer.old n result buffer.new }
+{
+    let used = MANY + is_behind(input[at + MANY]) as usize;
+    put_begun(
+        short_values(input, at),
+        beginnings(input, at, MANY),
+        used,
+        buffer,
+        n,
+    )
+}
+
+/// Which of sixteen bytes begin a character of two bytes, as bits.
+#[inline(always)]
+fn twos(input: &[u8], at: usize) -> u64
+    requires { at + 18 ≤ length input.now }
+    ensures { AreMarks (IsTwoAt input.now) at result }
+{
+    let firsts = among(u8x16::from_slice(&input[at..]), 0xc2, 0x1e);
+    firsts & among(u8x16::from_slice(&input[at + 1..]), 0x80, 0x40)
+}
+
+/// Which of sixteen bytes begin a character of three bytes, as bits. Behind the lowest first byte the second is high,
+/// and behind that which surrogates would have it is low.
+#[inline(always)]
+fn threes(input: &[u8], at: usize) -> u64
+    requires { at + 18 ≤ length input.now }
+    ensures { AreMarks (IsThreeAt input.now) at result }
+{
+    let bytes = u8x16::from_slice(&input[at..]);
+    let behind = u8x16::from_slice(&input[at + 1..]);
+    let before_high = among(bytes, 0xe0, 0x0d) | among(bytes, 0xee, 0x02);
+    let high = before_high & among(behind, 0xa0, 0x20);
+    let low = among(bytes, 0xe1, 0x0f) & among(behind, 0x80, 0x20);
+    (high | low) & among(u8x16::from_slice(&input[at + 2..]), 0x80, 0x40)
+}
+
+/// How many bytes at the front are whole characters that begin among sixteen bytes and have up to three.
+#[inline(always)]
+fn whole(input: &[u8], at: usize) -> usize
+    requires { at + 18 ≤ length input.now }
+    ensures { AreWhole input.now at result }
+{
+    let one = among(u8x16::from_slice(&input[at..]), 0, 0x80);
+    let two = twos(input, at);
+    let three = threes(input, at);
+    let covered = one | two | three | (two | three) << 1 | three << 2;
+    covered.trailing_ones() as usize
+}
+
+/// The numbers of the characters that begin at sixteen places, if they have up to three bytes. All are scalar values, whatever the bytes are.
+#[inline(always)]
+fn whole_values(input: &[u8], at: usize) -> [u16; MANY]
+    requires { at + 18 ≤ length input.now }
+    ensures { (k : ℕ) → k < 16 → get_or result k 0 ≡ whole_value input.now (at + k) }
+{
+    let sixty_four = u16x16::splat(64);
+    let first = u8x16::from_slice(&input[at..]).cast::<u16>();
+    let second = u8x16::from_slice(&input[at + 1..]).cast::<u16>();
+    let third = u8x16::from_slice(&input[at + 2..]).cast::<u16>();
+    let two = first % u16x16::splat(32) * sixty_four + second % sixty_four;
+    let high = first % u16x16::splat(16);
+    let middle = high
+        .simd_eq(u16x16::splat(13))
+        .select(second % u16x16::splat(32), second % sixty_four);
+    let three = high * u16x16::splat(4096) + middle * sixty_four + third % sixty_four;
+    let many = first.simd_lt(u16x16::splat(0xe0)).select(two, three);
+    first
+        .simd_lt(u16x16::splat(0xc0))
+        .select(first, many)
+        .to_array()
+}
+
+/// Reads the whole characters of up to three bytes at the front of sixteen bytes. It stands apart, so that the loops
+/// around it keep their registers.
+#[inline(never)]
+fn read_whole(input: &[u8], at: usize, buffer: &mut [Scalar], n: usize) -> Spelled
+    requires within { at + 18 ≤ length input.now }
+    requires room { n + 16 ≤ length buffer.old }
+    ensures many { result.n ≤ 16 }
+    ensures read { IsReadSpelled utf8_bytes input.now at buffer.old n result buffer.new }
+{
+    let used = whole(input, at);
+    put_begun(
+        whole_values(input, at),
+        beginnings(input, at, used),
+        used,
+        buffer,
+        n,
+    )
+}
+
+/// Puts sixteen bytes into a buffer, each as the character of its number. All are read before one is put, so that they are put at once.
+#[inline(always)]
+fn put_bytes(input: &[u8], at: usize, buffer: &mut [Scalar], n: usize)
+    requires within { at + 16 ≤ length input.now }
+    requires room { n + 16 ≤ length buffer.old }
+    ensures stand { take (n + 16) buffer.new ≡ take n buffer.old ++ take 16 (drop at input.now) }
+    ensures size { length buffer.new ≡ length buffer.old }
+{
+    let block = u8x16::from_slice(&input[at..]).to_array();
+    for lane in 0..MANY {
+        buffer[n + lane] = Scalar::known(block[lane] as u32);
+    }
+}
+
+/// Reads sixteen characters of ASCII.
+#[inline(always)]
+fn read_ascii(input: &[u8], at: usize, buffer: &mut [Scalar], n: usize) -> Spelled
+    requires within { at + 16 ≤ length input.now }
+    requires room { n + 16 ≤ length buffer.old }
+    requires ascii { (k : ℕ) → at ≤ k → k < at + 16 → slice_index input.now k < 128 }
+    ensures many { result.n ≤ 16 }
+    ensures read { IsReadSpelled utf8_bytes input.now at buffer.old n result buffer.new }
+{
+    put_bytes(input, at, buffer, n);
+    Spelled {
+        n: MANY,
+        used: MANY,
+    }
+}
+
+/// Reads the characters of up to three bytes that begin among sixteen bytes, up to one that has four. Where one of four bytes
+/// stands at the front, or of three and the fifth likely too, those behind it that have as many are read.
+#[inline(always)]
+pub(crate) fn read_many(input: &[u8], at: usize, buffer: &mut [Scalar], n: usize) -> Spelled
+    requires within { at ≤ length input.now }
+    requires room { n + 16 ≤ length buffer.old }
+    ensures many { result.n ≤ 16 }
+    ensures read { IsReadSpelled utf8_bytes input.now at buffer.old n result buffer.new }
+{
+    if input.len() - at < MANY + 2 {
+        return Spelled { n: 0, used: 0 };
+    }
+    let (first, fifth) = (input[at], input[at + 12]);
+    if first >= 0xf0 {
+        return read_fours(input, at, buffer, n);
+    }
+    if first >= 0xe0 && fifth >= 0xe0 {
+        return read_threes(input, at, buffer, n);
+    }
+    if input[at + 1] >= 0xf0 {
+        return Spelled { n: 0, used: 0 };
+    }
+    if is_ascii_block(input, at) {
+        return read_ascii(input, at, buffer, n);
+    }
+    if !is_behind(input[at]) && are_short(input, at) {
+        return read_short(input, at, buffer, n);
+    }
+    read_whole(input, at, buffer, n)
+}

@@ -1,0 +1,91 @@
+//! Characters of UTF-16 among which some are surrogate pairs, many at once.
+ghost use Rattle.std.specs.Prelude.{◌≡◌, ◌≤◌, ◌+◌, ◌++◌, IfSome, length, take};
+ghost use Rattle.cv_block.specs.Spelled.{IsReadSpelled};
+ghost use Rattle.cv_block.specs.Surrogates.{IsHighUnit, IsLowUnit, IsPair};
+ghost use Rattle.cv_wide.specs.Private.Joined.{AreJoined, AreScalarsOrLow, without_low};
+ghost use Rattle.cv_wide.specs.Utf16.{utf16};
+
+use cv_base::Scalar;
+use cv_block::{ByteOrder, MANY, Spelled, is_high, is_low, joined};
+
+/// The number of a high surrogate with the low one behind it, and of another unit its own. Which it is takes no branch.
+#[inline(always)]
+fn joined_with(unit: u32, next: u32) -> u32
+    ensures pair { IsHighUnit unit → IsLowUnit next → IsPair unit next result }
+    ensures alone { (IsHighUnit unit → ⊥) → result ≡ unit }
+{
+    let pair = joined(unit, next);
+    if is_high(unit) { pair } else { unit }
+}
+
+/// The numbers of the units at the front of a text, each joined with the next, where high and low surrogates are in pairs.
+/// Each is tested, so that the loop is done by blocks.
+#[inline(always)]
+fn joined_numbers<O: ByteOrder>(text: &[u8]) -> Option<[u32; MANY]>
+    requires { 34 ≤ length text.now }
+    ensures { IfSome result
+        (λ numbers. (length numbers ≡ 16) × AreJoined O.endian text.now numbers 16) }
+{
+    let mut numbers = [0; MANY];
+    let mut all = true;
+    for k in 0..MANY {
+        let unit = O::two(text, 2 * k);
+        let next = O::two(text, 2 * k + 2);
+        numbers[k] = joined_with(unit, next);
+        all &= is_high(unit) == is_low(next);
+    }
+    if all { Some(numbers) } else { None }
+}
+
+/// Puts the characters of the numbers into a buffer, behind its first `n`, and answers how many they are. A low surrogate is
+/// none, as its pair is: the next is put over it. It is a function of its own, so that LLVM finds the numbers by blocks.
+#[inline(never)]
+fn put_joined(numbers: &[u32; MANY], buffer: &mut [Scalar], n: usize) -> usize
+    requires long { length numbers.now ≡ 16 }
+    requires scalars { AreScalarsOrLow numbers.now 16 }
+    requires room { n + 16 ≤ length buffer.old }
+    ensures many { result ≤ 16 }
+    ensures counts { result ≡ length (without_low numbers.now) }
+    ensures stand { take (n + result) buffer.new ≡ take n buffer.old ++ without_low numbers.now }
+    ensures size { length buffer.new ≡ length buffer.old }
+{
+    let mut more = 0;
+    for k in 0..MANY {
+        let number = numbers[k];
+        let low = is_low(number);
+        buffer[n + more] = Scalar::known(if low { 0 } else { number });
+        more += !low as usize;
+    }
+    more
+}
+
+/// Reads the characters of many units where surrogates are in pairs, and otherwise none.
+#[inline(always)]
+pub(crate) fn read_joined<O: ByteOrder>(
+    input: &[u8],
+    at: usize,
+    buffer: &mut [Scalar],
+    n: usize,
+) -> Spelled
+    requires within { at ≤ length input.now }
+    requires room { n + 16 ≤ length buffer.old }
+    ensures many { result.n ≤ 16 }
+    ensures read { IsReadSpelled (utf16 O.endian) input.now at buffer.old n result buffer.new }
+{
+    let rest = &input[at..];
+    if rest.len() < 2 * MANY + 2 {
+        return Spelled { n: 0, used: 0 };
+    }
+    if is_low(O::two(rest, 0)) {
+        return Spelled { n: 0, used: 0 };
+    }
+    let Some(numbers) = joined_numbers::<O>(rest) else {
+        return Spelled { n: 0, used: 0 };
+    };
+    let behind = 2 * is_low(O::two(rest, 2 * MANY)) as usize;
+    let more = put_joined(&numbers, buffer, n);
+    Spelled {
+        n: more,
+        used: 2 * MANY + behind,
+    }
+}

@@ -1,3 +1,6 @@
+//! Streams that end in each way, and worlds as engines.
+mod cut_readers;
+
 use crate::{Engine, FromReader, ServeFault, Served, ToWriter, serve, serve_new};
 use cv_frame::Request;
 use cv_world::World;

@@ -92,10 +92,14 @@ count_fits : (reads : ItemRelation) (writes : Writing) (policy : Policy) (from :
 count_fits reads writes policy from input room came r few p =
     omega (arith, few, p.left, p.count, output_of-count reads writes r from.reading from.writing input p.chain p.longest.is_chain)
 
+-- the answer of a conversion
+abbrev pub answer_of : Converted → Answer
+answer_of came = answers.Converted came.stop came.left came.count came.output
+
 -- The call that is read of the reply is the conversion.
 pub call_back : (table : Table) (number room : ℕ) (input : List ℕ) (d : Descriptor) (next : Table) (answer : Answer) → descriptor_at table number ≡ Some d → length input ≤ MOST_BODY
     → (c : IsConversion table number d room input next answer)
-    → call_of number room input c.came.stop (record { next = with_states table number d c.came.states; code = answer_code (answers.Converted c.came.stop c.came.left c.came.count c.came.output); body = answer_body (answers.Converted c.came.stop c.came.left c.came.count c.came.output) })
+    → call_of number room input c.came.stop (record { next = with_states table number d c.came.states; code = answer_code (answer_of c.came); body = answer_body (answer_of c.came) })
     ≡ record { input = input; room = room; came = c.came }
 call_back table number room input d next answer bound few c =
     let form = form_in table.charmaps d.from in

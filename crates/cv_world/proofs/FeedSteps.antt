@@ -29,7 +29,7 @@ use Rattle.cv_world.specs.Turn.{Does, Holds, Puts, Parts, Drops, Binds, Opens, I
 use Rattle.cv_world.specs.declared.answer.Answer.{Answer}
 use Rattle.cv_world.specs.declared.answer.Answer.TheVariants as answers
 use Rattle.cv_world.proofs.FormsStay.{put_stays, drop_stays}
-use Rattle.cv_world.proofs.FedCalls.{IsFedBy, Keeps, none_fed, same_forms, other_number, this_number, one_more, stop_back, call_back}
+use Rattle.cv_world.proofs.FedCalls.{IsFedBy, Keeps, answer_of, none_fed, same_forms, other_number, this_number, one_more, stop_back, call_back}
 use Rattle.cv_world.proofs.KeepsTables.{by_test, either, none_standing, none_uses, or_left, or_right}
 
 -- the outcome of an action that came to this table and this answer
@@ -135,23 +135,30 @@ step_open table is number calls kept (Some n) e to from policy t a d =
 refused : (number n : ℕ) (table : Table) (calls : List Call) → Keeps table number calls → Keeps table number (if n == number then calls else calls)
 refused number n table calls kept = named (n == number) (Keeps table number) calls calls (λ _. kept) (λ _. kept)
 
--- a conversion that stopped
-converted : (table : Table) (number : ℕ) (calls : List Call) → Keeps table number calls → (n room : ℕ) (input : List ℕ) → length input ≤ MOST_BODY → (d : Descriptor) → descriptor_at table n ≡ Some d
+-- the call that a conversion which stopped adds to those of its own number
+called : (table : Table) (n : ℕ) (calls : List Call) → Keeps table n calls → (room : ℕ) (input : List ℕ) → length input ≤ MOST_BODY → (d : Descriptor) → descriptor_at table n ≡ Some d
     → (t : Table) (a : Answer) (c : IsConversion table n d room input t a)
-    → KeepsBy number calls (Conv n room input) (with_states table n d c.came.states) (answers.Converted c.came.stop c.came.left c.came.count c.came.output)
+    → Keeps (with_states table n d c.came.states) n (calls ++ call_of n room input c.came.stop (came_to (with_states table n d c.came.states) (answer_of c.came)) ∷ [])
+called table n calls kept room input few d is_open t a c =
+    let next : Table = with_states table n d c.came.states in
+    let call : Call = record { input = input; room = room; came = c.came } in
+    let fed : IsFedBy table.charmaps d calls = subst (λ (o : Option Descriptor). IfSome o (λ x. IsFedBy table.charmaps x calls)) is_open kept in
+    let more : Keeps next n (calls ++ call ∷ []) = this_number table n (Some (record d { states = c.came.states })) (calls ++ call ∷ []) (one_more table.charmaps d calls call fed c.is_converted) in
+    subst (λ (x : Call). Keeps next n (calls ++ x ∷ [])) (sym (call_back table n room input d t a is_open few c)) more
+
+-- a conversion that stopped, of whatever number
+converted : (table : Table) (number : ℕ) (calls : List Call) → Keeps table number calls → (n room : ℕ) (input : List ℕ) → length input ≤ MOST_BODY → (d : Descriptor) → descriptor_at table n ≡ Some d
+    → (t : Table) (a : Answer) (c : IsConversion table n d room input t a) → KeepsBy number calls (Conv n room input) (with_states table n d c.came.states) (answer_of c.came)
 converted table number calls kept n room input few d is_open t a c =
     let next : Table = with_states table n d c.came.states in
-    let outcome = came_to next (answers.Converted c.came.stop c.came.left c.came.count c.came.output) in
-    subst (λ (why : Option Stop). Keeps next number (if n == number then with_stop number room input calls outcome why else calls)) (sym (stop_back c.came.stop)) (
-    named (n == number) (Keeps next number) (calls ++ call_of number room input c.came.stop outcome ∷ []) calls
-    (λ same.
-        let here : Keeps table n calls = subst (λ (k : ℕ). Keeps table k calls) (sym (eqb-true n number same)) kept in
-        let fed : IsFedBy table.charmaps d calls = subst (λ (o : Option Descriptor). IfSome o (λ x. IsFedBy table.charmaps x calls)) is_open here in
-        let call : Call = record { input = input; room = room; came = c.came } in
-        let more : Keeps next n (calls ++ call ∷ []) = this_number table n (Some (record d { states = c.came.states })) (calls ++ call ∷ []) (one_more table.charmaps d calls call fed c.is_converted) in
-        let read : Keeps next n (calls ++ call_of n room input c.came.stop outcome ∷ []) = subst (λ (x : Call). Keeps next n (calls ++ x ∷ [])) (sym (call_back table n room input d t a is_open few c)) more in
-        subst (λ (k : ℕ). Keeps next k (calls ++ call_of k room input c.came.stop outcome ∷ [])) (eqb-true n number same) read)
-    (λ differ. other_number table n number (Some (record d { states = c.came.states })) calls (other n number differ) kept))
+    let outcome = came_to next (answer_of c.came) in
+    let this : (n == number) ≡ true → Keeps next number (calls ++ call_of number room input c.came.stop outcome ∷ []) = λ same.
+    let is : n ≡ number = eqb-true n number same in
+    let here : Keeps table n calls = subst (λ (k : ℕ). Keeps table k calls) (sym is) kept in
+    subst (λ (k : ℕ). Keeps next k (calls ++ call_of k room input c.came.stop outcome ∷ [])) is (called table n calls here room input few d is_open t a c) in
+    let differs : (n == number) ≡ false → Keeps next number calls = λ differ. other_number table n number (Some (record d { states = c.came.states })) calls (other n number differ) kept in
+    subst (λ (why : Option Stop). Keeps next number (if n == number then with_stop number room input calls outcome why else calls)) (sym (stop_back c.came.stop))
+    (named (n == number) (Keeps next number) (calls ++ call_of number room input c.came.stop outcome ∷ []) calls this differs)
 
 step_conv : (table : Table) (number : ℕ) (calls : List Call) → Keeps table number calls → (n room : ℕ) (input : List ℕ) → length input ≤ MOST_BODY → (o : Option Descriptor) → descriptor_at table n ≡ o
     → (t : Table) (a : Answer) → Convs table n o room input t a → KeepsBy number calls (Conv n room input) t a

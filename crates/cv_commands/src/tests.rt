@@ -1,6 +1,7 @@
 //! Scripts and reply lines, against values from outside.
 mod charmaps;
 mod exchanges;
+mod interleavings;
 mod refused_charmaps;
 mod standard;
 

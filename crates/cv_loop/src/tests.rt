@@ -1,3 +1,5 @@
+//! Streams that end in each way, and worlds as engines.
+mod cut_readers;
 mod uploads;
 
 use crate::{Engine, FromReader, ServeFault, Served, ToWriter, serve, serve_new};

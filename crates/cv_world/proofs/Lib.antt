@@ -16,3 +16,8 @@ mod Memory
 mod JoinedParts
 mod StartAgain
 mod NamesBack
+mod FormsStay
+mod FedCalls
+mod FeedSteps
+mod FramesFit
+mod Feeding

@@ -136,7 +136,7 @@ map_there : (held : Option Charmap) → is_some held ≡ true → IfSome held (�
 map_there (Some charmap) h is = is
 map_there None h is = absurd cc
 
-form_there : (table : Table) → IsSound table → (named : Named) → IsThere table.charmaps named → IsForm (form_in table.charmaps named)
+pub form_there : (table : Table) → IsSound table → (named : Named) → IsThere table.charmaps named → IsForm (form_in table.charmaps named)
 form_there table is (BuiltIn builtin) h = tt
 form_there table is (Held place) h = map_there (charmap_at table.charmaps place) h (is.is_table.charmaps.maps place)
 

@@ -4,4 +4,5 @@ pub mod Turn
 pub mod Worlds
 pub mod Requests
 pub mod Laws
+pub mod Feeds
 pub mod Private

@@ -1,6 +1,7 @@
 //! Laws of the machine of private tables; those of its runs hold of every machine.
 ghost use Rattle.cv_machine.specs.Machine.{IsOneAnswer, IsSomeAnswer};
 ghost use Rattle.cv_world.specs.Laws.{KeepsTables, RunsKeepTables, NeverLacksAlone, LacksWhereTaken};
+ghost use Rattle.cv_world.specs.Feeds.{Feeds};
 ghost use Rattle.cv_world.specs.Laws.{JoinsParts, ByeStartsAgain, NamesReadBack};
 ghost use Rattle.cv_world.specs.Requests.{turn};
 
@@ -70,6 +71,13 @@ pub fn bye_starts_again()
 #[tactic(auto, using(crate::proofs::NamesBack::names_read_back))]
 pub fn names_read_back()
     ensures { NamesReadBack }
+{
+    // The contract is the law; nothing runs.
+}
+
+/// What a descriptor writes while it is fed one text doesn't depend on how the text and the room were cut, in whatever run.
+pub fn feeds()
+    ensures { Feeds }
 {
     // The contract is the law; nothing runs.
 }

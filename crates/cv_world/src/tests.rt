@@ -1,4 +1,6 @@
 //! One world and its callers, with ample memory.
+mod feeds;
+
 use super::*;
 use cv_base::Policy;
 use cv_cache::{Compiler, Plain};

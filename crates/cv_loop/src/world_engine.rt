@@ -36,12 +36,7 @@ fn answer_each<R, C: Compiler<R>>(
 }
 
 impl<R> Engine<R> for World {
-    fn batch(
-        &mut self,
-        rt: &R,
-        alloc: Global,
-        requests: &[Request],
-    ) -> Result<Vec<Reply>, Memory> {
+    fn batch(&mut self, rt: &R, alloc: Global, requests: &[Request]) -> Result<Vec<Reply>, Memory> {
         answer_each(self, &Plain, rt, alloc, requests)
     }
 }
@@ -81,12 +76,7 @@ impl<C> Machine for WorldWith<C> {
 impl<R, C: Compiler<R>> Engine<R> for WorldWith<C> {
     ghost ready = { λ engine. C.ready engine.compiler };
 
-    fn batch(
-        &mut self,
-        rt: &R,
-        alloc: Global,
-        requests: &[Request],
-    ) -> Result<Vec<Reply>, Memory> {
+    fn batch(&mut self, rt: &R, alloc: Global, requests: &[Request]) -> Result<Vec<Reply>, Memory> {
         answer_each(&mut self.world, &self.compiler, rt, alloc, requests)
     }
 }

@@ -4,12 +4,12 @@
 mod answer;
 mod callers;
 mod conversions;
+mod events;
 pub mod laws;
 mod op;
 mod opening;
 mod outcomes;
 mod serving;
-mod stepping;
 mod world;
 
 pub use answer::Answer;

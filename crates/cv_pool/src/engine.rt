@@ -1,0 +1,45 @@
+//! Pools as engines.
+ghost use Rattle.std.specs.Thread.{IsSync};
+ghost use Rattle.cv_caller.specs.Tables.{Table as WorldTable};
+ghost use Rattle.cv_world.specs.Requests.{turn};
+ghost use Rattle.cv_pool.specs.Pools.{pool_tables};
+
+use crate::gate::Open;
+use crate::pool::Pool;
+use cv_base::Memory;
+use cv_cache::Cached;
+use cv_frame::{Reply, Request};
+use cv_loop::Engine;
+use cv_machine::Machine;
+use cv_world::laws::{one_answer, some_answer};
+use std::alloc::Global;
+use std::sync::Wait;
+use std::thread::Threads;
+
+impl<C, G> Machine for Pool<C, G> {
+    ghost Table = { WorldTable };
+
+    ghost turn = { turn };
+
+    ghost tables = { λ pool. pool_tables pool.shards.items };
+
+    fn assert_valid(&self) {
+        one_answer();
+        some_answer();
+    }
+}
+
+// No type parameter of an engine may be sent to a thread within a trait's method, so this is said of the pool that the program uses;
+// `Pool::batch` says the same of every compiler and gate.
+impl<R: Threads + Wait + Sync> Engine<R> for Pool<Cached, Open> {
+    ghost ready = { λ _. IsSync R.row };
+
+    fn batch(
+        &mut self,
+        rt: &R,
+        alloc: Global,
+        requests: &[Request],
+    ) -> Result<Vec<Reply>, Memory> {
+        self.batch(rt, alloc, requests)
+    }
+}

@@ -1,7 +1,7 @@
 //! Serving a script by a new world.
 ghost use Rattle.std.specs.Prelude.{IfOk, IfErr};
-ghost use Rattle.cv_world.specs.Tables.{no_tables};
-ghost use Rattle.cv_world.specs.Turn.{turn};
+ghost use Rattle.cv_world.specs.Requests.{turn};
+ghost use Rattle.cv_world.specs.Worlds.{no_tables};
 ghost use Rattle.cv_loop.specs.Serving.{AnswersEach};
 ghost use Rattle.cv_commands.specs.Faults.{IsNoFailedWrite};
 

@@ -1,9 +1,9 @@
 //! Serving by a world of one's own.
 
 ghost use Rattle.std.specs.Prelude.{◌≡◌, ◌≤◌, ℕ, List, false, IsTrue, Err, length};
-ghost use Rattle.cv_world.specs.Tables.{no_tables};
-ghost use Rattle.cv_world.specs.Turn.{turn};
-ghost use Rattle.cv_world.specs.declared.table.Table.{Table};
+ghost use Rattle.cv_caller.specs.Tables.{Table};
+ghost use Rattle.cv_world.specs.Requests.{turn};
+ghost use Rattle.cv_world.specs.Worlds.{no_tables};
 ghost use Rattle.cv_loop.specs.Serving.{Serving, Gave, Took, IsHeadline, EndsSay, IsUnbroken, ending_of, met_the_end, write_failed};
 
 use crate::ends::{Sink, Source};

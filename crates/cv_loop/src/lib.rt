@@ -21,6 +21,7 @@ pub use fresh::{serve_bytes, serve_new};
 pub use pushing::push_all;
 pub use serving::{Served, serve};
 pub use std_ends::{FromReader, ToWriter};
+pub use world_engine::WorldWith;
 
 #[cfg(test)]
 mod tests;

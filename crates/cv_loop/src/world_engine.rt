@@ -1,24 +1,82 @@
-//! A world as an engine.
+//! Worlds as engines.
+
+ghost use Rattle.std.specs.Prelude.{◌≡◌, IfOk, OnErr};
+ghost use Rattle.cv_caller.specs.Tables.{Table as WorldTable};
+ghost use Rattle.cv_machine.specs.Machine.{Runs};
+ghost use Rattle.cv_world.specs.Requests.{turn};
+ghost use Rattle.cv_world.specs.Worlds.{world_tables, no_tables};
 
 use crate::engine::Engine;
 use cv_base::Memory;
+use cv_cache::{Compiler, Plain};
 use cv_frame::{Reply, Request};
+use cv_machine::Machine;
 use cv_world::World;
 use std::alloc::Global;
 
+/// Answers requests in their order. The text of an upload is put together and compiled just before its own step.
+fn answer_each<R, C: Compiler<R>>(
+    world: &mut World,
+    compiler: &C,
+    rt: &R,
+    alloc: Global,
+    requests: &[Request],
+) -> Result<Vec<Reply>, Memory>
+    requires { C.ready compiler.now }
+    ensures runs { IfOk result (λ replies. Runs turn (world_tables world.old) requests.now replies.items (world_tables world.new)) }
+    ensures err { OnErr result (world_tables world.new ≡ world_tables world.old) }
+{
+    let mut replies = Vec::new(alloc);
+    replies.reserve(requests.len())?;
+    for request in requests {
+        let reply = world.answer(compiler, rt, alloc, request);
+        replies.push_reserved(reply);
+    }
+    Ok(replies)
+}
+
 impl<R> Engine<R> for World {
-    fn batch(
-        &mut self,
-        _rt: &R,
-        alloc: Global,
-        requests: &[Request],
-    ) -> Result<Vec<Reply>, Memory> {
-        let mut replies = Vec::new(alloc);
-        replies.reserve(requests.len())?;
-        for request in requests {
-            let reply = self.answer(alloc, request);
-            replies.push_reserved(reply);
+    fn batch(&mut self, rt: &R, alloc: Global, requests: &[Request]) -> Result<Vec<Reply>, Memory> {
+        answer_each(self, &Plain, rt, alloc, requests)
+    }
+}
+
+/// A world whose uploads are compiled by a compiler of one's own.
+#[derive(Drop)]
+pub struct WorldWith<C> {
+    world: World,
+    compiler: C,
+}
+
+impl<C> WorldWith<C> {
+    /// No caller has asked yet.
+    pub fn new(alloc: Global, compiler: C) -> WorldWith<C>
+        ensures tables { world_tables result.world ≡ no_tables }
+        ensures compiler { result.compiler ≡ compiler }
+    {
+        WorldWith {
+            world: World::new(alloc),
+            compiler,
         }
-        Ok(replies)
+    }
+}
+
+impl<C> Machine for WorldWith<C> {
+    ghost Table = { WorldTable };
+
+    ghost turn = { turn };
+
+    ghost tables = { λ engine. world_tables engine.world };
+
+    fn assert_valid(&self) {
+        self.world.assert_valid();
+    }
+}
+
+impl<R, C: Compiler<R>> Engine<R> for WorldWith<C> {
+    ghost ready = { λ engine. C.ready engine.compiler };
+
+    fn batch(&mut self, rt: &R, alloc: Global, requests: &[Request]) -> Result<Vec<Reply>, Memory> {
+        answer_each(&mut self.world, &self.compiler, rt, alloc, requests)
     }
 }

@@ -8,7 +8,7 @@ use Rattle.std.proofs.lemmas.Bool.Decides.{nat_tests}
 use Rattle.std.specs.Ordering.{nat_cmp}
 use Rattle.std.specs.BTreeMap.{is_at}
 use Rattle.cv_machine.specs.Machine.{with_table}
-use Rattle.cv_world.specs.declared.table.Table.{Table}
+use Rattle.cv_caller.specs.Tables.{Table}
 
 changes_at : (s t : ℕ → Table) (c : ℕ) → ((q : ℕ) → eqb q c ≡ false → t q ≡ s q) → (q : ℕ) → t q ≡ with_table s c (t c) q
 changes_at s t c h q =

@@ -1,6 +1,18 @@
-mod Buffers
-mod Changes
-mod Emptiness
+pub mod Owned
+pub mod Buffers
+pub mod Keeping
+pub mod Changes
+pub mod Stepping
+pub mod Converting
+pub mod OpeningSteps
+pub mod Leaving
+pub mod Answered
 mod OneAnswer
 mod SomeAnswer
-mod Stepping
+mod OtherOps
+mod KeepsTables
+mod NotAlone
+mod Memory
+mod JoinedParts
+mod StartAgain
+mod NamesBack

@@ -1,18 +1,22 @@
 -- Each request has some answer: where it takes memory, want of it is one.
-use Rattle.std.proofs.Common.{◌⊎◌, inr, ◌==◌, ℕ, Bool, true, false, List, length, nat_lt, Option, Some, None, option_map, refl}
+use Rattle.std.proofs.Common.{◌≡◌, ◌⊎◌, inr, ◌==◌, ℕ, Bool, true, false, List, [], ◌∷◌, ◌++◌, length, nat_lt, Option, Some, None, refl}
+use Rattle.std.specs.List.{list_any}
 use Rattle.cv_base.specs.declared.policy.Policy.{Policy}
-use Rattle.cv_pivot.specs.Encodings.{builtin_of, encoding_of, form_of, form_closes}
-use Rattle.cv_pivot.specs.declared.conversion.Conversion.{Conversion}
-use Rattle.cv_pivot.specs.declared.encoding.Encoding.{Encoding}
+use Rattle.cv_charmap.specs.Meaning.{Charmap}
+use Rattle.cv_cache.specs.Compiled.{Compiled, Read, Faulty, Lacking}
+use Rattle.cv_pivot.specs.Encodings.{form_closes}
 use Rattle.cv_machine.specs.Machine.{IsSomeAnswer, When}
 use Rattle.cv_frame.specs.declared.status.Status.TheVariants as status
-use Rattle.cv_world.specs.Actions.{Action, Open, Conv, Reset, Close, Bad, action_of}
+use Rattle.cv_caller.specs.Tables.{Table, Named, Descriptor, form_in, named_of, place_of, least_place, least_free, descriptor_at, uses}
+use Rattle.cv_caller.specs.Results.{is_taken, is_full}
+use Rattle.cv_caller.specs.declared.limits.TheConstants.{MOST_PART}
+use Rattle.cv_world.specs.Actions.{Action, Put, DropMap, Open, Conv, Reset, Close, Bye, Part, Bad}
 use Rattle.cv_world.specs.Answers.{answer_code, answer_body, most_room}
-use Rattle.cv_world.specs.Tables.{least_free, descriptor_at}
-use Rattle.cv_world.specs.Turn.{Does, Binds, Opens, Convs, Resets, Closes, Acts, turn}
+use Rattle.cv_frame.specs.declared.ops.TheConstants.{PUT}
+use Rattle.cv_world.specs.Requests.{AsksPut, action_of, turn}
+use Rattle.cv_world.specs.Turn.{Does, Holds, Puts, Parts, Drops, Binds, Opens, Convs, Resets, Closes, Acts}
 use Rattle.cv_world.specs.declared.answer.Answer.{Answer}
 use Rattle.cv_world.specs.declared.answer.Answer.TheVariants as answers
-use Rattle.cv_world.specs.declared.table.Table.{Table}
 
 -- Some table and some answer meet a claim.
 abbrev pub HasSomeAct : (Table → Answer → Type 0) → Type 0
@@ -29,41 +33,70 @@ some_when false May Else p q = q
 lacks : (table : Table) (May : Table → Answer → Type 0) → HasSomeAct (λ t a. May t a ⊎ Does t a table (answers.Refused status.NoMemory))
 lacks table May = (table, answers.Refused status.NoMemory, inr (refl, refl))
 
-some_bind : (table : Table) (number : ℕ) (policy : Policy) (to from : Option Encoding) → HasSomeAct (Binds table number policy to from)
+some_hold : (table : Table) (charmap : Charmap) (place : Option ℕ) → HasSomeAct (Holds table charmap place)
+some_hold table charmap None = does _ _
+some_hold table charmap (Some place) = lacks table _
+
+some_put : (table : Table) (came : Compiled) → HasSomeAct (Puts table came)
+some_put table Lacking = does _ _
+some_put table (Faulty fault) = does _ _
+some_put table (Read charmap) =
+    some_when (is_taken table.charmaps charmap.name) _ _ (does _ _)
+    (some_when (is_full table.charmaps (length charmap.pairs)) _ _ (does _ _) (some_hold table charmap (least_place table.charmaps)))
+
+some_part : (table : Table) (bytes : List ℕ) → HasSomeAct (Parts table bytes)
+some_part table [] = does _ _
+some_part table (b ∷ bytes) = some_when (nat_lt MOST_PART (length (table.part ++ b ∷ bytes))) _ _ (does _ _) (lacks table _)
+
+some_drop : (table : Table) (place : Option ℕ) → HasSomeAct (Drops table place)
+some_drop table None = does _ _
+some_drop table (Some place) = some_when (list_any (uses place) table.descriptors) _ _ (does _ _) (does _ _)
+
+some_bind : (table : Table) (number : ℕ) (policy : Policy) (to from : Option Named) → HasSomeAct (Binds table number policy to from)
 some_bind table number policy (Some to) (Some from) = lacks table _
 some_bind table number policy (Some to) None = does _ _
 some_bind table number policy None from = does _ _
 
 some_open : (table : Table) (number : Option ℕ) (to from : List ℕ) (policy : Policy) → HasSomeAct (Opens table number to from policy)
 some_open table None to from policy = does _ _
-some_open table (Some number) to from policy = some_bind table number policy (option_map encoding_of (builtin_of to)) (option_map encoding_of (builtin_of from))
+some_open table (Some number) to from policy = some_bind table number policy (named_of table.charmaps to) (named_of table.charmaps from)
 
-some_conv : (table : Table) (number : ℕ) (d : Option Conversion) (room : ℕ) (input : List ℕ) → HasSomeAct (Convs table number d room input)
+some_conv : (table : Table) (number : ℕ) (d : Option Descriptor) (room : ℕ) (input : List ℕ) → HasSomeAct (Convs table number d room input)
 some_conv table number None room input = does _ _
 some_conv table number (Some d) room input = some_when (nat_lt most_room room) _ _ (does _ _) (lacks table _)
 
-some_reset : (table : Table) (number : ℕ) (d : Option Conversion) (room : ℕ) → HasSomeAct (Resets table number d room)
+some_reset : (table : Table) (number : ℕ) (d : Option Descriptor) (room : ℕ) → HasSomeAct (Resets table number d room)
 some_reset table number None room = does _ _
 some_reset table number (Some d) room =
     some_when (nat_lt most_room room) _ _ (does _ _)
     (some_when (room == 0) _ _ (does _ _)
-    (some_when (nat_lt room (length (form_closes (form_of d.to) d.states.writing))) _ _ (does _ _) (does _ _)))
+    (some_when (nat_lt room (length (form_closes (form_in table.charmaps d.to) d.states.writing))) _ _ (does _ _) (does _ _)))
 
-some_close : (table : Table) (number : ℕ) (d : Option Conversion) → HasSomeAct (Closes table number d)
+some_close : (table : Table) (number : ℕ) (d : Option Descriptor) → HasSomeAct (Closes table number d)
 some_close table number None = does _ _
 some_close table number (Some d) = does _ _
 
 some_act : (table : Table) (action : Action) → HasSomeAct (Acts table action)
+some_act table (Put came) = some_put table came
+some_act table (DropMap name) = some_drop table (place_of table.charmaps name)
 some_act table (Open to from policy) = some_open table (least_free table) to from policy
 some_act table (Conv number room input) = some_conv table number (descriptor_at table number) room input
 some_act table (Reset number room) = some_reset table number (descriptor_at table number) room
 some_act table (Close number) = some_close table number (descriptor_at table number)
+some_act table Bye = does _ _
+some_act table (Part bytes) = some_part table bytes
 some_act table Bad = does _ _
+
+-- It asks for something.
+some_asked : (t : Bool) (text : List ℕ) (other : Action) → (action : Action) × When t (AsksPut text action) (action ≡ other)
+some_asked true text other = (Put Lacking, record { charmap = Lacking; may = tt; is = refl })
+some_asked false text other = (other, refl)
 
 -- Each request has some answer.
 pub some_answer : IsSomeAnswer turn
 some_answer table code body =
-    let did = some_act table (action_of code body) in (
+    let asked = some_asked (code == PUT) (table.part ++ body) (action_of code body) in
+    let did = some_act table asked.0 in (
       record { next = did.0; code = answer_code did.1; body = answer_body did.1 },
-      record { answer = did.1; acts = did.2; code_is = refl; body_is = refl },
+      record { action = asked.0; asks = asked.1; answer = did.1; acts = did.2; code_is = refl; body_is = refl },
     )

@@ -1,13 +1,14 @@
 -- How an answer is spelled in a reply.
-use Rattle.std.specs.Prelude.{ℕ, ◌≤◌, List, [], ◌++◌, length}
+use Rattle.std.specs.Prelude.{ℕ, ◌≤◌, List, [], ◌∷◌, ◌++◌, length}
 use Rattle.std.specs.Int.{w32, to_be_bytes}
 use Rattle.cv_pivot.specs.declared.outcome.Stop.{Stop}
 use Rattle.cv_pivot.specs.declared.outcome.Stop.TheVariants as stop
+use Rattle.cv_lex.specs.Causes.{cause_number}
 use Rattle.cv_frame.specs.Status.{status_number}
 use Rattle.cv_frame.specs.declared.status.Status.{Status}
 use Rattle.cv_frame.specs.declared.status.Status.TheVariants as status
 use Rattle.cv_world.specs.declared.answer.Answer.{Answer}
-use Rattle.cv_world.specs.declared.answer.Answer.TheVariants.{Empty, Number, Converted, Written, Refused}
+use Rattle.cv_world.specs.declared.answer.Answer.TheVariants.{Empty, Number, Count, Converted, Written, BadMap, Refused}
 
 -- the most room that may be asked for
 abbrev pub most_room : ℕ
@@ -25,8 +26,10 @@ stop_status stop.Incomplete = status.Incomplete
 abbrev pub answer_status : Answer → Status
 answer_status Empty = status.Ok
 answer_status (Number n) = status.Ok
+answer_status (Count n) = status.Ok
 answer_status (Converted stop left count output) = stop_status stop
 answer_status (Written bytes) = status.Ok
+answer_status (BadMap fault) = status.BadMap
 answer_status (Refused s) = s
 
 -- the number of that status
@@ -37,14 +40,18 @@ answer_code answer = status_number (answer_status answer)
 abbrev pub answer_body : Answer → List ℕ
 answer_body Empty = []
 answer_body (Number n) = to_be_bytes w32 n
+answer_body (Count n) = to_be_bytes w32 n
 answer_body (Converted stop left count output) = to_be_bytes w32 left ++ (to_be_bytes w32 count ++ output)
 answer_body (Written bytes) = bytes
+answer_body (BadMap fault) = to_be_bytes w32 fault.line ++ cause_number fault.cause ∷ []
 answer_body (Refused s) = []
 
 -- The output of a conversion is no longer than the most room, so that the answer has a frame.
 abbrev pub AnswerFits : Answer → Type 0
 AnswerFits Empty = Unit {0}
 AnswerFits (Number n) = Unit {0}
+AnswerFits (Count n) = Unit {0}
 AnswerFits (Converted stop left count output) = length output ≤ most_room
 AnswerFits (Written bytes) = Unit {0}
+AnswerFits (BadMap fault) = Unit {0}
 AnswerFits (Refused s) = Unit {0}

@@ -1,5 +1,7 @@
 pub mod Actions
-pub mod Tables
-pub mod Turn
 pub mod Answers
+pub mod Turn
 pub mod Worlds
+pub mod Requests
+pub mod Laws
+pub mod Private

@@ -1,10 +1,12 @@
 //! What an op answers.
-ghost use Rattle.std.specs.Prelude.{◌≡◌, ◌++◌};
+ghost use Rattle.std.specs.Prelude.{◌≡◌, ◌++◌, ◌∷◌, []};
 ghost use Rattle.std.specs.Int.{w32, to_be_bytes};
+ghost use Rattle.cv_lex.specs.Causes.{cause_number};
 ghost use Rattle.cv_frame.specs.Message.{FitsFrame};
 ghost use Rattle.cv_world.specs.Answers.{answer_code, answer_body, stop_status, AnswerFits};
 
 use cv_base::Piece;
+use cv_charmap::MapFault;
 use cv_frame::{Bytes, Reply, Status};
 use cv_pivot::Stop;
 use std::alloc::Global;
@@ -16,6 +18,8 @@ pub enum Answer {
     Empty,
     /// The number of a new descriptor.
     Number(u32),
+    /// How many mappings a charmap has, or how many bytes a part.
+    Count(u32),
     /// What was converted: why it stopped, the bytes of the input that are left, for how many characters `?`
     /// stands, and the output.
     Converted {
@@ -26,6 +30,8 @@ pub enum Answer {
     },
     /// What closes the shift.
     Written(Piece),
+    /// The first fault of a charmap text.
+    BadMap(MapFault),
     /// Nothing was done, for this cause.
     Refused(Status),
 }
@@ -59,6 +65,14 @@ fn two_numbers(a: u32, b: u32) -> Piece
     piece
 }
 
+fn fault_piece(fault: MapFault) -> Piece
+    ensures { result ≡ to_be_bytes w32 fault.line ++ cause_number fault.cause ∷ [] }
+{
+    let mut piece = number_piece(fault.line);
+    piece.push(fault.cause.number());
+    piece
+}
+
 impl Answer {
     /// The reply to a request of this caller and tag.
     pub fn reply(self, alloc: Global, caller: u32, tag: u32) -> Reply
@@ -76,6 +90,8 @@ impl Answer {
                 bytes,
             } => (status_of(stop), two_numbers(left, count), bytes),
             Answer::Written(bytes) => (Status::Ok, bytes, Bytes::new(alloc)),
+            Answer::Count(n) => (Status::Ok, number_piece(n), Bytes::new(alloc)),
+            Answer::BadMap(fault) => (Status::BadMap, fault_piece(fault), Bytes::new(alloc)),
             Answer::Refused(status) => (status, Piece::new(), Bytes::new(alloc)),
         };
         Reply::new(caller, tag, status, head, tail)

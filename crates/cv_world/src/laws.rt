@@ -1,6 +1,8 @@
 //! Laws of the machine of private tables; those of its runs hold of every machine.
 ghost use Rattle.cv_machine.specs.Machine.{IsOneAnswer, IsSomeAnswer};
-ghost use Rattle.cv_world.specs.Turn.{turn};
+ghost use Rattle.cv_world.specs.Laws.{KeepsTables, RunsKeepTables, NeverLacksAlone, LacksWhereTaken};
+ghost use Rattle.cv_world.specs.Laws.{JoinsParts, ByeStartsAgain, NamesReadBack};
+ghost use Rattle.cv_world.specs.Requests.{turn};
 
 pub use cv_machine::laws::{merges, one_service, one_writing, schedules, two_worlds};
 
@@ -16,6 +18,58 @@ pub fn one_answer()
 #[tactic(auto, using(crate::proofs::SomeAnswer::some_answer))]
 pub fn some_answer()
     ensures { IsSomeAnswer turn }
+{
+    // The contract is the law; nothing runs.
+}
+
+/// A table that is sound stays so, whatever is asked.
+#[tactic(auto, using(crate::proofs::KeepsTables::keeps_tables))]
+pub fn keeps_tables()
+    ensures { KeepsTables }
+{
+    // The contract is the law; nothing runs.
+}
+
+/// In every run from the start each caller's table is sound.
+pub fn runs_keep_tables()
+    ensures { RunsKeepTables }
+{
+    // The contract is the law; nothing runs.
+}
+
+/// At a sound table a request that may want memory may come to something else too: there is always a longest conversion.
+pub fn never_lacks_alone()
+    ensures { NeverLacksAlone }
+{
+    // The contract is the law; nothing runs.
+}
+
+/// Only a PUT, an OPEN, a CONV and a PART that isn't empty may be answered that memory lacks.
+pub fn lacks_where_taken()
+    ensures { LacksWhereTaken }
+{
+    // The contract is the law; nothing runs.
+}
+
+/// A charmap that is sent in parts is held as if it were sent whole.
+#[tactic(auto, using(crate::proofs::JoinedParts::joins_parts))]
+pub fn joins_parts()
+    ensures { JoinsParts }
+{
+    // The contract is the law; nothing runs.
+}
+
+/// After a BYE its caller has the table of one that never asked.
+pub fn bye_starts_again()
+    ensures { ByeStartsAgain }
+{
+    // The contract is the law; nothing runs.
+}
+
+/// The body of a DROP is a name, spelled as those of an OPEN are, and no other body is read as one.
+#[tactic(auto, using(crate::proofs::NamesBack::names_read_back))]
+pub fn names_read_back()
+    ensures { NamesReadBack }
 {
     // The contract is the law; nothing runs.
 }

@@ -1,15 +1,19 @@
-//! The callers of a shard, each with its own descriptors, and what one request does.
+//! The callers of a shard, each with its own charmaps and descriptors, and what one request does.
 #![tactic(auto)]
 
 mod answer;
+mod callers;
+mod conversions;
+mod events;
 pub mod laws;
 mod op;
-mod table;
+mod opening;
+mod outcomes;
+mod serving;
 mod world;
 
 pub use answer::Answer;
 pub use op::Op;
-pub use table::Table;
 pub use world::World;
 
 #[cfg(test)]

@@ -1,44 +1,61 @@
 //! What a request asks for.
 ghost use Rattle.std.specs.Prelude.{◌≡◌, ◌≤◌, length};
-ghost use Rattle.cv_world.specs.Actions.{action_of, asked, InputFits};
+ghost use Rattle.cv_frame.specs.declared.sizes.TheConstants.{MOST_BODY};
+ghost use Rattle.cv_world.specs.Actions.{asked, InputFits};
+ghost use Rattle.cv_world.specs.Requests.{action_of};
 
 use cv_base::Policy;
-use cv_frame::ops::{CLOSE, CONV, OPEN, RESET};
-use cv_frame::{MOST_BODY, OpenBody, read_conv, read_number, read_open, read_reset};
+use cv_charmap::CompileFault;
+use cv_frame::ops::{BYE, CLOSE, CONV, DROP, OPEN, PART, RESET};
+use cv_frame::{OpenBody, read_conv, read_name, read_number, read_open, read_reset};
+use cv_trie::Charmap;
+use std::sync::Arc;
 
-/// What a request asks of its caller's table.
-#[derive(Clone, Copy, Debug)]
+/// What a request asks for.
+#[derive(Drop)]
 pub enum Op<'a> {
-    /// A descriptor that converts to one encoding from another (POSIX `iconv_open()`), by their names, under a policy.
+    /// A charmap held, as its text was compiled.
+    Put(Result<Arc<Charmap>, CompileFault>),
+    /// A charmap given up, by its name.
+    DropMap(&'a [u8]),
+    /// A descriptor to an encoding from another, by their names, under a policy.
     Open {
         to: &'a [u8],
         from: &'a [u8],
         policy: Policy,
     },
-    /// As much of the input converted as fits in `room` bytes (POSIX `iconv()`).
+    /// A descriptor's conversion of an input into so many bytes of room.
     Conv {
         number: u32,
         room: u32,
         input: &'a [u8],
     },
-    /// Both states at their start, and what closes the target's shift in `room` bytes (POSIX `iconv()` without input).
+    /// Both states of a descriptor at their start, with so many bytes of room for what closes a shift.
     Reset {
         number: u32,
         room: u32,
     },
-    /// The descriptor given back (POSIX `iconv_close()`).
+    /// A descriptor given back.
     Close(u32),
-    /// Nothing: the op is none of these, or the body isn't of its form.
+    /// All that the caller has given back.
+    Bye,
+    /// More of the part of an upload, or, where it is empty, none of it.
+    Part(&'a [u8]),
+    /// Nothing that there is.
     Bad,
 }
 
 impl<'a> Op<'a> {
-    /// What a request of this op and body asks for.
-    pub fn read(op: u8, body: &'a [u8]) -> Op<'a>
+    /// What a request of this op and body asks for. A PUT is none here, since its text has to be compiled.
+    pub(crate) fn read(op: u8, body: &'a [u8]) -> Op<'a>
         ensures asks { asked result ≡ action_of op body.now }
         ensures fits { length body.now ≤ MOST_BODY → InputFits result }
     {
         match op {
+            DROP => match read_name(body) {
+                Some(name) => Op::DropMap(name),
+                None => Op::Bad,
+            },
             OPEN => match read_open(body) {
                 Some(OpenBody { to, from, policy }) => Op::Open { to, from, policy },
                 None => Op::Bad,
@@ -59,6 +76,8 @@ impl<'a> Op<'a> {
                 Some(number) => Op::Close(number),
                 None => Op::Bad,
             },
+            BYE if body.is_empty() => Op::Bye,
+            PART => Op::Part(body),
             _ => Op::Bad,
         }
     }

@@ -1,34 +1,64 @@
 //! The callers of a shard.
-ghost use Rattle.std.specs.Prelude.{◌≡◌, ◌≤◌, ◌<◌, IfSome, IsTrue, Some, OnOk, OnErr, length};
-ghost use Rattle.cv_machine.specs.Machine.{Steps, with_table};
-ghost use Rattle.cv_world.specs.Actions.{asked, Open, Conv, Reset, Close, InputFits};
+ghost use Rattle.std.specs.Prelude.{◌≡◌, ◌≤◌, ◌++◌, ℕ, None, length, IfOk};
+ghost use Rattle.cv_cache.specs.Compiled.{compiled};
+ghost use Rattle.cv_machine.specs.Machine.{with_table};
+ghost use Rattle.cv_caller.specs.Tables.{Table as WorldTable, IsTable, empty_table, descriptor_at};
+ghost use Rattle.cv_world.specs.Actions.{Put, DropMap, Open, Conv, Reset, Close, Bye, Part};
 ghost use Rattle.cv_world.specs.Answers.{AnswerFits};
-ghost use Rattle.cv_world.specs.Tables.{empty_table, no_tables, least_free, with_descriptor};
-ghost use Rattle.cv_world.specs.Turn.{Acts, turn as world_turn};
-ghost use Rattle.cv_world.specs.declared.table.Table.{Table as WorldTable};
-ghost use Rattle.cv_world.specs.Worlds.{world_tables};
+ghost use Rattle.cv_world.specs.Requests.{turn};
+ghost use Rattle.cv_world.specs.Turn.{Acts};
+ghost use Rattle.cv_world.specs.Worlds.{world_tables, no_tables};
 
 use crate::answer::Answer;
+use crate::callers::{
+    assert_keyed, bind_in, drop_in, forget_empty, gather_in, make_room, part_in, place_in,
+    prepare_in, put_in, remove_in, unbind_in,
+};
+use crate::conversions::{convert_in, reserve_one, reset_in};
 use crate::laws::{one_answer, some_answer};
-use crate::op::Op;
-use crate::table::Table;
+use crate::opening::Opening;
+use crate::outcomes::{add_answer, drop_answer, part_answer};
 use cv_base::{Memory, Policy};
-use cv_frame::{MOST_BODY, Reply, Request, Status};
+use cv_caller::{DESCRIPTORS, Place, Table};
+use cv_charmap::CompileFault;
+use cv_frame::{Bytes, MOST_BODY, Status};
 use cv_machine::Machine;
-use cv_pivot::{Conversion, builtin};
+use cv_pivot::Conversion;
+use cv_trie::Charmap;
+use slab::Slab;
 use std::alloc::Global;
 use std::collections::BTreeMap;
+use std::marker::Model;
+use std::sync::Arc;
 
-/// The callers of a shard, each with its own table. A caller that has no descriptor open takes no memory.
+/// The most room that a request may ask for, in bytes.
+const MOST_ROOM: u32 = 1_000_000;
+
+/// The callers of a shard, each with its own table; their conversions stand in one slab. Contracts see each caller's table.
 #[derive(Drop)]
 pub struct World {
     callers: BTreeMap<u32, Table>,
+    conversions: Slab<Conversion>,
+}
+
+impl Model for World {
+    ghost use Rattle.std.specs.Prelude.{ℕ, List};
+    ghost use Rattle.cv_caller.specs.Tables.{Table};
+
+    ghost Value = { List (ℕ × Table) };
+
+    ghost use Rattle.slab.specs.Slab.{get};
+    ghost use Rattle.cv_world.specs.Worlds.{tables_in, keyed_in, IsWorld};
+
+    ghost view = { λ w. tables_in w.callers.entries w.conversions };
+
+    ghost invariant = { λ w. IsWorld (keyed_in w.callers) (get w.conversions) };
 }
 
 impl Machine for World {
     ghost Table = { WorldTable };
 
-    ghost turn = { world_turn };
+    ghost turn = { turn };
 
     ghost tables = { world_tables };
 
@@ -45,150 +75,202 @@ impl World {
     {
         World {
             callers: BTreeMap::new(alloc),
+            conversions: Slab::new(alloc),
         }
     }
 
-    /// The least number of a caller that is free.
-    fn least_free(&self, caller: u32) -> Option<u32>
-        ensures free { result ≡ least_free (world_tables self.now caller) }
-        ensures within { IfSome result (λ number. number < 16) }
+    /// States what a caller's table keeps. It does nothing.
+    pub fn assert_table(&self, caller: u32)
+        ensures { IsTable (world_tables self.now caller) }
     {
-        match self.callers.get(&caller) {
-            Some(table) => table.least_free(),
-            None => Some(0),
-        }
+        assert_keyed(&self.callers, caller);
     }
 
-    /// Binds a number of a caller, which takes memory where the caller has no descriptor yet.
-    fn bind(&mut self, caller: u32, number: u32, conversion: Conversion) -> Result<(), Memory>
-        requires { number < 16 }
-        ensures own { OnOk result (world_tables self.new caller
-            ≡ with_descriptor (world_tables self.old caller) number (Some conversion)) }
-        ensures others { world_tables self.new ≡ with_table (world_tables self.old) caller (world_tables self.new caller) }
-        ensures err { OnErr result (world_tables self.new ≡ world_tables self.old) }
+    /// The text of an upload: the caller's part, and then the body.
+    pub fn gather(&self, alloc: Global, caller: u32, body: &[u8]) -> Result<Vec<u8>, Memory>
+        ensures { IfOk result (λ text. text.items ≡ (world_tables self.now caller).part ++ body.now) }
     {
-        match self.callers.get_mut(&caller) {
-            Some(table) => {
-                table.set(number, Some(conversion));
-                Ok(())
-            }
-            None => {
-                let mut table = Table::new();
-                table.set(number, Some(conversion));
-                self.callers.insert(caller, table)?;
-                Ok(())
-            }
-        }
+        gather_in(alloc, &self.callers, caller, body)
     }
 
-    /// Whether a caller is known that has no descriptor open.
-    fn is_idle(&self, caller: u32) -> bool
-        ensures { IsTrue result → world_tables self.now caller ≡ empty_table }
-    {
-        match self.callers.get(&caller) {
-            Some(table) => table.is_empty(),
-            None => false,
-        }
-    }
-
-    /// Gives back the memory of a caller that has no descriptor open.
-    fn forget_empty(&mut self, caller: u32)
-        ensures { world_tables self.new ≡ world_tables self.old }
-    {
-        if self.is_idle(caller) {
-            self.callers.remove(&caller);
-        }
-    }
-
-    /// OPEN
-    fn open(&mut self, caller: u32, to: &[u8], from: &[u8], policy: Policy) -> Answer
+    /// OPEN. All growths come before anything changes.
+    pub(crate) fn open(&mut self, caller: u32, to: &[u8], from: &[u8], policy: Policy) -> Answer
         ensures acts { Acts (world_tables self.old caller) (Open to.now from.now policy) (world_tables self.new caller) result }
         ensures others { world_tables self.new ≡ with_table (world_tables self.old) caller (world_tables self.new caller) }
         ensures fits { AnswerFits result }
     {
-        let Some(number) = self.least_free(caller) else {
-            return Answer::Refused(Status::TooManyDescriptors);
+        let opening = match prepare_in(&self.callers, caller, to, from, policy) {
+            Ok(opening) => opening,
+            Err(status) => return Answer::Refused(status),
         };
-        let Some(to) = builtin(to) else {
-            return Answer::Refused(Status::Unsupported);
-        };
-        let Some(from) = builtin(from) else {
-            return Answer::Refused(Status::Unsupported);
-        };
-        match self.bind(caller, number, Conversion::new(to, from, policy)) {
-            Ok(()) => Answer::Number(number),
-            Err(Memory) => Answer::Refused(Status::NoMemory),
+        if reserve_one(&mut self.conversions).is_err() {
+            return Answer::Refused(Status::NoMemory);
         }
+        if make_room(&mut self.callers, caller).is_err() {
+            return Answer::Refused(Status::NoMemory);
+        }
+        let Opening {
+            number,
+            to,
+            from,
+            conversion,
+        } = opening;
+        let key = self.conversions.insert_reserved(conversion);
+        let place = Place {
+            key: key as u32,
+            to,
+            from,
+        };
+        bind_in(&mut self.callers, caller, number, place);
+        Answer::Number(number)
     }
 
     /// CONV
-    fn conv(&mut self, alloc: Global, caller: u32, number: u32, room: u32, input: &[u8]) -> Answer
+    pub(crate) fn conv(
+        &mut self,
+        alloc: Global,
+        caller: u32,
+        number: u32,
+        room: u32,
+        input: &[u8],
+    ) -> Answer
         requires { length input.now ≤ MOST_BODY }
         ensures acts { Acts (world_tables self.old caller) (Conv number room input.now) (world_tables self.new caller) result }
         ensures others { world_tables self.new ≡ with_table (world_tables self.old) caller (world_tables self.new caller) }
         ensures fits { AnswerFits result }
     {
-        match self.callers.get_mut(&caller) {
-            Some(table) => table.conv(alloc, number, room, input),
-            None => Answer::Refused(Status::BadDescriptor),
+        let Some(place) = place_in(&self.callers, caller, number) else {
+            return Answer::Refused(Status::BadDescriptor);
+        };
+        if room > MOST_ROOM {
+            return Answer::Refused(Status::Room);
+        }
+        let Ok(output) = convert_in(
+            alloc,
+            &mut self.conversions,
+            place.key as usize,
+            room,
+            input,
+        ) else {
+            return Answer::Refused(Status::NoMemory);
+        };
+        Answer::Converted {
+            stop: output.outcome.stop,
+            left: output.outcome.left as u32,
+            count: output.outcome.count as u32,
+            bytes: Bytes::of(output.bytes),
         }
     }
 
     /// RESET
-    fn reset(&mut self, caller: u32, number: u32, room: u32) -> Answer
+    pub(crate) fn reset(&mut self, caller: u32, number: u32, room: u32) -> Answer
         ensures acts { Acts (world_tables self.old caller) (Reset number room) (world_tables self.new caller) result }
         ensures others { world_tables self.new ≡ with_table (world_tables self.old) caller (world_tables self.new caller) }
         ensures fits { AnswerFits result }
     {
-        match self.callers.get_mut(&caller) {
-            Some(table) => table.reset(number, room),
-            None => Answer::Refused(Status::BadDescriptor),
+        let Some(place) = place_in(&self.callers, caller, number) else {
+            return Answer::Refused(Status::BadDescriptor);
+        };
+        if room > MOST_ROOM {
+            return Answer::Refused(Status::Room);
         }
+        let Ok(closing) = reset_in(&mut self.conversions, place.key as usize, room) else {
+            return Answer::Refused(Status::TooBig);
+        };
+        Answer::Written(closing)
+    }
+
+    /// PUT
+    pub(crate) fn put(
+        &mut self,
+        alloc: Global,
+        caller: u32,
+        charmap: Result<Arc<Charmap>, CompileFault>,
+    ) -> Answer
+        ensures acts { Acts (world_tables self.old caller) (Put (compiled charmap)) (world_tables self.new caller) result }
+        ensures others { world_tables self.new ≡ with_table (world_tables self.old) caller (world_tables self.new caller) }
+        ensures fits { AnswerFits result }
+    {
+        let charmap = match charmap {
+            Ok(charmap) => charmap,
+            Err(CompileFault::Map(fault)) => return Answer::BadMap(fault),
+            Err(CompileFault::Memory) => return Answer::Refused(Status::NoMemory),
+        };
+        let count = charmap.len() as u32;
+        assert_keyed(&self.callers, caller);
+        let added = put_in(&mut self.callers, alloc, caller, charmap);
+        add_answer(count, added)
     }
 
     /// CLOSE
-    fn close(&mut self, caller: u32, number: u32) -> Answer
+    pub(crate) fn close(&mut self, caller: u32, number: u32) -> Answer
         ensures acts { Acts (world_tables self.old caller) (Close number) (world_tables self.new caller) result }
         ensures others { world_tables self.new ≡ with_table (world_tables self.old) caller (world_tables self.new caller) }
         ensures fits { AnswerFits result }
     {
-        match self.callers.get_mut(&caller) {
-            Some(table) => table.close(number),
-            None => Answer::Refused(Status::BadDescriptor),
-        }
+        let Some(place) = place_in(&self.callers, caller, number) else {
+            return Answer::Refused(Status::BadDescriptor);
+        };
+        unbind_in(&mut self.callers, caller, number);
+        self.conversions.try_remove(place.key as usize);
+        Answer::Empty
     }
 
-    /// One event: what the op asks is done to the caller's table, and no other caller's changes. A refusal leaves every
-    /// table as it was.
-    pub fn step(&mut self, alloc: Global, caller: u32, op: Op<'_>) -> Answer
-        requires { InputFits op }
-        ensures acts { Acts (world_tables self.old caller) (asked op.entry) (world_tables self.new caller) result }
+    /// DROP
+    pub(crate) fn drop_map(&mut self, caller: u32, name: &[u8]) -> Answer
+        ensures acts { Acts (world_tables self.old caller) (DropMap name.now) (world_tables self.new caller) result }
         ensures others { world_tables self.new ≡ with_table (world_tables self.old) caller (world_tables self.new caller) }
         ensures fits { AnswerFits result }
     {
-        match op {
-            Op::Open { to, from, policy } => self.open(caller, to, from, policy),
-            Op::Conv {
-                number,
-                room,
-                input,
-            } => self.conv(alloc, caller, number, room, input),
-            Op::Reset { number, room } => self.reset(caller, number, room),
-            Op::Close(number) => {
-                let answer = self.close(caller, number);
-                self.forget_empty(caller);
-                answer
-            }
-            Op::Bad => Answer::Refused(Status::BadRequest),
-        }
+        let dropped = drop_in(&mut self.callers, caller, name);
+        drop_answer(dropped)
     }
 
-    /// The reply to one request.
-    pub fn answer(&mut self, alloc: Global, request: &Request) -> Reply
-        ensures { Steps world_turn (world_tables self.old) request.now result (world_tables self.new) }
+    /// PART
+    pub(crate) fn part(&mut self, alloc: Global, caller: u32, bytes: &[u8]) -> Answer
+        ensures acts { Acts (world_tables self.old caller) (Part bytes.now) (world_tables self.new caller) result }
+        ensures others { world_tables self.new ≡ with_table (world_tables self.old) caller (world_tables self.new caller) }
+        ensures fits { AnswerFits result }
     {
-        let op = Op::read(request.op, request.body);
-        let answer = self.step(alloc, request.caller, op);
-        answer.reply(alloc, request.caller, request.tag)
+        let parted = part_in(&mut self.callers, alloc, caller, bytes);
+        part_answer(parted)
+    }
+
+    /// Gives all numbers of a caller back.
+    fn close_all(&mut self, caller: u32)
+        ensures closed { (number : ℕ) → descriptor_at (world_tables self.new caller) number ≡ None }
+        ensures others { world_tables self.new ≡ with_table (world_tables self.old) caller (world_tables self.new caller) }
+    {
+        for number in 0..DESCRIPTORS as u32 {
+            let _ = self.close(caller, number);
+        }
+        // There are no numbers beyond these.
+        self.assert_table(caller);
+    }
+
+    /// Gives back the memory of a caller of whom no number is bound.
+    fn forget(&mut self, caller: u32)
+        requires { (number : ℕ) → descriptor_at (world_tables self.old caller) number ≡ None }
+        ensures { world_tables self.new ≡ with_table (world_tables self.old) caller empty_table }
+    {
+        remove_in(&mut self.callers, caller);
+    }
+
+    /// BYE. It takes no memory.
+    pub(crate) fn bye(&mut self, caller: u32) -> Answer
+        ensures acts { Acts (world_tables self.old caller) Bye (world_tables self.new caller) result }
+        ensures others { world_tables self.new ≡ with_table (world_tables self.old) caller (world_tables self.new caller) }
+        ensures fits { AnswerFits result }
+    {
+        self.close_all(caller);
+        self.forget(caller);
+        Answer::Empty
+    }
+
+    /// Gives back the memory of a caller who has nothing left.
+    pub(crate) fn forget_empty(&mut self, caller: u32)
+        ensures { world_tables self.new ≡ world_tables self.old }
+    {
+        forget_empty(&mut self.callers, caller);
     }
 }

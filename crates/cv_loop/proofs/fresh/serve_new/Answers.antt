@@ -1,7 +1,7 @@
 use Rattle.std.proofs.Common.{ℕ, subst}
-use Rattle.cv_world.specs.Turn.{turn}
+use Rattle.cv_world.specs.Requests.{turn}
 use Rattle.cv_world.specs.Worlds.{world_tables}
-use Rattle.cv_world.specs.declared.table.Table.{Table}
+use Rattle.cv_caller.specs.Tables.{Table}
 use Rattle.cv_loop.specs.Serving.{IsHeadline, ending_of}
 use Rattle.cv_loop.proofs.fresh.serve_new.Goals as goal
 

@@ -1,5 +1,0 @@
-use Rattle.cv_shard.proofs.StartAgain as again
-use Rattle.cv_shard.proofs.laws.bye_starts_again.Goals as goal
-
-pub returns : goal.returns
-returns c = again.bye_starts_again

@@ -1,5 +1,0 @@
-use Rattle.cv_shard.proofs.Memory as memory
-use Rattle.cv_shard.proofs.laws.lacks_where_taken.Goals as goal
-
-pub returns : goal.returns
-returns c = memory.lacks_where_taken

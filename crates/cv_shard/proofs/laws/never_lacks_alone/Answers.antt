@@ -1,5 +1,0 @@
-use Rattle.cv_shard.proofs.NotAlone as alone
-use Rattle.cv_shard.proofs.laws.never_lacks_alone.Goals as goal
-
-pub returns : goal.returns
-returns c = alone.never_lacks_alone

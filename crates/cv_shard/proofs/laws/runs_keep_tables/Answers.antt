@@ -1,5 +1,0 @@
-use Rattle.cv_shard.proofs.KeepsTables as keeps
-use Rattle.cv_shard.proofs.laws.runs_keep_tables.Goals as goal
-
-pub returns : goal.returns
-returns c = keeps.runs_keep_tables

@@ -1,7 +1,0 @@
-pub mod Actions
-pub mod Answers
-pub mod Turn
-pub mod Worlds
-pub mod Opening
-pub mod Requests
-pub mod Laws

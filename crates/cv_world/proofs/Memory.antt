@@ -1,0 +1,118 @@
+-- Want of memory is an outcome only of requests that take memory.
+use Rattle.std.proofs.Common.{◌≡◌, ◌≢◌, ◌||◌, ◌&&◌, ◌==◌, ℕ, Bool, true, false, List, [], ◌∷◌, ◌++◌, length, nat_lt, Option, Some, None, refl, sym, ap, ◌∙◌, arith}
+use Rattle.std.specs.Prelude.{if◌then◌else◌}
+use Rattle.std.specs.List.{list_any}
+use Rattle.std.proofs.lemmas.Bool.Decides.{nat_tests}
+use Rattle.cv_pivot.specs.Encodings.{form_closes}
+use Rattle.cv_machine.specs.Machine.{When, no_memory}
+use Rattle.cv_frame.specs.Bodies.{reset_of, number_of, drop_of}
+use Rattle.cv_frame.specs.declared.ops.TheConstants.{OPEN, CONV, RESET, CLOSE, PUT, DROP, BYE, PART}
+use Rattle.cv_caller.specs.Tables.{Table, Descriptor, form_in, place_of, descriptor_at, uses}
+use Rattle.cv_world.specs.Actions.{Action, Put, DropMap, Open, Conv, Reset, Close, Bye, Part, Bad}
+use Rattle.cv_world.specs.Answers.{answer_code, most_room}
+use Rattle.cv_world.specs.Laws.{LacksWhereTaken}
+use Rattle.cv_world.specs.Requests.{AsksPut, action_of, drop_action, reset_action, close_action, bye_action}
+use Rattle.cv_world.specs.Turn.{Does, Drops, Resets, Closes, Acts}
+use Rattle.cv_world.specs.declared.answer.Answer.{Answer}
+
+-- whether an action takes memory
+abbrev takes : Action → Bool
+takes (Put came) = true
+takes (DropMap name) = false
+takes (Open to from policy) = true
+takes (Conv number room input) = true
+takes (Reset number room) = false
+takes (Close number) = false
+takes Bye = false
+takes (Part bytes) = nat_lt 0 (length bytes)
+takes Bad = false
+
+-- ---- what an action may come to
+
+does : (next : Table) (answer : Answer) → answer_code answer ≢ no_memory → (t : Table) (a : Answer) → Does t a next answer → answer_code a ≢ no_memory
+does next answer other t a d e = other (ap answer_code (sym d.1) ∙ e)
+
+by_test : (b : Bool) (A B C : Type 0) → (A → C) → (B → C) → When b A B → C
+by_test true A B C f g h = f h
+by_test false A B C f g h = g h
+
+drops : (table : Table) (place : Option ℕ) (t : Table) (a : Answer) → Drops table place t a → answer_code a ≢ no_memory
+drops table None t a d = does table _ (λ e. absurd cc) t a d
+drops table (Some place) t a d = by_test (list_any (uses place) table.descriptors) _ _ _ (does _ _ (λ e. absurd cc) t a) (does _ _ (λ e. absurd cc) t a) d
+
+resets : (table : Table) (number : ℕ) (o : Option Descriptor) (room : ℕ) (t : Table) (a : Answer) → Resets table number o room t a → answer_code a ≢ no_memory
+resets table number None room t a d = does table _ (λ e. absurd cc) t a d
+resets table number (Some o) room t a d =
+    by_test (nat_lt most_room room) _ _ _ (does _ _ (λ e. absurd cc) t a)
+    (by_test (room == 0) _ _ _ (does _ _ (λ e. absurd cc) t a)
+    (by_test (nat_lt room (length (form_closes (form_in table.charmaps o.to) o.states.writing))) _ _ _ (does _ _ (λ e. absurd cc) t a) (does _ _ (λ e. absurd cc) t a))) d
+
+closes : (table : Table) (number : ℕ) (o : Option Descriptor) (t : Table) (a : Answer) → Closes table number o t a → answer_code a ≢ no_memory
+closes table number None t a d = does table _ (λ e. absurd cc) t a d
+closes table number (Some o) t a d = does _ _ (λ e. absurd cc) t a d
+
+acts : (table : Table) (action : Action) (t : Table) (a : Answer) → Acts table action t a → answer_code a ≡ no_memory → takes action ≡ true
+acts table (Put came) t a d e = refl
+acts table (DropMap name) t a d e = absurd (drops table (place_of table.charmaps name) t a d e)
+acts table (Open to from policy) t a d e = refl
+acts table (Conv number room input) t a d e = refl
+acts table (Reset number room) t a d e = absurd (resets table number (descriptor_at table number) room t a d e)
+acts table (Close number) t a d e = absurd (closes table number (descriptor_at table number) t a d e)
+acts table Bye t a d e = absurd (does _ _ (λ x. absurd cc) t a d e)
+acts table (Part []) t a d e = absurd (does _ _ (λ x. absurd cc) t a d e)
+acts table (Part (b ∷ bytes)) t a d e = grind (arith, nat_tests)
+acts table Bad t a d e = absurd (does table _ (λ x. absurd cc) t a d e)
+
+-- ---- what the bytes of a request ask for
+
+first : (a b : Bool) → a ≡ true → (a || b) ≡ true
+first true b e = refl
+first false b e = absurd cc
+
+second : (a b : Bool) → b ≡ true → (a || b) ≡ true
+second true b e = refl
+second false b e = e
+
+both : (a b : Bool) → a ≡ true → b ≡ true → (a && b) ≡ true
+both true b e f = f
+both false b e f = absurd cc
+
+choose : (b : Bool) (x y : Action) (P : Type 0) → (b ≡ true → takes x ≡ true → P) → (takes y ≡ true → P) → takes (if b then x else y) ≡ true → P
+choose true x y P f g h = f refl h
+choose false x y P f g h = g h
+
+drop_takes : (name : Option (List ℕ)) → takes (drop_action name) ≢ true
+drop_takes (Some name) e = absurd cc
+drop_takes None e = absurd cc
+
+reset_takes : (fields : Option (ℕ × ℕ)) → takes (reset_action fields) ≢ true
+reset_takes (Some fields) e = absurd cc
+reset_takes None e = absurd cc
+
+close_takes : (number : Option ℕ) → takes (close_action number) ≢ true
+close_takes (Some number) e = absurd cc
+close_takes None e = absurd cc
+
+bye_takes : (body : List ℕ) → takes (bye_action body) ≢ true
+bye_takes [] e = absurd cc
+bye_takes (b ∷ body) e = absurd cc
+
+other_takes : (code : ℕ) (body : List ℕ) → takes (action_of code body) ≡ true → (code == OPEN || (code == CONV || (code == PART && nat_lt 0 (length body)))) ≡ true
+other_takes code body =
+    choose (code == DROP) _ _ _ (λ _ h. absurd (drop_takes (drop_of body) h)) (
+    choose (code == OPEN) _ _ _ (λ is _. first _ _ is) (
+    choose (code == CONV) _ _ _ (λ is _. second _ _ (first _ _ is)) (
+    choose (code == RESET) _ _ _ (λ _ h. absurd (reset_takes (reset_of body) h)) (
+    choose (code == CLOSE) _ _ _ (λ _ h. absurd (close_takes (number_of body) h)) (
+    choose (code == BYE) _ _ _ (λ _ h. absurd (bye_takes body h)) (
+    choose (code == PART) _ _ _ (λ is h. second _ _ (second _ _ (both _ _ is h))) (λ h. absurd cc)))))))
+
+asks_takes : (t : Bool) (text : List ℕ) (other action : Action) (rest : Bool) → When t (AsksPut text action) (action ≡ other) → (takes other ≡ true → rest ≡ true) → takes action ≡ true → (t || rest) ≡ true
+asks_takes true text other action rest p f h = refl
+asks_takes false text other action rest p f h = f (ap takes (sym p) ∙ h)
+
+-- Want of memory is an outcome only of requests that take memory.
+pub lacks_where_taken : LacksWhereTaken
+lacks_where_taken table code body outcome turned e =
+    asks_takes (code == PUT) (table.part ++ body) (action_of code body) turned.action _ turned.asks (other_takes code body)
+    (acts table turned.action outcome.next turned.answer turned.acts (sym turned.code_is ∙ e))

@@ -1,0 +1,3 @@
+-- What the contracts of private functions cite. No public contract cites these pages.
+pub mod Opening
+pub mod Changes

@@ -1,0 +1,49 @@
+-- What becomes of one caller's keyed table, and what it is answered.
+use Rattle.std.specs.Prelude.{◌≡◌, ◌≢◌, ℕ, [], IsSome, Result, Ok, Err}
+use Rattle.std.specs.Ordering.{nat_cmp}
+use Rattle.std.specs.BTreeMap.{BTreeMap, get}
+use Rattle.cv_caller.specs.Keyed.{Keyed, keyed_with_part}
+use Rattle.cv_caller.specs.Results.{IsAdded}
+use Rattle.cv_caller.specs.declared.faults.AddFault.{AddFault}
+use Rattle.cv_caller.specs.declared.faults.AddFault.TheVariants as add
+use Rattle.cv_caller.specs.declared.faults.DropFault.{DropFault}
+use Rattle.cv_caller.specs.declared.faults.DropFault.TheVariants as drop
+use Rattle.cv_caller.specs.declared.faults.PartFault.{PartFault}
+use Rattle.cv_caller.specs.declared.faults.PartFault.TheVariants as part
+use Rattle.cv_charmap.specs.Meaning.{Charmap}
+use Rattle.cv_frame.specs.declared.status.Status.TheVariants as status
+use Rattle.cv_world.specs.declared.answer.Answer.{Answer}
+use Rattle.cv_world.specs.declared.answer.Answer.TheVariants as answers
+
+-- The caller has a table.
+abbrev pub HasTable : BTreeMap ℕ Keyed → ℕ → Type 0
+HasTable callers caller = IsSome (get nat_cmp callers caller)
+
+-- One caller's table becomes this, and all others stay.
+pub record SetsKeyed (old new : ℕ → Keyed) (caller : ℕ) (keyed : Keyed) : Type 0 where
+  pub own : new caller ≡ keyed
+  pub others : (other : ℕ) → other ≢ caller → new other ≡ old other
+
+-- What came of a charmap that was put: where it is held, the part of the upload is done with.
+abbrev pub IsPut : Keyed → Charmap → Result Unit AddFault → Keyed → Type 0
+IsPut old charmap (Ok u) new = (held : Keyed) × IsAdded old charmap (Ok u) held × (new ≡ keyed_with_part held [])
+IsPut old charmap (Err fault) new = IsAdded old charmap (Err fault) new
+
+-- what a charmap that was put is answered
+abbrev pub add_answer : ℕ → Result Unit AddFault → Answer
+add_answer count (Ok u) = answers.Count count
+add_answer count (Err add.Exists) = answers.Refused status.Exists
+add_answer count (Err add.Quota) = answers.Refused status.Quota
+add_answer count (Err add.Memory) = answers.Refused status.NoMemory
+
+-- what a charmap that was to go is answered
+abbrev pub drop_answer : Result Unit DropFault → Answer
+drop_answer (Ok u) = answers.Empty
+drop_answer (Err drop.NoName) = answers.Refused status.NoName
+drop_answer (Err drop.Busy) = answers.Refused status.Busy
+
+-- what a part that was sent is answered
+abbrev pub part_answer : Result ℕ PartFault → Answer
+part_answer (Ok count) = answers.Count count
+part_answer (Err part.Quota) = answers.Refused status.Quota
+part_answer (Err part.Memory) = answers.Refused status.NoMemory

@@ -1,0 +1,202 @@
+//! What the ops do to the callers' tables.
+ghost use Rattle.std.specs.Prelude.{◌≡◌, ◌≢◌, ◌≤◌, ◌<◌, ◌++◌, ℕ, [], Some, None, IfSome, IfOk, IfErr, OnOk};
+ghost use Rattle.std.specs.Arc.{arc_value};
+ghost use Rattle.cv_caller.specs.Keyed.{no_keys, place_at, with_place, keyed_with_part, AreHeld, IsKeyed};
+ghost use Rattle.cv_caller.specs.Results.{IsDropped, IsPart};
+ghost use Rattle.cv_caller.specs.declared.limits.TheConstants.{DESCRIPTORS};
+ghost use Rattle.cv_world.specs.Private.Opening.{DeclinesOpen, IsOpening};
+ghost use Rattle.cv_world.specs.Private.Changes.{HasTable, IsPut, SetsKeyed};
+ghost use Rattle.cv_world.specs.Worlds.{keyed_in};
+
+use crate::opening::{Opening, prepare};
+use cv_base::{Memory, Policy};
+use cv_caller::{AddFault, DropFault, PartFault, Place, Table};
+use cv_frame::Status;
+use cv_trie::Charmap;
+use std::alloc::Global;
+use std::collections::BTreeMap;
+use std::sync::Arc;
+
+/// What a caller's number stands for.
+pub(crate) fn place_in(callers: &BTreeMap<u32, Table>, caller: u32, number: u32) -> Option<Place>
+    ensures place { result ≡ place_at (keyed_in callers.now caller) number }
+    ensures within { IfSome result (λ _. number < DESCRIPTORS) }
+{
+    match callers.get(&caller) {
+        Some(table) => table.place(number),
+        None => None,
+    }
+}
+
+/// States what a caller's table keeps. It does nothing.
+pub(crate) fn assert_keyed(callers: &BTreeMap<u32, Table>, caller: u32)
+    ensures { IsKeyed (keyed_in callers.now caller) }
+{
+    match callers.get(&caller) {
+        Some(table) => table.assert_keyed(),
+        None => Table::new().assert_keyed(),
+    }
+}
+
+/// What a caller's OPEN needs, or why there is none. Nothing changes.
+pub(crate) fn prepare_in(
+    callers: &BTreeMap<u32, Table>,
+    caller: u32,
+    to: &[u8],
+    from: &[u8],
+    policy: Policy,
+) -> Result<Opening, Status>
+    ensures declines { IfErr result (λ s. DeclinesOpen (keyed_in callers.now caller) to.now from.now s) }
+    ensures opening { IfOk result (λ o. IsOpening (keyed_in callers.now caller) to.now from.now policy o) }
+{
+    match callers.get(&caller) {
+        Some(table) => prepare(table, to, from, policy),
+        None => prepare(&Table::new(), to, from, policy),
+    }
+}
+
+/// Makes an empty table where the caller has none.
+pub(crate) fn make_room(callers: &mut BTreeMap<u32, Table>, caller: u32) -> Result<(), Memory>
+    ensures same { (c : ℕ) → keyed_in callers.new c ≡ keyed_in callers.old c }
+    ensures there { OnOk result (HasTable callers.new caller) }
+{
+    callers.entry(caller)?.or_insert(Table::new());
+    Ok(())
+}
+
+/// Binds a number of a caller that has a table.
+pub(crate) fn bind_in(callers: &mut BTreeMap<u32, Table>, caller: u32, number: u32, place: Place)
+    requires there { HasTable callers.old caller }
+    requires within { number < DESCRIPTORS }
+    requires free { place_at (keyed_in callers.old caller) number ≡ None }
+    requires held { AreHeld (keyed_in callers.old caller).charmaps place }
+    ensures { SetsKeyed (keyed_in callers.old) (keyed_in callers.new) caller (with_place (keyed_in callers.old caller) number (Some place)) }
+{
+    if let Some(table) = callers.get_mut(&caller) {
+        table.bind(number, place);
+    }
+}
+
+/// Gives a number back.
+pub(crate) fn unbind_in(callers: &mut BTreeMap<u32, Table>, caller: u32, number: u32)
+    requires there { HasTable callers.old caller }
+    ensures { SetsKeyed (keyed_in callers.old) (keyed_in callers.new) caller (with_place (keyed_in callers.old caller) number None) }
+{
+    if let Some(table) = callers.get_mut(&caller) {
+        table.unbind(number);
+    }
+}
+
+/// Holds a charmap, and is done with the part of the upload. One that is refused is dropped.
+fn put(table: &mut Table, alloc: Global, charmap: Arc<Charmap>) -> Result<(), AddFault>
+    ensures { IsPut table.old (arc_value charmap) result table.new }
+{
+    match table.add_map(alloc, charmap) {
+        Ok(()) => {
+            table.clear_part();
+            Ok(())
+        }
+        Err(fault) => Err(fault),
+    }
+}
+
+/// Holds a charmap for a caller. A first table is made whole before it takes its place, so that want of memory comes last.
+pub(crate) fn put_in(
+    callers: &mut BTreeMap<u32, Table>,
+    alloc: Global,
+    caller: u32,
+    charmap: Arc<Charmap>,
+) -> Result<(), AddFault>
+    ensures own { IsPut (keyed_in callers.old caller) (arc_value charmap) result (keyed_in callers.new caller) }
+    ensures others { (other : ℕ) → other ≢ caller → keyed_in callers.new other ≡ keyed_in callers.old other }
+{
+    if let Some(table) = callers.get_mut(&caller) {
+        return put(table, alloc, charmap);
+    }
+    let mut table = Table::new();
+    match put(&mut table, alloc, charmap) {
+        Ok(()) => match callers.insert(caller, table) {
+            Ok(_) => Ok(()),
+            Err(_) => Err(AddFault::Memory),
+        },
+        Err(fault) => Err(fault),
+    }
+}
+
+/// Gives a caller's charmap up.
+pub(crate) fn drop_in(
+    callers: &mut BTreeMap<u32, Table>,
+    caller: u32,
+    name: &[u8],
+) -> Result<(), DropFault>
+    ensures own { IsDropped (keyed_in callers.old caller) name.now result (keyed_in callers.new caller) }
+    ensures others { (other : ℕ) → other ≢ caller → keyed_in callers.new other ≡ keyed_in callers.old other }
+{
+    match callers.get_mut(&caller) {
+        Some(table) => table.drop_map(name),
+        None => Table::new().drop_map(name),
+    }
+}
+
+/// Takes a part of an upload. A first table is made whole before it takes its place, so that want of memory comes last; an empty part
+/// takes none.
+pub(crate) fn part_in(
+    callers: &mut BTreeMap<u32, Table>,
+    alloc: Global,
+    caller: u32,
+    bytes: &[u8],
+) -> Result<u32, PartFault>
+    ensures own { IsPart (keyed_in callers.old caller) bytes.now result (keyed_in callers.new caller) }
+    ensures others { (other : ℕ) → other ≢ caller → keyed_in callers.new other ≡ keyed_in callers.old other }
+{
+    if let Some(table) = callers.get_mut(&caller) {
+        return table.add_part(alloc, bytes);
+    }
+    if bytes.is_empty() {
+        return Ok(0);
+    }
+    let mut table = Table::new();
+    match table.add_part(alloc, bytes) {
+        Ok(count) => match callers.insert(caller, table) {
+            Ok(_) => Ok(count),
+            Err(_) => Err(PartFault::Memory),
+        },
+        Err(fault) => Err(fault),
+    }
+}
+
+/// Forgets a caller.
+pub(crate) fn remove_in(callers: &mut BTreeMap<u32, Table>, caller: u32)
+    ensures { SetsKeyed (keyed_in callers.old) (keyed_in callers.new) caller no_keys }
+{
+    callers.remove(&caller);
+}
+
+/// Gives the memory back of a caller whose table is empty.
+pub(crate) fn forget_empty(callers: &mut BTreeMap<u32, Table>, caller: u32)
+    ensures { (c : ℕ) → keyed_in callers.new c ≡ keyed_in callers.old c }
+{
+    let Some(table) = callers.get(&caller) else {
+        return;
+    };
+    if table.is_empty() {
+        remove_in(callers, caller);
+    }
+}
+
+/// A caller's part of an upload, and then these bytes.
+pub(crate) fn gather_in(
+    alloc: Global,
+    callers: &BTreeMap<u32, Table>,
+    caller: u32,
+    body: &[u8],
+) -> Result<Vec<u8>, Memory>
+    ensures { IfOk result (λ text. text.items ≡ (keyed_in callers.now caller).part ++ body.now) }
+{
+    let mut text = Vec::new(alloc);
+    if let Some(table) = callers.get(&caller) {
+        text.extend_from_slice(table.part())?;
+    }
+    text.extend_from_slice(body)?;
+    Ok(text)
+}

@@ -1,0 +1,51 @@
+//! One event of a world.
+ghost use Rattle.std.specs.Prelude.{◌≡◌};
+ghost use Rattle.cv_machine.specs.Machine.{with_table};
+ghost use Rattle.cv_world.specs.Actions.{asked, InputFits};
+ghost use Rattle.cv_world.specs.Answers.{AnswerFits};
+ghost use Rattle.cv_world.specs.Turn.{Acts};
+ghost use Rattle.cv_world.specs.Worlds.{world_tables};
+
+use crate::answer::Answer;
+use crate::op::Op;
+use crate::world::World;
+use cv_frame::Status;
+use std::alloc::Global;
+
+impl World {
+    /// One event: what the op asks is done to the caller's table, and no other caller's changes. A refusal leaves every table as it was.
+    pub fn step(&mut self, alloc: Global, caller: u32, op: Op<'_>) -> Answer
+        requires { InputFits op }
+        ensures acts { Acts (world_tables self.old caller) (asked op.entry) (world_tables self.new caller) result }
+        ensures others { world_tables self.new ≡ with_table (world_tables self.old) caller (world_tables self.new caller) }
+        ensures fits { AnswerFits result }
+    {
+        match op {
+            Op::Put(charmap) => self.put(alloc, caller, charmap),
+            Op::DropMap(name) => {
+                let answer = self.drop_map(caller, name);
+                self.forget_empty(caller);
+                answer
+            }
+            Op::Open { to, from, policy } => self.open(caller, to, from, policy),
+            Op::Conv {
+                number,
+                room,
+                input,
+            } => self.conv(alloc, caller, number, room, input),
+            Op::Reset { number, room } => self.reset(caller, number, room),
+            Op::Close(number) => {
+                let answer = self.close(caller, number);
+                self.forget_empty(caller);
+                answer
+            }
+            Op::Bye => self.bye(caller),
+            Op::Part(bytes) => {
+                let answer = self.part(alloc, caller, bytes);
+                self.forget_empty(caller);
+                answer
+            }
+            Op::Bad => Answer::Refused(Status::BadRequest),
+        }
+    }
+}

@@ -1,0 +1,45 @@
+//! What the calls of a caller's table are answered as.
+ghost use Rattle.std.specs.Prelude.{◌≡◌};
+ghost use Rattle.cv_world.specs.Answers.{AnswerFits};
+ghost use Rattle.cv_world.specs.Private.Changes.{add_answer, drop_answer, part_answer};
+
+use crate::answer::Answer;
+use cv_caller::{AddFault, DropFault, PartFault};
+use cv_frame::Status;
+
+/// What a charmap that was to be held is answered.
+pub(crate) fn add_answer(count: u32, added: Result<(), AddFault>) -> Answer
+    ensures value { result ≡ add_answer count added }
+    ensures fits { AnswerFits result }
+{
+    match added {
+        Ok(()) => Answer::Count(count),
+        Err(AddFault::Exists) => Answer::Refused(Status::Exists),
+        Err(AddFault::Quota) => Answer::Refused(Status::Quota),
+        Err(AddFault::Memory) => Answer::Refused(Status::NoMemory),
+    }
+}
+
+/// What a charmap that was to go is answered.
+pub(crate) fn drop_answer(dropped: Result<(), DropFault>) -> Answer
+    ensures value { result ≡ drop_answer dropped }
+    ensures fits { AnswerFits result }
+{
+    match dropped {
+        Ok(()) => Answer::Empty,
+        Err(DropFault::NoName) => Answer::Refused(Status::NoName),
+        Err(DropFault::Busy) => Answer::Refused(Status::Busy),
+    }
+}
+
+/// What a part that was sent is answered.
+pub(crate) fn part_answer(parted: Result<u32, PartFault>) -> Answer
+    ensures value { result ≡ part_answer parted }
+    ensures fits { AnswerFits result }
+{
+    match parted {
+        Ok(count) => Answer::Count(count),
+        Err(PartFault::Quota) => Answer::Refused(Status::Quota),
+        Err(PartFault::Memory) => Answer::Refused(Status::NoMemory),
+    }
+}

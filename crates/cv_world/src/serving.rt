@@ -1,0 +1,83 @@
+//! One request over a world, with a compiler of charmap texts.
+ghost use Rattle.std.specs.Prelude.{◌≡◌, ◌++◌, ◌≤◌, length};
+ghost use Rattle.cv_cache.specs.Compiled.{IsCompiled};
+ghost use Rattle.cv_frame.specs.declared.sizes.TheConstants.{MOST_BODY};
+ghost use Rattle.cv_machine.specs.Machine.{Steps};
+ghost use Rattle.cv_world.specs.Actions.{asked, InputFits};
+ghost use Rattle.cv_world.specs.Requests.{Asks, turn};
+ghost use Rattle.cv_world.specs.Worlds.{world_tables};
+
+use crate::op::Op;
+use crate::world::World;
+use cv_cache::Compiler;
+use cv_charmap::CompileFault;
+use cv_frame::ops::PUT;
+use cv_frame::{Reply, Request};
+use cv_trie::Charmap;
+use std::alloc::Global;
+use std::sync::Arc;
+
+/// Compiles what a PUT of a caller uploads: the part that it has sent, and then the body.
+fn compile_put<R, C: Compiler<R>>(
+    world: &World,
+    compiler: &C,
+    rt: &R,
+    alloc: Global,
+    caller: u32,
+    body: &[u8],
+) -> Result<Arc<Charmap>, CompileFault>
+    requires { C.ready compiler.now }
+    ensures { IsCompiled ((world_tables world.now caller).part ++ body.now) result }
+{
+    let Ok(text) = world.gather(alloc, caller, body) else {
+        return Err(CompileFault::Memory);
+    };
+    compiler.compile(rt, alloc, &text)
+}
+
+/// What a request asks for. The text of a PUT is compiled here, just before its step.
+fn read<'a, R, C: Compiler<R>>(
+    world: &World,
+    compiler: &C,
+    rt: &R,
+    alloc: Global,
+    caller: u32,
+    op: u8,
+    body: &'a [u8],
+) -> Op<'a>
+    requires { C.ready compiler.now }
+    ensures asks { Asks (world_tables world.now caller).part op body.now (asked result) }
+    ensures fits { length body.now ≤ MOST_BODY → InputFits result }
+{
+    if op == PUT {
+        Op::Put(compile_put(world, compiler, rt, alloc, caller, body))
+    } else {
+        Op::read(op, body)
+    }
+}
+
+impl World {
+    /// The reply to one request.
+    pub fn answer<R, C: Compiler<R>>(
+        &mut self,
+        compiler: &C,
+        rt: &R,
+        alloc: Global,
+        request: &Request,
+    ) -> Reply
+        requires { C.ready compiler.now }
+        ensures { Steps turn (world_tables self.old) request.now result (world_tables self.new) }
+    {
+        let op = read(
+            self,
+            compiler,
+            rt,
+            alloc,
+            request.caller,
+            request.op,
+            request.body,
+        );
+        let answer = self.step(alloc, request.caller, op);
+        answer.reply(alloc, request.caller, request.tag)
+    }
+}

@@ -5,8 +5,8 @@ ghost use Rattle.cv_commands.specs.Faults.{IsOfScript};
 use crate::fault::RunFault;
 use crate::lines::next_word;
 use crate::requests::{
-    LineFault, Sender, ask_bye, ask_close, ask_conv, ask_drop, ask_open, ask_part, ask_put, ask_raw,
-    ask_reset, number_of,
+    LineFault, Sender, ask_bye, ask_close, ask_conv, ask_drop, ask_open, ask_part, ask_put,
+    ask_raw, ask_reset, number_of,
 };
 use std::alloc::Global;
 

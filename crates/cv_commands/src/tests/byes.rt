@@ -6,8 +6,14 @@ const CASES: [Case; 4] = [
     Case {
         name: "BYE gives back what one caller has",
         exchanges: &[
-            ("1 1 put <code_set_name> A|CHARMAP|<question-mark> \\x3F|END CHARMAP", "1 1 OK 00000001"),
-            ("2 2 put <code_set_name> A|CHARMAP|<question-mark> \\x3F|END CHARMAP", "2 2 OK 00000001"),
+            (
+                "1 1 put <code_set_name> A|CHARMAP|<question-mark> \\x3F|END CHARMAP",
+                "1 1 OK 00000001",
+            ),
+            (
+                "2 2 put <code_set_name> A|CHARMAP|<question-mark> \\x3F|END CHARMAP",
+                "2 2 OK 00000001",
+            ),
             ("1 3 open UTF-8 A", "1 3 OK 00000000"),
             ("2 4 open UTF-8 A", "2 4 OK 00000000"),
             ("1 5 bye", "1 5 OK -"),
@@ -29,7 +35,10 @@ const CASES: [Case; 4] = [
     Case {
         name: "BYE with a body changes nothing",
         exchanges: &[
-            ("1 1 put <code_set_name> A|CHARMAP|<question-mark> \\x3F|END CHARMAP", "1 1 OK 00000001"),
+            (
+                "1 1 put <code_set_name> A|CHARMAP|<question-mark> \\x3F|END CHARMAP",
+                "1 1 OK 00000001",
+            ),
             ("1 2 open UTF-8 A", "1 2 OK 00000000"),
             ("1 3 part abc", "1 3 OK 00000003"),
             ("1 4 raw 7 00", "1 4 BADREQ -"),
@@ -40,13 +49,19 @@ const CASES: [Case; 4] = [
     Case {
         name: "BYE lets go of the part, and of busy charmaps",
         exchanges: &[
-            ("1 1 put <code_set_name> A|CHARMAP|<question-mark> \\x3F|END CHARMAP", "1 1 OK 00000001"),
+            (
+                "1 1 put <code_set_name> A|CHARMAP|<question-mark> \\x3F|END CHARMAP",
+                "1 1 OK 00000001",
+            ),
             ("1 2 open A UTF-8", "1 2 OK 00000000"),
             ("1 3 part xyz", "1 3 OK 00000003"),
             ("1 4 bye", "1 4 OK -"),
             ("1 5 part q", "1 5 OK 00000001"),
             ("1 6 part ", "1 6 OK 00000000"),
-            ("1 7 put <code_set_name> A|CHARMAP|<question-mark> \\x3F|<U0100> \\x80|END CHARMAP", "1 7 OK 00000002"),
+            (
+                "1 7 put <code_set_name> A|CHARMAP|<question-mark> \\x3F|<U0100> \\x80|END CHARMAP",
+                "1 7 OK 00000002",
+            ),
             ("1 8 open UTF-8 A", "1 8 OK 00000000"),
             ("1 9 conv 0 9 80", "1 9 OK 0000000000000000c480"),
         ],

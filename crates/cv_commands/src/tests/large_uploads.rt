@@ -13,13 +13,22 @@ const MOST_MAPPINGS: [Case; 3] = [
                 "1 1 put <code_set_name> BIG|<mb_cur_max> 3|CHARMAP|<question-mark> \\x40|<U10000>..<U4FFFE> \\x00\\x00\\x00|END CHARMAP",
                 "1 1 OK 00040000",
             ),
-            ("1 2 put <code_set_name> B|CHARMAP|<question-mark> \\x3F|END CHARMAP", "1 2 QUOTA -"),
-            ("2 1 put <code_set_name> B|CHARMAP|<question-mark> \\x3F|END CHARMAP", "2 1 OK 00000001"),
+            (
+                "1 2 put <code_set_name> B|CHARMAP|<question-mark> \\x3F|END CHARMAP",
+                "1 2 QUOTA -",
+            ),
+            (
+                "2 1 put <code_set_name> B|CHARMAP|<question-mark> \\x3F|END CHARMAP",
+                "2 1 OK 00000001",
+            ),
             ("1 3 open UTF-8 BIG", "1 3 OK 00000000"),
             ("1 4 conv 0 9 03fffe40", "1 4 OK 0000000000000000f18fbfbe3f"),
             ("1 5 close 0", "1 5 OK -"),
             ("1 6 drop big", "1 6 OK -"),
-            ("1 7 put <code_set_name> B|CHARMAP|<question-mark> \\x3F|END CHARMAP", "1 7 OK 00000001"),
+            (
+                "1 7 put <code_set_name> B|CHARMAP|<question-mark> \\x3F|END CHARMAP",
+                "1 7 OK 00000001",
+            ),
         ],
     },
     Case {
@@ -37,7 +46,10 @@ const MOST_MAPPINGS: [Case; 3] = [
                 "1 3 put <code_set_name> B|CHARMAP|<question-mark> \\x3F|<A> \\x41|END CHARMAP",
                 "1 3 OK 00000002",
             ),
-            ("1 4 put <code_set_name> C|CHARMAP|<question-mark> \\x3F|END CHARMAP", "1 4 QUOTA -"),
+            (
+                "1 4 put <code_set_name> C|CHARMAP|<question-mark> \\x3F|END CHARMAP",
+                "1 4 QUOTA -",
+            ),
         ],
     },
     Case {
@@ -95,6 +107,12 @@ fn a_part_has_7340041_bytes_at_most(rt: HostRuntime) -> Result<(), Fail> {
         "{HELD}1 8 OK 00700009\n1 9 QUOTA -\n1 10 QUOTA -\n1 11 BADMAP 0000000101\n1 12 QUOTA -\n1 13 OK 00000000\n1 14 OK 00000001\n"
     )?;
     assert!(rt; got.as_slice() == want.as_bytes());
+    Ok(())
+}
+
+#[test]
+fn a_part_that_is_refused_changes_nothing(rt: HostRuntime) -> Result<(), Fail> {
+    let alloc = rt.alloc();
     let mut script = parts(alloc, "", 73)?;
     push_line(&mut script, "1 9 part ", 72)?;
     let got = run_script(&rt, alloc, &script).map_err(|_| "refused")?;
@@ -109,7 +127,10 @@ fn a_text_has_8388608_bytes_at_most(rt: HostRuntime) -> Result<(), Fail> {
     let mappings = "|<question-mark> \\x3F|<U0100> \\x80|END CHARMAP";
     let mut script = parts(alloc, "<code_set_name> L|CHARMAP|#", 72)?;
     script.extend_from_slice(b"1 9 put ")?;
-    script.resize(script.len().saturating_add(1_048_567 - mappings.len()), b'x')?;
+    script.resize(
+        script.len().saturating_add(1_048_567 - mappings.len()),
+        b'x',
+    )?;
     script.extend_from_slice(mappings.as_bytes())?;
     script.extend_from_slice(b"\n1 10 open UTF-8 L\n1 11 conv 0 9 80\n1 12 part \n")?;
     let got = run_script(&rt, alloc, &script).map_err(|_| "refused")?;

@@ -24,17 +24,50 @@ const CASES: [Case; 5] = [
             ("1 15 open UTF-8 US-ASCII", "1 15 OK 0000000e"),
             ("1 16 open UTF-8 US-ASCII", "1 16 OK 0000000f"),
             ("1 17 open UTF-8 US-ASCII", "1 17 EMFILE -"),
-            ("1 18 put <code_set_name> n0|CHARMAP|<question-mark> \\x3F|END CHARMAP", "1 18 OK 00000001"),
-            ("1 19 put <code_set_name> n1|CHARMAP|<question-mark> \\x3F|END CHARMAP", "1 19 OK 00000001"),
-            ("1 20 put <code_set_name> n2|CHARMAP|<question-mark> \\x3F|END CHARMAP", "1 20 OK 00000001"),
-            ("1 21 put <code_set_name> n3|CHARMAP|<question-mark> \\x3F|END CHARMAP", "1 21 OK 00000001"),
-            ("1 22 put <code_set_name> n4|CHARMAP|<question-mark> \\x3F|END CHARMAP", "1 22 OK 00000001"),
-            ("1 23 put <code_set_name> n5|CHARMAP|<question-mark> \\x3F|END CHARMAP", "1 23 OK 00000001"),
-            ("1 24 put <code_set_name> n6|CHARMAP|<question-mark> \\x3F|END CHARMAP", "1 24 OK 00000001"),
-            ("1 25 put <code_set_name> n7|CHARMAP|<question-mark> \\x3F|END CHARMAP", "1 25 OK 00000001"),
-            ("1 26 put <code_set_name> n8|CHARMAP|<question-mark> \\x3F|END CHARMAP", "1 26 QUOTA -"),
-            ("1 27 put <code_set_name> N3|CHARMAP|<question-mark> \\x3F|END CHARMAP", "1 27 EXISTS -"),
-            ("1 28 put <code_set_name> utf-8|CHARMAP|<question-mark> \\x3F|END CHARMAP", "1 28 EXISTS -"),
+            (
+                "1 18 put <code_set_name> n0|CHARMAP|<question-mark> \\x3F|END CHARMAP",
+                "1 18 OK 00000001",
+            ),
+            (
+                "1 19 put <code_set_name> n1|CHARMAP|<question-mark> \\x3F|END CHARMAP",
+                "1 19 OK 00000001",
+            ),
+            (
+                "1 20 put <code_set_name> n2|CHARMAP|<question-mark> \\x3F|END CHARMAP",
+                "1 20 OK 00000001",
+            ),
+            (
+                "1 21 put <code_set_name> n3|CHARMAP|<question-mark> \\x3F|END CHARMAP",
+                "1 21 OK 00000001",
+            ),
+            (
+                "1 22 put <code_set_name> n4|CHARMAP|<question-mark> \\x3F|END CHARMAP",
+                "1 22 OK 00000001",
+            ),
+            (
+                "1 23 put <code_set_name> n5|CHARMAP|<question-mark> \\x3F|END CHARMAP",
+                "1 23 OK 00000001",
+            ),
+            (
+                "1 24 put <code_set_name> n6|CHARMAP|<question-mark> \\x3F|END CHARMAP",
+                "1 24 OK 00000001",
+            ),
+            (
+                "1 25 put <code_set_name> n7|CHARMAP|<question-mark> \\x3F|END CHARMAP",
+                "1 25 OK 00000001",
+            ),
+            (
+                "1 26 put <code_set_name> n8|CHARMAP|<question-mark> \\x3F|END CHARMAP",
+                "1 26 QUOTA -",
+            ),
+            (
+                "1 27 put <code_set_name> N3|CHARMAP|<question-mark> \\x3F|END CHARMAP",
+                "1 27 EXISTS -",
+            ),
+            (
+                "1 28 put <code_set_name> utf-8|CHARMAP|<question-mark> \\x3F|END CHARMAP",
+                "1 28 EXISTS -",
+            ),
             ("1 29 close 15", "1 29 OK -"),
             ("1 30 open UTF-8 N3", "1 30 OK 0000000f"),
             ("1 31 drop n3", "1 31 BUSY -"),
@@ -46,23 +79,59 @@ const CASES: [Case; 5] = [
             ("1 37 open UTF8 US-ASCII", "1 37 UNSUPPORTED -"),
             ("1 38 raw 9 -", "1 38 BADREQ -"),
             ("1 39 raw 7 00", "1 39 BADREQ -"),
-            ("1 40 put <code_set_name> n8|CHARMAP|<question-mark> \\x3F|END CHARMAP", "1 40 OK 00000001"),
+            (
+                "1 40 put <code_set_name> n8|CHARMAP|<question-mark> \\x3F|END CHARMAP",
+                "1 40 OK 00000001",
+            ),
         ],
     },
     Case {
         name: "which refusal comes first",
         exchanges: &[
-            ("1 1 put <code_set_name> n0|CHARMAP|<question-mark> \\x3F|END CHARMAP", "1 1 OK 00000001"),
-            ("1 2 put <code_set_name> n1|CHARMAP|<question-mark> \\x3F|END CHARMAP", "1 2 OK 00000001"),
-            ("1 3 put <code_set_name> n2|CHARMAP|<question-mark> \\x3F|END CHARMAP", "1 3 OK 00000001"),
-            ("1 4 put <code_set_name> n3|CHARMAP|<question-mark> \\x3F|END CHARMAP", "1 4 OK 00000001"),
-            ("1 5 put <code_set_name> n4|CHARMAP|<question-mark> \\x3F|END CHARMAP", "1 5 OK 00000001"),
-            ("1 6 put <code_set_name> n5|CHARMAP|<question-mark> \\x3F|END CHARMAP", "1 6 OK 00000001"),
-            ("1 7 put <code_set_name> n6|CHARMAP|<question-mark> \\x3F|END CHARMAP", "1 7 OK 00000001"),
-            ("1 8 put <code_set_name> n7|CHARMAP|<question-mark> \\x3F|END CHARMAP", "1 8 OK 00000001"),
-            ("1 9 put <code_set_name> n0|CHARMAP|END CHARMAP", "1 9 BADMAP 000000000f"),
-            ("1 10 put <code_set_name> N0|CHARMAP|<question-mark> \\x3F|END CHARMAP", "1 10 EXISTS -"),
-            ("1 11 put <code_set_name> x|CHARMAP|<question-mark> \\x3F|END CHARMAP", "1 11 QUOTA -"),
+            (
+                "1 1 put <code_set_name> n0|CHARMAP|<question-mark> \\x3F|END CHARMAP",
+                "1 1 OK 00000001",
+            ),
+            (
+                "1 2 put <code_set_name> n1|CHARMAP|<question-mark> \\x3F|END CHARMAP",
+                "1 2 OK 00000001",
+            ),
+            (
+                "1 3 put <code_set_name> n2|CHARMAP|<question-mark> \\x3F|END CHARMAP",
+                "1 3 OK 00000001",
+            ),
+            (
+                "1 4 put <code_set_name> n3|CHARMAP|<question-mark> \\x3F|END CHARMAP",
+                "1 4 OK 00000001",
+            ),
+            (
+                "1 5 put <code_set_name> n4|CHARMAP|<question-mark> \\x3F|END CHARMAP",
+                "1 5 OK 00000001",
+            ),
+            (
+                "1 6 put <code_set_name> n5|CHARMAP|<question-mark> \\x3F|END CHARMAP",
+                "1 6 OK 00000001",
+            ),
+            (
+                "1 7 put <code_set_name> n6|CHARMAP|<question-mark> \\x3F|END CHARMAP",
+                "1 7 OK 00000001",
+            ),
+            (
+                "1 8 put <code_set_name> n7|CHARMAP|<question-mark> \\x3F|END CHARMAP",
+                "1 8 OK 00000001",
+            ),
+            (
+                "1 9 put <code_set_name> n0|CHARMAP|END CHARMAP",
+                "1 9 BADMAP 000000000f",
+            ),
+            (
+                "1 10 put <code_set_name> N0|CHARMAP|<question-mark> \\x3F|END CHARMAP",
+                "1 10 EXISTS -",
+            ),
+            (
+                "1 11 put <code_set_name> x|CHARMAP|<question-mark> \\x3F|END CHARMAP",
+                "1 11 QUOTA -",
+            ),
             ("1 12 open n1 UTF-8", "1 12 OK 00000000"),
             ("1 13 open n1 UTF-8", "1 13 OK 00000001"),
             ("1 14 open n1 UTF-8", "1 14 OK 00000002"),
@@ -93,7 +162,10 @@ const CASES: [Case; 5] = [
     Case {
         name: "a map that is read or written is busy",
         exchanges: &[
-            ("1 1 put <code_set_name> TOY|CHARMAP|<question-mark> \\x3F|END CHARMAP", "1 1 OK 00000001"),
+            (
+                "1 1 put <code_set_name> TOY|CHARMAP|<question-mark> \\x3F|END CHARMAP",
+                "1 1 OK 00000001",
+            ),
             ("1 2 open UTF-8 TOY", "1 2 OK 00000000"),
             ("1 3 open TOY UTF-8", "1 3 OK 00000001"),
             ("1 4 drop toy", "1 4 BUSY -"),
@@ -107,16 +179,31 @@ const CASES: [Case; 5] = [
             ("1 12 close 1", "1 12 OK -"),
             ("1 13 drop toY", "1 13 OK -"),
             ("1 14 open UTF-8 TOY", "1 14 UNSUPPORTED -"),
-            ("1 15 put <code_set_name> Toy|CHARMAP|<question-mark> \\x3F|END CHARMAP", "1 15 OK 00000001"),
+            (
+                "1 15 put <code_set_name> Toy|CHARMAP|<question-mark> \\x3F|END CHARMAP",
+                "1 15 OK 00000001",
+            ),
         ],
     },
     Case {
         name: "names of built-in encodings, in any case",
         exchanges: &[
-            ("1 1 put <code_set_name> UTF-8|CHARMAP|<question-mark> \\x3F|END CHARMAP", "1 1 EXISTS -"),
-            ("1 2 put <code_set_name> us-Ascii|CHARMAP|<question-mark> \\x3F|END CHARMAP", "1 2 EXISTS -"),
-            ("1 3 put <code_set_name> utf-7|CHARMAP|<question-mark> \\x3F|END CHARMAP", "1 3 EXISTS -"),
-            ("1 4 put <code_set_name> UTF8|CHARMAP|<question-mark> \\x3F|END CHARMAP", "1 4 OK 00000001"),
+            (
+                "1 1 put <code_set_name> UTF-8|CHARMAP|<question-mark> \\x3F|END CHARMAP",
+                "1 1 EXISTS -",
+            ),
+            (
+                "1 2 put <code_set_name> us-Ascii|CHARMAP|<question-mark> \\x3F|END CHARMAP",
+                "1 2 EXISTS -",
+            ),
+            (
+                "1 3 put <code_set_name> utf-7|CHARMAP|<question-mark> \\x3F|END CHARMAP",
+                "1 3 EXISTS -",
+            ),
+            (
+                "1 4 put <code_set_name> UTF8|CHARMAP|<question-mark> \\x3F|END CHARMAP",
+                "1 4 OK 00000001",
+            ),
             ("1 5 drop UTF-8", "1 5 NONAME -"),
             ("1 6 drop utf8", "1 6 OK -"),
         ],

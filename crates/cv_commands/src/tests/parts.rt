@@ -6,8 +6,14 @@ const CASES: [Case; 4] = [
     Case {
         name: "each caller has a part of its own, and a PUT that is refused leaves it",
         exchanges: &[
-            ("1 1 part <code_set_name> P|CHARMAP|<question-mark> \\x3F|", "1 1 OK 0000002f"),
-            ("2 1 part <code_set_name> P|CHARMAP|<question-mark> \\x6F|", "2 1 OK 0000002f"),
+            (
+                "1 1 part <code_set_name> P|CHARMAP|<question-mark> \\x3F|",
+                "1 1 OK 0000002f",
+            ),
+            (
+                "2 1 part <code_set_name> P|CHARMAP|<question-mark> \\x6F|",
+                "2 1 OK 0000002f",
+            ),
             ("1 2 put <U0100> \\x80|END CHARMAP", "1 2 OK 00000002"),
             ("2 2 put <U0142> \\x80|END CHARMAP", "2 2 OK 00000002"),
             ("1 3 put <U0100> \\x80|END CHARMAP", "1 3 BADMAP 0000000201"),
@@ -26,7 +32,10 @@ const CASES: [Case; 4] = [
         exchanges: &[
             ("1 1 part <code_set_name> P|", "1 1 OK 00000012"),
             ("1 2 part CHARMAP|<A>", "1 2 OK 0000001d"),
-            ("1 3 put  \\x41|<foo> \\x42|END CHARMAP", "1 3 BADMAP 0000000403"),
+            (
+                "1 3 put  \\x41|<foo> \\x42|END CHARMAP",
+                "1 3 BADMAP 0000000403",
+            ),
             ("1 4 part  \\x41|<question-mark> \\x3F|", "1 4 OK 00000038"),
             ("1 5 put <B> \\x41|END CHARMAP", "1 5 BADMAP 0000000509"),
             ("1 6 put END CHARMAP", "1 6 OK 00000002"),
@@ -37,8 +46,14 @@ const CASES: [Case; 4] = [
     Case {
         name: "a PUT that is refused for its name leaves the part",
         exchanges: &[
-            ("1 1 put <code_set_name> P|CHARMAP|<question-mark> \\x3F|END CHARMAP", "1 1 OK 00000001"),
-            ("1 2 part <code_set_name> p|CHARMAP|<question-mark> \\x3F|", "1 2 OK 0000002f"),
+            (
+                "1 1 put <code_set_name> P|CHARMAP|<question-mark> \\x3F|END CHARMAP",
+                "1 1 OK 00000001",
+            ),
+            (
+                "1 2 part <code_set_name> p|CHARMAP|<question-mark> \\x3F|",
+                "1 2 OK 0000002f",
+            ),
             ("1 3 put END CHARMAP", "1 3 EXISTS -"),
             ("1 4 drop P", "1 4 OK -"),
             ("1 5 put END CHARMAP", "1 5 OK 00000001"),
@@ -48,7 +63,10 @@ const CASES: [Case; 4] = [
     Case {
         name: "a part stays with other requests of its caller, and with all of others",
         exchanges: &[
-            ("1 1 put <code_set_name> A|CHARMAP|<question-mark> \\x3F|END CHARMAP", "1 1 OK 00000001"),
+            (
+                "1 1 put <code_set_name> A|CHARMAP|<question-mark> \\x3F|END CHARMAP",
+                "1 1 OK 00000001",
+            ),
             ("1 2 part abc", "1 2 OK 00000003"),
             ("1 3 open A UTF-8", "1 3 OK 00000000"),
             ("1 4 drop A", "1 4 BUSY -"),

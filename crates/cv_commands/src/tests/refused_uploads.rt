@@ -6,36 +6,84 @@ const REFUSED: [(&str, &str); 19] = [
     // NoMap
     ("", "000000000c"),
     // Declaration
-    ("<code_set_name> BAD|<mb_cur_max> 9|CHARMAP|END CHARMAP", "0000000201"),
+    (
+        "<code_set_name> BAD|<mb_cur_max> 9|CHARMAP|END CHARMAP",
+        "0000000201",
+    ),
     ("<code_set_name> BAD|END CHARMAP", "0000000201"),
     // Syntax
-    ("<code_set_name> BAD|CHARMAP|<A>\\x41|END CHARMAP", "0000000302"),
-    ("<code_set_name> BAD|CHARMAP|<U304B><U309A> \\x41|END CHARMAP", "0000000302"),
+    (
+        "<code_set_name> BAD|CHARMAP|<A>\\x41|END CHARMAP",
+        "0000000302",
+    ),
+    (
+        "<code_set_name> BAD|CHARMAP|<U304B><U309A> \\x41|END CHARMAP",
+        "0000000302",
+    ),
     // UnknownName
-    ("<code_set_name> BAD|CHARMAP|<foo> \\x80|END CHARMAP", "0000000303"),
+    (
+        "<code_set_name> BAD|CHARMAP|<foo> \\x80|END CHARMAP",
+        "0000000303",
+    ),
     // NotScalar
-    ("<code_set_name> BAD|CHARMAP|<UD800> \\x80|END CHARMAP", "0000000304"),
-    ("<code_set_name> BAD|CHARMAP|<UD7FF>..<UE000> \\x80|END CHARMAP", "0000000304"),
+    (
+        "<code_set_name> BAD|CHARMAP|<UD800> \\x80|END CHARMAP",
+        "0000000304",
+    ),
+    (
+        "<code_set_name> BAD|CHARMAP|<UD7FF>..<UE000> \\x80|END CHARMAP",
+        "0000000304",
+    ),
     // Range
-    ("<code_set_name> BAD|CHARMAP|<U00A0>...<U00A5> \\x80|END CHARMAP", "0000000305"),
-    ("<code_set_name> BAD|CHARMAP|<A>...<Z> \\x41|END CHARMAP", "0000000305"),
+    (
+        "<code_set_name> BAD|CHARMAP|<U00A0>...<U00A5> \\x80|END CHARMAP",
+        "0000000305",
+    ),
+    (
+        "<code_set_name> BAD|CHARMAP|<A>...<Z> \\x41|END CHARMAP",
+        "0000000305",
+    ),
     // Constant
-    ("<code_set_name> BAD|<mb_cur_max> 2|CHARMAP|<A> \\d129\\x40|END CHARMAP", "0000000406"),
-    ("<code_set_name> BAD|CHARMAP|<A> \\d256|END CHARMAP", "0000000306"),
+    (
+        "<code_set_name> BAD|<mb_cur_max> 2|CHARMAP|<A> \\d129\\x40|END CHARMAP",
+        "0000000406",
+    ),
+    (
+        "<code_set_name> BAD|CHARMAP|<A> \\d256|END CHARMAP",
+        "0000000306",
+    ),
     // Length
-    ("<code_set_name> BAD|CHARMAP|<A> \\x81\\x40|END CHARMAP", "0000000307"),
+    (
+        "<code_set_name> BAD|CHARMAP|<A> \\x81\\x40|END CHARMAP",
+        "0000000307",
+    ),
     // Carry
-    ("<code_set_name> BAD|CHARMAP|<U0100>...<U0101> \\xFF|END CHARMAP", "0000000308"),
+    (
+        "<code_set_name> BAD|CHARMAP|<U0100>...<U0101> \\xFF|END CHARMAP",
+        "0000000308",
+    ),
     // Clash
-    ("<code_set_name> BAD|CHARMAP|<A> \\x81|<B> \\x81|END CHARMAP", "0000000409"),
+    (
+        "<code_set_name> BAD|CHARMAP|<A> \\x81|<B> \\x81|END CHARMAP",
+        "0000000409",
+    ),
     // Prefix
-    ("<code_set_name> BAD|<mb_cur_max> 2|CHARMAP|<A> \\x81|<B> \\x81\\x40|END CHARMAP", "000000050a"),
+    (
+        "<code_set_name> BAD|<mb_cur_max> 2|CHARMAP|<A> \\x81|<B> \\x81\\x40|END CHARMAP",
+        "000000050a",
+    ),
     // NoEnd
-    ("<code_set_name> BAD|CHARMAP|<question-mark> \\x3F", "000000000d"),
+    (
+        "<code_set_name> BAD|CHARMAP|<question-mark> \\x3F",
+        "000000000d",
+    ),
     // NoName
     ("CHARMAP|<question-mark> \\x3F|END CHARMAP", "000000000e"),
     // NoSubstitute
-    ("<code_set_name> BAD|CHARMAP|<A> \\x41|END CHARMAP", "000000000f"),
+    (
+        "<code_set_name> BAD|CHARMAP|<A> \\x41|END CHARMAP",
+        "000000000f",
+    ),
 ];
 
 #[test]

@@ -113,7 +113,11 @@ fn show_prints_no_part_of_a_stream_with_a_bad_length(rt: HostRuntime) -> Result<
             stream.extend_from_slice(&bytes)?;
             stream.extend_from_slice(&REPLIES)?;
             let fault = not_shown(Console::new(alloc, &stream))?;
-            assert_eq!(rt; fault, RunFault::BadReplyLength(length), "behind {size} bytes");
+            assert_eq!(rt;
+                fault,
+                RunFault::BadReplyLength(length),
+                "behind {size} bytes"
+            );
         }
     }
     Ok(())

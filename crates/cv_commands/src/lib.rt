@@ -7,6 +7,7 @@ mod input;
 mod lines;
 mod output;
 mod replies;
+mod requests;
 mod script;
 mod served_script;
 mod standard;

@@ -1,12 +1,23 @@
 //! Scripts and reply lines, against values from outside.
+mod built_in;
+mod byes;
 mod charmaps;
+mod console;
 mod exchanges;
 mod interleavings;
+mod large_uploads;
+mod limits;
+mod parts;
 mod refused_charmaps;
+mod refused_uploads;
 mod standard;
+mod streams;
+mod strict;
+mod uploads;
 
 use super::*;
 use cv_loop::ServeFault;
+use std::alloc::{AllocError, Global};
 use std::test::Fail;
 
 const FRAME: [u8; 33] = *b"\0\0\0\x1d\0\0\0\x07\0\0\0\x01\x03\x08US-ASCII\x0aISO-8859-1";
@@ -72,8 +83,73 @@ fn a_script_gives_frames(rt: HostRuntime) -> Result<(), Fail> {
 }
 
 #[test]
+fn charmap_lines_give_frames(rt: HostRuntime) -> Result<(), Fail> {
+    let cases: [(&[u8], &[u8]); 9] = [
+        (
+            b"1 1 part <code_set_name> P|CHARMAP|<question-mark> \\x3F|\n",
+            b"\0\0\0\x38\0\0\0\x01\0\0\0\x01\x08<code_set_name> P\nCHARMAP\n<question-mark> \\x3F\n",
+        ),
+        (
+            b"1 2 put <U0100> \\x80|END CHARMAP",
+            b"\0\0\0\x21\0\0\0\x01\0\0\0\x02\x01<U0100> \\x80\nEND CHARMAP",
+        ),
+        (
+            b"  1   2  put   a | ",
+            b"\0\0\0\x0f\0\0\0\x01\0\0\0\x02\x01  a \n ",
+        ),
+        (
+            b"1 2 put a b c d e f g h",
+            b"\0\0\0\x18\0\0\0\x01\0\0\0\x02\x01a b c d e f g h",
+        ),
+        (b"1 2 put \n", b"\0\0\0\x09\0\0\0\x01\0\0\0\x02\x01"),
+        (b"1 2 part \n", b"\0\0\0\x09\0\0\0\x01\0\0\0\x02\x08"),
+        (
+            b"1 2 drop TOY",
+            b"\0\0\0\x0d\0\0\0\x01\0\0\0\x02\x02\x03TOY",
+        ),
+        (
+            b"1 2 drop a|b ",
+            b"\0\0\0\x0d\0\0\0\x01\0\0\0\x02\x02\x03a|b",
+        ),
+        (b"1 2 bye ", b"\0\0\0\x09\0\0\0\x01\0\0\0\x02\x07"),
+    ];
+    for (script, frames) in cases {
+        let got = ask_script(rt.alloc(), script).map_err(|_| "refused")?;
+        assert_eq!(rt; got.as_slice(), frames);
+    }
+    Ok(())
+}
+
+/// A command of caller 1, and n letters behind it.
+fn long_line(alloc: Global, command: &[u8], n: usize) -> Result<Vec<u8>, AllocError> {
+    let mut line = Vec::new(alloc);
+    line.extend_from_slice(command)?;
+    for _ in 0..n {
+        line.push(b'a')?;
+    }
+    Ok(line)
+}
+
+#[test]
+fn names_and_texts_have_a_limit(rt: HostRuntime) -> Result<(), Fail> {
+    let limits: [(&[u8], usize); 3] = [
+        (b"1 1 drop ", 255),
+        (b"1 1 put ", 1_048_567),
+        (b"1 1 part ", 1_048_567),
+    ];
+    for (command, most) in limits {
+        let longest = long_line(rt.alloc(), command, most)?;
+        assert!(rt; ask_script(rt.alloc(), &longest).is_ok());
+        let longer = long_line(rt.alloc(), command, most + 1)?;
+        let fault = ask_script(rt.alloc(), &longer).err().ok_or("taken")?;
+        assert_eq!(rt; fault, RunFault::Line(1));
+    }
+    Ok(())
+}
+
+#[test]
 fn other_lines_are_no_commands(rt: HostRuntime) -> Result<(), Fail> {
-    let faults: [(&[u8], u32); 15] = [
+    let faults: [(&[u8], u32); 22] = [
         (b" ", 1),
         (b"7 1 close 0\n\n# c\n7 2 shut 0\n", 4),
         (b"7 1 CLOSE 0", 1),
@@ -89,6 +165,13 @@ fn other_lines_are_no_commands(rt: HostRuntime) -> Result<(), Fail> {
         (b"7 1 open US-ASCII UTF-8 strict strict", 1),
         (b"7 1 open US-ASCII", 1),
         (b" # no comment", 1),
+        (b"7 1 put", 1),
+        (b"7 1 part", 1),
+        (b"7 1 Put a", 1),
+        (b"7 1 put\tTOY", 1),
+        (b"7 1 drop", 1),
+        (b"7 1 drop TOY TOY", 1),
+        (b"7 1 bye 0", 1),
     ];
     for (script, line) in faults {
         let fault = ask_script(rt.alloc(), script).err().ok_or("taken")?;

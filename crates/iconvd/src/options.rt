@@ -14,10 +14,14 @@ const FILE: &str = "FILE";
 /// What the help of each command ends with.
 const SCRIPTS: &str = "\
 A script has one request a line, CALLER TAG and then one of
+  put TEXT                     upload a charmap; | stands for a line feed
+  part TEXT                    hold TEXT in front of the next put
+  drop NAME                    give back a charmap
   open TARGET SOURCE [strict]
   conv DESCRIPTOR ROOM HEX
   reset DESCRIPTOR ROOM
   close DESCRIPTOR
+  bye                          give back all that the caller has
   raw OP HEX
 
 Example:

@@ -1,0 +1,145 @@
+//! The largest uploads: as many mappings, and as many bytes, as there may be.
+use super::exchanges::{Case, check};
+use crate::script::ask_script;
+use crate::served_script::run_script;
+use std::alloc::Global;
+use std::test::Fail;
+
+const MOST_MAPPINGS: [Case; 3] = [
+    Case {
+        name: "262,144 mappings in one charmap, of each caller",
+        exchanges: &[
+            (
+                "1 1 put <code_set_name> BIG|<mb_cur_max> 3|CHARMAP|<question-mark> \\x40|<U10000>..<U4FFFE> \\x00\\x00\\x00|END CHARMAP",
+                "1 1 OK 00040000",
+            ),
+            (
+                "1 2 put <code_set_name> B|CHARMAP|<question-mark> \\x3F|END CHARMAP",
+                "1 2 QUOTA -",
+            ),
+            (
+                "2 1 put <code_set_name> B|CHARMAP|<question-mark> \\x3F|END CHARMAP",
+                "2 1 OK 00000001",
+            ),
+            ("1 3 open UTF-8 BIG", "1 3 OK 00000000"),
+            ("1 4 conv 0 9 03fffe40", "1 4 OK 0000000000000000f18fbfbe3f"),
+            ("1 5 close 0", "1 5 OK -"),
+            ("1 6 drop big", "1 6 OK -"),
+            (
+                "1 7 put <code_set_name> B|CHARMAP|<question-mark> \\x3F|END CHARMAP",
+                "1 7 OK 00000001",
+            ),
+        ],
+    },
+    Case {
+        name: "262,144 mappings in two charmaps, and one more",
+        exchanges: &[
+            (
+                "1 1 put <code_set_name> BIG|<mb_cur_max> 3|CHARMAP|<question-mark> \\x40|<U10000>..<U4FFFC> \\x00\\x00\\x00|END CHARMAP",
+                "1 1 OK 0003fffe",
+            ),
+            (
+                "1 2 put <code_set_name> C|CHARMAP|<question-mark> \\x3F|<A> \\x41|<B> \\x42|END CHARMAP",
+                "1 2 QUOTA -",
+            ),
+            (
+                "1 3 put <code_set_name> B|CHARMAP|<question-mark> \\x3F|<A> \\x41|END CHARMAP",
+                "1 3 OK 00000002",
+            ),
+            (
+                "1 4 put <code_set_name> C|CHARMAP|<question-mark> \\x3F|END CHARMAP",
+                "1 4 QUOTA -",
+            ),
+        ],
+    },
+    Case {
+        name: "a mapping too many, and no `?`",
+        exchanges: &[
+            (
+                "1 1 put <code_set_name> BAD|<mb_cur_max> 3|CHARMAP|<U10000>..<U20000> \\x00\\x00\\x00|END CHARMAP",
+                "1 1 BADMAP 000000000f",
+            ),
+            (
+                "1 2 put <code_set_name> BAD|<mb_cur_max> 3|CHARMAP|<U10000>..<U50000> \\x00\\x00\\x00|END CHARMAP",
+                "1 2 BADMAP 000000040b",
+            ),
+        ],
+    },
+];
+
+#[test]
+fn charmaps_have_262144_mappings_at_most(rt: HostRuntime) -> Result<(), Fail> {
+    check(&rt, &MOST_MAPPINGS)
+}
+
+/// Appends a line: this, and so many letters behind it.
+fn push_line(script: &mut Vec<u8>, command: &str, letters: usize) -> Result<(), Fail> {
+    script.extend_from_slice(command.as_bytes())?;
+    script.resize(script.len().saturating_add(letters), b'x')?;
+    script.push(b'\n')?;
+    Ok(())
+}
+
+/// Seven parts of the most bytes that a frame holds, and one of `last` bytes; the first begins with `front`.
+fn parts(alloc: Global, front: &str, last: usize) -> Result<Vec<u8>, Fail> {
+    let mut script = Vec::new(alloc);
+    let first = format!(in alloc; "1 1 part {front}")?;
+    push_line(&mut script, &first, 1_048_567 - front.len())?;
+    for _ in 2..8 {
+        push_line(&mut script, "1 2 part ", 1_048_567)?;
+    }
+    push_line(&mut script, "1 8 part ", last)?;
+    Ok(script)
+}
+
+const HELD: &str = "1 1 OK 000ffff7\n1 2 OK 001fffee\n1 2 OK 002fffe5\n1 2 OK 003fffdc\n\
+    1 2 OK 004fffd3\n1 2 OK 005fffca\n1 2 OK 006fffc1\n";
+
+#[test]
+fn a_part_has_7340041_bytes_at_most(rt: HostRuntime) -> Result<(), Fail> {
+    let alloc = rt.alloc();
+    let mut script = parts(alloc, "", 72)?;
+    push_line(&mut script, "1 9 part ", 1)?;
+    push_line(&mut script, "1 10 part ", 1_048_567)?;
+    script.extend_from_slice(b"1 11 put x\n1 12 part x\n1 13 part \n1 14 part x\n")?;
+    let got = run_script(&rt, alloc, &script).map_err(|_| "refused")?;
+    let want = format!(in alloc;
+        "{HELD}1 8 OK 00700009\n1 9 QUOTA -\n1 10 QUOTA -\n1 11 BADMAP 0000000101\n1 12 QUOTA -\n1 13 OK 00000000\n1 14 OK 00000001\n"
+    )?;
+    assert!(rt; got.as_slice() == want.as_bytes());
+    Ok(())
+}
+
+#[test]
+fn a_part_that_is_refused_changes_nothing(rt: HostRuntime) -> Result<(), Fail> {
+    let alloc = rt.alloc();
+    let mut script = parts(alloc, "", 73)?;
+    push_line(&mut script, "1 9 part ", 72)?;
+    let got = run_script(&rt, alloc, &script).map_err(|_| "refused")?;
+    let want = format!(in alloc; "{HELD}1 8 QUOTA -\n1 9 OK 00700009\n")?;
+    assert!(rt; got.as_slice() == want.as_bytes());
+    Ok(())
+}
+
+#[test]
+fn a_text_has_8388608_bytes_at_most(rt: HostRuntime) -> Result<(), Fail> {
+    let alloc = rt.alloc();
+    let mappings = "|<question-mark> \\x3F|<U0100> \\x80|END CHARMAP";
+    let mut script = parts(alloc, "<code_set_name> L|CHARMAP|#", 72)?;
+    script.extend_from_slice(b"1 9 put ")?;
+    script.resize(
+        script.len().saturating_add(1_048_567 - mappings.len()),
+        b'x',
+    )?;
+    script.extend_from_slice(mappings.as_bytes())?;
+    script.extend_from_slice(b"\n1 10 open UTF-8 L\n1 11 conv 0 9 80\n1 12 part \n")?;
+    let got = run_script(&rt, alloc, &script).map_err(|_| "refused")?;
+    let want = format!(in alloc;
+        "{HELD}1 8 OK 00700009\n1 9 OK 00000002\n1 10 OK 00000000\n1 11 OK 0000000000000000c480\n1 12 OK 00000000\n"
+    )?;
+    assert!(rt; got.as_slice() == want.as_bytes());
+    script.clear();
+    push_line(&mut script, "1 1 put ", 1_048_568)?;
+    assert!(rt; ask_script(alloc, &script).is_err());
+    Ok(())
+}

@@ -15,5 +15,5 @@ pub use limits::MOST_WORKERS;
 pub use pool::Pool;
 pub use shard::Shard;
 
-
-
+#[cfg(test)]
+mod tests;

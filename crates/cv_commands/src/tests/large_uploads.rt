@@ -84,7 +84,11 @@ fn push_line(script: &mut Vec<u8>, command: &str, letters: usize) -> Result<(), 
 fn parts(alloc: Global, front: &str, last: usize) -> Result<Vec<u8>, Fail> {
     let mut script = Vec::new(alloc);
     let first = format!(in alloc; "1 1 part {front}")?;
-    push_line(&mut script, &first, 1_048_567 - front.len())?;
+    push_line(
+        &mut script,
+        &first,
+        1_048_567usize.saturating_sub(front.len()),
+    )?;
     for _ in 2..8 {
         push_line(&mut script, "1 2 part ", 1_048_567)?;
     }
@@ -128,7 +132,9 @@ fn a_text_has_8388608_bytes_at_most(rt: HostRuntime) -> Result<(), Fail> {
     let mut script = parts(alloc, "<code_set_name> L|CHARMAP|#", 72)?;
     script.extend_from_slice(b"1 9 put ")?;
     script.resize(
-        script.len().saturating_add(1_048_567 - mappings.len()),
+        script
+            .len()
+            .saturating_add(1_048_567usize.saturating_sub(mappings.len())),
         b'x',
     )?;
     script.extend_from_slice(mappings.as_bytes())?;

@@ -5,7 +5,7 @@ use Rattle.std.proofs.Math.Seq.{drop-cons}
 use Rattle.std.proofs.lemmas.Bool.{cases_lt}
 use Rattle.std.proofs.lemmas.List.{length-drop}
 use Rattle.std.proofs.lemmas.Nat.{le_or_l, le_or_r}
-use Rattle.cv_base.specs.Items.{Begins, taken, Stands}
+use Rattle.cv_base.specs.Items.{taken, Stands}
 use Rattle.cv_base.specs.declared.state.ReadState.TheVariants as read
 use Rattle.cv_byte_trie.specs.Entries.{Entry, AreEntries, character_at}
 use Rattle.cv_byte_trie.specs.Tries.{StepsBy, tails, HasTrie}

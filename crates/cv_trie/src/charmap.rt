@@ -3,10 +3,10 @@ ghost use Rattle.std.specs.Prelude.{◌≡◌, length, IfOk};
 ghost use Rattle.cv_charmap.specs.Maps.{IsMap};
 ghost use Rattle.cv_trie.specs.Charmaps.{map_reads, map_writes, map_closes};
 
-use crate::ones::ones_of;
 use crate::ascii::{does_read_ascii, does_write_ascii};
 use crate::items::next_item;
 use crate::longest::longest;
+use crate::ones::ones_of;
 use crate::pages::Pages;
 use crate::reading::read_front;
 use crate::writing::{put_character, write_run};

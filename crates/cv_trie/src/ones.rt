@@ -14,7 +14,7 @@ use std::alloc::{AllocError, Global};
 const NO_CHARACTER: u32 = 0x8000_0000;
 
 /// How many bytes are read at once.
-const MANY: usize = 16;
+const MANY: usize = 8;
 
 /// The character that a byte is by itself, by the code to which it leads from the root.
 fn one_of(entries: &[Entry], code: u32) -> u32
@@ -46,13 +46,13 @@ pub(crate) fn ones_of(alloc: Global, trie: &ByteTrie) -> Result<Vec<u32>, AllocE
     Ok(ones)
 }
 
-/// What stands for each of sixteen bytes. None is tested, so that no branch is taken.
+/// What stands for each of eight bytes. None is tested, so that no branch is taken.
 #[inline(always)]
 fn numbers_of(ones: &[u32], input: &[u8], at: usize) -> [u32; MANY]
     requires long { length ones.now ≡ 256 }
-    requires within { at + 16 ≤ length input.now }
-    ensures long { length result ≡ 16 }
-    ensures numbers { (k : ℕ) → k < 16
+    requires within { at + 8 ≤ length input.now }
+    ensures long { length result ≡ 8 }
+    ensures numbers { (k : ℕ) → k < 8
         → slice_index result k ≡ slice_index ones.now (slice_index input.now (at + k)) }
 {
     let mut numbers = [0; MANY];
@@ -62,10 +62,10 @@ fn numbers_of(ones: &[u32], input: &[u8], at: usize) -> [u32; MANY]
     numbers
 }
 
-/// The bits of sixteen numbers, joined.
+/// The bits of eight numbers, joined.
 #[inline(always)]
 fn joined(numbers: &[u32; MANY]) -> u32
-    ensures { (k : ℕ) → k < 16 → slice_index numbers.now k ≤ result }
+    ensures { (k : ℕ) → k < 8 → slice_index numbers.now k ≤ result }
 {
     let mut joined = 0;
     for k in 0..MANY {
@@ -74,7 +74,7 @@ fn joined(numbers: &[u32; MANY]) -> u32
     joined
 }
 
-/// Puts the characters of sixteen bytes behind what was read. What they are characters of is there for the contract.
+/// Puts the characters of eight bytes behind what was read. What they are characters of is there for the contract.
 #[inline(always)]
 fn put_ones(
     _trie: &ByteTrie,
@@ -86,13 +86,13 @@ fn put_ones(
 ) -> Front
     requires read { IsReadFront _trie.now.entries _input.now front buffer.old }
     requires ones { AreOnes _trie.now.entries _ones.now 256 }
-    requires numbers { (k : ℕ) → k < 16 → slice_index numbers.now k
+    requires numbers { (k : ℕ) → k < 8 → slice_index numbers.now k
         ≡ slice_index _ones.now (slice_index _input.now (front.used + k)) }
-    requires characters { (k : ℕ) → k < 16 → slice_index numbers.now k < no_character }
-    requires room { front.n + 16 ≤ length buffer.old }
-    requires within { front.used + 16 ≤ length _input.now }
+    requires characters { (k : ℕ) → k < 8 → slice_index numbers.now k < no_character }
+    requires room { front.n + 8 ≤ length buffer.old }
+    requires within { front.used + 8 ≤ length _input.now }
     ensures read { IsReadFront _trie.now.entries _input.now result buffer.new }
-    ensures on { result.n ≡ front.n + 16 }
+    ensures on { result.n ≡ front.n + 8 }
 {
     for k in 0..MANY {
         buffer[front.n + k] = Scalar::known(numbers[k]);
@@ -103,7 +103,7 @@ fn put_ones(
     }
 }
 
-/// Reads characters of one byte behind what was read, sixteen at a time.
+/// Reads characters of one byte behind what was read, eight at a time.
 #[inline(always)]
 fn read_many(
     trie: &ByteTrie,

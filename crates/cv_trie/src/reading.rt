@@ -9,8 +9,8 @@ ghost use Rattle.cv_trie.specs.Private.Ones.{AreOnes};
 ghost use Rattle.cv_trie.specs.Private.Fronts.{IsReadFront};
 ghost use Rattle.cv_trie.specs.Private.Followed.{IsFound};
 
-use crate::ones::read_ones;
 use crate::front::Front;
+use crate::ones::read_ones;
 use cv_base::{ReadBlock, ReadState, Scalar};
 use cv_byte_trie::{ByteTrie, Entry, NODE, NONE, TAIL};
 

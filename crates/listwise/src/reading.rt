@@ -80,12 +80,7 @@ fn around(alloc: Global, front: u32, other: u32, back: u32) -> Result<Vec<u32>, 
 }
 
 /// How many texts are read whole, of those with two others behind so many of the first pairs.
-fn read_behind(
-    alloc: Global,
-    map: &Charmap,
-    form: Form,
-    front: u32,
-) -> Result<usize, AllocError> {
+fn read_behind(alloc: Global, map: &Charmap, form: Form, front: u32) -> Result<usize, AllocError> {
     let mut count = 0usize;
     for other in 32..46 {
         for back in [0, 1, 18] {

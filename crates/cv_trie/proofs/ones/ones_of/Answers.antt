@@ -1,8 +1,8 @@
-use Rattle.std.proofs.Common.{◌≡◌, ◌<◌, ◌∙◌, List, length, get_or, subst, arith}
+use Rattle.std.proofs.Common.{◌≡◌, ◌<◌, ◌∙◌, List, get_or, subst, arith}
 use Rattle.std.proofs.lemmas.List.{length-set}
 use Rattle.cv_byte_trie.specs.Entries.{Entry, AreEntries, character_at}
 use Rattle.cv_byte_trie.specs.Tables.{edge_of}
-use Rattle.cv_trie.specs.Private.Ones.{no_character, IsOne}
+use Rattle.cv_trie.specs.Private.Ones.{no_character}
 use Rattle.cv_trie.proofs.Following.{root_leaf}
 use Rattle.cv_trie.proofs.OneByte.{one_led, ones_more}
 use Rattle.cv_trie.proofs.ones.ones_of.Goals as goal

@@ -1,5 +1,4 @@
 use Rattle.std.proofs.Common.{◌≡◌, ◌+◌, ◌<◌, ◌∙◌, refl, arith, get_or}
-use Rattle.cv_trie.specs.Private.Ones.{no_character}
 use Rattle.cv_trie.proofs.OneByte.{one_more}
 use Rattle.cv_trie.proofs.ones.put_ones.Goals as goal
 

@@ -1,4 +1,4 @@
-use Rattle.std.proofs.Common.{◌≡◌, ◌≤◌, ◌+◌, ◌-◌, length}
+use Rattle.std.proofs.Common.{◌≤◌, ◌+◌, ◌-◌}
 use Rattle.cv_trie.specs.Private.Fronts.{IsReadFront}
 use Rattle.cv_trie.proofs.ones.read_few.Given as goal
 

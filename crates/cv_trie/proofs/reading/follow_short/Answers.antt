@@ -2,7 +2,6 @@ use Rattle.std.proofs.Common.{◌≡◌, ◌+◌, ◌-◌, ◌<◌, refl, sym, a
 use Rattle.std.proofs.lemmas.List.{get_or-drop}
 use Rattle.cv_byte_trie.specs.Tries.{node_code}
 use Rattle.cv_byte_trie.specs.Tables.{edge_of}
-use Rattle.cv_trie.specs.Private.Followed.{IsFollowed}
 use Rattle.cv_trie.proofs.Following.{followed_first, followed_on, followed_found}
 use Rattle.cv_trie.proofs.reading.follow_short.Goals as goal
 

@@ -52,14 +52,15 @@ fn read_some<S: Spelling>(input: &[u8], at: usize, buffer: &mut [Scalar], n: usi
     read_few::<S>(input, at, buffer, n, MANY)
 }
 
-/// Reads the characters at the front of a text into the front of a buffer.
+/// Reads the characters at the front of a text into the front of a buffer. Behind some it reads no more where there is not the room for
+/// many: few at once are left to the next buffer, which takes them with many others.
 #[inline(always)]
 fn read_front<S: Spelling>(input: &[u8], buffer: &mut [Scalar]) -> Spelled
     ensures { IsReadSpelled S.bytes_of input.now 0 buffer.old 0 result buffer.new }
 {
     let mut n = 0;
     let mut used = 0;
-    while n < buffer.len() {
+    while n == 0 || buffer.len() - n >= MANY {
         let some = read_some::<S>(input, used, buffer, n);
         if some.n == 0 {
             break;

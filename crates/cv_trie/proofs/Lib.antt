@@ -1,6 +1,7 @@
 pub mod MapLaws
 pub mod MapItems
 pub mod Following
+pub mod OneByte
 pub mod FirstPlaces
 pub mod Written
 pub mod MapReadBack

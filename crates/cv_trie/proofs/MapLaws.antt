@@ -1,5 +1,5 @@
 -- A charmap keeps what every codec keeps.
-use Rattle.std.proofs.Common.{◌≡◌, ◌==◌, ◌||◌, ℕ, ◌<◌, ◌≤◌, Bool, true, false, cond, List, [], ◌∷◌, suc, length, get_or, refl, sym, ◌∙◌, ap, arith, inl, inr, Option, Some, None, option_map}
+use Rattle.std.proofs.Common.{◌≡◌, ◌==◌, ◌||◌, ℕ, ◌<◌, ◌≤◌, Bool, true, false, cond, List, [], ◌∷◌, suc, length, get_or, refl, sym, ◌∙◌, ap, arith, inl, inr, Some, option_map}
 use Rattle.std.specs.Prelude.{IsSome, IfSome, Contains}
 use Rattle.std.specs.List.{find, list_any}
 use Rattle.std.proofs.lemmas.Bool.{cases_lt, false≢true}
@@ -9,8 +9,6 @@ use Rattle.cv_base.specs.Items.{Taken, taken, Begins}
 use Rattle.cv_base.specs.Codecs.{IsReadable, CanSubstitute, WritesAtMost}
 use Rattle.cv_base.specs.declared.state.ReadState.{ReadState}
 use Rattle.cv_base.specs.declared.state.ReadState.TheVariants as read
-use Rattle.cv_base.specs.declared.state.WriteState.{WriteState}
-use Rattle.cv_base.specs.declared.state.WriteState.TheVariants as write
 use Rattle.cv_base.proofs.Front.{Begins-meet}
 use Rattle.cv_byte_trie.specs.Entries.{no_entry, bytes_at, character_at, AreEntries, AreApart}
 use Rattle.cv_charmap.specs.Entries.{Pair}

@@ -5,7 +5,7 @@ use Rattle.std.proofs.Math.Seq.{drop-cons, take-add}
 use Rattle.std.specs.Prelude.{IsSome}
 use Rattle.cv_base.specs.Scalars.{question}
 use Rattle.cv_base.specs.Codecs.{Writing}
-use Rattle.cv_base.specs.Chains.{Output, output, written, put_or, substituted, followed, output_for}
+use Rattle.cv_base.specs.Chains.{output, written, put_or, substituted, followed, output_for}
 use Rattle.cv_base.specs.declared.state.WriteState.{WriteState}
 use Rattle.cv_base.specs.declared.state.WriteState.TheVariants as write
 use Rattle.cv_base.proofs.ChainLaws.{output_for-append, output_for-one}

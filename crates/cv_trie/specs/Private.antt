@@ -1,3 +1,4 @@
+pub mod Ones
 pub mod Paging
 pub mod Compiled
 pub mod Fronts

@@ -6,6 +6,7 @@ ghost use Rattle.cv_trie.specs.Charmaps.{map_reads, map_writes, map_closes};
 use crate::ascii::{does_read_ascii, does_write_ascii};
 use crate::items::next_item;
 use crate::longest::longest;
+use crate::ones::ones_of;
 use crate::pages::Pages;
 use crate::reading::read_front;
 use crate::writing::{put_character, write_run};
@@ -24,6 +25,8 @@ pub struct Charmap {
     name: Vec<u8>,
     /// The pairs, found by their bytes.
     trie: ByteTrie,
+    /// For each byte the character that it is by itself.
+    ones: Vec<u32>,
     /// The place of each character's first pair.
     pages: Pages,
     /// How many bytes the longest pair has.
@@ -42,7 +45,7 @@ impl Model for Charmap {
 
     ghost view = { λ m. record { name = m.name.items; pairs = m.trie.entries } };
 
-    ghost invariant = { λ m. IsCompiled m.trie.entries m.pages.tops.items m.pages.cells.items
+    ghost invariant = { λ m. IsCompiled m.trie.entries m.ones.items m.pages.tops.items m.pages.cells.items
         m.most m.reads_ascii m.writes_ascii };
 }
 
@@ -52,6 +55,7 @@ impl Charmap {
         ensures { IfOk result (λ m. m ≡ pairs) }
     {
         let (name, trie) = pairs.into_parts();
+        let ones = ones_of(alloc, &trie)?;
         let pages = Pages::of(alloc, trie.entries())?;
         let most = longest(trie.entries());
         let reads_ascii = does_read_ascii(&trie);
@@ -59,6 +63,7 @@ impl Charmap {
         Ok(Charmap {
             name,
             trie,
+            ones,
             pages,
             most,
             reads_ascii,
@@ -129,7 +134,7 @@ impl BlockCodec for Charmap {
     #[tactic(auto, using(cv_base::proofs::BlockLaws::nothing_read))]
     fn read_block(&self, state: ReadState, input: &[u8], buffer: &mut [Scalar]) -> ReadBlock {
         match state {
-            ReadState::Start => read_front(&self.trie, input, buffer),
+            ReadState::Start => read_front(&self.trie, &self.ones, input, buffer),
             _ => ReadBlock::nothing(state),
         }
     }

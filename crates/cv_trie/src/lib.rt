@@ -7,6 +7,7 @@ mod front;
 mod items;
 pub mod laws;
 mod longest;
+mod ones;
 mod pages;
 mod reading;
 mod writing;

@@ -1,16 +1,21 @@
 //! Reading by blocks.
-ghost use Rattle.std.specs.Prelude.{◌≡◌, ◌≤◌, ◌<◌, ℕ, length, drop, slice_index};
+ghost use Rattle.std.specs.Prelude.{◌≡◌, ◌≤◌, ◌<◌, ◌+◌, ℕ, length, drop, slice_index};
 ghost use Rattle.cv_base.specs.Blocks.{IsReadBlock};
 ghost use Rattle.cv_base.specs.declared.state.ReadState.{ReadState};
 ghost use Rattle.cv_byte_trie.specs.Tries.{tails};
 ghost use Rattle.cv_byte_trie.specs.Tables.{edge_of};
 ghost use Rattle.cv_trie.specs.Charmaps.{map_reads};
+ghost use Rattle.cv_trie.specs.Private.Ones.{AreOnes};
 ghost use Rattle.cv_trie.specs.Private.Fronts.{IsReadFront};
 ghost use Rattle.cv_trie.specs.Private.Followed.{IsFound};
 
 use crate::front::Front;
+use crate::ones::read_ones;
 use cv_base::{ReadBlock, ReadState, Scalar};
 use cv_byte_trie::{ByteTrie, Entry, NODE, NONE, TAIL};
+
+/// How many characters are read one after another, however long, before shorter ones are tried again. It decides speed alone.
+const LONGER_AT_ONCE: usize = 32;
 
 /// The entry that stands at a place of a text, or none.
 #[derive(Clone, Copy, Debug)]
@@ -67,34 +72,55 @@ fn follow(trie: &ByteTrie, root: &[u32], input: &[u8], used: usize) -> Followed
     Followed { code, size }
 }
 
-/// Reads characters of one byte behind what was read.
+/// Follows the one or two bytes of a short string at a place of a text. Most maps have no others, and it goes around no loop.
 #[inline(always)]
-fn read_ones(trie: &ByteTrie, input: &[u8], buffer: &mut [Scalar], front: Front) -> Front
+fn follow_short(trie: &ByteTrie, root: &[u32], input: &[u8], used: usize) -> Followed
+    requires root { (b : ℕ) → b < 256 → slice_index root.now b ≡ edge_of trie.now.steps 0 b }
+    requires size { length root.now ≡ 256 }
+    requires within { used + 2 ≤ length input.now }
+    ensures found { result.code < tails
+        → IsFound trie.now.entries (drop used input.now) result.size result.code }
+    ensures within { result.size ≤ length (drop used input.now) }
+{
+    trie.assert_leads();
+    // What it ensures says that the pairs can be looked up.
+    let _pairs = trie.len();
+    let first = root[input[used] as usize];
+    if first <= NONE {
+        return Followed {
+            code: first,
+            size: 1,
+        };
+    }
+    let code = trie.step(first - NODE, input[used + 1]);
+    Followed { code, size: 2 }
+}
+
+/// Reads characters of one and of two bytes behind what was read.
+#[inline(always)]
+fn read_short(trie: &ByteTrie, input: &[u8], buffer: &mut [Scalar], front: Front) -> Front
     requires { IsReadFront trie.now.entries input.now front buffer.old }
     ensures read { IsReadFront trie.now.entries input.now result buffer.new }
     ensures on { front.n ≤ result.n }
 {
-    trie.assert_leads();
     let root = trie.root();
     let entries = trie.entries();
-    let most = (buffer.len() - front.n).min(input.len() - front.used);
-    let mut k = 0;
-    while k < most {
-        let code = root[input[front.used + k] as usize];
-        if code >= TAIL {
+    let mut n = front.n;
+    let mut used = front.used;
+    while n < buffer.len() && input.len() - used >= 2 {
+        let short = follow_short(trie, root, input, used);
+        if short.code >= TAIL {
             break;
         }
-        buffer[front.n + k] = entries[code as usize].character();
-        k += 1;
+        buffer[n] = entries[short.code as usize].character();
+        n += 1;
+        used += short.size;
     }
-    Front {
-        n: front.n + k,
-        used: front.used + k,
-    }
+    Front { n, used }
 }
 
-/// Reads characters behind what was read, up to one of one byte.
-#[inline(always)]
+/// Reads some characters behind what was read, however long. It stands apart, so that the loops around it keep their registers.
+#[inline(never)]
 fn read_longer(trie: &ByteTrie, input: &[u8], buffer: &mut [Scalar], front: Front) -> Front
     requires { IsReadFront trie.now.entries input.now front buffer.old }
     ensures read { IsReadFront trie.now.entries input.now result buffer.new }
@@ -104,9 +130,10 @@ fn read_longer(trie: &ByteTrie, input: &[u8], buffer: &mut [Scalar], front: Fron
     let entries = trie.entries();
     let mut n = front.n;
     let mut used = front.used;
-    while n < buffer.len() && used < input.len() {
+    let most = n + LONGER_AT_ONCE.min(buffer.len() - n);
+    while n < most && used < input.len() {
         let followed = follow(trie, root, input, used);
-        if followed.code >= NONE || followed.size == 1 {
+        if followed.code >= NONE {
             break;
         }
         buffer[n] = entries[followed.code as usize].character();
@@ -116,9 +143,17 @@ fn read_longer(trie: &ByteTrie, input: &[u8], buffer: &mut [Scalar], front: Fron
     Front { n, used }
 }
 
-/// Reads the characters at the front of a text into the front of a buffer. Those of one byte have a loop of their own.
+/// Reads the characters at the front of a text into the front of a buffer. Those of one byte have a loop of their own, and those
+/// of up to two.
 #[inline(never)]
-pub(crate) fn read_front(trie: &ByteTrie, input: &[u8], buffer: &mut [Scalar]) -> ReadBlock
+pub(crate) fn read_front(
+    trie: &ByteTrie,
+    ones: &[u32],
+    input: &[u8],
+    buffer: &mut [Scalar],
+) -> ReadBlock
+    requires long { length ones.now ≡ 256 }
+    requires ones { AreOnes trie.now.entries ones.now 256 }
     ensures block { IsReadBlock (map_reads trie.now.entries) ReadState.Start input.now
         result buffer.new }
     ensures size { length buffer.new ≡ length buffer.old }
@@ -126,7 +161,8 @@ pub(crate) fn read_front(trie: &ByteTrie, input: &[u8], buffer: &mut [Scalar]) -
     let mut front = Front { n: 0, used: 0 };
     while front.n < buffer.len() {
         let before = front.n;
-        front = read_ones(trie, input, buffer, front);
+        front = read_ones(trie, ones, input, buffer, front);
+        front = read_short(trie, input, buffer, front);
         front = read_longer(trie, input, buffer, front);
         if front.n == before {
             break;

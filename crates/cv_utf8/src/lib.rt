@@ -9,6 +9,7 @@ mod utf8;
 mod utf8_front;
 mod utf8_long;
 mod utf8_reading;
+mod utf8_short_words;
 mod utf8_spelling;
 mod utf8_windows;
 

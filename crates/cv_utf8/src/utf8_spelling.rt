@@ -1,5 +1,5 @@
 //! UTF-8 as a spelling.
-ghost use Rattle.std.specs.Prelude.{◌≡◌, ◌+◌, ◌≤◌, ◌<◌, ℕ, IsTrue, length, take, drop, get_or};
+ghost use Rattle.std.specs.Prelude.{◌≡◌, ◌+◌, ◌≤◌, ◌<◌, ℕ, length, take, drop, get_or};
 ghost use Rattle.std.specs.Int.{to_le_bytes, w32};
 ghost use Rattle.cv_base.specs.Scalars.{IsScalar};
 ghost use Rattle.cv_base.specs.Items.{Begins};
@@ -8,6 +8,7 @@ ghost use Rattle.cv_block.specs.Words.{AreWords, AreSizes};
 ghost use Rattle.cv_utf8.specs.Utf8.{utf8_bytes};
 
 use crate::utf8_reading::{inner_at, last_at};
+use crate::utf8_short_words::{write_middle, write_short};
 use crate::utf8_windows::read_many;
 use cv_base::Scalar;
 use cv_block::{MANY, Spelled, Spelling, Words, write_words};
@@ -47,17 +48,17 @@ fn size(value: u32) -> usize
     1 + (value >= 0x80) as usize + (value >= 0x800) as usize + (value >= 0x1_0000) as usize
 }
 
-/// Whether sixteen characters are ASCII. Each is tested, so that the loop is done at once.
+/// The bits of sixteen characters, joined. Each is joined, so that the loop is done at once.
 #[inline(always)]
-fn are_ascii(characters: &[Scalar], n: usize) -> bool
+fn joined(characters: &[Scalar], n: usize) -> u32
     requires { n + 16 ≤ length characters.now }
-    ensures { IsTrue result → (k : ℕ) → k < 16 → get_or characters.now (n + k) 0 < 128 }
+    ensures { (k : ℕ) → k < 16 → get_or characters.now (n + k) 0 ≤ result }
 {
-    let mut all = true;
+    let mut joined = 0;
     for lane in 0..MANY {
-        all &= characters[n + lane].value() < 128;
+        joined |= characters[n + lane].value();
     }
-    all
+    joined
 }
 
 /// The spellings of sixteen characters, each as `word` has it.
@@ -156,8 +157,15 @@ impl Spelling for Utf8Spelling {
 
     #[inline(always)]
     fn write_many(characters: &[Scalar], n: usize, out: &mut [u8], at: usize) -> Spelled {
-        if !are_ascii(characters, n) {
+        let joined = joined(characters, n);
+        if joined >= 0x1_0000 {
             return write_words::<Utf8Spelling>(characters, n, out, at);
+        }
+        if joined >= 0x800 {
+            return write_middle(characters, n, out, at);
+        }
+        if joined >= 0x80 {
+            return write_short(characters, n, out, at);
         }
         out[at..at + MANY].copy_from_slice(&narrowed(characters, n));
         Spelled {

@@ -15,11 +15,12 @@ fn compare<R: Print + AllocGlobal>(rt: &R, name: &str, form: Form, pairs: Pairs)
     let map = Charmap::build(rt.alloc(), pairs).map_err(|_| io::ErrorKind::OutOfMemory)?;
     let alone = reading::read_alone(&map, form);
     let joined = reading::read_joined(rt.alloc(), &map, form)?;
+    let around = reading::read_around(rt.alloc(), &map, form)?;
     let firsts = writing::firsts(rt.alloc(), form)?;
     let written = writing::written_alone(&map, form, &firsts);
     let blocks = writing::written_in_blocks(&map, form, &firsts);
     println!(rt;
-        "{name}: {} pairs, {alone} read alone, {joined} in blocks",
+        "{name}: {} pairs, {alone} read alone, {joined} in blocks, {around} texts",
         map.len()
     )?;
     println!(rt; "{name}: {written} scalar values written alone, {blocks} blocks")

@@ -26,30 +26,78 @@ pub fn read_alone(map: &Charmap, form: Form) -> usize {
     (0..form.count()).filter(|n| is_read(map, form, *n)).count()
 }
 
-/// The bytes of all pairs, one behind another.
-fn joined(alloc: Global, form: Form) -> Result<Vec<u8>, AllocError> {
+/// The bytes of pairs, one behind another.
+fn joined(alloc: Global, form: Form, pairs: &[u32]) -> Result<Vec<u8>, AllocError> {
     let mut text = Vec::new(alloc);
-    for n in 0..form.count() {
-        text.extend_from_slice(form.bytes(n).as_slice())?;
+    for n in pairs {
+        text.extend_from_slice(form.bytes(*n).as_slice())?;
     }
     Ok(text)
 }
 
-/// How many pairs are read from their joined bytes by blocks, up to the first that isn't.
-pub fn read_joined(alloc: Global, map: &Charmap, form: Form) -> Result<u32, AllocError> {
-    let text = joined(alloc, form)?;
+/// How many of some pairs are read from their joined bytes by blocks, up to the first that isn't.
+fn read_in_blocks(
+    alloc: Global,
+    map: &Charmap,
+    form: Form,
+    pairs: &[u32],
+) -> Result<usize, AllocError> {
+    let text = joined(alloc, form, pairs)?;
     let mut rest = text.as_slice();
     let mut buffer = [Scalar::substitute(); 50];
-    let mut count = 0u32;
-    for _ in 0..form.count() {
+    let mut count = 0usize;
+    for _ in 0..pairs.len() {
         let block = map.read_block(ReadState::Start, rest, &mut buffer);
         for character in buffer.iter().take(block.n) {
-            if *character != form.character(count) {
+            if pairs.get(count).map(|n| form.character(*n)) != Some(*character) {
                 return Ok(count);
             }
             count = count.saturating_add(1);
         }
         rest = rest.get(block.used..).unwrap_or(&[]);
+    }
+    Ok(count)
+}
+
+/// How many pairs are read from the joined bytes of all, up to the first that isn't.
+pub fn read_joined(alloc: Global, map: &Charmap, form: Form) -> Result<usize, AllocError> {
+    let all: Vec<u32> = (0..form.count()).collect(alloc)?;
+    read_in_blocks(alloc, map, form, &all)
+}
+
+/// Some of the first pairs, which are those of one byte where a form has several sizes; another twice; and some of the first again.
+fn around(alloc: Global, front: u32, other: u32, back: u32) -> Result<Vec<u32>, AllocError> {
+    let mut pairs = Vec::new(alloc);
+    for n in 0..front {
+        pairs.push(n % 32)?;
+    }
+    pairs.push(other)?;
+    pairs.push(other)?;
+    for n in 0..back {
+        pairs.push(n % 32)?;
+    }
+    Ok(pairs)
+}
+
+/// How many texts are read whole, of those with two others behind so many of the first pairs.
+fn read_behind(alloc: Global, map: &Charmap, form: Form, front: u32) -> Result<usize, AllocError> {
+    let mut count = 0usize;
+    for other in 32..46 {
+        for back in [0, 1, 18] {
+            let pairs = around(alloc, front, other, back)?;
+            let read = read_in_blocks(alloc, map, form, &pairs)?;
+            count = count.saturating_add(usize::from(read == pairs.len()));
+        }
+    }
+    Ok(count)
+}
+
+/// How many texts are read whole, of those that change from the first pairs to others around the bounds of the loops that read many at
+/// once.
+pub fn read_around(alloc: Global, map: &Charmap, form: Form) -> Result<usize, AllocError> {
+    let mut count = 0usize;
+    for front in 0..35 {
+        count = count.saturating_add(read_behind(alloc, map, form, front)?);
     }
     Ok(count)
 }

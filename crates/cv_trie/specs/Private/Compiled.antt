@@ -1,5 +1,5 @@
 -- What a compiled charmap keeps.
-use Rattle.std.specs.Prelude.{ℕ, ◌<◌, ◌≤◌, List, length, Bool, IsTrue}
+use Rattle.std.specs.Prelude.{◌≡◌, ℕ, ◌<◌, ◌≤◌, List, length, Bool, IsTrue}
 use Rattle.cv_base.specs.Ascii.{ReadsAscii, WritesAscii}
 use Rattle.cv_base.specs.declared.ascii_form.AsciiForm.TheVariants.{Byte}
 use Rattle.cv_base.specs.declared.state.ReadState.TheVariants as read
@@ -8,6 +8,7 @@ use Rattle.cv_byte_trie.specs.Entries.{bytes_at}
 use Rattle.cv_charmap.specs.Entries.{Pair}
 use Rattle.cv_charmap.specs.Maps.{IsMap}
 use Rattle.cv_trie.specs.Charmaps.{map_reads, map_writes}
+use Rattle.cv_trie.specs.Private.Ones.{AreOnes}
 use Rattle.cv_trie.specs.Private.Paging.{AreFirst}
 
 -- No pair has more bytes than so many, and those have 8 at most.
@@ -15,9 +16,11 @@ pub record HaveAtMost (most : ℕ) (pairs : List Pair) : Type 0 where
   pub few : most ≤ 8
   pub each : (k : ℕ) → k < length pairs → length (bytes_at pairs k) ≤ most
 
--- The list is a charmap's; its pages name the first place of each character and nothing else; and where ASCII stands for itself.
-pub record IsCompiled (pairs : List Pair) (tops cells : List ℕ) (most : ℕ) (reads writes : Bool) : Type 0 where
+-- The list is a charmap's; the bytes that are characters by themselves stand in their table; its pages name the first place of each character and nothing else; and where ASCII stands for itself.
+pub record IsCompiled (pairs : List Pair) (ones tops cells : List ℕ) (most : ℕ) (reads writes : Bool) : Type 0 where
   pub map : IsMap pairs
+  pub long : length ones ≡ 256
+  pub singles : AreOnes pairs ones 256
   pub names : AreFirst tops cells pairs
   pub sizes : HaveAtMost most pairs
   pub reads_ascii : IsTrue reads → ReadsAscii (map_reads pairs) read.Start Byte

@@ -1,7 +1,7 @@
 -- What was read at the front of a text, and what was written at the front of a buffer.
 use Rattle.std.specs.Prelude.{◌≡◌, ◌≤◌, ℕ, List, length, take}
 use Rattle.cv_base.specs.Codecs.{Writing}
-use Rattle.cv_base.specs.Chains.{Output, output_for}
+use Rattle.cv_base.specs.Chains.{output_for}
 use Rattle.cv_base.specs.Blocks.{IsReadBlock}
 use Rattle.cv_base.specs.declared.state.ReadState.TheVariants as read
 use Rattle.cv_base.specs.declared.state.WriteState.TheVariants as write

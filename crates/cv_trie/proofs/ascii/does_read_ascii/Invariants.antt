@@ -1,4 +1,4 @@
-use Rattle.std.proofs.Common.{◌≡◌, ◌<◌, ℕ, [], ◌∷◌, Some}
+use Rattle.std.proofs.Common.{◌<◌, ℕ, [], ◌∷◌, Some}
 use Rattle.cv_base.specs.Items.{taken}
 use Rattle.cv_base.specs.declared.state.ReadState.TheVariants as read
 use Rattle.cv_trie.specs.Charmaps.{map_reads}

@@ -1,4 +1,4 @@
-use Rattle.std.proofs.Common.{arith, List, subst}
+use Rattle.std.proofs.Common.{List, subst}
 use Rattle.cv_byte_trie.specs.Entries.{Entry, AreApart}
 use Rattle.cv_trie.proofs.MapItems.{some_bytes, inside_incomplete, none_ill}
 use Rattle.cv_trie.proofs.items.next_item.Goals as goal

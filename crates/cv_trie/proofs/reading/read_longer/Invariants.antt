@@ -6,7 +6,8 @@ abbrev pub invariant-loop-n : goal.invariant-loop-n
 invariant-loop-n l = record {
   read : IsReadFront l.trie.entries l.input (record { n = l.n; used = l.used }) l.buffer;
   on : l.fn.front.n ≤ l.n;
+  few : l.most ≤ length l.buffer;
 }
 
 abbrev pub decreases-loop-n : goal.decreases-loop-n
-decreases-loop-n l = length l.buffer - l.n
+decreases-loop-n l = l.most - l.n

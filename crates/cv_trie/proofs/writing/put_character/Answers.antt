@@ -1,10 +1,9 @@
-use Rattle.std.proofs.Common.{◌≡◌, ◌∙◌, ℕ, List, Option, Some, None, subst, sym, ap, refl, arith, length}
+use Rattle.std.proofs.Common.{◌≡◌, ◌∙◌, ℕ, List, Option, Some, subst, sym, ap, refl, arith, length}
 use Rattle.cv_base.specs.Places.{PutsAt}
 use Rattle.cv_base.specs.declared.place.Put.TheVariants as put
 use Rattle.cv_base.specs.declared.state.WriteState.{WriteState}
 use Rattle.cv_base.specs.declared.state.WriteState.TheVariants as write
 use Rattle.cv_byte_trie.specs.Entries.{bytes_at}
-use Rattle.cv_trie.specs.Charmaps.{map_writes}
 use Rattle.cv_trie.specs.Private.Paging.{place_of}
 use Rattle.cv_trie.proofs.Following.{entry_bytes}
 use Rattle.cv_trie.proofs.FirstPlaces.{place_low, writes_place, writes_nothing}

@@ -1,0 +1,16 @@
+-- Bytes that are characters by themselves.
+use Rattle.std.specs.Prelude.{ℕ, ◌<◌, List, [], ◌∷◌, Contains, get_or}
+use Rattle.cv_base.specs.Scalars.{IsScalar}
+use Rattle.cv_charmap.specs.Entries.{Pair}
+
+-- stands for no character
+abbrev pub no_character : ℕ
+no_character = 0x80000000
+
+-- A byte is this character by itself.
+abbrev pub IsOne : List Pair → ℕ → ℕ → Type 0
+IsOne pairs byte character = IsScalar character × Contains pairs (byte ∷ [], character)
+
+-- Each of the first so many bytes is the character that stands at its place, unless what stands there is none.
+abbrev pub AreOnes : List Pair → List ℕ → ℕ → Type 0
+AreOnes pairs ones n = (b : ℕ) → b < n → get_or ones b 0 < no_character → IsOne pairs b (get_or ones b 0)

@@ -9,7 +9,7 @@ use Rattle.std.proofs.lemmas.List.{get_or_read}
 use Rattle.std.proofs.lemmas.Nat.{le_or_l, le_or_r}
 use Rattle.cv_base.specs.Items.{Begins}
 use Rattle.cv_utf8.specs.Utf8.{utf8_bytes}
-use Rattle.cv_utf8.proofs.Utf8Lanes.{below, div_all, rem_all, mul_all, sum_all, below_all}
+use Rattle.cv_block.proofs.Lanes.{below, div_all, rem_all, mul_all, sum_all, below_all}
 
 -- the word of a lane
 abbrev pub short_word : ℕ → ℕ

@@ -1,5 +1,5 @@
 use Rattle.std.proofs.Common.{arith, lit<, get_or}
-use Rattle.cv_utf8.proofs.Utf8Lanes.{none_zero}
+use Rattle.cv_block.proofs.Lanes.{none_zero}
 use Rattle.cv_utf8.proofs.Utf8ShortWords.{short_at, short_begins}
 use Rattle.cv_utf8.proofs.utf8_short_words.short_words.Goals as goal
 

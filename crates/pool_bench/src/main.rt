@@ -1,6 +1,8 @@
 //! How long batches take. It gives figures only where it is asked for them; see `bench/workers`.
 #![tactic(auto)]
 
+ghost use Rattle.std.specs.Prelude.{◌<◌, ◌≤◌, IfSome};
+
 mod measure;
 
 use measure::{Asked, Kind, measure};
@@ -20,7 +22,9 @@ fn kind(word: &str) -> Option<Kind> {
     }
 }
 
-fn asked(words: &[&str]) -> Option<Asked> {
+fn asked(words: &[&str]) -> Option<Asked>
+    ensures { IfSome result (λ a. (0 < a.workers) × (a.workers ≤ 16)) }
+{
     let [_, what, workers, rounds] = words else {
         return None;
     };

@@ -63,8 +63,8 @@ pub put-shown : (c : LruCache (Vec ℕ) (Arc Charmap Global)) (key : Vec ℕ) (v
     → put_entries bytes_eq (lru_cache (map shown c.entries) c.cap) key.items (arc_value value) ≡ map shown (put_entries same_key c key value)
 put-shown c key value = rw (entry-shown key.items c.entries, remove-shown key.items c.entries, take-shown (c.cap - 1) c.entries)
     (elim (lookup_entry (is_text key.items) c.entries) as (λ o.
-          option_map_or (λ e. (e.0, arc_value value) ∷ map shown (remove_entry (is_text key.items) c.entries)) (option_map shown o) ((key.items, arc_value value) ∷ map shown (take (c.cap - 1) c.entries))
-              ≡ map shown (option_map_or (λ e. (e.0, value) ∷ remove_entry (is_text key.items) c.entries) o ((key, value) ∷ take (c.cap - 1) c.entries))) [ None ↦ refl | Some e ↦ refl ])
+    option_map_or (λ e. (e.0, arc_value value) ∷ map shown (remove_entry (is_text key.items) c.entries)) (option_map shown o) ((key.items, arc_value value) ∷ map shown (take (c.cap - 1) c.entries))
+    ≡ map shown (option_map_or (λ e. (e.0, value) ∷ remove_entry (is_text key.items) c.entries) o ((key, value) ∷ take (c.cap - 1) c.entries))) [ None ↦ refl | Some e ↦ refl ])
 
 -- Entries stay sound where one is put whose charmap is what its text means.
 pub IsSound-put : (c : LruCache (Vec ℕ) (Arc Charmap Global)) (key : Vec ℕ) (value : Arc Charmap Global) → IsSound c → meaning key.items ≡ Ok (arc_value value)

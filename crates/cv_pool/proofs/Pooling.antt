@@ -61,9 +61,9 @@ pooled_step all number old new request reply place low is steps =
       turns = subst (λ (t : Table). turn t request.code request.body (record { next = pooled (set all number new) caller; code = reply.code; body = reply.body })) (sym before)
           (subst (λ (t : Table). turn (world_tables old caller) request.code request.body (record { next = t; code = reply.code; body = reply.body })) (sym after) steps.turns);
       leaves = fun_ext (λ c. (elim (eqb c caller) as (λ (b : Bool). eqb c caller ≡ b → pooled (set all number new) c ≡ cond b (pooled (set all number new) caller) (pooled all c)) [
-            | true ↦ λ (e : eqb c caller ≡ true). ap (pooled (set all number new)) (eqb-true c caller e)
-            | false ↦ λ (e : eqb c caller ≡ false). others c e
-          ]) refl);
+        | true ↦ λ (e : eqb c caller ≡ true). ap (pooled (set all number new)) (eqb-true c caller e)
+        | false ↦ λ (e : eqb c caller ≡ false). others c e
+      ]) refl);
     }
 
 -- ---- one batch

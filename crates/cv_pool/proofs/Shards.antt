@@ -34,19 +34,19 @@ part_others count n ms m apart =
 lost_first : (shards : List Shard) (k : ℕ) (d new : Shard) → k < length shards → new.replies.items ≡ drop 1 (get_or shards k d).replies.items
     → replies_in (set shards k new) ≡ without_first (replies_in shards) k
 lost_first shards k d new low left = fun_ext (λ n.
-      (elim (eqb n k) as (λ (b : Bool). eqb n k ≡ b → replies_in (set shards k new) n ≡ cond b (drop 1 (replies_in shards n)) (replies_in shards n)) [
-        | true ↦ λ (e : eqb n k ≡ true).
-            let there : k < length (set shards k new) = omega (arith, length-set shards k new) in
-            ap (replies_in (set shards k new)) (eqb-true n k e)
-            ∙ get_or-map (λ (s : Shard). s.replies.items) (set shards k new) k new [] there
-            ∙ ap (λ (s : Shard). s.replies.items) (get_or-set_same shards k new new low) ∙ left
-            ∙ ap (drop 1) (sym (get_or-map (λ (s : Shard). s.replies.items) shards k d [] low))
-            ∙ ap (λ (j : ℕ). drop 1 (replies_in shards j)) (sym (eqb-true n k e))
-        | false ↦ λ (e : eqb n k ≡ false).
-            let apart : n ≢ k = λ h. grind (arith, nat_tests, e, h) in
-            ap (λ (xs : List (List Message)). get_or xs n []) (map-set (λ (s : Shard). s.replies.items) shards k new)
-            ∙ get_or-set_other (map (λ (s : Shard). s.replies.items) shards) k n new.replies.items [] apart
-      ]) refl)
+    (elim (eqb n k) as (λ (b : Bool). eqb n k ≡ b → replies_in (set shards k new) n ≡ cond b (drop 1 (replies_in shards n)) (replies_in shards n)) [
+      | true ↦ λ (e : eqb n k ≡ true).
+          let there : k < length (set shards k new) = omega (arith, length-set shards k new) in
+          ap (replies_in (set shards k new)) (eqb-true n k e)
+          ∙ get_or-map (λ (s : Shard). s.replies.items) (set shards k new) k new [] there
+          ∙ ap (λ (s : Shard). s.replies.items) (get_or-set_same shards k new new low) ∙ left
+          ∙ ap (drop 1) (sym (get_or-map (λ (s : Shard). s.replies.items) shards k d [] low))
+          ∙ ap (λ (j : ℕ). drop 1 (replies_in shards j)) (sym (eqb-true n k e))
+      | false ↦ λ (e : eqb n k ≡ false).
+          let apart : n ≢ k = λ h. grind (arith, nat_tests, e, h) in
+          ap (λ (xs : List (List Message)). get_or xs n []) (map-set (λ (s : Shard). s.replies.items) shards k new)
+          ∙ get_or-set_other (map (λ (s : Shard). s.replies.items) shards) k n new.replies.items [] apart
+    ]) refl)
 
 -- one more reply has been put back
 pub put_back_one : (count k : ℕ) (shards : List Shard) (m : Message) (more : List Message) (d new : Shard) (out : List Message) → k ≡ m.caller % count → k < length shards
@@ -100,9 +100,9 @@ batch_runs old ready done new asked told some ready_len done_len new_len same an
 -- Where no caller of any shard has asked yet, none of the pool has.
 pub all_new : (shards : List Shard) → 0 < length shards → All (λ s. world_tables s.world ≡ no_tables) shards → pool_tables shards ≡ no_tables
 all_new shards some new = fun_ext (λ caller.
-      let count : ℕ = length (worlds shards) in
-      let many : count ≡ length shards = length-map shards (λ (s : Shard). s.world) in
-      let low : caller % count < length shards = omega (arith, many) in
-      let d : Shard = some_of shards (caller % count) low in
-      ap (λ (w : Seen). world_tables w caller) (get_or-map (λ (s : Shard). s.world) shards (caller % count) d [] low)
-      ∙ ap (λ (tables : ℕ → Table). tables caller) (new (caller % count) d low))
+    let count : ℕ = length (worlds shards) in
+    let many : count ≡ length shards = length-map shards (λ (s : Shard). s.world) in
+    let low : caller % count < length shards = omega (arith, many) in
+    let d : Shard = some_of shards (caller % count) low in
+    ap (λ (w : Seen). world_tables w caller) (get_or-map (λ (s : Shard). s.world) shards (caller % count) d [] low)
+    ∙ ap (λ (tables : ℕ → Table). tables caller) (new (caller % count) d low))

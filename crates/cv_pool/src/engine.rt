@@ -34,12 +34,7 @@ impl<C, G> Machine for Pool<C, G> {
 impl<R: Threads + Wait + Sync> Engine<R> for Pool<Cached, Open> {
     ghost ready = { λ _. IsSync R.row };
 
-    fn batch(
-        &mut self,
-        rt: &R,
-        alloc: Global,
-        requests: &[Request],
-    ) -> Result<Vec<Reply>, Memory> {
+    fn batch(&mut self, rt: &R, alloc: Global, requests: &[Request]) -> Result<Vec<Reply>, Memory> {
         self.batch(rt, alloc, requests)
     }
 }

@@ -46,6 +46,7 @@ impl<C, G> Pool<C, G> {
         C: Drop,
         G: Drop,
         requires { (0 < workers) × (workers ≤ MOST_WORKERS) }
+        ensures shards { IfOk result (λ pool. vec_len pool.shards ≡ workers) }
         ensures tables { IfOk result (λ pool. pool_tables pool.shards.items ≡ no_tables) }
         ensures compiler { IfOk result (λ pool. pool.compiler ≡ compiler) }
     {

@@ -47,7 +47,7 @@ impl Gate for Held<'_> {
 #[test]
 fn a_shard_runs_while_another_is_held(rt: HostRuntime) -> Result<(), Fail> {
     let alloc = rt.alloc();
-    let body = vec![in alloc; 0u8; 100_000]?;
+    let body = vec![in alloc; 0u8; 200_000]?;
     for held in [0, 1] {
         let answered = AtomicU64::new(0);
         let late = AtomicU64::new(0);

@@ -21,9 +21,9 @@ const CASES: [(u32, usize); 8] = [
     (16, 1),
     (1, 5_000),
     (2, 5_000),
-    (3, 5_000),
-    (16, 5_000),
-    (16, 1_000),
+    (3, 20_000),
+    (16, 20_000),
+    (16, 40_000),
 ];
 
 /// The body of a CONV of so many letters A on descriptor 0, with just the room that they need.
@@ -47,7 +47,10 @@ fn is_reply(reply: &Reply, caller: u32, tag: u32, head: &[u8], tail: &[u8]) -> b
 }
 
 /// Opens for all callers in order, and converts for them in the opposite order.
-fn ask_all<'a>(alloc: Global, conv: &'a [u8]) -> Result<(Vec<Request<'a>>, Vec<Request<'a>>), Fail> {
+fn ask_all<'a>(
+    alloc: Global,
+    conv: &'a [u8],
+) -> Result<(Vec<Request<'a>>, Vec<Request<'a>>), Fail> {
     let mut opens = Vec::new(alloc);
     let mut convs = Vec::new(alloc);
     for caller in 0..CALLERS {
@@ -75,7 +78,13 @@ fn replies_stand_in_the_order_of_the_requests(rt: HostRuntime) -> Result<(), Fai
             assert!(rt; ok, "{workers} {size}");
         }
         for (reply, request) in converted.iter().zip(&convs) {
-            let ok = is_reply(reply, request.caller, request.tag, b"\0\0\0\0\0\0\0\0", text);
+            let ok = is_reply(
+                reply,
+                request.caller,
+                request.tag,
+                b"\0\0\0\0\0\0\0\0",
+                text,
+            );
             assert!(rt; ok, "{workers} {size}");
         }
     }
@@ -87,7 +96,7 @@ fn replies_stand_in_the_order_of_the_requests(rt: HostRuntime) -> Result<(), Fai
 fn one_caller_is_answered(rt: HostRuntime) -> Result<(), Fail> {
     let alloc = rt.alloc();
     let body = letters(alloc, 50_000)?;
-    let mut pool = Pool::new(alloc, 4, Plain, Open)?;
+    let mut pool = Pool::new(alloc, 2, Plain, Open)?;
     let requests = [
         request(7, 1, OPEN, TO_UTF8),
         request(7, 2, CONV, &body),
@@ -97,7 +106,13 @@ fn one_caller_is_answered(rt: HostRuntime) -> Result<(), Fail> {
     let replies = pool.batch(&rt, alloc, &requests)?;
     assert_eq!(rt; replies.len(), 4);
     for (reply, request) in replies.iter().zip(&requests).skip(1) {
-        let ok = is_reply(reply, 7, request.tag, b"\0\0\0\0\0\0\0\0", body.get(8..).unwrap_or(b""));
+        let ok = is_reply(
+            reply,
+            7,
+            request.tag,
+            b"\0\0\0\0\0\0\0\0",
+            body.get(8..).unwrap_or(b""),
+        );
         assert!(rt; ok);
     }
     let none = pool.batch(&rt, alloc, &[])?;

@@ -24,7 +24,9 @@ impl<R: Wait> Compiler<R> for Lent<'_> {
 
 /// A charmap of this name, in which byte 80 is a character above 00FF.
 fn map_of(alloc: Global, name: &str, scalar: &str) -> Result<String, AllocError> {
-    format!(in alloc; "<code_set_name> {name}\nCHARMAP\n<question-mark> \\x3F\n<U{scalar}> \\x80\nEND CHARMAP")
+    format!(in alloc;
+        "<code_set_name> {name}\nCHARMAP\n<question-mark> \\x3F\n<U{scalar}> \\x80\nEND CHARMAP"
+    )
 }
 
 /// What bytes 3f and 80 of a caller's map are, converted to UTF-8.
@@ -76,7 +78,11 @@ fn a_text_is_compiled_once_for_all_callers(rt: HostRuntime) -> Result<(), Fail> 
         let Some(converted) = replies.get(1) else {
             return Err("no reply".into());
         };
-        assert_eq!(rt; converted.tail.as_slice(), b"?\xc4\x80".as_slice(), "{caller}");
+        assert_eq!(rt;
+            converted.tail.as_slice(),
+            b"?\xc4\x80".as_slice(),
+            "{caller}"
+        );
     }
     Ok(())
 }

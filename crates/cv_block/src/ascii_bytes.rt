@@ -55,7 +55,8 @@ fn copy_block(rest: &[u8], from: usize, out: &mut [u8], at: usize)
     requires fit { at + 16 ≤ length out.old }
     ensures { out.new ≡ take at out.old ++ take 16 (drop from rest.now) ++ drop (at + 16) out.old }
 {
-    out[at..at + BLOCK].copy_from_slice(&rest[from..from + BLOCK]);
+    let lanes = u8x16::from_slice(&rest[from..]);
+    lanes.copy_to_slice(&mut out[at..]);
 }
 
 /// Copies the blocks of ASCII at the front of a text, and answers how many bytes they are.

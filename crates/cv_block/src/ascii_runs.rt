@@ -79,7 +79,7 @@ fn are_below<R: Repertoire, U: Unit>(bytes: &[u8], at: usize, n: usize) -> bool
     }
 }
 
-/// How many units of a run stand at the front, `most` at most.
+/// How many units of a run stand at the front, `most` at most. It may be none where they are fewer than a block.
 #[inline]
 fn unit_run<R: Repertoire, U: Unit>(rest: &[u8], most: usize) -> usize
     ensures fits { result ≤ most }
@@ -95,6 +95,9 @@ fn unit_run<R: Repertoire, U: Unit>(rest: &[u8], most: usize) -> usize
         at += U::size() * BLOCK;
         n += BLOCK;
     }
+    if n == 0 {
+        return 0;
+    }
     while n < most && rest.len() - at >= U::size() && is_below::<R, U>(rest, at) {
         at += U::size();
         n += 1;
@@ -102,51 +105,22 @@ fn unit_run<R: Repertoire, U: Unit>(rest: &[u8], most: usize) -> usize
     n
 }
 
-/// Whether a block of units at the front is of a run, so that it is worth while.
+/// Whether it is worth while to look for a run of units of this form, by the first of them. It decides speed alone.
 #[inline(always)]
-fn may_run<R: Repertoire, U: Unit>(rest: &[u8]) -> bool {
-    rest.len() >= U::size() * BLOCK && are_below::<R, U>(rest, 0, BLOCK)
+fn may_begin<R: Repertoire, U: Unit>(rest: &[u8]) -> bool {
+    rest.len() >= U::size() && is_below::<R, U>(rest, 0)
 }
 
-/// Whether it is worth while to look for a run of units of this form.
+/// Whether it is worth while to look for a run of units of a form. It decides speed alone.
 #[inline(always)]
 fn form_may_run<R: Repertoire>(form: AsciiForm, rest: &[u8]) -> bool {
     match form {
         AsciiForm::Byte => R::bytes_may_run(rest),
-        AsciiForm::Two(Endian::Big) => may_run::<R, Two<BigEndian>>(rest),
-        AsciiForm::Two(Endian::Little) => may_run::<R, Two<LittleEndian>>(rest),
-        AsciiForm::Four(Endian::Big) => may_run::<R, Four<BigEndian>>(rest),
-        AsciiForm::Four(Endian::Little) => may_run::<R, Four<LittleEndian>>(rest),
+        AsciiForm::Two(Endian::Big) => may_begin::<R, Two<BigEndian>>(rest),
+        AsciiForm::Two(Endian::Little) => may_begin::<R, Two<LittleEndian>>(rest),
+        AsciiForm::Four(Endian::Big) => may_begin::<R, Four<BigEndian>>(rest),
+        AsciiForm::Four(Endian::Little) => may_begin::<R, Four<LittleEndian>>(rest),
     }
-}
-
-/// How many units of a run stand at the front in a form, `most` at most.
-#[inline(never)]
-fn form_run<R: Repertoire>(form: AsciiForm, rest: &[u8], most: usize) -> usize
-    ensures fits { result ≤ most }
-    ensures within { unit_size form * result ≤ length rest.now }
-    ensures small { IsRunBelow R.limit form rest.now result }
-{
-    match form {
-        AsciiForm::Byte => R::byte_run(rest, most),
-        AsciiForm::Two(Endian::Big) => unit_run::<R, Two<BigEndian>>(rest, most),
-        AsciiForm::Two(Endian::Little) => unit_run::<R, Two<LittleEndian>>(rest, most),
-        AsciiForm::Four(Endian::Big) => unit_run::<R, Four<BigEndian>>(rest, most),
-        AsciiForm::Four(Endian::Little) => unit_run::<R, Four<LittleEndian>>(rest, most),
-    }
-}
-
-/// How many units of a run stand at the front in a form, `most` at most.
-#[inline(always)]
-fn run_in<R: Repertoire>(form: AsciiForm, rest: &[u8], most: usize) -> usize
-    ensures fits { result ≤ most }
-    ensures within { unit_size form * result ≤ length rest.now }
-    ensures small { IsRunBelow R.limit form rest.now result }
-{
-    if !form_may_run::<R>(form, rest) {
-        return 0;
-    }
-    form_run::<R>(form, rest, most)
 }
 
 /// Writes the characters of the first `n` units of one form in another. No unit is tested, so that the loop is done by blocks.
@@ -187,24 +161,6 @@ fn write_from<From: Unit>(to: AsciiForm, rest: &[u8], n: usize, out: &mut [u8], 
     }
 }
 
-/// Writes the characters of the first `n` units of `rest` at a place of `out`.
-#[inline(never)]
-fn write_run(from: AsciiForm, to: AsciiForm, rest: &[u8], n: usize, out: &mut [u8], at: usize)
-    requires stand { unit_size from * n ≤ length rest.now }
-    requires fit { at + unit_size to * n ≤ length out.old }
-    ensures { out.new
-        ≡ take at out.old ++ units_of to (characters_in from rest.now n)
-        ++ drop (at + unit_size to * n) out.old }
-{
-    match from {
-        AsciiForm::Byte => write_from::<Byte>(to, rest, n, out, at),
-        AsciiForm::Two(Endian::Big) => write_from::<Two<BigEndian>>(to, rest, n, out, at),
-        AsciiForm::Two(Endian::Little) => write_from::<Two<LittleEndian>>(to, rest, n, out, at),
-        AsciiForm::Four(Endian::Big) => write_from::<Four<BigEndian>>(to, rest, n, out, at),
-        AsciiForm::Four(Endian::Little) => write_from::<Four<LittleEndian>>(to, rest, n, out, at),
-    }
-}
-
 /// How many bytes a unit of a form has.
 #[inline(always)]
 pub fn unit_bytes(form: AsciiForm) -> usize
@@ -226,6 +182,81 @@ fn units_in(form: AsciiForm, room: usize) -> usize
         AsciiForm::Byte => room,
         AsciiForm::Two(_) => room / 2,
         AsciiForm::Four(_) => room / 4,
+    }
+}
+
+/// Writes the run of bytes that stands at the front in a form, as far as there is room, and answers how many they are.
+#[inline(always)]
+fn take_bytes<R: Repertoire>(target: AsciiForm, rest: &[u8], out: &mut [u8], at: usize) -> usize
+    requires { at ≤ length out.old }
+    ensures stand { unit_size AsciiForm.Byte * result ≤ length rest.now }
+    ensures fit { at + unit_size target * result ≤ length out.old }
+    ensures small { IsRunBelow R.limit AsciiForm.Byte rest.now result }
+    ensures none { result ≡ 0 → out.new ≡ out.old }
+    ensures out { out.new
+        ≡ take at out.old ++ units_of target (characters_in AsciiForm.Byte rest.now result)
+        ++ drop (at + unit_size target * result) out.old }
+{
+    let n = R::byte_run(rest, units_in(target, out.len() - at));
+    if n == 0 {
+        return 0;
+    }
+    write_from::<Byte>(target, rest, n, out, at);
+    n
+}
+
+/// Writes the run of units that stands at the front in a form, as far as there is room, and answers how many they are. It may be none
+/// where the run is shorter than a block.
+#[inline(always)]
+fn take_units<R: Repertoire, From: Unit>(
+    target: AsciiForm,
+    rest: &[u8],
+    out: &mut [u8],
+    at: usize,
+) -> usize
+    requires { at ≤ length out.old }
+    ensures stand { unit_size From.form * result ≤ length rest.now }
+    ensures fit { at + unit_size target * result ≤ length out.old }
+    ensures small { IsRunBelow R.limit From.form rest.now result }
+    ensures none { result ≡ 0 → out.new ≡ out.old }
+    ensures out { out.new
+        ≡ take at out.old ++ units_of target (characters_in From.form rest.now result)
+        ++ drop (at + unit_size target * result) out.old }
+{
+    let n = unit_run::<R, From>(rest, units_in(target, out.len() - at));
+    if n == 0 {
+        return 0;
+    }
+    write_from::<From>(target, rest, n, out, at);
+    n
+}
+
+/// Writes the run that stands at the front in a form in another, as `take_run`. It stands apart, so that loops around it stay small.
+#[inline(never)]
+fn take_form<R: Repertoire>(
+    form: AsciiForm,
+    target: AsciiForm,
+    rest: &[u8],
+    out: &mut [u8],
+    at: usize,
+) -> usize
+    requires { at ≤ length out.old }
+    ensures stand { unit_size form * result ≤ length rest.now }
+    ensures fit { at + unit_size target * result ≤ length out.old }
+    ensures small { IsRunBelow R.limit form rest.now result }
+    ensures none { result ≡ 0 → out.new ≡ out.old }
+    ensures out { out.new
+        ≡ take at out.old ++ units_of target (characters_in form rest.now result)
+        ++ drop (at + unit_size target * result) out.old }
+{
+    match form {
+        AsciiForm::Byte => take_bytes::<R>(target, rest, out, at),
+        AsciiForm::Two(Endian::Big) => take_units::<R, Two<BigEndian>>(target, rest, out, at),
+        AsciiForm::Two(Endian::Little) => take_units::<R, Two<LittleEndian>>(target, rest, out, at),
+        AsciiForm::Four(Endian::Big) => take_units::<R, Four<BigEndian>>(target, rest, out, at),
+        AsciiForm::Four(Endian::Little) => take_units::<R, Four<LittleEndian>>(
+            target, rest, out, at,
+        ),
     }
 }
 
@@ -251,10 +282,8 @@ pub(crate) fn take_run<R: Repertoire>(
     if let (AsciiForm::Byte, AsciiForm::Byte) = (form, target) {
         return R::copy_run(rest, out, at);
     }
-    let n = run_in::<R>(form, rest, units_in(target, out.len() - at));
-    if n == 0 {
+    if !form_may_run::<R>(form, rest) {
         return 0;
     }
-    write_run(form, target, rest, n, out, at);
-    n
+    take_form::<R>(form, target, rest, out, at)
 }

@@ -4,7 +4,6 @@ ghost use Rattle.cv_pivot.specs.Conversions.{Converts, IsMostOutput, start};
 ghost use Rattle.cv_pivot.specs.Encodings.{form_of, form_reads, form_writes, form_closes};
 
 use crate::convert::run;
-use crate::copying::may_copy;
 use crate::encoding::Encoding;
 use crate::outcome::{Outcome, States, TooBig};
 use cv_base::{Codec, Piece, Policy};
@@ -47,7 +46,6 @@ impl Conversion {
         run(
             &self.from,
             &self.to,
-            may_copy(&self.from, &self.to),
             self.policy,
             &mut self.states,
             input,

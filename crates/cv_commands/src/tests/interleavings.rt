@@ -1,5 +1,6 @@
 //! The requests of two callers in each order that keeps those of each in theirs: every request has the reply that it has alone.
 use crate::served_script::run_script;
+use std::alloc::Global;
 use std::test::Fail;
 
 /// The lines of a request and of its reply.
@@ -20,50 +21,55 @@ const SECOND: [Exchange; 3] = [
 ];
 
 /// Which of six places the first caller's requests have.
-const PLACES: [[usize; 3]; 20] = [
-    [0, 1, 2],
-    [0, 1, 3],
-    [0, 1, 4],
-    [0, 1, 5],
-    [0, 2, 3],
-    [0, 2, 4],
-    [0, 2, 5],
-    [0, 3, 4],
-    [0, 3, 5],
-    [0, 4, 5],
-    [1, 2, 3],
-    [1, 2, 4],
-    [1, 2, 5],
-    [1, 3, 4],
-    [1, 3, 5],
-    [1, 4, 5],
-    [2, 3, 4],
-    [2, 3, 5],
-    [2, 4, 5],
-    [3, 4, 5],
+const ORDERS: [&[usize]; 20] = [
+    &[0, 1, 2],
+    &[0, 1, 3],
+    &[0, 1, 4],
+    &[0, 1, 5],
+    &[0, 2, 3],
+    &[0, 2, 4],
+    &[0, 2, 5],
+    &[0, 3, 4],
+    &[0, 3, 5],
+    &[0, 4, 5],
+    &[1, 2, 3],
+    &[1, 2, 4],
+    &[1, 2, 5],
+    &[1, 3, 4],
+    &[1, 3, 5],
+    &[1, 4, 5],
+    &[2, 3, 4],
+    &[2, 3, 5],
+    &[2, 4, 5],
+    &[3, 4, 5],
 ];
+
+/// The lines of the requests in an order, in which the first caller's have these places, and those of the replies.
+fn texts(alloc: Global, places: &[usize]) -> Result<(String, String), Fail> {
+    let mut first = FIRST.iter();
+    let mut second = SECOND.iter();
+    let mut script = String::new(alloc);
+    let mut want = String::new(alloc);
+    for place in 0..6 {
+        let next = if places.contains(&place) {
+            first.next()
+        } else {
+            second.next()
+        };
+        if let Some((request, reply)) = next {
+            write!(script, "{request}\n")?;
+            write!(want, "{reply}\n")?;
+        }
+    }
+    Ok((script, want))
+}
 
 #[test]
 fn each_order_has_the_same_replies(rt: HostRuntime) -> Result<(), Fail> {
-    let alloc = rt.alloc();
-    for places in PLACES {
-        let mut first = FIRST.iter();
-        let mut second = SECOND.iter();
-        let mut script = String::new(alloc);
-        let mut want = String::new(alloc);
-        for place in 0..6 {
-            let next = if places.contains(&place) {
-                first.next()
-            } else {
-                second.next()
-            };
-            if let Some((request, reply)) = next {
-                write!(script, "{request}\n")?;
-                write!(want, "{reply}\n")?;
-            }
-        }
-        let lines = run_script(&rt, alloc, script.as_bytes()).map_err(|_| "refused")?;
-        let got = String::from_utf8_lossy(alloc, &lines)?;
+    for places in ORDERS {
+        let (script, want) = texts(rt.alloc(), places)?;
+        let lines = run_script(&rt, rt.alloc(), script.as_bytes()).map_err(|_| "refused")?;
+        let got = String::from_utf8_lossy(rt.alloc(), &lines)?;
         assert!(rt; got == want, "{places:?}:\n{got}");
     }
     Ok(())

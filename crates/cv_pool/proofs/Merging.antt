@@ -1,13 +1,12 @@
 -- What shards have, put back in the order of the requests: it is one run if each shard's is.
-use Rattle.std.proofs.Common.{◌≡◌, ◌≢◌, ℕ, ◌%◌, ◌<◌, ◌≤◌, Bool, true, false, cond, eqb, List, [], ◌∷◌, ◌++◌, map, take, drop, refl, sym, ap, subst, ◌∙◌, arith}
-use Rattle.std.specs.Prelude.{filter}
+use Rattle.std.proofs.Common.{◌≡◌, ℕ, ◌%◌, ◌<◌, ◌≤◌, Bool, true, false, cond, eqb, List, [], ◌∷◌, ◌++◌, map, take, drop, refl, sym, ap, ◌∙◌, arith}
 use Rattle.std.specs.List.{AllByRecursion}
 use Rattle.std.proofs.Math.Path.{fun_ext}
 use Rattle.std.proofs.lemmas.Bool.{eqb-true}
 use Rattle.std.proofs.lemmas.Bool.Decides.{nat_tests}
 use Rattle.std.proofs.lemmas.List.{map-append, take-map, drop-map}
 use Rattle.cv_frame.specs.Message.{Message, FitsFrame}
-use Rattle.cv_machine.specs.Machine.{Turn, Event, requests, reply_to, replies_of, after_all, events_of, IsRun, Runs}
+use Rattle.cv_machine.specs.Machine.{Turn, Event, requests, reply_to, replies_of, events_of, Runs}
 use Rattle.cv_machine.specs.Isolation.{IsPart}
 use Rattle.cv_machine.proofs.Isolation.{any_merge}
 use Rattle.cv_pool.specs.Private.Parts.{part, without_first, merged}

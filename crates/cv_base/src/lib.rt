@@ -36,6 +36,3 @@ pub use placing::{Placed, place_character, write_each};
 pub use policy::Policy;
 pub use scalar::Scalar;
 pub use state::{Bits, ReadState, WriteState};
-
-#[cfg(test)]
-mod tests;

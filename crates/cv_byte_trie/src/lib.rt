@@ -18,6 +18,3 @@ pub use entry::Entry;
 pub use found::Found;
 pub use node::{Edge, Node};
 pub use steps::{NODE, NONE, Steps, TAIL};
-
-#[cfg(test)]
-mod tests;

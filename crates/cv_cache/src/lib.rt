@@ -12,6 +12,3 @@ pub use compiler::Compiler;
 pub use limits::{LONGEST_TEXT, MOST_TEXTS};
 pub use maps::Maps;
 pub use plain::Plain;
-
-#[cfg(test)]
-mod tests;

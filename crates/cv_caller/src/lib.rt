@@ -14,6 +14,3 @@ pub use faults::{AddFault, DropFault, PartFault};
 pub use limits::{CHARMAPS, DESCRIPTORS, MOST_MAPPINGS, MOST_PART};
 pub use place::{Found, Place};
 pub use table::Table;
-
-#[cfg(test)]
-mod tests;

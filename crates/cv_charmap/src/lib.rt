@@ -16,6 +16,3 @@ mod reading;
 pub use fault::{CompileFault, MapFault};
 pub use pairs::Pairs;
 pub use reader::read;
-
-#[cfg(test)]
-mod tests;

@@ -22,6 +22,3 @@ pub use request::Request;
 pub use sizes::{LEAST_LENGTH, MOST_BODY, MOST_LENGTH};
 pub use status::Status;
 pub use writing::{write_reply, write_request};
-
-#[cfg(test)]
-mod tests;

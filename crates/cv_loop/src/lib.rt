@@ -22,6 +22,3 @@ pub use pushing::push_all;
 pub use serving::{Served, serve};
 pub use std_ends::{FromReader, ToWriter};
 pub use world_engine::WorldWith;
-
-#[cfg(test)]
-mod tests;

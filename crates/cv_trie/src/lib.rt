@@ -13,6 +13,3 @@ mod reading;
 mod writing;
 
 pub use charmap::Charmap;
-
-#[cfg(test)]
-mod tests;

@@ -11,8 +11,6 @@ mod read_runs;
 mod read_sequences;
 mod sets;
 mod shifted_bytes;
-#[cfg(test)]
-mod tests;
 mod units;
 mod utf7;
 mod write_blocks;

@@ -3,8 +3,6 @@
 
 mod blocks;
 pub mod laws;
-#[cfg(test)]
-mod tests;
 mod utf8;
 mod utf8_front;
 mod utf8_long;

@@ -5,8 +5,6 @@ mod blocks;
 mod in_order;
 pub mod laws;
 mod order;
-#[cfg(test)]
-mod tests;
 mod utf16;
 mod utf16_joined;
 mod utf16_spelling;

@@ -16,6 +16,3 @@ mod world;
 pub use answer::Answer;
 pub use op::Op;
 pub use world::World;
-
-#[cfg(test)]
-mod tests;

@@ -1,0 +1,20 @@
+//! Tests of the encodings, of charmaps and of conversions. A crate with tests is proved twice, so those of the crates that many others
+//! stand on are here, and say what a client of these crates could.
+#![tactic(auto)]
+
+#[cfg(test)]
+mod byte_strings;
+#[cfg(test)]
+mod charmap_items;
+#[cfg(test)]
+mod charmap_pairs;
+#[cfg(test)]
+mod conversions;
+#[cfg(test)]
+mod names_and_blocks;
+#[cfg(test)]
+mod utf16_and_utf32;
+#[cfg(test)]
+mod utf7;
+#[cfg(test)]
+mod utf8;

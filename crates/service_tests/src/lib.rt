@@ -1,0 +1,14 @@
+//! Tests of frames, callers' tables, the cache, worlds and serving. A crate with tests is proved twice, so those of the crates that
+//! others stand on are here, and say what a client of these crates could.
+#![tactic(auto)]
+
+#[cfg(test)]
+mod cache;
+#[cfg(test)]
+mod callers;
+#[cfg(test)]
+mod frames;
+#[cfg(test)]
+mod serving;
+#[cfg(test)]
+mod world;

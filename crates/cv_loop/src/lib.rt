@@ -7,20 +7,20 @@ mod draining;
 mod ends;
 mod engine;
 mod fault;
-mod fresh;
 mod held;
 mod pushing;
 mod serving;
 mod std_ends;
+mod whole_bytes;
 mod world_engine;
 
 pub use ends::{Failed, Sink, Source};
 pub use engine::Engine;
 pub use fault::ServeFault;
-pub use fresh::{serve_bytes, serve_new};
 pub use pushing::push_all;
 pub use serving::{Served, serve};
 pub use std_ends::{FromReader, ToWriter};
+pub use whole_bytes::serve_bytes;
 pub use world_engine::WorldWith;
 
 #[cfg(test)]

@@ -10,6 +10,7 @@ mod replies;
 mod requests;
 mod script;
 mod served_script;
+mod server;
 mod standard;
 
 pub use charmap_file::{Checked, check_text, checkmap};

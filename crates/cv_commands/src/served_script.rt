@@ -1,5 +1,5 @@
-//! Serving a script by a new world.
-ghost use Rattle.std.specs.Prelude.{IfOk, IfErr};
+//! Serving a script by a new pool.
+ghost use Rattle.std.specs.Prelude.{◌≤◌, IfOk, IfErr};
 ghost use Rattle.cv_world.specs.Requests.{turn};
 ghost use Rattle.cv_world.specs.Worlds.{no_tables};
 ghost use Rattle.cv_loop.specs.Serving.{AnswersEach};
@@ -9,25 +9,41 @@ use crate::fault::RunFault;
 use crate::input::MAX_READS;
 use crate::replies::show_replies;
 use crate::script::ask_script;
+use crate::server::new_pool;
 use cv_loop::serve_bytes;
 use std::alloc::Global;
+use std::sync::Wait;
+use std::thread::Threads;
 
-/// Serves frames by a new world, and gives the replies. The frames are let go with it.
-fn serve_frames<R>(rt: &R, alloc: Global, frames: Vec<u8>) -> Result<Vec<u8>, RunFault>
+/// Serves frames by a new pool of so many workers, and gives the replies. The frames are let go with it.
+fn serve_frames<R: Threads + Wait + Sync>(
+    rt: &R,
+    alloc: Global,
+    frames: Vec<u8>,
+    workers: u32,
+) -> Result<Vec<u8>, RunFault>
+    requires { (1 ≤ workers) × (workers ≤ 16) }
     ensures answered { IfOk result (λ replies. AnswersEach turn no_tables frames.items replies.items) }
     ensures err { IfErr result IsNoFailedWrite }
 {
-    let (served, replies) = serve_bytes(rt, alloc, &frames, MAX_READS);
+    let mut pool = new_pool(alloc, workers)?;
+    let (served, replies) = serve_bytes(&mut pool, rt, alloc, &frames, MAX_READS);
     match served {
         Ok(_) => Ok(replies),
         Err(fault) => Err(RunFault::Serve(fault)),
     }
 }
 
-/// Serves a script by a new world, and gives the reply lines.
-pub fn run_script<R>(rt: &R, alloc: Global, script: &[u8]) -> Result<Vec<u8>, RunFault>
+/// Serves a script by a new pool of so many workers, and gives the reply lines. They don't depend on how many there are.
+pub fn run_script<R: Threads + Wait + Sync>(
+    rt: &R,
+    alloc: Global,
+    script: &[u8],
+    workers: u32,
+) -> Result<Vec<u8>, RunFault>
+    requires { (1 ≤ workers) × (workers ≤ 16) }
     ensures { IfErr result IsNoFailedWrite }
 {
-    let replies = serve_frames(rt, alloc, ask_script(alloc, script)?)?;
+    let replies = serve_frames(rt, alloc, ask_script(alloc, script)?, workers)?;
     show_replies(alloc, &replies)
 }

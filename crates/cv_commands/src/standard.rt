@@ -1,4 +1,5 @@
 //! The commands that work from standard input to standard output.
+ghost use Rattle.std.specs.Prelude.{◌≤◌};
 
 use crate::fault::RunFault;
 use crate::input::{MAX_READS, read_all};
@@ -6,14 +7,22 @@ use crate::output::write_all;
 use crate::replies::show_replies;
 use crate::script::ask_script;
 use crate::served_script::run_script;
-use cv_loop::{FromReader, ToWriter, serve_new};
+use crate::server::new_pool;
+use cv_loop::{FromReader, ToWriter, serve};
 use std::io;
+use std::sync::Wait;
+use std::thread::Threads;
 
-/// `run`: serves the script, and prints the reply lines.
-pub fn run<R: Input + Print + AllocGlobal>(rt: &R) -> Result<(), RunFault> {
+/// `run`: serves the script by a new pool of so many workers, and prints the reply lines.
+pub fn run<R: Input + Print + AllocGlobal + Threads + Wait + Sync>(
+    rt: &R,
+    workers: u32,
+) -> Result<(), RunFault>
+    requires { (1 ≤ workers) × (workers ≤ 16) }
+{
     let alloc = rt.alloc();
     let script = read_all(alloc, rt.reader())?;
-    let lines = run_script(rt, alloc, &script)?;
+    let lines = run_script(rt, alloc, &script, workers)?;
     write_all(io::writer(rt), &lines)
 }
 
@@ -25,12 +34,19 @@ pub fn ask<R: Input + Print + AllocGlobal>(rt: &R) -> Result<(), RunFault> {
     write_all(io::writer(rt), &frames)
 }
 
-/// `pipe`: serves request frames by a new world, and writes the reply frames. The replies to all whole frames that were read are
-/// written before it reads on.
-pub fn pipe<R: Input + Print + AllocGlobal>(rt: &R) -> Result<(), RunFault> {
+/// `pipe`: serves request frames by a new pool of so many workers, and writes the reply frames. The replies to all whole frames that
+/// were read are written before it reads on.
+pub fn pipe<R: Input + Print + AllocGlobal + Threads + Wait + Sync>(
+    rt: &R,
+    workers: u32,
+) -> Result<(), RunFault>
+    requires { (1 ≤ workers) × (workers ≤ 16) }
+{
+    let alloc = rt.alloc();
+    let mut pool = new_pool(alloc, workers)?;
     let mut source = FromReader::new(rt.reader());
     let mut sink = ToWriter::new(io::writer(rt));
-    serve_new(rt, rt.alloc(), &mut source, &mut sink, MAX_READS)?;
+    serve(&mut pool, rt, alloc, &mut source, &mut sink, MAX_READS)?;
     Ok(())
 }
 

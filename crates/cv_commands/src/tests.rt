@@ -59,7 +59,7 @@ fn scripts_are_served(rt: HostRuntime) -> Result<(), Fail> {
         9 14 ROOM -\n\
         9 15 BADREQ -\n";
     let alloc = rt.alloc();
-    let got = run_script(&rt, alloc, script).map_err(|_| "refused")?;
+    let got = run_script(&rt, alloc, script, 1).map_err(|_| "refused")?;
     assert!(rt; got.as_slice() == lines.as_slice());
     Ok(())
 }

@@ -1,4 +1,5 @@
 //! From the command line to the exit status.
+ghost use Rattle.std.specs.Prelude.{◌≤◌};
 
 use crate::arguments::arguments;
 use crate::job::{Job, Options};
@@ -10,6 +11,8 @@ use std::alloc::Global;
 use std::fs::Files;
 use std::io;
 use std::rt::Env;
+use std::sync::Wait;
+use std::thread::Threads;
 
 /// The exit status of a command. A fault is said on standard error, if that can be; the status doesn't depend on it.
 fn conclude<R: Eprint>(rt: &R, done: Result<(), RunFault>) -> u8 {
@@ -22,11 +25,16 @@ fn conclude<R: Eprint>(rt: &R, done: Result<(), RunFault>) -> u8 {
     }
 }
 
-fn perform<R: Files + Input + Print + Eprint + AllocGlobal>(rt: &R, said: Options<'_>) -> u8 {
+fn perform<R: Files + Input + Print + Eprint + AllocGlobal + Threads + Wait + Sync>(
+    rt: &R,
+    said: Options<'_>,
+) -> u8
+    requires { (1 ≤ said.workers) × (said.workers ≤ 16) }
+{
     match said.job {
-        Job::Run => conclude(rt, run(rt)),
+        Job::Run => conclude(rt, run(rt, said.workers)),
         Job::Ask => conclude(rt, ask(rt)),
-        Job::Pipe => conclude(rt, pipe(rt)),
+        Job::Pipe => conclude(rt, pipe(rt, said.workers)),
         Job::Show => conclude(rt, show(rt)),
         Job::CheckMap(file) => match checkmap(rt, file) {
             Ok(status) => status,
@@ -55,7 +63,7 @@ pub fn explain<R: Print + Eprint>(rt: &R, alloc: Global, fault: &Error) -> u8 {
     }
 }
 
-fn obey<R: Env + Files + Input + Print + Eprint + AllocGlobal>(
+fn obey<R: Env + Files + Input + Print + Eprint + AllocGlobal + Threads + Wait + Sync>(
     rt: &R,
     alloc: Global,
 ) -> Result<u8, Error> {
@@ -66,7 +74,9 @@ fn obey<R: Env + Files + Input + Print + Eprint + AllocGlobal>(
 }
 
 /// Does what the command line says, and gives the exit status.
-pub fn program<R: Env + Files + Input + Print + Eprint + AllocGlobal>(rt: &R) -> u8 {
+pub fn program<R: Env + Files + Input + Print + Eprint + AllocGlobal + Threads + Wait + Sync>(
+    rt: &R,
+) -> u8 {
     let alloc = rt.alloc();
     match obey(rt, alloc) {
         Ok(status) => status,

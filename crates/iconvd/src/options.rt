@@ -5,11 +5,17 @@ ghost use Rattle.clap.specs.Values.{kind_of};
 use crate::job::{Job, Options};
 use crate::version::VERSION;
 use clap::error::ErrorKind;
-use clap::{Arg, ArgMatches, Command, Error};
+use clap::{Arg, ArgMatches, Command, Error, value_parser};
 use std::alloc::{AllocError, Global};
 
 /// The word of `checkmap`.
 const FILE: &str = "FILE";
+
+/// The option of `run` and `pipe`.
+const WORKERS: &str = "workers";
+
+/// How many workers there may be.
+const MOST_WORKERS: u32 = 16;
 
 /// What the help of each command ends with.
 const SCRIPTS: &str = "\
@@ -48,16 +54,30 @@ Example:
 
 See iconvd(1) and iconvd-protocol(5).";
 
+/// How many workers serve.
+fn workers_option<'a>(alloc: Global) -> Arg<'a> {
+    Arg::new(alloc, WORKERS)
+        .long(WORKERS)
+        .value_name("W")
+        .value_parser(value_parser!(u32).range(1..=i64::from(MOST_WORKERS)))
+        .default_value("1")
+        .help(
+            "how many threads serve a large batch of requests, 1 to 16; replies don't depend on it",
+        )
+}
+
 fn program<'a>(alloc: Global) -> Result<Command<'a>, AllocError> {
     let run = Command::new(alloc, "run")
         .about("Serves the script on standard input and prints the reply lines")
-        .after_help(SCRIPTS);
+        .after_help(SCRIPTS)
+        .arg(workers_option(alloc))?;
     let ask = Command::new(alloc, "ask")
         .about("Writes the request frames of the script on standard input")
         .after_help(SCRIPTS);
     let pipe = Command::new(alloc, "pipe")
         .about("Serves the request frames on standard input and writes the reply frames")
-        .after_help(FRAMES);
+        .after_help(FRAMES)
+        .arg(workers_option(alloc))?;
     let show = Command::new(alloc, "show")
         .about("Prints the reply lines of the reply frames on standard input")
         .after_help(FRAMES);
@@ -95,6 +115,19 @@ fn job_of<'a>(matches: &ArgMatches<'a>) -> Job<'a> {
     }
 }
 
+/// How many workers the command has: 1 where it has no such option. The parser took 1 to 16 alone, but of a command's own options no
+/// contract says so.
+fn workers_of<'a>(matches: &ArgMatches<'a>) -> u32
+    ensures { (1 ≤ result) × (result ≤ 16) }
+{
+    match matches.subcommand() {
+        Some((_, said)) => said
+            .get_one::<u32>(WORKERS)
+            .map_or(1, |workers| workers.clamp(1, MOST_WORKERS)),
+        None => 1,
+    }
+}
+
 /// What the words of the command line say; the first is the program's name.
 pub fn options<'a>(alloc: Global, words: &'a [&'a str]) -> Result<Options<'a>, Error>
     ensures workers { IfOk result (λ said. (1 ≤ said.workers) × (said.workers ≤ 16)) }
@@ -102,7 +135,7 @@ pub fn options<'a>(alloc: Global, words: &'a [&'a str]) -> Result<Options<'a>, E
     let matches = program(alloc)?.try_get_matches_from(words)?;
     Ok(Options {
         job: job_of(&matches),
-        workers: 1,
+        workers: workers_of(&matches),
         streams: 1,
     })
 }

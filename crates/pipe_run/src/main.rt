@@ -5,7 +5,7 @@ use cv_commands::{pipe, status};
 use std::process::ExitCode;
 
 fn main(rt: HostRuntime) -> ExitCode {
-    match pipe(&rt) {
+    match pipe(&rt, 1) {
         Ok(()) => ExitCode::SUCCESS,
         Err(fault) => ExitCode::from(status(&fault)),
     }

@@ -3,7 +3,7 @@ mod cut_readers;
 mod uploads;
 
 use cv_frame::Request;
-use cv_loop::{Engine, FromReader, ServeFault, Served, ToWriter, serve, serve_new};
+use cv_loop::{Engine, FromReader, ServeFault, Served, ToWriter, serve};
 use cv_world::World;
 use std::alloc::Global;
 use std::io::{self, ErrorKind, Read, Write};
@@ -185,7 +185,15 @@ fn run(alloc: Global, case: &Case) -> (Result<Served, ServeFault>, Option<usize>
         room: case.room,
         fails: case.writer_fails,
     });
-    let result = serve_new(&(), alloc, &mut reader, &mut writer, case.max_reads);
+    let mut world = World::new(alloc);
+    let result = serve(
+        &mut world,
+        &(),
+        alloc,
+        &mut reader,
+        &mut writer,
+        case.max_reads,
+    );
     let narrow = writer.into_inner();
     let is_front = REPLY.starts_with(narrow.taken.as_slice());
     (result, is_front.then_some(narrow.taken.len()))

@@ -1,30 +1,46 @@
 //! A standard input that holds bytes, and a standard output that keeps them.
+ghost use Rattle.std.specs.Prelude.{◌≤◌};
+
 use crate::fault::RunFault;
 use crate::standard::{ask, pipe, show};
 use std::alloc::{Allocator, Global};
-use std::cell::Cell;
 use std::fmt::Display;
 use std::io::{self, BufRead, Lines};
+use std::sync::{Mutex, Wait};
 use std::test::Fail;
+use std::thread::Threads;
 
+/// It waits, and starts threads, as the runtime does that it is made of.
 #[derive(Drop)]
-pub struct Console<'a> {
+pub struct Console<'a, R> {
+    rt: &'a R,
     alloc: Global,
     input: &'a [u8],
-    pub output: Cell<Vec<u8>>,
+    output: Mutex<Vec<u8>>,
 }
 
-impl<'a> Console<'a> {
-    pub fn new(alloc: Global, input: &'a [u8]) -> Console<'a> {
+impl<'a, R: AllocGlobal> Console<'a, R> {
+    pub fn new(rt: &'a R, input: &'a [u8]) -> Console<'a, R> {
+        let alloc = rt.alloc();
         Console {
+            rt,
             alloc,
             input,
-            output: Cell::new(Vec::new(alloc)),
+            output: Mutex::new(Vec::new(alloc)),
         }
+    }
+
+    /// What was printed.
+    pub fn into_output(self) -> Vec<u8> {
+        self.output.into_inner()
     }
 }
 
-impl<'a> Alloc for Console<'a> {
+impl<'a, R: Wait> Wait for Console<'a, R> {}
+
+impl<'a, R: Threads> Threads for Console<'a, R> {}
+
+impl<'a, R> Alloc for Console<'a, R> {
     type A = Global;
 
     fn alloc(&self) -> Global {
@@ -32,7 +48,7 @@ impl<'a> Alloc for Console<'a> {
     }
 }
 
-impl<'a> Input for Console<'a> {
+impl<'a, R> Input for Console<'a, R> {
     type Reader = &'a [u8];
 
     fn read_line<A: Allocator + Clone>(&self, buf: &mut String<A>) -> io::Result<usize> {
@@ -48,7 +64,7 @@ impl<'a> Input for Console<'a> {
     }
 }
 
-impl<'a> Print for Console<'a> {
+impl<'a, R: Wait> Print for Console<'a, R> {
     fn print<D: Display + Drop>(&self, value: D) -> io::Result<()> {
         let text = format!(in self.alloc; "{value}")?;
         self.write_all(text.as_bytes())
@@ -60,30 +76,40 @@ impl<'a> Print for Console<'a> {
     }
 
     fn write_all(&self, bytes: &[u8]) -> io::Result<()> {
-        let mut kept = self.output.replace(Vec::new(self.alloc));
-        kept.extend_from_slice(bytes)?;
-        self.output.set(kept);
+        self.output.lock(self.rt).extend_from_slice(bytes)?;
         Ok(())
     }
 }
 
 /// What `pipe` writes, and why it ended if it did by a fault.
-pub fn piped(alloc: Global, requests: &[u8]) -> (Vec<u8>, Option<RunFault>) {
-    let console = Console::new(alloc, requests);
-    let fault = pipe(&console).err();
-    (console.output.into_inner(), fault)
+pub fn piped<R: AllocGlobal + Threads + Wait + Sync>(
+    rt: &R,
+    requests: &[u8],
+    workers: u32,
+) -> (Vec<u8>, Option<RunFault>)
+    requires { (1 ≤ workers) × (workers ≤ 16) }
+{
+    let console = Console::new(rt, requests);
+    let fault = pipe(&console, workers).err();
+    (console.into_output(), fault)
 }
 
 /// What `ask`, `pipe` and `show` print one after the other.
-pub fn chain(alloc: Global, script: &[u8]) -> Result<Vec<u8>, Fail> {
-    let asked = Console::new(alloc, script);
+pub fn chain<R: AllocGlobal + Threads + Wait + Sync>(
+    rt: &R,
+    script: &[u8],
+    workers: u32,
+) -> Result<Vec<u8>, Fail>
+    requires { (1 ≤ workers) × (workers ≤ 16) }
+{
+    let asked = Console::new(rt, script);
     ask(&asked).map_err(|_| "not asked")?;
-    let requests = asked.output.into_inner();
-    let (replies, fault) = piped(alloc, &requests);
+    let requests = asked.into_output();
+    let (replies, fault) = piped(rt, &requests, workers);
     if fault.is_some() {
         return Err("not served".into());
     }
-    let shown = Console::new(alloc, &replies);
+    let shown = Console::new(rt, &replies);
     show(&shown).map_err(|_| "not shown")?;
-    Ok(shown.output.into_inner())
+    Ok(shown.into_output())
 }

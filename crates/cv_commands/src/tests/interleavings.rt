@@ -68,7 +68,7 @@ fn texts(alloc: Global, places: &[usize]) -> Result<(String, String), Fail> {
 fn each_order_has_the_same_replies(rt: HostRuntime) -> Result<(), Fail> {
     for places in ORDERS {
         let (script, want) = texts(rt.alloc(), places)?;
-        let lines = run_script(&rt, rt.alloc(), script.as_bytes()).map_err(|_| "refused")?;
+        let lines = run_script(&rt, rt.alloc(), script.as_bytes(), 2).map_err(|_| "refused")?;
         let got = String::from_utf8_lossy(rt.alloc(), &lines)?;
         assert!(rt; got == want, "{places:?}:\n{got}");
     }

@@ -1,5 +1,5 @@
 //! The largest uploads: as many mappings, and as many bytes, as there may be.
-use super::exchanges::{Case, check};
+use super::exchanges::{Case, check_by};
 use crate::script::ask_script;
 use crate::served_script::run_script;
 use std::alloc::Global;
@@ -69,7 +69,7 @@ const MOST_MAPPINGS: [Case; 3] = [
 
 #[test]
 fn charmaps_have_262144_mappings_at_most(rt: HostRuntime) -> Result<(), Fail> {
-    check(&rt, &MOST_MAPPINGS)
+    check_by(&rt, &MOST_MAPPINGS, 2)
 }
 
 /// Appends a line: this, and so many letters behind it.
@@ -106,7 +106,7 @@ fn a_part_has_7340041_bytes_at_most(rt: HostRuntime) -> Result<(), Fail> {
     push_line(&mut script, "1 9 part ", 1)?;
     push_line(&mut script, "1 10 part ", 1_048_567)?;
     script.extend_from_slice(b"1 11 put x\n1 12 part x\n1 13 part \n1 14 part x\n")?;
-    let got = run_script(&rt, alloc, &script).map_err(|_| "refused")?;
+    let got = run_script(&rt, alloc, &script, 2).map_err(|_| "refused")?;
     let want = format!(in alloc;
         "{HELD}1 8 OK 00700009\n1 9 QUOTA -\n1 10 QUOTA -\n1 11 BADMAP 0000000101\n1 12 QUOTA -\n1 13 OK 00000000\n1 14 OK 00000001\n"
     )?;
@@ -119,7 +119,7 @@ fn a_part_that_is_refused_changes_nothing(rt: HostRuntime) -> Result<(), Fail> {
     let alloc = rt.alloc();
     let mut script = parts(alloc, "", 73)?;
     push_line(&mut script, "1 9 part ", 72)?;
-    let got = run_script(&rt, alloc, &script).map_err(|_| "refused")?;
+    let got = run_script(&rt, alloc, &script, 2).map_err(|_| "refused")?;
     let want = format!(in alloc; "{HELD}1 8 QUOTA -\n1 9 OK 00700009\n")?;
     assert!(rt; got.as_slice() == want.as_bytes());
     Ok(())
@@ -139,7 +139,7 @@ fn a_text_has_8388608_bytes_at_most(rt: HostRuntime) -> Result<(), Fail> {
     )?;
     script.extend_from_slice(mappings.as_bytes())?;
     script.extend_from_slice(b"\n1 10 open UTF-8 L\n1 11 conv 0 9 80\n1 12 part \n")?;
-    let got = run_script(&rt, alloc, &script).map_err(|_| "refused")?;
+    let got = run_script(&rt, alloc, &script, 2).map_err(|_| "refused")?;
     let want = format!(in alloc;
         "{HELD}1 8 OK 00700009\n1 9 OK 00000002\n1 10 OK 00000000\n1 11 OK 0000000000000000c480\n1 12 OK 00000000\n"
     )?;

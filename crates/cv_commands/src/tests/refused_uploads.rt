@@ -92,7 +92,7 @@ fn refused_charmaps_are_answered_by_line_and_cause(rt: HostRuntime) -> Result<()
     for (text, body) in REFUSED {
         let script = format!(in alloc; "1 1 put {text}\n1 2 open UTF-8 BAD\n1 3 part \n")?;
         let want = format!(in alloc; "1 1 BADMAP {body}\n1 2 UNSUPPORTED -\n1 3 OK 00000000\n")?;
-        let got = run_script(&rt, alloc, script.as_bytes()).map_err(|_| "refused")?;
+        let got = run_script(&rt, alloc, script.as_bytes(), 1).map_err(|_| "refused")?;
         assert!(rt; got.as_slice() == want.as_bytes(), "{text}");
     }
     Ok(())

@@ -8,11 +8,10 @@ const SCRIPT: &[u8] = b"7 1 open US-ASCII ISO-8859-1\n7 2 conv 0 8 41e942\n8 1 c
 
 #[test]
 fn ask_pipe_and_show_print_what_run_prints(rt: HostRuntime) -> Result<(), Fail> {
-    let alloc = rt.alloc();
-    let alone = Console::new(alloc, SCRIPT);
-    run(&alone).map_err(|_| "refused")?;
-    let lines = chain(alloc, SCRIPT)?;
-    assert!(rt; lines == alone.output.into_inner());
+    let alone = Console::new(&rt, SCRIPT);
+    run(&alone, 1).map_err(|_| "refused")?;
+    let lines = chain(&rt, SCRIPT, 1)?;
+    assert!(rt; lines == alone.into_output());
     assert!(rt;
         lines.as_slice()
             == b"7 1 OK 00000000\n7 2 OK 0000000000000001413f42\n8 1 EBADF -\n".as_slice()
@@ -22,9 +21,9 @@ fn ask_pipe_and_show_print_what_run_prints(rt: HostRuntime) -> Result<(), Fail> 
 
 #[test]
 fn a_script_at_fault_prints_nothing(rt: HostRuntime) -> Result<(), Fail> {
-    let script = Console::new(rt.alloc(), b"7 1 close 0\n7 2 shut 0\n");
+    let script = Console::new(&rt, b"7 1 close 0\n7 2 shut 0\n");
     assert_eq!(rt; ask(&script).err(), Some(RunFault::Line(2)));
-    assert_eq!(rt; run(&script).err(), Some(RunFault::Line(2)));
-    assert!(rt; script.output.into_inner().is_empty());
+    assert_eq!(rt; run(&script, 2).err(), Some(RunFault::Line(2)));
+    assert!(rt; script.into_output().is_empty());
     Ok(())
 }

@@ -3,6 +3,7 @@ use super::console::{Console, piped};
 use crate::fault::{RunFault, status};
 use crate::standard::show;
 use cv_loop::ServeFault;
+use std::sync::Wait;
 use std::test::Fail;
 
 // Caller 7 opens UTF-8 from ISO-8859-1, and it is number 0; then it converts `41 e9 42`.
@@ -46,7 +47,7 @@ fn pipe_answers_what_stands_before_a_cut(rt: HostRuntime) -> Result<(), Fail> {
             0 | FIRST_REQUEST | 54 => None,
             _ => Some(RunFault::Serve(ServeFault::TruncatedFrame)),
         };
-        let (replies, fault) = piped(rt.alloc(), front(&REQUESTS, size));
+        let (replies, fault) = piped(&rt, front(&REQUESTS, size), 2);
         assert_eq!(rt; fault, want, "{size} bytes");
         assert!(rt;
             replies.as_slice() == front(&REPLIES, written),
@@ -64,7 +65,7 @@ fn pipe_answers_what_stands_before_a_bad_length(rt: HostRuntime) -> Result<(), F
             let mut stream = Vec::from_slice(alloc, front(&REQUESTS, requests))?;
             stream.extend_from_slice(&bytes)?;
             stream.extend_from_slice(&REQUESTS)?;
-            let (written, fault) = piped(alloc, &stream);
+            let (written, fault) = piped(&rt, &stream, 2);
             let want = RunFault::Serve(ServeFault::BadLength { length });
             assert_eq!(rt; fault, Some(want), "behind {requests} bytes");
             assert!(rt; written.as_slice() == front(&REPLIES, replies), "{length}");
@@ -79,20 +80,21 @@ fn the_longest_frame_has_to_come_whole(rt: HostRuntime) -> Result<(), Fail> {
     let alloc = rt.alloc();
     let mut stream = Vec::from_slice(alloc, b"\0\x10\0\0\0\0\0\x07\0\0\0\x01\x09")?;
     stream.resize(1_048_579, b'x')?;
-    let (written, fault) = piped(alloc, &stream);
+    let (written, fault) = piped(&rt, &stream, 2);
     assert_eq!(rt; fault, Some(RunFault::Serve(ServeFault::TruncatedFrame)));
     assert!(rt; written.is_empty());
     stream.push(b'x')?;
-    let (written, fault) = piped(alloc, &stream);
+    let (written, fault) = piped(&rt, &stream, 2);
     assert_eq!(rt; fault, None);
     assert!(rt; written.as_slice() == b"\0\0\0\x09\0\0\0\x07\0\0\0\x01\x08".as_slice());
     Ok(())
 }
 
 /// Why `show` ended, which is a fault, and that it printed nothing.
-fn not_shown(console: Console<'_>) -> Result<RunFault, Fail> {
+fn not_shown<R: AllocGlobal + Wait>(rt: &R, replies: &[u8]) -> Result<RunFault, Fail> {
+    let console = Console::new(rt, replies);
     let fault = show(&console).err().ok_or("shown")?;
-    if console.output.into_inner().is_empty() {
+    if console.into_output().is_empty() {
         Ok(fault)
     } else {
         Err("printed".into())
@@ -105,7 +107,7 @@ fn show_prints_no_part_of_a_stream_that_is_cut(rt: HostRuntime) -> Result<(), Fa
         if size == FIRST_REPLY {
             continue;
         }
-        let fault = not_shown(Console::new(rt.alloc(), front(&REPLIES, size)))?;
+        let fault = not_shown(&rt, front(&REPLIES, size))?;
         assert_eq!(rt; fault, RunFault::TruncatedReply, "{size} bytes");
         assert_eq!(rt; status(&fault), 1);
     }
@@ -120,7 +122,7 @@ fn show_prints_no_part_of_a_stream_with_a_bad_length(rt: HostRuntime) -> Result<
             let mut stream = Vec::from_slice(alloc, front(&REPLIES, size))?;
             stream.extend_from_slice(&bytes)?;
             stream.extend_from_slice(&REPLIES)?;
-            let fault = not_shown(Console::new(alloc, &stream))?;
+            let fault = not_shown(&rt, &stream)?;
             assert_eq!(rt;
                 fault,
                 RunFault::BadReplyLength(length),
@@ -133,11 +135,11 @@ fn show_prints_no_part_of_a_stream_with_a_bad_length(rt: HostRuntime) -> Result<
 
 #[test]
 fn no_frames_are_served_and_shown(rt: HostRuntime) -> Result<(), Fail> {
-    let (written, fault) = piped(rt.alloc(), b"");
+    let (written, fault) = piped(&rt, b"", 2);
     assert_eq!(rt; fault, None);
     assert!(rt; written.is_empty());
-    let nothing = Console::new(rt.alloc(), b"");
+    let nothing = Console::new(&rt, b"");
     assert_eq!(rt; show(&nothing).err(), None);
-    assert!(rt; nothing.output.into_inner().is_empty());
+    assert!(rt; nothing.into_output().is_empty());
     Ok(())
 }

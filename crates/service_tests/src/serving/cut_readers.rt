@@ -1,6 +1,7 @@
 //! Two callers with a charmap of one name each, read in pieces: how the reader cuts the stream doesn't show.
 use super::{Narrow, Slow};
-use cv_loop::{FromReader, ServeFault, Served, ToWriter, serve_new};
+use cv_loop::{FromReader, ServeFault, Served, ToWriter, serve};
+use cv_world::World;
 use std::alloc::Global;
 
 /// Callers 1 and 2 upload a charmap TOY, in which the byte 80 is U+0100 for the one and U+0142 for the other; each opens a descriptor
@@ -36,7 +37,15 @@ fn is_served(alloc: Global, first: usize, step: usize) -> bool {
         room: 1_000,
         fails: false,
     });
-    let served: Result<Served, ServeFault> = serve_new(&(), alloc, &mut reader, &mut writer, 1_000);
+    let mut world = World::new(alloc);
+    let served: Result<Served, ServeFault> = serve(
+        &mut world,
+        &(),
+        alloc,
+        &mut reader,
+        &mut writer,
+        1_000,
+    );
     let all = Ok(Served { requests: 6 });
     served == all && writer.into_inner().taken.as_slice() == WRITTEN
 }

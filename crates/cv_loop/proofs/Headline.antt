@@ -17,7 +17,8 @@ same_given left left' g g' p q =
     let b : Consumes (Some (g ++ p.0)) (Some p.0) g' = subst (λ (o : Option (List ℕ)). Consumes (Some (g ++ p.0)) o g') p.2 a in
     append_cancel_right g g' p.0 b
 
-same_written : (held held' : Option (List ℕ)) (w w' : List ℕ) → Took held held' w → Appends held held' w' → w ≡ w'
+-- A sink that tells its bytes took one list.
+pub same_written : (held held' : Option (List ℕ)) (w w' : List ℕ) → Took held held' w → Appends held held' w' → w ≡ w'
 same_written held held' w w' p q =
     let a : Appends (Some p.0) held' w' = subst (λ (o : Option (List ℕ)). Appends o held' w') p.1 q in
     let b : Appends (Some p.0) (Some (p.0 ++ w)) w' = subst (λ (o : Option (List ℕ)). Appends (Some p.0) o w') p.2 a in
@@ -74,6 +75,11 @@ module _ {Table : Type 0} {turn : Turn Table} where
 -- A source that has no bytes left gave all that it had.
 pub all_gave : (left : Option (List ℕ)) (bytes rest : List ℕ) → left ≡ Some bytes → rest ≡ [] → Gave left (Some rest) bytes
 all_gave left bytes rest is end = (rest, is ∙ ap Some (sym (append-nil bytes) ∙ ap (λ (x : List ℕ). bytes ++ x) (sym end)), refl)
+
+-- What a source gave and what it has left are what it had.
+pub gave_front : (left : Option (List ℕ)) (bytes rest given : List ℕ) → left ≡ Some bytes → Consumes left (Some rest) given → bytes ≡ given ++ rest
+gave_front None bytes rest given is p = absurd cc
+gave_front (Some b) bytes rest given is p = let q : b ≡ given ++ rest = p in cc
 
 -- A source gives no more than it had.
 pub gave_few : (left left' : Option (List ℕ)) (bytes given : List ℕ) → left ≡ Some bytes → Consumes left left' given → length given ≤ length bytes

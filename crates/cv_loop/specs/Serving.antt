@@ -99,6 +99,18 @@ pub record IsHeadline {Table : Type 0} (turn : Turn Table) (ending : Ending) (ta
   pub served : IsUnbroken ending → NoneLacks (messages_of written) → ServesEach turn tables given written
   pub begun : BeginsAnswer turn tables given written
 
+-- What serving frames that stand in memory came to, from these tables: those at the front were given, and all of them where the end was met; the headline is of
+-- what was given, and by that the result comes where it does.
+pub record ServesFront {Table : Type 0} (turn : Turn Table) (result : Result Served ServeFault) (tables : ℕ → Table) (frames written : List ℕ) (max_reads : ℕ) : Type 0 where
+  pub given : List ℕ
+  pub rest : List ℕ
+  pub front : frames ≡ given ++ rest
+  pub all : IsTrue (met_the_end (ending_of result)) → rest ≡ []
+  pub headline : IsHeadline turn (ending_of result) tables given written
+  -- how many pulls were made
+  pub pulls : ℕ
+  pub ends : EndsWhere result (messages_of given) (rest_of given) written pulls max_reads
+
 -- All whole frames of what was given ran, and all of their replies was written.
 pub record IsAll (given : List ℕ) (later : List Message) (unwritten : List ℕ) : Type 0 where
   pub ran : later ≡ []

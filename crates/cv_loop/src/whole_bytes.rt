@@ -1,7 +1,8 @@
 //! Serving frames in memory.
 
-ghost use Rattle.std.specs.Prelude.{◌≡◌, ◌≤◌, false, IsTrue, Err, length};
-ghost use Rattle.cv_loop.specs.Serving.{IsHeadline, IsUnbroken, ending_of, met_the_end, write_failed};
+ghost use Rattle.std.specs.Prelude.{◌≡◌, ◌≤◌, ℕ, List, false, IsTrue, Err, length};
+ghost use Rattle.cv_frame.specs.Message.{Message};
+ghost use Rattle.cv_loop.specs.Serving.{IsHeadline, IsUnbroken, EndsWhere, ServesFront, ending_of, met_the_end, write_failed};
 
 use crate::engine::Engine;
 use crate::fault::ServeFault;
@@ -15,6 +16,8 @@ fn in_memory(served: Result<Served, ServeFault>) -> Result<Served, ServeFault>
     ensures too_many { result ≡ Err ServeFault.TooManyReads → served ≡ Err ServeFault.TooManyReads }
     ensures end { met_the_end (ending_of result) ≡ met_the_end (ending_of served) }
     ensures unbroken { IsUnbroken (ending_of result) → IsUnbroken (ending_of served) }
+    ensures same { (frames : List Message) (rest written : List ℕ) (pulls max_reads : ℕ)
+        → EndsWhere served frames rest written pulls max_reads → EndsWhere result frames rest written pulls max_reads }
 {
     match served {
         Err(ServeFault::Write { .. }) => Err(ServeFault::Memory),
@@ -41,6 +44,10 @@ pub fn serve_bytes<R, E: Engine<R>>(
     ensures enough { result.0 ≡ Err ServeFault.TooManyReads → max_reads ≤ length frames.now }
 
     ensures no_write { write_failed (ending_of result.0) ≡ false }
+
+    // However it ended: of the frames that were read, which result comes where, and that the bytes are their replies.
+    ensures serves { ServesFront E.turn result.0 (E.tables engine.old) frames.now result.1.items max_reads }
+
     ensures ready { E.ready engine.new }
 {
     let mut reader = FromReader::new(frames);

@@ -149,3 +149,32 @@ fn a_text_has_8388608_bytes_at_most(rt: HostRuntime) -> Result<(), Fail> {
     assert!(rt; ask_script(alloc, &script).is_err());
     Ok(())
 }
+
+/// A caller's charmap TOY, in which the byte 80 is this character, behind a long comment.
+fn push_long_charmap(script: &mut Vec<u8>, caller: &str, scalar: &str) -> Result<(), Fail> {
+    script.extend_from_slice(caller.as_bytes())?;
+    script.extend_from_slice(b" 1 put #")?;
+    script.resize(script.len().saturating_add(20_000), b'x')?;
+    script.extend_from_slice(b"|<code_set_name> TOY|CHARMAP|<question-mark> \\x3F|<U")?;
+    script.extend_from_slice(scalar.as_bytes())?;
+    script.extend_from_slice(b"> \\x80|END CHARMAP\n")?;
+    Ok(())
+}
+
+/// The texts are long enough that two workers compile them by a thread each.
+#[test]
+fn long_charmaps_come_at_once(rt: HostRuntime) -> Result<(), Fail> {
+    let alloc = rt.alloc();
+    let mut script = Vec::new(alloc);
+    push_long_charmap(&mut script, "1", "0100")?;
+    push_long_charmap(&mut script, "2", "0142")?;
+    script.extend_from_slice(b"2 2 open UTF-8 TOY\n1 2 open UTF-8 TOY\n")?;
+    script.extend_from_slice(b"2 3 conv 0 9 80\n1 3 conv 0 9 80\n")?;
+    let want = b"1 1 OK 00000002\n2 1 OK 00000002\n2 2 OK 00000000\n1 2 OK 00000000\n\
+        2 3 OK 0000000000000000c582\n1 3 OK 0000000000000000c480\n";
+    for workers in [1, 2, 16] {
+        let got = run_script(&rt, alloc, &script, workers).map_err(|_| "refused")?;
+        assert!(rt; got.as_slice() == want.as_slice(), "{workers}");
+    }
+    Ok(())
+}

@@ -33,10 +33,12 @@ install: $(PROGRAM)
 	sed 's/@VERSION@/$(VERSION)/' man/iconvd.1 | install -D -m 644 /dev/stdin $(MANUALS)/man1/iconvd.1
 	sed 's/@VERSION@/$(VERSION)/' man/iconvd-protocol.5 | install -D -m 644 /dev/stdin $(MANUALS)/man5/iconvd-protocol.5
 
-# Ratios of the built program to the system's iconv. It asserts nothing.
+# Ratios of the built program to the system's iconv, what requests cost, and batches by 1, 2 and 4 workers. It asserts nothing.
 bench: $(PROGRAM)
 	cd crates/bench && rt run > /dev/null
 	bench/run $(PROGRAM)
+	bench/requests $(PROGRAM)
+	cd crates/pool_bench && rt run -- 9
 
 clean:
 	rm -rf crates/*/out bench/out

@@ -6,6 +6,7 @@ pub mod laws;
 #[cfg(test)]
 mod tests;
 mod utf8;
+mod utf8_fours;
 mod utf8_front;
 mod utf8_long;
 mod utf8_reading;

@@ -4,6 +4,7 @@
 mod blocks;
 pub mod laws;
 mod utf8;
+mod utf8_fours;
 mod utf8_front;
 mod utf8_long;
 mod utf8_reading;

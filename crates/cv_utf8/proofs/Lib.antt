@@ -4,7 +4,6 @@ pub mod Utf8Items
 pub mod Utf8ReadBack
 pub mod Utf8Lanes
 pub mod Utf8ShortWords
-pub mod Utf8Fours
 pub mod Utf8Short
 pub mod Utf8PutBegun
 pub mod Utf8Marks

@@ -3,4 +3,3 @@ pub mod Utf8Bytes
 pub mod Utf8Short
 pub mod Utf8Windows
 pub mod Utf8Long
-pub mod Utf8Fours

@@ -4,7 +4,6 @@
 mod blocks;
 pub mod laws;
 mod utf8;
-mod utf8_fours;
 mod utf8_front;
 mod utf8_long;
 mod utf8_reading;

@@ -3,9 +3,7 @@ ghost use Rattle.std.specs.Prelude.{◌≡◌, ◌+◌, ◌≤◌, ◌<◌, ℕ,
 ghost use Rattle.cv_block.specs.Spelled.{IsWrittenSpelled};
 ghost use Rattle.cv_block.specs.Words.{AreWords, AreSizes};
 ghost use Rattle.cv_utf8.specs.Utf8.{utf8_bytes};
-ghost use Rattle.cv_utf8.specs.Private.Utf8Fours.{AreTwos};
 
-use crate::utf8_fours::put_short;
 use crate::utf8_spelling::Utf8Spelling;
 use cv_base::Scalar;
 use cv_block::{MANY, Spelled, put_words, values_of};
@@ -23,13 +21,15 @@ fn short_words(values: u32x16) -> u32x16
     values.simd_lt(u32x16::splat(0x80)).select(values, two)
 }
 
-/// Which of sixteen such characters have two bytes, as bits.
+/// How many bytes each of sixteen such characters has.
 #[inline(always)]
-fn twos(values: u32x16) -> usize
+fn short_sizes(values: u32x16) -> u32x16
     requires { (k : ℕ) → k < 16 → get_or values k 0 < 0x800 }
-    ensures { AreTwos values 0 result 16 }
+    ensures { AreSizes utf8_bytes values result 16 }
 {
-    values.simd_ge(u32x16::splat(0x80)).to_bitmask() as usize
+    values
+        .simd_ge(u32x16::splat(0x80))
+        .select(u32x16::splat(2), u32x16::splat(1))
 }
 
 /// The spellings of sixteen characters of up to three bytes, each as a number whose lowest byte is the first.
@@ -76,7 +76,8 @@ pub(crate) fn write_short(characters: &[Scalar], n: usize, out: &mut [u8], at: u
     let values = values_of(characters, n);
     let lanes = u32x16::from_array(values);
     let words = short_words(lanes).to_array();
-    let used = put_short(&values, &words, twos(lanes), out, at);
+    let sizes = short_sizes(lanes).to_array();
+    let used = put_words::<Utf8Spelling>(&values, &words, &sizes, out, at);
     Spelled { n: MANY, used }
 }
 

@@ -56,7 +56,7 @@ fn conversion(alloc: Global, letters: u32) -> Result<Vec<u8>, AllocError> {
 /// A charmap of this number with 20,000 mappings.
 fn charmap(alloc: Global, number: u32) -> Result<Vec<u8>, AllocError> {
     let mut text = format!(in alloc;
-        "<code_set_name> MAP{number}\nCHARMAP\n<question-mark> \\x3F\n"
+        "<code_set_name> MAP{number}\n<mb_cur_max> 2\nCHARMAP\n<question-mark> \\x3F\n"
     )?;
     for k in 0..20_000u32 {
         let (character, first, second) = (0x4E00 + k, 0x81 + k / 256, k % 256);

@@ -2,7 +2,7 @@
 use Rattle.std.specs.Prelude.{ℕ, ◌≢◌}
 use Rattle.cv_loop.specs.declared.fault.ServeFault.TheVariants.{Write}
 use Rattle.cv_commands.specs.declared.fault.RunFault.{RunFault}
-use Rattle.cv_commands.specs.declared.fault.RunFault.TheVariants.{Line, Serve, TruncatedReply, BadReplyLength, Memory}
+use Rattle.cv_commands.specs.declared.fault.RunFault.TheVariants.{Line, Serve, TruncatedReply, BadReplyLength, CannotListen, AcceptFailed, CannotConnect, Memory}
 
 -- A line of a script is no command, or memory lacked.
 abbrev pub IsOfScript : RunFault → Type 0
@@ -10,6 +10,9 @@ IsOfScript (Line number) = Unit {0}
 IsOfScript (Serve fault) = ⊥
 IsOfScript TruncatedReply = ⊥
 IsOfScript (BadReplyLength length) = ⊥
+IsOfScript CannotListen = ⊥
+IsOfScript AcceptFailed = ⊥
+IsOfScript CannotConnect = ⊥
 IsOfScript Memory = Unit {0}
 
 -- Replies are cut off or of a bad length, or memory lacked.
@@ -18,6 +21,9 @@ IsOfReplies (Line number) = ⊥
 IsOfReplies (Serve fault) = ⊥
 IsOfReplies TruncatedReply = Unit {0}
 IsOfReplies (BadReplyLength length) = Unit {0}
+IsOfReplies CannotListen = ⊥
+IsOfReplies AcceptFailed = ⊥
+IsOfReplies CannotConnect = ⊥
 IsOfReplies Memory = Unit {0}
 
 -- It is no failed write.

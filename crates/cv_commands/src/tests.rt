@@ -215,6 +215,9 @@ fn faults_have_their_texts(rt: HostRuntime) -> Result<(), Fail> {
         (RunFault::Serve(ServeFault::Memory), "out of memory"),
         (RunFault::TruncatedReply, "truncated reply"),
         (RunFault::BadReplyLength(9), "bad length 9"),
+        (RunFault::CannotListen, "cannot listen"),
+        (RunFault::AcceptFailed, "accept failed"),
+        (RunFault::CannotConnect, "cannot connect"),
         (RunFault::Memory, "out of memory"),
     ];
     for (fault, text) in texts {

@@ -4,6 +4,7 @@ PROGRAM = crates/iconvd/out/iconvd
 SCRIPT = crates/iconvd/stdin
 MANUALS = $(DESTDIR)$(PREFIX)/share/man
 UNITS = $(DESTDIR)$(PREFIX)/lib/systemd/system
+COMPLETIONS = $(DESTDIR)$(PREFIX)/share/bash-completion/completions
 
 SOURCES := crates.txt $(shell find crates -name out -prune -o \( -name '*.rt' -o -name '*.antt' \) -print)
 VERSION := $(shell sed -n 's/^pub const VERSION: &str = "\(.*\)";$$/\1/p' crates/iconvd/src/version.rt)
@@ -33,6 +34,7 @@ install: $(PROGRAM)
 	install -D -m 755 $(PROGRAM) $(DESTDIR)$(PREFIX)/bin/iconvd
 	sed 's/@VERSION@/$(VERSION)/' man/iconvd.1 | install -D -m 644 /dev/stdin $(MANUALS)/man1/iconvd.1
 	sed 's/@VERSION@/$(VERSION)/' man/iconvd-protocol.5 | install -D -m 644 /dev/stdin $(MANUALS)/man5/iconvd-protocol.5
+	install -D -m 644 contrib/completions/iconvd.bash $(COMPLETIONS)/iconvd
 	install -D -m 644 contrib/systemd/iconvd.socket $(UNITS)/iconvd.socket
 	for unit in iconvd@.service iconvd-listen.service; do \
 	    sed 's|^ExecStart=/usr/local/|ExecStart=$(PREFIX)/|' contrib/systemd/$$unit | install -D -m 644 /dev/stdin $(UNITS)/$$unit || exit 1; \

@@ -34,6 +34,7 @@ install: $(PROGRAM)
 	install -D -m 755 $(PROGRAM) $(DESTDIR)$(PREFIX)/bin/iconvd
 	sed 's/@VERSION@/$(VERSION)/' man/iconvd.1 | install -D -m 644 /dev/stdin $(MANUALS)/man1/iconvd.1
 	sed 's/@VERSION@/$(VERSION)/' man/iconvd-protocol.5 | install -D -m 644 /dev/stdin $(MANUALS)/man5/iconvd-protocol.5
+	install -D -m 644 docs/OPERATING.md $(DESTDIR)$(PREFIX)/share/doc/iconvd/OPERATING.md
 	install -D -m 644 contrib/completions/iconvd.bash $(COMPLETIONS)/iconvd
 	install -D -m 644 contrib/systemd/iconvd.socket $(UNITS)/iconvd.socket
 	for unit in iconvd@.service iconvd-listen.service; do \

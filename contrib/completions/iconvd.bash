@@ -1,21 +1,21 @@
 # bash completion of iconvd(1). It is written by hand: a command or an option that is new in the program has to come in here too.
 
 _iconvd() {
-    local cur=${COMP_WORDS[COMP_CWORD]} before=${COMP_WORDS[COMP_CWORD-1]}
-    local commands='run ask pipe show checkmap listen call help' command='' option='' words='' i
+    local current=${COMP_WORDS[COMP_CWORD]} before=${COMP_WORDS[COMP_CWORD-1]}
+    local commands='run ask pipe show checkmap listen call help' command='' option='' words='' at
 
     # bash cuts `--workers=4` into three words.
-    if [[ $cur == '=' ]]; then
-        option=$before cur=''
+    if [[ $current == '=' ]]; then
+        option=$before current=''
     elif [[ $before == '=' ]]; then
         option=${COMP_WORDS[COMP_CWORD-2]}
     else
         option=$before
     fi
 
-    for ((i = 1; i < COMP_CWORD; i++)); do
-        if [[ ${COMP_WORDS[i]} != -* ]]; then
-            command=${COMP_WORDS[i]}
+    for ((at = 1; at < COMP_CWORD; at++)); do
+        if [[ ${COMP_WORDS[at]} != -* ]]; then
+            command=${COMP_WORDS[at]}
             break
         fi
     done
@@ -30,15 +30,15 @@ _iconvd() {
         listen:*) words='--streams --workers --help --version' ;;
         ask:* | show:* | call:*) words='--help --version' ;;
         checkmap:*)
-            if [[ $cur != -* ]]; then
+            if [[ $current != -* ]]; then
                 compopt -o filenames 2> /dev/null
-                mapfile -t COMPREPLY < <(compgen -f -- "$cur")
+                mapfile -t COMPREPLY < <(compgen -f -- "$current")
                 return
             fi
             words='--help --version'
             ;;
     esac
-    mapfile -t COMPREPLY < <(compgen -W "$words" -- "$cur")
+    mapfile -t COMPREPLY < <(compgen -W "$words" -- "$current")
 }
 
 complete -F _iconvd iconvd

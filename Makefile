@@ -3,6 +3,8 @@ PREFIX ?= /usr/local
 PROGRAM = crates/iconvd/out/iconvd
 SCRIPT = crates/iconvd/stdin
 MANUALS = $(DESTDIR)$(PREFIX)/share/man
+UNITS = $(DESTDIR)$(PREFIX)/lib/systemd/system
+COMPLETIONS = $(DESTDIR)$(PREFIX)/share/bash-completion/completions
 
 SOURCES := crates.txt $(shell find crates -name out -prune -o \( -name '*.rt' -o -name '*.antt' \) -print)
 VERSION := $(shell sed -n 's/^pub const VERSION: &str = "\(.*\)";$$/\1/p' crates/iconvd/src/version.rt)
@@ -27,11 +29,17 @@ $(PROGRAM): $(SOURCES)
 	cd crates/iconvd && rt run -- --version
 	touch $(PROGRAM)
 
-# The manual pages take the version from the program's source.
+# The manual pages take the version from the program's source, the units the folder of the program. Nothing is enabled or started.
 install: $(PROGRAM)
 	install -D -m 755 $(PROGRAM) $(DESTDIR)$(PREFIX)/bin/iconvd
 	sed 's/@VERSION@/$(VERSION)/' man/iconvd.1 | install -D -m 644 /dev/stdin $(MANUALS)/man1/iconvd.1
 	sed 's/@VERSION@/$(VERSION)/' man/iconvd-protocol.5 | install -D -m 644 /dev/stdin $(MANUALS)/man5/iconvd-protocol.5
+	install -D -m 644 docs/OPERATING.md $(DESTDIR)$(PREFIX)/share/doc/iconvd/OPERATING.md
+	install -D -m 644 contrib/completions/iconvd.bash $(COMPLETIONS)/iconvd
+	install -D -m 644 contrib/systemd/iconvd.socket $(UNITS)/iconvd.socket
+	for unit in iconvd@.service iconvd-listen.service; do \
+	    sed 's|^ExecStart=/usr/local/|ExecStart=$(PREFIX)/|' contrib/systemd/$$unit | install -D -m 644 /dev/stdin $(UNITS)/$$unit || exit 1; \
+	done
 
 # Ratios of the built program to the system's iconv, what requests cost, and batches by 1, 2 and 4 workers. It asserts nothing.
 bench: $(PROGRAM)

@@ -1,4 +1,5 @@
 pub mod Calling
 pub mod Faults
 pub mod Status
+pub mod Streams
 pub mod Texts

@@ -40,3 +40,7 @@ IsOfReading other = ⊥
 -- A write failed behind some number of bytes.
 abbrev pub IsFailedWrite : RunFault → Type 0
 IsFailedWrite fault = (written : ℕ) × (fault ≡ Serve (Write written))
+
+-- No line of a script is at fault.
+abbrev pub IsNoLine : RunFault → Type 0
+IsNoLine fault = (number : ℕ) → fault ≢ Line number

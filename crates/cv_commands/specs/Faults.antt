@@ -1,6 +1,6 @@
 -- Which faults a call may end by.
-use Rattle.std.specs.Prelude.{ℕ, ◌≢◌}
-use Rattle.cv_loop.specs.declared.fault.ServeFault.TheVariants.{Write}
+use Rattle.std.specs.Prelude.{ℕ, ◌≡◌, ◌≢◌}
+use Rattle.cv_loop.specs.declared.fault.ServeFault.TheVariants.{Read, Write, TooManyReads}
 use Rattle.cv_commands.specs.declared.fault.RunFault.{RunFault}
 use Rattle.cv_commands.specs.declared.fault.RunFault.TheVariants.{Line, Serve, TruncatedReply, BadReplyLength, CannotListen, AcceptFailed, CannotConnect, Memory}
 
@@ -29,3 +29,18 @@ IsOfReplies Memory = Unit {0}
 -- It is no failed write.
 abbrev pub IsNoFailedWrite : RunFault → Type 0
 IsNoFailedWrite fault = (written : ℕ) → fault ≢ Serve (Write written)
+
+-- A read failed, or too many were made; or memory lacked.
+abbrev pub IsOfReading : RunFault → Type 0
+IsOfReading (Serve Read) = Unit {0}
+IsOfReading (Serve TooManyReads) = Unit {0}
+IsOfReading Memory = Unit {0}
+IsOfReading other = ⊥
+
+-- A write failed behind some number of bytes.
+abbrev pub IsFailedWrite : RunFault → Type 0
+IsFailedWrite fault = (written : ℕ) × (fault ≡ Serve (Write written))
+
+-- No line of a script is at fault.
+abbrev pub IsNoLine : RunFault → Type 0
+IsNoLine fault = (number : ℕ) → fault ≢ Line number

@@ -1,6 +1,7 @@
 //! What the commands of the program do: scripts, reply lines, charmap files, and the way from standard input to standard output.
 #![tactic(auto)]
 
+mod calling;
 mod charmap_file;
 mod fault;
 mod input;
@@ -12,14 +13,18 @@ mod script;
 mod served_script;
 mod server;
 mod standard;
+mod stream;
 
+pub use calling::call_over;
 pub use charmap_file::{Checked, check_text, checkmap};
 pub use fault::{RunFault, status};
+pub use input::read_all;
 pub use output::write_all;
 pub use replies::show_replies;
 pub use script::ask_script;
 pub use served_script::run_script;
 pub use standard::{ask, pipe, run, show};
+pub use stream::serve_stream;
 
 #[cfg(test)]
 mod tests;

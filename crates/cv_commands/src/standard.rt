@@ -2,13 +2,13 @@
 ghost use Rattle.std.specs.Prelude.{◌≤◌};
 
 use crate::fault::RunFault;
-use crate::input::{MAX_READS, read_all};
+use crate::input::read_all;
 use crate::output::write_all;
 use crate::replies::show_replies;
 use crate::script::ask_script;
 use crate::served_script::run_script;
-use crate::server::new_pool;
-use cv_loop::{FromReader, ToWriter, serve};
+use crate::stream::serve_stream;
+use cv_loop::{FromReader, ToWriter};
 use std::io;
 use std::sync::Wait;
 use std::thread::Threads;
@@ -42,11 +42,9 @@ pub fn pipe<R: Input + Print + AllocGlobal + Threads + Wait + Sync>(
 ) -> Result<(), RunFault>
     requires { (1 ≤ workers) × (workers ≤ 16) }
 {
-    let alloc = rt.alloc();
-    let mut pool = new_pool(alloc, workers)?;
     let mut source = FromReader::new(rt.reader());
     let mut sink = ToWriter::new(io::writer(rt));
-    serve(&mut pool, rt, alloc, &mut source, &mut sink, MAX_READS)?;
+    serve_stream(rt, rt.alloc(), &mut source, &mut sink, workers)?;
     Ok(())
 }
 

@@ -1,3 +1,4 @@
+pub mod Calling
 pub mod Faults
 pub mod Status
 pub mod Texts

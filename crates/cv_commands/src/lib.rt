@@ -1,6 +1,7 @@
 //! What the commands of the program do: scripts, reply lines, charmap files, and the way from standard input to standard output.
 #![tactic(auto)]
 
+mod calling;
 mod charmap_file;
 mod fault;
 mod input;
@@ -13,6 +14,7 @@ mod served_script;
 mod server;
 mod standard;
 
+pub use calling::call_over;
 pub use charmap_file::{Checked, check_text, checkmap};
 pub use fault::{RunFault, status};
 pub use output::write_all;

@@ -29,7 +29,7 @@ fn status_word(alloc: Global, number: u8) -> Result<String, AllocError> {
     }
 }
 
-fn push_line(
+pub(crate) fn push_line(
     alloc: Global,
     lines: &mut Vec<u8>,
     caller: u32,

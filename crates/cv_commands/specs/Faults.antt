@@ -29,3 +29,7 @@ IsOfReplies Memory = Unit {0}
 -- It is no failed write.
 abbrev pub IsNoFailedWrite : RunFault → Type 0
 IsNoFailedWrite fault = (written : ℕ) → fault ≢ Serve (Write written)
+
+-- No line of a script is at fault.
+abbrev pub IsNoLine : RunFault → Type 0
+IsNoLine fault = (number : ℕ) → fault ≢ Line number

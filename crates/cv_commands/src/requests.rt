@@ -4,6 +4,7 @@ ghost use Rattle.cv_frame.specs.Bodies.{name_body};
 ghost use Rattle.cv_frame.specs.Message.{spelling};
 ghost use Rattle.cv_frame.specs.declared.ops.TheConstants.{PUT, BYE, PART};
 ghost use Rattle.cv_commands.specs.Texts.{text_behind};
+ghost use Rattle.cv_commands.specs.Private.Requests.{AddsRequest};
 
 use crate::lines::{
     decimal, hex_bytes, is_blank, next_word, one_word, three_words, two_words, with_line_feeds,
@@ -90,7 +91,8 @@ pub(crate) fn ask_put(
     from: Sender,
     rest: &[u8],
 ) -> Result<(), LineFault>
-    ensures { OnOk result (out.new.items ≡ out.old.items ++
+    ensures adds { OnOk result (AddsRequest out.old.items out.new.items) }
+    ensures request { OnOk result (out.new.items ≡ out.old.items ++
         spelling (record { caller = from.caller; tag = from.tag; code = PUT; body = text_behind rest.now })) }
 {
     let text = text_of(alloc, rest)?;
@@ -105,7 +107,8 @@ pub(crate) fn ask_part(
     from: Sender,
     rest: &[u8],
 ) -> Result<(), LineFault>
-    ensures { OnOk result (out.new.items ≡ out.old.items ++
+    ensures adds { OnOk result (AddsRequest out.old.items out.new.items) }
+    ensures request { OnOk result (out.new.items ≡ out.old.items ++
         spelling (record { caller = from.caller; tag = from.tag; code = PART; body = text_behind rest.now })) }
 {
     let bytes = text_of(alloc, rest)?;
@@ -114,7 +117,9 @@ pub(crate) fn ask_part(
 }
 
 /// `drop NAME`
-pub(crate) fn ask_drop(out: &mut Vec<u8>, from: Sender, rest: &[u8]) -> Result<(), LineFault> {
+pub(crate) fn ask_drop(out: &mut Vec<u8>, from: Sender, rest: &[u8]) -> Result<(), LineFault>
+    ensures { OnOk result (AddsRequest out.old.items out.new.items) }
+{
     let name = name_of(one_word(rest).ok_or(LineFault::NotACommand)?)?;
     write_request(out, from.caller, from.tag, &Ask::DropMap(name))?;
     Ok(())
@@ -122,7 +127,8 @@ pub(crate) fn ask_drop(out: &mut Vec<u8>, from: Sender, rest: &[u8]) -> Result<(
 
 /// `bye`
 pub(crate) fn ask_bye(out: &mut Vec<u8>, from: Sender, rest: &[u8]) -> Result<(), LineFault>
-    ensures { OnOk result (out.new.items ≡ out.old.items ++
+    ensures adds { OnOk result (AddsRequest out.old.items out.new.items) }
+    ensures request { OnOk result (out.new.items ≡ out.old.items ++
         spelling (record { caller = from.caller; tag = from.tag; code = BYE; body = [] })) }
 {
     if !is_blank(rest) {
@@ -142,7 +148,9 @@ fn policy_of(rest: &[u8]) -> Result<Policy, LineFault> {
 }
 
 /// `open TARGET SOURCE [strict]`
-pub(crate) fn ask_open(out: &mut Vec<u8>, from: Sender, rest: &[u8]) -> Result<(), LineFault> {
+pub(crate) fn ask_open(out: &mut Vec<u8>, from: Sender, rest: &[u8]) -> Result<(), LineFault>
+    ensures { OnOk result (AddsRequest out.old.items out.new.items) }
+{
     let (target, rest) = next_word(rest).ok_or(LineFault::NotACommand)?;
     let (source, rest) = next_word(rest).ok_or(LineFault::NotACommand)?;
     let ask = Ask::Open {
@@ -160,7 +168,9 @@ pub(crate) fn ask_conv(
     out: &mut Vec<u8>,
     from: Sender,
     rest: &[u8],
-) -> Result<(), LineFault> {
+) -> Result<(), LineFault>
+    ensures { OnOk result (AddsRequest out.old.items out.new.items) }
+{
     let (number, room, hex) = three_words(rest).ok_or(LineFault::NotACommand)?;
     let number = number_of(number)?;
     let room = number_of(room)?;
@@ -175,7 +185,9 @@ pub(crate) fn ask_conv(
 }
 
 /// `reset DESCRIPTOR ROOM`
-pub(crate) fn ask_reset(out: &mut Vec<u8>, from: Sender, rest: &[u8]) -> Result<(), LineFault> {
+pub(crate) fn ask_reset(out: &mut Vec<u8>, from: Sender, rest: &[u8]) -> Result<(), LineFault>
+    ensures { OnOk result (AddsRequest out.old.items out.new.items) }
+{
     let (number, room) = two_words(rest).ok_or(LineFault::NotACommand)?;
     let ask = Ask::Reset {
         number: number_of(number)?,
@@ -186,7 +198,9 @@ pub(crate) fn ask_reset(out: &mut Vec<u8>, from: Sender, rest: &[u8]) -> Result<
 }
 
 /// `close DESCRIPTOR`
-pub(crate) fn ask_close(out: &mut Vec<u8>, from: Sender, rest: &[u8]) -> Result<(), LineFault> {
+pub(crate) fn ask_close(out: &mut Vec<u8>, from: Sender, rest: &[u8]) -> Result<(), LineFault>
+    ensures { OnOk result (AddsRequest out.old.items out.new.items) }
+{
     let number = number_of(one_word(rest).ok_or(LineFault::NotACommand)?)?;
     write_request(out, from.caller, from.tag, &Ask::Close(number))?;
     Ok(())
@@ -198,7 +212,9 @@ pub(crate) fn ask_raw(
     out: &mut Vec<u8>,
     from: Sender,
     rest: &[u8],
-) -> Result<(), LineFault> {
+) -> Result<(), LineFault>
+    ensures { OnOk result (AddsRequest out.old.items out.new.items) }
+{
     let (op, hex) = two_words(rest).ok_or(LineFault::NotACommand)?;
     let Ok(op) = u8::try_from(number_of(op)?) else {
         return Err(LineFault::NotACommand);

@@ -1,12 +1,17 @@
-use Rattle.std.proofs.Common.{◌≡◌, ◌≤◌, ◌<◌, false, length}
+use Rattle.std.proofs.Common.{◌≡◌, ◌≤◌, ◌<◌, ◌-◌, ◌++◌, ℕ, List, false, length}
+use Rattle.std.specs.Io.KnownBytes.{Consumes}
 use Rattle.cv_commands.proofs.calling.await_reply.Given as goal
 
--- as many pulls were made as are counted, and neither end failed
-abbrev pub invariant-loop-read : goal.invariant-loop-read
-invariant-loop-read g l = record {
+-- Pulls brought bytes, and all that came is held; no reply was shown yet.
+abbrev pub invariant-loop-reads : goal.invariant-loop-reads
+invariant-loop-reads g l = record {
+  bytes : (bytes : List ℕ) × Consumes (g.S.Source.left l.fn.source) (g.S.Source.left l.source) bytes × (l.held.items ≡ l.fn.held.items ++ bytes);
+  unshown : l.lines.items ≡ l.fn.lines.items;
   pulls : g.S.Source.pulls l.source ≡ l.reads;
-  turn : l.reads ≡ l._read;
-  room : 0 < length l.buffer;
+  within : l.reads ≤ 1000000;
   goes_on : g.S.Source.met_end l.source ≡ false;
   works : g.S.Source.has_failed l.source ≡ false;
 }
+
+abbrev pub decreases-loop-reads : goal.decreases-loop-reads
+decreases-loop-reads g l = 1000000 - l.reads

@@ -1,6 +1,7 @@
 //! Scripts and reply lines, against values from outside.
 mod built_in;
 mod byes;
+mod calls;
 mod charmaps;
 mod console;
 mod exchanges;

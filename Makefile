@@ -1,6 +1,8 @@
 # Builds, proves, runs and installs iconvd.
 PREFIX ?= /usr/local
 PROGRAM = crates/iconvd/out/iconvd
+REFUSALS = crates/refusals/out/refusals
+REFUSING = tools/refuse/out/refuse.so
 SCRIPT = crates/iconvd/stdin
 MANUALS = $(DESTDIR)$(PREFIX)/share/man
 UNITS = $(DESTDIR)$(PREFIX)/lib/systemd/system
@@ -9,7 +11,7 @@ COMPLETIONS = $(DESTDIR)$(PREFIX)/share/bash-completion/completions
 SOURCES := crates.txt $(shell find crates -name out -prune -o \( -name '*.rt' -o -name '*.antt' \) -print)
 VERSION := $(shell sed -n 's/^pub const VERSION: &str = "\(.*\)";$$/\1/p' crates/iconvd/src/version.rt)
 
-.PHONY: run check install bench clean
+.PHONY: run check refuse install bench clean
 
 # Serves the example script with the proved program, which is built first where it isn't.
 run: $(PROGRAM)
@@ -29,6 +31,18 @@ $(PROGRAM): $(SOURCES)
 	cd crates/iconvd && rt run -- --version
 	touch $(PROGRAM)
 
+$(REFUSALS): $(SOURCES)
+	cd crates/refusals && rt run > /dev/null
+	touch $(REFUSALS)
+
+$(REFUSING): tools/refuse/refuse.c
+	mkdir -p $(@D)
+	cc -O2 -Wall -Wextra -shared -fPIC -o $@ $<
+
+# Refuses each request for memory of each command in turn. It fails where a run comes to what it may not. The gate has no part in it.
+refuse: $(PROGRAM) $(REFUSALS) $(REFUSING)
+	tools/refuse/sweep.py $(REFUSING) $(PROGRAM) $(REFUSALS)
+
 # The manual pages take the version from the program's source, the units the folder of the program. Nothing is enabled or started.
 install: $(PROGRAM)
 	install -D -m 755 $(PROGRAM) $(DESTDIR)$(PREFIX)/bin/iconvd
@@ -41,12 +55,14 @@ install: $(PROGRAM)
 	    sed 's|^ExecStart=/usr/local/|ExecStart=$(PREFIX)/|' contrib/systemd/$$unit | install -D -m 644 /dev/stdin $(UNITS)/$$unit || exit 1; \
 	done
 
-# Ratios of the built program to the system's iconv, what requests cost, and batches by 1, 2 and 4 workers. It asserts nothing.
+# Ratios of the built program to the system's iconv, what requests cost, batches by 1, 2 and 4 workers, and streams beside an echo in C. It
+# asserts nothing.
 bench: $(PROGRAM)
 	cd crates/bench && rt run > /dev/null
 	bench/run $(PROGRAM)
 	bench/requests $(PROGRAM)
 	cd crates/pool_bench && rt run -- 9
+	bench/network/run $(PROGRAM)
 
 clean:
-	rm -rf crates/*/out bench/out
+	rm -rf crates/*/out bench/out tools/refuse/out

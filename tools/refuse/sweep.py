@@ -1,0 +1,189 @@
+#!/usr/bin/env python3
+"""sweep.py LIBRARY PROGRAM REFUSALS: each request for memory refused in turn, for each command of iconvd and for the program refusals.
+
+Each runs with its Nth request refused (refuse.c), N counting up until a run meets none. What a run may come to:
+the ample answer, which is that of a run where nothing is refused; replies of which some are ENOMEM, and the others are what the same
+requests come to without those; or status 1 and the line `iconvd: out of memory`, with nothing printed or, where replies are written as
+they come, a front of the ample ones that ends with a whole one. A stream of `listen` may end so while the other is served whole, and
+the status is 0. `refusals` has the ample answer alone; it says on standard error which call it made again, and that is counted.
+Any other run is named, and the status is then 1.
+"""
+import collections
+import functools
+import itertools
+import os
+import socket
+import subprocess
+import sys
+import tempfile
+import time
+
+LIBRARY, PROGRAM, REFUSALS = map(os.path.abspath, sys.argv[1:])
+SAYS = b"iconvd: out of memory\n"
+OUTCOMES = AMPLE, ENOMEM, NOTHING, FRONT = ["ample", "ENOMEM", "no memory", "after replies"]
+SECONDS = 20  # a run that takes longer stands still
+CHARMAP = rb"<code_set_name> TOY|CHARMAP|<question-mark> \x3F|<U0100> \x80|END CHARMAP".replace(b"|", b"\n")
+
+Run = collections.namedtuple("Run", "status printed said streams", defaults=[()])
+# A command: its words and what it is given; the form and bytes of the requests that it answers, and by which command they are answered
+# where memory is ample; and with which status it ends behind some of its replies.
+Case = collections.namedtuple("Case", "words given form requests answering broken", defaults=[None, b"", (), None])
+
+
+class Lines:
+    """Scripts and reply lines."""
+    @staticmethod
+    def cut(data):
+        return data.splitlines(keepends=True)
+
+    @staticmethod
+    def is_refusal(reply):
+        return reply.split()[2:3] == [b"ENOMEM"]
+
+    @staticmethod
+    def refusal_of(request):
+        return b" ".join(request.split()[:2]) + b" ENOMEM -\n"
+
+
+class Frames:
+    """Streams of frames."""
+    @staticmethod
+    def cut(data):
+        found = []
+        while data:
+            size = 4 + int.from_bytes(data[:4], "big")
+            found.append(data[:size])
+            data = data[size:]
+        return found
+
+    @staticmethod
+    def is_refusal(reply):
+        return reply[12:13] == b"\x06"
+
+    @staticmethod
+    def refusal_of(request):
+        return b"\0\0\0\x09" + request[4:12] + b"\x06"
+
+
+def served(words, given, nth=0):
+    """A run whose request for memory of this number is refused, and how many it had: None where it didn't end by itself."""
+    with tempfile.NamedTemporaryFile() as count:
+        refusing = dict(os.environ, FAIL_NTH=str(nth), COUNT_TO=count.name, LD_PRELOAD=LIBRARY)
+        child = subprocess.Popen(words, stdin=subprocess.PIPE, stdout=subprocess.PIPE, stderr=subprocess.PIPE, env=refusing)
+        try:
+            run = given(child) if callable(given) else Run(None, *child.communicate(given, SECONDS))
+        except (subprocess.TimeoutExpired, OSError):
+            child.kill()
+            run = Run(None, *child.communicate())
+        return run._replace(status=child.returncode), int(count.read() or 0) or None
+
+
+@functools.cache
+def ample(words, given):
+    """What a command of iconvd prints where nothing is refused."""
+    return served([PROGRAM, *words], given)[0].printed
+
+
+def ask_stream(address, frames):
+    """What a client is sent that sends these frames, and then reads to the end."""
+    replies = b""
+    with socket.create_connection(address, SECONDS) as stream:
+        try:
+            stream.sendall(frames)
+            stream.shutdown(socket.SHUT_WR)
+            while part := stream.recv(65536):
+                replies += part
+        except (ConnectionResetError, BrokenPipeError):
+            pass
+    return replies
+
+
+def two_streams(frames, child):
+    """Two clients of `listen`, one after the other, once it says where it listens."""
+    line, streams = child.stdout.readline(), ()
+    if line.startswith(b"listening "):
+        host, port = line.split()[1].decode().rsplit(":", 1)
+        line, streams = b"", (ask_stream((host, int(port)), frames), ask_stream((host, int(port)), frames))
+    rest, said = child.communicate(timeout=SECONDS)
+    return Run(None, line + rest, said, streams)
+
+
+def has_refusals(case, told):
+    """Whether some of these replies are refusals, and the others are as if the requests of those hadn't been made."""
+    form, requests, replies = case.form, case.form.cut(case.requests), case.form.cut(told)
+    if len(requests) != len(replies) or not any(map(form.is_refusal, replies)):
+        return False
+    others = b"".join(request for request, reply in zip(requests, replies) if not form.is_refusal(reply))
+    others = iter(form.cut(ample(case.answering, others)))
+    return replies == [form.refusal_of(request) if form.is_refusal(reply) else next(others, b"")
+                       for request, reply in zip(requests, replies)]
+
+
+def judge(case, whole, run):
+    """Which outcome a run has beside that with ample memory, or None."""
+    if run == whole:
+        return AMPLE
+    if run == Run(1, b"", SAYS):
+        return NOTHING
+    pairs = zip([run.printed, *run.streams], [whole.printed, *whole.streams])
+    others = [(told, wanted) for told, wanted in pairs if told != wanted]
+    if len(others) != 1 or len(run.streams) != len(whole.streams) or case.form is None:
+        return None
+    told, wanted = others[0]
+    if (run.status, run.said) == (case.broken, SAYS):
+        replies = case.form.cut(told)
+        return FRONT if replies == case.form.cut(wanted)[:len(replies)] else None
+    return ENOMEM if (run.status, run.said) == (0, b"") and case.answering and has_refusals(case, told) else None
+
+
+def sweep(name, case):
+    """Refuses each request of a command in turn, and prints what the runs came to. It gives the number of bad ones."""
+    start, counts, again, bad = time.perf_counter(), collections.Counter(), collections.Counter(), 0
+    whole, _ = served(case.words, case.given)
+    for nth in itertools.count(1):
+        run, asked = served(case.words, case.given, nth)
+        if case.words == [REFUSALS]:
+            again.update(run.said.decode(errors="replace").splitlines())
+            run = run._replace(said=whole.said)
+        outcome = judge(case, whole, run) if asked is not None else None
+        counts[outcome] += 1
+        if outcome is None:
+            bad += 1
+            print(f"BAD: {name}, request {nth} of {asked}: {run}")
+        if asked is not None and asked < nth:
+            break
+    spent = time.perf_counter() - start
+    print(f"{name:18}{nth:7}" + "".join(f"{counts[outcome]:15}" for outcome in OUTCOMES) + f"{bad:6}{spent:10.1f}")
+    print("".join(f"    {line:30}{count:6}\n" for line, count in again.items()), end="", flush=True)
+    return bad
+
+
+def main():
+    with open(os.path.join(os.path.dirname(os.path.abspath(__file__)), "script"), "rb") as opened:
+        short = b"".join(line for line in opened if not line.startswith(b"#"))
+    # With this many comments the two uploads are worth threads.
+    long = short.replace(b"#|", 170 * (b"#" + 98 * b"-" + b"|"))
+    frames = ample(("ask",), short)
+    server = subprocess.Popen([PROGRAM, "listen", "127.0.0.1:0", "--streams", "1000000"], stdout=subprocess.PIPE, stderr=subprocess.DEVNULL)
+    address = server.stdout.readline().split()[1].decode()
+    two = ["run", "--workers", "2"]
+    print(f"{'command':18}{'runs':>7}" + "".join(f"{outcome:>15}" for outcome in OUTCOMES) + f"{'bad':>6}{'seconds':>10}")
+    bad = sum(itertools.starmap(sweep, [
+        ("run", Case([PROGRAM, "run"], short, Lines, short, ("run",))),
+        ("run --workers 2", Case([PROGRAM, *two], long, Lines, long, tuple(two))),
+        ("ask", Case([PROGRAM, "ask"], short)),
+        ("pipe", Case([PROGRAM, "pipe"], frames, Frames, frames, ("pipe",), 1)),
+        ("show", Case([PROGRAM, "show"], ample(("pipe",), frames))),
+        ("checkmap", Case([PROGRAM, "checkmap", "-"], CHARMAP)),
+        ("checkmap, faulty", Case([PROGRAM, "checkmap", "-"], b"CHARMAP\n")),
+        ("listen", Case([PROGRAM, "listen", "127.0.0.1:0", "--streams", "2"], functools.partial(two_streams, frames), Frames, frames, ("pipe",), 0)),
+        ("call", Case([PROGRAM, "call", address], short, Lines, broken=1)),
+        ("refusals", Case([REFUSALS], b"")),
+    ]))
+    server.terminate()
+    server.wait()
+    return 1 if bad else 0
+
+
+if __name__ == "__main__":
+    sys.exit(main())

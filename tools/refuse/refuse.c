@@ -1,15 +1,14 @@
-/* refuse.so, a library to be preloaded: it refuses one request for memory, that whose number FAIL_NTH is, counted from 1, and
-   when the program ends it writes how many there were into the file that COUNT_TO names. sweep.py runs programs with 1, 2 and
-   so on, until a run has fewer requests than that.
+/* refuse.so, a library to be preloaded: it refuses one request for memory, that whose number FAIL_NTH is, counted from 1. sweep.py
+   runs programs with 1, 2 and so on, until a run has fewer requests than that.
 
-   Requests are counted from just before the program's own start: those of the loader are none of its. Those of threads are
-   counted as they come. glibc has each of its functions under a second name, so none has to be looked up, which would itself
-   take memory. */
+   They are counted in the file that COUNT_TO names, as a long, so that the count is there however the program ends; and from
+   just before the program's own start, since those of the loader are none of its. Those of threads are counted as they come.
+   glibc has each of its functions under a second name, so none has to be looked up, which would itself take memory. */
 #include <errno.h>
 #include <fcntl.h>
 #include <stdatomic.h>
-#include <stdio.h>
 #include <stdlib.h>
+#include <sys/mman.h>
 #include <unistd.h>
 
 void *__libc_malloc(size_t size);
@@ -17,12 +16,12 @@ void *__libc_calloc(size_t count, size_t size);
 void *__libc_realloc(void *block, size_t size);
 void *__libc_memalign(size_t alignment, size_t size);
 
-static atomic_long asked;
+static atomic_long alone, *asked = &alone;
 static long refused;
 
 static int is_refused(void)
 {
-    if (atomic_fetch_add(&asked, 1) + 1 != refused)
+    if (atomic_fetch_add(asked, 1) + 1 != refused)
         return 0;
     errno = ENOMEM;
     return 1;
@@ -30,20 +29,17 @@ static int is_refused(void)
 
 __attribute__((constructor)) static void begin(void)
 {
-    const char *nth = getenv("FAIL_NTH");
-    refused = nth ? strtol(nth, NULL, 10) : 0;
-    atomic_store(&asked, 0);
-}
-
-__attribute__((destructor)) static void end(void)
-{
-    const char *file = getenv("COUNT_TO");
-    long count = atomic_load(&asked);
-    int descriptor = file ? open(file, O_WRONLY | O_CREAT | O_TRUNC, 0644) : -1;
-    if (descriptor >= 0) {
-        dprintf(descriptor, "%ld\n", count);
-        close(descriptor);
+    const char *nth = getenv("FAIL_NTH"), *file = getenv("COUNT_TO");
+    int descriptor = file ? open(file, O_RDWR | O_CREAT | O_CLOEXEC, 0644) : -1;
+    if (descriptor >= 0 && ftruncate(descriptor, sizeof *asked) == 0) {
+        void *shared = mmap(NULL, sizeof *asked, PROT_READ | PROT_WRITE, MAP_SHARED, descriptor, 0);
+        if (shared != MAP_FAILED)
+            asked = shared;
     }
+    if (descriptor >= 0)
+        close(descriptor);
+    refused = nth ? strtol(nth, NULL, 10) : 0;
+    atomic_store(asked, 0);
 }
 
 void *malloc(size_t size)

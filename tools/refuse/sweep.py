@@ -66,7 +66,7 @@ class Frames:
 
 
 def served(words, given, nth=0):
-    """A run whose request for memory of this number is refused, and how many it had: None where it didn't end by itself."""
+    """A run whose request for memory of this number is refused, and how many it had."""
     with tempfile.NamedTemporaryFile() as count:
         refusing = dict(os.environ, FAIL_NTH=str(nth), COUNT_TO=count.name, LD_PRELOAD=LIBRARY)
         child = subprocess.Popen(words, stdin=subprocess.PIPE, stdout=subprocess.PIPE, stderr=subprocess.PIPE, env=refusing)
@@ -75,7 +75,7 @@ def served(words, given, nth=0):
         except (subprocess.TimeoutExpired, OSError):
             child.kill()
             run = Run(None, *child.communicate())
-        return run._replace(status=child.returncode), int(count.read() or 0) or None
+        return run._replace(status=child.returncode), int.from_bytes(count.read(), sys.byteorder)
 
 
 @functools.cache
@@ -139,18 +139,20 @@ def judge(case, whole, run):
 def sweep(name, case):
     """Refuses each request of a command in turn, and prints what the runs came to. It gives the number of bad ones."""
     start, counts, again, bad = time.perf_counter(), collections.Counter(), collections.Counter(), 0
-    whole, _ = served(case.words, case.given)
+    whole, asked = served(case.words, case.given)
+    if asked == 0:
+        sys.exit(f"{name}: no request was counted: {LIBRARY} is not loaded")
     for nth in itertools.count(1):
         run, asked = served(case.words, case.given, nth)
         if case.words == [REFUSALS]:
             again.update(run.said.decode(errors="replace").splitlines())
             run = run._replace(said=whole.said)
-        outcome = judge(case, whole, run) if asked is not None else None
+        outcome = judge(case, whole, run)
         counts[outcome] += 1
         if outcome is None:
             bad += 1
             print(f"BAD: {name}, request {nth} of {asked}: {run}")
-        if asked is not None and asked < nth:
+        if asked < nth:
             break
     spent = time.perf_counter() - start
     print(f"{name:18}{nth:7}" + "".join(f"{counts[outcome]:15}" for outcome in OUTCOMES) + f"{bad:6}{spent:10.1f}")
@@ -163,7 +165,8 @@ def main():
         short = b"".join(line for line in opened if not line.startswith(b"#"))
     # With this many comments the two uploads are worth threads.
     long = short.replace(b"#|", 170 * (b"#" + 98 * b"-" + b"|"))
-    frames = ample(("ask",), short)
+    # With so many requests a stream has more batches than one, and is written in parts.
+    frames = 3 * ample(("ask",), short)
     server = subprocess.Popen([PROGRAM, "listen", "127.0.0.1:0", "--streams", "1000000"], stdout=subprocess.PIPE, stderr=subprocess.DEVNULL)
     address = server.stdout.readline().split()[1].decode()
     two = ["run", "--workers", "2"]

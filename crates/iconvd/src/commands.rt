@@ -6,10 +6,12 @@ use crate::job::{Job, Options};
 use crate::options::{options, usage_status};
 use clap::Error;
 use clap::error::ErrorKind;
-use cv_commands::{RunFault, ask, checkmap, pipe, run, show, status, write_all};
+use cv_commands::{RunFault, ask, checkmap, pipe, read_all, run, show, status, write_all};
+use cv_tcp::{FaultLines, listen};
 use std::alloc::Global;
 use std::fs::Files;
 use std::io;
+use std::net::{Net, TcpListener, TcpStream};
 use std::rt::Env;
 use std::sync::Wait;
 use std::thread::Threads;
@@ -25,10 +27,25 @@ fn conclude<R: Eprint>(rt: &R, done: Result<(), RunFault>) -> u8 {
     }
 }
 
-fn perform<R: Files + Input + Print + Eprint + AllocGlobal + Threads + Wait + Sync>(
-    rt: &R,
-    said: Options<'_>,
-) -> u8
+/// `call`: asks a server at an address for the script, and prints the lines of its replies, also of those that came before a fault.
+fn call<R>(rt: &R, address: &str) -> Result<(), RunFault>
+where
+    R: Input + Print + AllocGlobal + Net<Listener = TcpListener, Stream = TcpStream>,
+{
+    let alloc = rt.alloc();
+    let script = read_all(alloc, rt.reader())?;
+    let mut lines = Vec::new(alloc);
+    let called = cv_tcp::call(rt, alloc, address, &script, &mut lines);
+    let printed = write_all(io::writer(rt), &lines);
+    // Where both failed, why there are no more lines is told.
+    called?;
+    printed
+}
+
+fn perform<R>(rt: &R, said: Options<'_>) -> u8
+where
+    R: Files + Input + Print + Eprint + AllocGlobal + Threads + Wait + Sync,
+    R: Net<Listener = TcpListener, Stream = TcpStream>,
     requires { (1 ≤ said.workers) × (said.workers ≤ 16) }
 {
     match said.job {
@@ -36,6 +53,12 @@ fn perform<R: Files + Input + Print + Eprint + AllocGlobal + Threads + Wait + Sy
         Job::Ask => conclude(rt, ask(rt)),
         Job::Pipe => conclude(rt, pipe(rt, said.workers)),
         Job::Show => conclude(rt, show(rt)),
+        Job::Listen(address) => {
+            let log = FaultLines(rt);
+            let done = listen(rt, rt.alloc(), &log, address, said.streams, said.workers);
+            conclude(rt, done)
+        }
+        Job::Call(address) => conclude(rt, call(rt, address)),
         Job::CheckMap(file) => match checkmap(rt, file) {
             Ok(status) => status,
             Err(fault) => conclude(rt, Err(fault)),
@@ -63,10 +86,11 @@ pub fn explain<R: Print + Eprint>(rt: &R, alloc: Global, fault: &Error) -> u8 {
     }
 }
 
-fn obey<R: Env + Files + Input + Print + Eprint + AllocGlobal + Threads + Wait + Sync>(
-    rt: &R,
-    alloc: Global,
-) -> Result<u8, Error> {
+fn obey<R>(rt: &R, alloc: Global) -> Result<u8, Error>
+where
+    R: Env + Files + Input + Print + Eprint + AllocGlobal + Threads + Wait + Sync,
+    R: Net<Listener = TcpListener, Stream = TcpStream>,
+{
     let arguments = arguments(rt, alloc)?;
     let words: Vec<&str> = arguments.iter().map(|word| word.as_str()).collect(alloc)?;
     let said = options(alloc, &words)?;
@@ -74,9 +98,11 @@ fn obey<R: Env + Files + Input + Print + Eprint + AllocGlobal + Threads + Wait +
 }
 
 /// Does what the command line says, and gives the exit status.
-pub fn program<R: Env + Files + Input + Print + Eprint + AllocGlobal + Threads + Wait + Sync>(
-    rt: &R,
-) -> u8 {
+pub fn program<R>(rt: &R) -> u8
+where
+    R: Env + Files + Input + Print + Eprint + AllocGlobal + Threads + Wait + Sync,
+    R: Net<Listener = TcpListener, Stream = TcpStream>,
+{
     let alloc = rt.alloc();
     match obey(rt, alloc) {
         Ok(status) => status,

@@ -11,6 +11,10 @@ pub enum Job<'a> {
     Pipe,
     /// Reply frames on standard input, their lines on standard output.
     Show,
+    /// Streams of request frames that come in at an address.
+    Listen(&'a str),
+    /// A script on standard input, asked at an address, its reply lines on standard output.
+    Call(&'a str),
     /// What there is to say of the charmap in a file.
     CheckMap(&'a str),
 }

@@ -11,8 +11,14 @@ use std::alloc::{AllocError, Global};
 /// The word of `checkmap`.
 const FILE: &str = "FILE";
 
-/// The option of `run` and `pipe`.
+/// The word of `listen` and `call`.
+const ADDRESS: &str = "ADDR";
+
+/// The option of `run`, `pipe` and `listen`.
 const WORKERS: &str = "workers";
+
+/// The option of `listen`.
+const STREAMS: &str = "streams";
 
 /// How many workers there may be.
 const MOST_WORKERS: u32 = 16;
@@ -43,6 +49,20 @@ const FRAMES: &str = "\
 
 See iconvd(1) and iconvd-protocol(5).";
 
+/// What the help of `listen` and `call` ends with.
+const NETWORK: &str = "\
+ADDR is an IP address or a host's name, a colon and a port. `listen` prints `listening ADDR` when it does; at port 0 the system chooses one.
+Nothing is encrypted, and whoever reaches ADDR is served.
+
+Example:
+  $ iconvd listen 127.0.0.1:7071 &
+  listening 127.0.0.1:7071
+  $ printf '7 1 open UTF-8 ISO-8859-1\\n7 2 conv 0 8 41e942\\n' | iconvd call 127.0.0.1:7071
+  7 1 OK 00000000
+  7 2 OK 000000000000000041c3a942
+
+See iconvd(1) and iconvd-protocol(5).";
+
 /// What the help of `checkmap` ends with.
 const CHARMAPS: &str = "\
 FILE is a charmap file (POSIX, XBD 6.4), - standard input. It prints the name of the code set and how many mappings there are,
@@ -66,6 +86,52 @@ fn workers_option<'a>(alloc: Global) -> Arg<'a> {
         )
 }
 
+/// How many streams are served.
+fn streams_option<'a>(alloc: Global) -> Arg<'a> {
+    Arg::new(alloc, STREAMS)
+        .long(STREAMS)
+        .value_name("N")
+        .value_parser(value_parser!(u64))
+        .default_value("1")
+        .help("how many streams are served, one after the other; then it ends")
+}
+
+/// Where to listen, or whom to ask.
+fn address_word<'a>(alloc: Global) -> Arg<'a> {
+    Arg::new(alloc, ADDRESS)
+        .help("an IP address or a host's name, a colon and a port")
+        .required(true)
+}
+
+fn listen_command<'a>(alloc: Global) -> Result<Command<'a>, AllocError> {
+    Command::new(alloc, "listen")
+        .about("Serves TCP streams that come in at an address, each by a new server")
+        .after_help(NETWORK)
+        .arg(address_word(alloc))?
+        .arg(streams_option(alloc))?
+        .arg(workers_option(alloc))
+}
+
+fn call_command<'a>(alloc: Global) -> Result<Command<'a>, AllocError> {
+    Command::new(alloc, "call")
+        .about("Asks a server for the script on standard input and prints the reply lines")
+        .after_help(NETWORK)
+        .arg(address_word(alloc))
+}
+
+fn checkmap_command<'a>(alloc: Global) -> Result<Command<'a>, AllocError> {
+    Command::new(alloc, "checkmap")
+        .about(
+            "Reads a charmap file and prints its name and how many mappings it has, or its first fault",
+        )
+        .after_help(CHARMAPS)
+        .arg(
+            Arg::new(alloc, FILE)
+                .help("the charmap file, or - for standard input")
+                .required(true),
+        )
+}
+
 fn program<'a>(alloc: Global) -> Result<Command<'a>, AllocError> {
     let run = Command::new(alloc, "run")
         .about("Serves the script on standard input and prints the reply lines")
@@ -81,16 +147,6 @@ fn program<'a>(alloc: Global) -> Result<Command<'a>, AllocError> {
     let show = Command::new(alloc, "show")
         .about("Prints the reply lines of the reply frames on standard input")
         .after_help(FRAMES);
-    let checkmap = Command::new(alloc, "checkmap")
-        .about(
-            "Reads a charmap file and prints its name and how many mappings it has, or its first fault",
-        )
-        .after_help(CHARMAPS)
-        .arg(
-            Arg::new(alloc, FILE)
-                .help("the charmap file, or - for standard input")
-                .required(true),
-        )?;
     Command::new(alloc, "iconvd")
         .version(VERSION)
         .propagate_version(true)
@@ -101,7 +157,9 @@ fn program<'a>(alloc: Global) -> Result<Command<'a>, AllocError> {
         .subcommand(ask)?
         .subcommand(pipe)?
         .subcommand(show)?
-        .subcommand(checkmap)
+        .subcommand(listen_command(alloc)?)?
+        .subcommand(call_command(alloc)?)?
+        .subcommand(checkmap_command(alloc)?)
 }
 
 /// What the command and its words say is to be done.
@@ -110,6 +168,8 @@ fn job_of<'a>(matches: &ArgMatches<'a>) -> Job<'a> {
         Some(("ask", _)) => Job::Ask,
         Some(("pipe", _)) => Job::Pipe,
         Some(("show", _)) => Job::Show,
+        Some(("listen", said)) => said.get_str(ADDRESS).map_or(Job::Run, Job::Listen),
+        Some(("call", said)) => said.get_str(ADDRESS).map_or(Job::Run, Job::Call),
         Some(("checkmap", said)) => said.get_str(FILE).map_or(Job::Run, Job::CheckMap),
         _ => Job::Run,
     }
@@ -128,6 +188,14 @@ fn workers_of<'a>(matches: &ArgMatches<'a>) -> u32
     }
 }
 
+/// How many streams are served: 1 where the command has no such option.
+fn streams_of<'a>(matches: &ArgMatches<'a>) -> u64 {
+    match matches.subcommand() {
+        Some((_, said)) => said.get_one::<u64>(STREAMS).unwrap_or(1),
+        None => 1,
+    }
+}
+
 /// What the words of the command line say; the first is the program's name.
 pub fn options<'a>(alloc: Global, words: &'a [&'a str]) -> Result<Options<'a>, Error>
     ensures workers { IfOk result (λ said. (1 ≤ said.workers) × (said.workers ≤ 16)) }
@@ -136,7 +204,7 @@ pub fn options<'a>(alloc: Global, words: &'a [&'a str]) -> Result<Options<'a>, E
     Ok(Options {
         job: job_of(&matches),
         workers: workers_of(&matches),
-        streams: 1,
+        streams: streams_of(&matches),
     })
 }
 

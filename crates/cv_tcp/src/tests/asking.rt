@@ -1,0 +1,105 @@
+//! Asking: replies that come, and peers that end.
+use super::{bound, connected};
+use crate::calling::{call, call_socket};
+use crate::streams::serve_socket;
+use cv_commands::{RunFault, status};
+use cv_loop::Served;
+use std::io::{self, Write};
+use std::net::{Net, Shutdown, TcpListener, TcpStream};
+use std::test::Fail;
+use std::thread;
+
+const SCRIPT: &[u8] = b"7 1 open US-ASCII ISO-8859-1\n7 2 conv 0 8 41e942\n7 3 close 0\n";
+
+const LINES: &[u8] = b"7 1 OK 00000000\n7 2 OK 0000000000000001413f42\n7 3 OK -\n";
+
+#[test]
+fn a_script_is_served_and_asked(rt: HostRuntime) -> Result<(), Fail> {
+    let alloc = rt.alloc();
+    let (listener, address) = bound(&rt)?;
+    let (rt, listener) = (&rt, &listener);
+    let (served, called) = thread::join(
+        rt,
+        move || match listener.accept() {
+            Ok((stream, _peer)) => serve_socket(rt, alloc, &stream, 2),
+            Err(_) => Err(RunFault::AcceptFailed),
+        },
+        move || {
+            let mut lines = Vec::new(alloc);
+            match connected(rt, address) {
+                Ok(stream) => {
+                    let called = call_socket(alloc, SCRIPT, &stream, &mut lines);
+                    (called, lines)
+                }
+                Err(_) => (Err(RunFault::CannotConnect), lines),
+            }
+        },
+    );
+    assert_eq!(rt; served, Ok(Served { requests: 3 }));
+    let (called, lines) = called;
+    assert_eq!(rt; called, Ok(()));
+    assert!(rt; lines.as_slice() == LINES);
+    Ok(())
+}
+
+/// What asking comes to where the peer sends bytes and ends.
+fn answered<R>(rt: &R, bytes: &[u8]) -> io::Result<(Result<(), RunFault>, Vec<u8>)>
+where
+    R: AllocGlobal + Net<Listener = TcpListener, Stream = TcpStream>,
+{
+    let alloc = rt.alloc();
+    let (listener, address) = bound(rt)?;
+    let stream = connected(rt, address)?;
+    let (mut peer, _) = listener.accept()?;
+    peer.write_all(bytes)?;
+    peer.shutdown(Shutdown::Write)?;
+    let mut lines = Vec::new(alloc);
+    let called = call_socket(alloc, SCRIPT, &stream, &mut lines);
+    Ok((called, lines))
+}
+
+/// The reply to the first request of the script.
+const FIRST: &[u8] = b"\0\0\0\x0d\0\0\0\x07\0\0\0\x01\0\0\0\0\0";
+
+#[test]
+fn asking_ends_as_the_peer_does(rt: HostRuntime) -> Result<(), Fail> {
+    let none: &[u8] = b"";
+    let first: &[u8] = b"7 1 OK 00000000\n";
+    let cases: [(&[u8], RunFault, &str, &[u8]); 4] = [
+        (b"", RunFault::TruncatedReply, "truncated reply", none),
+        (b"\0\0\0", RunFault::TruncatedReply, "truncated reply", none),
+        (FIRST, RunFault::TruncatedReply, "truncated reply", first),
+        (
+            b"\0\0\0\x08",
+            RunFault::BadReplyLength(8),
+            "bad length 8",
+            none,
+        ),
+    ];
+    for (bytes, fault, text, shown) in cases {
+        let (called, lines) = answered(&rt, bytes)?;
+        assert_eq!(rt; called, Err(fault));
+        assert_eq!(rt; status(&fault), 1);
+        let said = format!(in rt.alloc(); "{fault}")?;
+        assert!(rt; said.as_str() == text, "{said}");
+        assert!(rt; lines.as_slice() == shown, "{fault}");
+    }
+    Ok(())
+}
+
+#[test]
+fn a_script_at_fault_is_found_before_its_server(rt: HostRuntime) -> Result<(), Fail> {
+    let alloc = rt.alloc();
+    let (listener, address) = bound(&rt)?;
+    let address = format!(in alloc; "{address}")?;
+    let mut lines = Vec::new(alloc);
+    let called = call(&rt, alloc, &address, b"# nothing to ask\n", &mut lines);
+    assert_eq!(rt; called, Ok(()));
+    drop(listener);
+    let called = call(&rt, alloc, &address, SCRIPT, &mut lines);
+    assert_eq!(rt; called, Err(RunFault::CannotConnect));
+    let called = call(&rt, alloc, &address, b"7", &mut lines);
+    assert_eq!(rt; called, Err(RunFault::Line(1)));
+    assert!(rt; lines.is_empty());
+    Ok(())
+}

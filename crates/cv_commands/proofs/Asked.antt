@@ -53,12 +53,12 @@ pub stops_asking : (fault : RunFault) (pushed : List ℕ) (later : List Message)
 stops_asking (Line number) pushed later rest pulls some h = absurd h
 stops_asking (Serve serving.TruncatedFrame) pushed later rest pulls some h = absurd h
 stops_asking (Serve (serving.BadLength n)) pushed later rest pulls some h = absurd h
-stops_asking (Serve serving.Read) pushed later rest pulls some h = record { asked = some; sent = refl; part = h }
+stops_asking (Serve serving.Read) pushed later rest pulls some h = record { asked = some; sent = refl; stands = h }
 stops_asking (Serve (serving.Write n)) pushed later rest pulls some h = absurd h
-stops_asking (Serve serving.TooManyReads) pushed later rest pulls some h = (record { asked = some; sent = refl; part = h.0 }, h.1)
+stops_asking (Serve serving.TooManyReads) pushed later rest pulls some h = (record { asked = some; sent = refl; stands = h.0 }, h.1)
 stops_asking (Serve serving.Memory) pushed later rest pulls some h = absurd h
-stops_asking TruncatedReply pushed later rest pulls some h = record { asked = some; sent = refl; part = h }
-stops_asking (BadReplyLength n) pushed later rest pulls some h = h
+stops_asking TruncatedReply pushed later rest pulls some h = record { asked = some; sent = refl; stands = h }
+stops_asking (BadReplyLength n) pushed later rest pulls some h = record { asked = some; sent = refl; stands = h }
 stops_asking CannotListen pushed later rest pulls some h = absurd h
 stops_asking AcceptFailed pushed later rest pulls some h = absurd h
 stops_asking CannotConnect pushed later rest pulls some h = absurd h

@@ -1,0 +1,70 @@
+//! Reading and building charmaps.
+
+use crate::again::{Trouble, ample, say_lacking};
+use crate::lines::{add_bytes, add_count};
+use crate::texts::{FAULTY, joined};
+use cv_base::Memory;
+use cv_cache::{Compiler, Plain};
+use cv_charmap::{CompileFault, MapFault, Pairs, read};
+use cv_trie::Charmap;
+use std::alloc::Global;
+
+/// The charmap of pairs that were read from a text. Building takes the pairs, so where memory lacked they are read anew.
+fn built<R: Eprint>(rt: &R, alloc: Global, pairs: Pairs, text: &[u8]) -> Result<Charmap, Trouble> {
+    match Charmap::build(alloc, pairs) {
+        Ok(charmap) => Ok(charmap),
+        Err(Memory) => {
+            say_lacking(rt, "Charmap::build");
+            let pairs = ample(read(alloc, text))?;
+            ample(Charmap::build(alloc, pairs))
+        }
+    }
+}
+
+/// The fault of a text that is no charmap.
+fn fault_of(alloc: Global) -> Result<MapFault, Trouble> {
+    match read(alloc, FAULTY) {
+        Ok(_) => Err(Trouble::Fault),
+        Err(CompileFault::Memory) => Err(Trouble::Memory),
+        Err(CompileFault::Map(fault)) => Ok(fault),
+    }
+}
+
+/// What a text is read and built to.
+fn tell_built<R: Eprint>(
+    rt: &R,
+    alloc: Global,
+    text: &[u8],
+    lines: &mut Vec<u8>,
+) -> Result<(), Trouble> {
+    let pairs = again!(rt, "read", read(alloc, text))?;
+    add_count(alloc, lines, "read", pairs.len())?;
+    let charmap = built(rt, alloc, pairs, text)?;
+    add_bytes(alloc, lines, "build", charmap.name())?;
+    add_count(alloc, lines, "build", charmap.len())?;
+    Ok(())
+}
+
+/// What a text is compiled to.
+fn tell_compiled<R: Eprint>(
+    rt: &R,
+    alloc: Global,
+    text: &[u8],
+    lines: &mut Vec<u8>,
+) -> Result<(), Trouble> {
+    let charmap = again!(rt, "Plain::compile", Plain.compile(&(), alloc, text))?;
+    add_bytes(alloc, lines, "compile", charmap.name())?;
+    add_count(alloc, lines, "compile", charmap.len())?;
+    Ok(())
+}
+
+/// A charmap, and the line of the first fault of a text that is none.
+pub fn tell<R: Eprint>(rt: &R, alloc: Global) -> Result<Vec<u8>, Trouble> {
+    let mut lines = Vec::new(alloc);
+    let text = joined(alloc)?;
+    tell_built(rt, alloc, &text, &mut lines)?;
+    tell_compiled(rt, alloc, &text, &mut lines)?;
+    let fault = again!(rt, "read, of a fault", fault_of(alloc))?;
+    add_count(alloc, &mut lines, "fault", fault.line as usize)?;
+    Ok(lines)
+}

@@ -1,0 +1,137 @@
+//! Each library call that takes memory, made again where memory lacked. What is printed is the same whichever request for memory is refused:
+//! what is printed where none is. Standard error has the name of the call that was made again. See `tools/refuse/sweep.py`.
+#![tactic(auto)]
+
+/// Makes a call, and where memory lacked once more; by then there is memory, so that any refusal is a fault. The answer is a `Result` whose
+/// error is a `Trouble`.
+macro_rules! again {
+    ($rt:expr, $name:expr, $call:expr) => {
+        match $call {
+            Ok(told) => Ok(told),
+            Err(e) => match Trouble::from(e) {
+                Trouble::Fault => Err(Trouble::Fault),
+                Trouble::Memory => {
+                    say_lacking($rt, $name);
+                    match $call {
+                        Ok(told) => Ok(told),
+                        Err(_) => Err(Trouble::Fault),
+                    }
+                }
+            },
+        }
+    };
+}
+
+mod again;
+mod asked;
+mod cache;
+mod charmaps;
+mod commands;
+mod engines;
+mod frames;
+mod lines;
+mod serving;
+mod texts;
+mod worlds;
+
+use again::{Trouble, say_lacking};
+use serving::Way;
+use std::alloc::Global;
+use std::io::{self, Write};
+use std::process::ExitCode;
+use std::sync::Wait;
+use std::thread::Threads;
+
+/// What is told of.
+#[derive(Clone, Copy)]
+enum Layer {
+    Frames,
+    Charmaps,
+    Cache,
+    Steps,
+    Answers,
+    World,
+    WorldWith,
+    Pool,
+    Serve,
+    ServeBytes,
+    AskScript,
+    ShowReplies,
+    RunScript,
+    RunByTwo,
+    CheckText,
+}
+
+const LAYERS: [(Layer, &str); 15] = [
+    (Layer::Frames, "frames"),
+    (Layer::Charmaps, "charmaps"),
+    (Layer::Cache, "cache"),
+    (Layer::Steps, "World, by steps"),
+    (Layer::Answers, "World, by requests"),
+    (Layer::World, "World, by batches"),
+    (Layer::WorldWith, "WorldWith"),
+    (Layer::Pool, "Pool"),
+    (Layer::Serve, "serve"),
+    (Layer::ServeBytes, "serve_bytes"),
+    (Layer::AskScript, "ask_script"),
+    (Layer::ShowReplies, "show_replies"),
+    (Layer::RunScript, "run_script"),
+    (Layer::RunByTwo, "run_script, two workers"),
+    (Layer::CheckText, "check_text"),
+];
+
+fn tell<R: Eprint + Threads + Wait + Sync>(
+    rt: &R,
+    alloc: Global,
+    layer: Layer,
+) -> Result<Vec<u8>, Trouble> {
+    match layer {
+        Layer::Frames => frames::tell(rt, alloc),
+        Layer::Charmaps => charmaps::tell(rt, alloc),
+        Layer::Cache => cache::tell(rt, alloc),
+        Layer::Steps => worlds::tell_steps(rt, alloc),
+        Layer::Answers => worlds::tell_answers(rt, alloc),
+        Layer::World => engines::tell_world(rt, alloc),
+        Layer::WorldWith => engines::tell_world_with(rt, alloc),
+        Layer::Pool => engines::tell_pool(rt, alloc),
+        Layer::Serve => serving::tell(rt, alloc, Way::Through),
+        Layer::ServeBytes => serving::tell(rt, alloc, Way::InMemory),
+        Layer::AskScript => commands::tell_ask(rt, alloc),
+        Layer::ShowReplies => commands::tell_show(rt, alloc),
+        Layer::RunScript => commands::tell_run(rt, alloc, 1),
+        Layer::RunByTwo => commands::tell_run(rt, alloc, 2),
+        Layer::CheckText => commands::tell_check(rt, alloc),
+    }
+}
+
+/// Prints what a layer comes to. Where memory lacked for what its calls are given, it is gone through anew.
+fn show<R: Print + Eprint + Threads + Wait + Sync>(
+    rt: &R,
+    alloc: Global,
+    layer: Layer,
+    name: &str,
+) -> io::Result<()> {
+    let mut told = tell(rt, alloc, layer);
+    if matches!(&told, Err(Trouble::Memory)) {
+        say_lacking(rt, "what calls are given");
+        told = tell(rt, alloc, layer);
+    }
+    println!(rt; "{name}:")?;
+    match told {
+        Ok(lines) => io::writer(rt).write_all(&lines),
+        Err(_) => println!(rt; "another answer"),
+    }
+}
+
+fn show_all<R: Print + Eprint + Threads + Wait + Sync + AllocGlobal>(rt: &R) -> io::Result<()> {
+    let alloc = rt.alloc();
+    for (layer, name) in LAYERS {
+        show(rt, alloc, layer, name)?;
+    }
+    Ok(())
+}
+
+fn main(rt: HostRuntime) -> io::Result<ExitCode> {
+    show_all(&rt)?;
+    Ok(ExitCode::SUCCESS)
+}

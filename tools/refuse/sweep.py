@@ -93,8 +93,10 @@ def ask_stream(address, frames):
             stream.shutdown(socket.SHUT_WR)
             while part := stream.recv(65536):
                 replies += part
-        except (ConnectionResetError, BrokenPipeError):
-            pass
+        except TimeoutError:
+            raise
+        except OSError:
+            pass  # the stream was reset, at whichever of these calls it showed
     return replies
 
 

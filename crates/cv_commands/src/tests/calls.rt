@@ -26,12 +26,20 @@ const FIRST_REPLY: usize = 17;
 
 const TWO_REPLIES: usize = 41;
 
-const LINES: &[u8] = b"7 1 OK 00000000\n7 2 OK 0000000000000001413f42\n7 3 OK -\n";
+// What stands there before the call, and the lines of the replies behind it.
+const LINES: &[u8] = b"before\n7 1 OK 00000000\n7 2 OK 0000000000000001413f42\n7 3 OK -\n";
 
-// How long the first line is, and the first two.
-const FIRST_LINE: usize = 16;
+// How long that is with no line, with the first one, and with the first two.
+const NO_LINE: usize = 7;
 
-const TWO_LINES: usize = 46;
+const FIRST_LINE: usize = 23;
+
+const TWO_LINES: usize = 53;
+
+/// The first n bytes, or all where there are fewer.
+fn front(bytes: &[u8], n: usize) -> &[u8] {
+    &bytes[..n.min(bytes.len())]
+}
 
 /// The front of the replies, so many bytes a read, and then the end or a failure.
 #[derive(Drop)]
@@ -74,7 +82,7 @@ impl Write for Narrow {
     }
 }
 
-/// A peer, and what has to come of calling it: how many bytes of the requests are sent and of the lines shown.
+/// A peer, and what has to come of calling it: how many bytes of the requests were sent, and how many stand in the lines.
 #[derive(Clone, Copy)]
 struct Case {
     name: &'static str,
@@ -95,13 +103,13 @@ const WHOLE: Case = Case {
     room: 100,
     result: Ok(()),
     sent: 74,
-    shown: 55,
+    shown: 62,
 };
 
 fn cases() -> [Case; 11] {
     let cut = Err(RunFault::TruncatedReply);
     let failed = Err(RunFault::Serve(ServeFault::Read));
-    let (first, two) = (&REPLIES[..FIRST_REPLY], &REPLIES[..TWO_REPLIES]);
+    let (first, two) = (front(REPLIES, FIRST_REPLY), front(REPLIES, TWO_REPLIES));
     [
         WHOLE,
         Case {
@@ -119,7 +127,7 @@ fn cases() -> [Case; 11] {
             replies: b"",
             result: cut,
             sent: FIRST_REQUEST,
-            shown: 0,
+            shown: NO_LINE,
             ..WHOLE
         },
         Case {
@@ -127,7 +135,7 @@ fn cases() -> [Case; 11] {
             replies: b"\0\0\0",
             result: cut,
             sent: FIRST_REQUEST,
-            shown: 0,
+            shown: NO_LINE,
             ..WHOLE
         },
         Case {
@@ -152,7 +160,7 @@ fn cases() -> [Case; 11] {
             replies: b"\0\0\0\x08",
             result: Err(RunFault::BadReplyLength(8)),
             sent: FIRST_REQUEST,
-            shown: 0,
+            shown: NO_LINE,
             ..WHOLE
         },
         Case {
@@ -160,7 +168,7 @@ fn cases() -> [Case; 11] {
             room: 0,
             result: Err(RunFault::Serve(ServeFault::Write { written: 0 })),
             sent: 0,
-            shown: 0,
+            shown: NO_LINE,
             ..WHOLE
         },
         Case {
@@ -182,7 +190,7 @@ fn cases() -> [Case; 11] {
     ]
 }
 
-/// What a script comes to with this peer: the result, what was sent, and what is shown behind `before`.
+/// What a script comes to with this peer: the result, what was sent, and the lines.
 fn called(
     alloc: Global,
     script: &[u8],
@@ -197,7 +205,7 @@ fn called(
         taken: Vec::new(alloc),
         room: case.room,
     });
-    let mut lines = Vec::from_slice(alloc, b"before\n")?;
+    let mut lines = Vec::from_slice(alloc, front(LINES, NO_LINE))?;
     let result = call_over(alloc, script, &mut source, &mut sink, &mut lines);
     Ok((result, sink.into_inner().taken, lines))
 }
@@ -208,9 +216,8 @@ fn calls_end_as_they_should(rt: HostRuntime) -> Result<(), Fail> {
         let name = case.name;
         let (result, sent, lines) = called(rt.alloc(), SCRIPT, case)?;
         assert_eq!(rt; result, case.result, "{name}");
-        assert_eq!(rt; sent.as_slice(), &REQUESTS[..case.sent], "{name}");
-        assert_eq!(rt; &lines[..7], b"before\n".as_slice(), "{name}");
-        assert_eq!(rt; &lines[7..], &LINES[..case.shown], "{name}");
+        assert_eq!(rt; sent.as_slice(), front(REQUESTS, case.sent), "{name}");
+        assert_eq!(rt; lines.as_slice(), front(LINES, case.shown), "{name}");
     }
     Ok(())
 }
@@ -220,6 +227,6 @@ fn a_script_at_fault_touches_nothing(rt: HostRuntime) -> Result<(), Fail> {
     let (result, sent, lines) = called(rt.alloc(), b"7 1 close 0\n7 2 shut 0\n", WHOLE)?;
     assert_eq!(rt; result, Err(RunFault::Line(2)));
     assert!(rt; sent.is_empty());
-    assert_eq!(rt; lines.as_slice(), b"before\n".as_slice());
+    assert_eq!(rt; lines.as_slice(), front(LINES, NO_LINE));
     Ok(())
 }

@@ -55,9 +55,9 @@ ADDR is an IP address or a host's name, a colon and a port. `listen` prints `lis
 Nothing is encrypted, and whoever reaches ADDR is served.
 
 Example:
-  $ iconvd listen 127.0.0.1:7071 &
-  listening 127.0.0.1:7071
-  $ printf '7 1 open UTF-8 ISO-8859-1\\n7 2 conv 0 8 41e942\\n' | iconvd call 127.0.0.1:7071
+  $ iconvd listen 127.0.0.1:7879 &
+  listening 127.0.0.1:7879
+  $ printf '7 1 open UTF-8 ISO-8859-1\\n7 2 conv 0 8 41e942\\n' | iconvd call 127.0.0.1:7879
   7 1 OK 00000000
   7 2 OK 000000000000000041c3a942
 

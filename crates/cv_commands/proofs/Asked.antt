@@ -1,5 +1,5 @@
 -- The next request, and what stops asking before it has its reply.
-use Rattle.std.proofs.Common.{◌≡◌, ◌≢◌, ℕ, ◌+◌, ◌-◌, ◌≤◌, ◌<◌, List, [], ◌∷◌, ◌++◌, length, get_or, take, drop, Option, Err, false, refl, sym, ap, subst, ◌∙◌, append_assoc, inl, inr, arith}
+use Rattle.std.proofs.Common.{◌≡◌, ◌≢◌, ℕ, ◌<◌, List, [], ◌∷◌, ◌++◌, length, get_or, take, drop, Option, Err, false, refl, sym, ap, subst, ◌∙◌, append_assoc, inl, inr, arith}
 use Rattle.std.specs.List.{AllByRecursion}
 use Rattle.std.specs.Io.KnownBytes.{Consumes}
 use Rattle.std.proofs.lemmas.List.{take_at, drop_at, get_or_past}
@@ -10,7 +10,7 @@ use Rattle.cv_frame.specs.declared.reading.Frame.TheVariants.{Whole, Partial}
 use Rattle.cv_frame.proofs.Cuts.{front_again, front_short, front_takes}
 use Rattle.cv_loop.proofs.Known.{Consumes-then}
 use Rattle.cv_loop.specs.declared.fault.ServeFault.TheVariants as serving
-use Rattle.cv_commands.specs.Calling.{EndsWhere, IsAwaiting}
+use Rattle.cv_commands.specs.Calling.{EndsWhere}
 use Rattle.cv_commands.specs.Faults.{IsOfScript}
 use Rattle.cv_commands.specs.Lines.{line_of}
 use Rattle.cv_commands.specs.Private.Replies.{ShowsOne, TakesReply, StopsAwaiting, PullsMore, AwaitsReply}

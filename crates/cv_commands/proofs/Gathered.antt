@@ -5,7 +5,7 @@ use Rattle.std.specs.List.{AllByRecursion}
 use Rattle.std.proofs.lemmas.List.{append-nil}
 use Rattle.std.proofs.lemmas.List.Sums.{sum_by_push}
 use Rattle.cv_frame.specs.Message.{Message, joined, spelling, FitsFrame}
-use Rattle.cv_frame.specs.Cut.{messages_of, rest_of, front_of, IsCut}
+use Rattle.cv_frame.specs.Cut.{messages_of, IsCut}
 use Rattle.cv_frame.proofs.Cuts.{cut_only, front_short}
 use Rattle.cv_loop.proofs.Batches.{all-push, joined-push}
 use Rattle.cv_commands.specs.Scripts.{asks, asking_lines, IsAskedBy}

@@ -1,10 +1,10 @@
 -- The cut of replies, one reply after another, and the lines of what was cut.
-use Rattle.std.proofs.Common.{◌≡◌, ℕ, List, [], ◌∷◌, ◌++◌, drop, refl, sym, ap, ◌∙◌, append_assoc, arith, length}
+use Rattle.std.proofs.Common.{◌≡◌, ℕ, List, [], ◌∷◌, ◌++◌, drop, refl, sym, ap, ◌∙◌, append_assoc, arith}
 use Rattle.std.proofs.lemmas.List.{append-nil}
 use Rattle.std.proofs.lemmas.List.Concat.{flat_map-append}
 use Rattle.cv_frame.specs.Message.{Message}
 use Rattle.cv_frame.specs.Cut.{front_of, Cut, cut_of, messages_of, rest_of, no_frames}
-use Rattle.cv_frame.specs.declared.reading.Frame.TheVariants.{Whole, Partial}
+use Rattle.cv_frame.specs.declared.reading.Frame.TheVariants.{Whole}
 use Rattle.cv_frame.proofs.Cuts.{cut_whole, cut_rest, front_short}
 use Rattle.cv_commands.specs.Lines.{line_of, lines_of}
 

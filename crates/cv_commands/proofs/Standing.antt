@@ -14,7 +14,7 @@ use Rattle.cv_loop.specs.declared.fault.ServeFault.TheVariants as serving
 use Rattle.cv_commands.specs.Calling.{Calls, EndsWhere, EndsSay, ending_of, write_failed}
 use Rattle.cv_commands.specs.Lines.{lines_of, line_of}
 use Rattle.cv_commands.specs.Private.Requests.{BreaksOff}
-use Rattle.cv_commands.specs.Private.Replies.{ShowsOne, StopsAwaiting, AwaitsReply}
+use Rattle.cv_commands.specs.Private.Replies.{ShowsOne, AwaitsReply}
 use Rattle.cv_commands.specs.declared.fault.RunFault.{RunFault}
 use Rattle.cv_commands.specs.declared.fault.RunFault.TheVariants.{Serve}
 use Rattle.cv_commands.proofs.Asked.{NextRequest, next_request, none_later, stops_asking}

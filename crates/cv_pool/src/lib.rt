@@ -14,6 +14,3 @@ pub use gate::{Gate, Open};
 pub use limits::MOST_WORKERS;
 pub use pool::Pool;
 pub use shard::Shard;
-
-#[cfg(test)]
-mod tests;

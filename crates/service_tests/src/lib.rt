@@ -1,4 +1,4 @@
-//! Tests of frames, callers' tables, the cache, worlds and serving. A crate with tests is proved twice, so those of the crates that
+//! Tests of frames, callers' tables, the cache, worlds, serving and pools. A crate with tests is proved twice, so those of the crates that
 //! others stand on are here, and say what a client of these crates could.
 #![tactic(auto)]
 
@@ -8,6 +8,8 @@ mod cache;
 mod callers;
 #[cfg(test)]
 mod frames;
+#[cfg(test)]
+mod pool;
 #[cfg(test)]
 mod serving;
 #[cfg(test)]

@@ -1,5 +1,5 @@
 //! Conversions between built-in encodings: bytes that are right by the public standards, and by docs/PROTOCOL.md.
-use super::exchanges::{Case, check};
+use crate::exchanges::{Case, check};
 use std::test::Fail;
 
 const CASES: [Case; 19] = [

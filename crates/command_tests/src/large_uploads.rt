@@ -1,7 +1,6 @@
 //! The largest uploads: as many mappings, and as many bytes, as there may be.
-use super::exchanges::{Case, check_by};
-use crate::script::ask_script;
-use crate::served_script::run_script;
+use crate::exchanges::{Case, check_by};
+use cv_commands::{ask_script, run_script};
 use std::alloc::Global;
 use std::test::Fail;
 

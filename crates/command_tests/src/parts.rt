@@ -1,5 +1,5 @@
 //! Uploads in parts, by docs/PROTOCOL.md.
-use super::exchanges::{Case, check};
+use crate::exchanges::{Case, check};
 use std::test::Fail;
 
 const CASES: [Case; 4] = [

@@ -1,11 +1,11 @@
 //! Charmaps of several callers, over one cache, and streams served by a pool.
 use super::request;
-use crate::{Open, Pool};
 use cv_cache::{Cached, Compiler};
 use cv_charmap::CompileFault;
 use cv_frame::ops::{CONV, DROP, OPEN, PUT};
 use cv_frame::{Ask, Reply, Status, write_request};
 use cv_loop::{FromReader, Served, ToWriter, serve};
+use cv_pool::{Open, Pool};
 use cv_trie::Charmap;
 use std::alloc::{AllocError, Global};
 use std::io::{self, Read};

@@ -1,8 +1,8 @@
 //! Requests to a new server, each with its reply.
 ghost use Rattle.std.specs.Prelude.{◌≤◌};
 
-use super::console::chain;
-use crate::served_script::run_script;
+use crate::console::chain;
+use cv_commands::run_script;
 use std::alloc::Global;
 use std::process::Abort;
 use std::sync::Wait;

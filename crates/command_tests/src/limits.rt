@@ -1,6 +1,6 @@
 //! What a caller may have, and which refusal comes first, by docs/PROTOCOL.md.
-use super::exchanges::{Case, check};
-use crate::served_script::run_script;
+use crate::exchanges::{Case, check};
+use cv_commands::run_script;
 use std::test::Fail;
 
 const CASES: [Case; 5] = [

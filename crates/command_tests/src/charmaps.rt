@@ -1,8 +1,8 @@
 //! Charmap texts, against what they have to come to. A `|` stands for the end of a line.
-use crate::charmap_file::{Checked, answer, check_text, checkmap};
-use crate::fault::{RunFault, status};
+use cv_commands::{Checked, RunFault, check_text, checkmap, status};
 use cv_loop::ServeFault;
 use std::alloc::Global;
+use std::fs;
 use std::test::Fail;
 
 fn lines_of(alloc: Global, text: &[u8]) -> Result<Vec<u8>, Fail> {
@@ -99,18 +99,14 @@ fn charmaps_are_read(rt: HostRuntime) -> Result<(), Fail> {
 }
 
 #[test]
-fn one_line_is_printed(rt: HostRuntime) -> Result<(), Fail> {
-    let alloc = rt.alloc();
-    let cases: [(&[u8], &[u8], u8); 2] = [
-        (TOY, b"TOY 5\n", 0),
-        (b"CHARMAP|<A>", b"line 2: Syntax\n", 1),
-    ];
-    for (text, want, status) in cases {
-        let file = lines_of(alloc, text)?;
-        let mut printed = Vec::new(alloc);
-        let done = answer(alloc, file.as_slice(), &mut printed);
-        assert!(rt; printed.as_slice() == want, "{}", text.escape_ascii());
-        assert!(rt; done == Ok(status), "{}", text.escape_ascii());
+fn a_file_that_is_no_charmap_has_status_1(rt: HostRuntime) -> Result<(), Fail> {
+    let cases: [(&[u8], u8); 2] = [(TOY, 0), (b"CHARMAP|<A>", 1)];
+    for (text, want) in cases {
+        let file = lines_of(rt.alloc(), text)?;
+        fs::write(&rt, "charmap", &file)?;
+        let done = checkmap(&rt, "charmap");
+        fs::remove_file(&rt, "charmap")?;
+        assert!(rt; done == Ok(want), "{}", text.escape_ascii());
     }
     Ok(())
 }

@@ -1,5 +1,5 @@
 //! Charmaps that are refused: the line that is at fault, and the cause's number. A `|` stands for the end of a line.
-use crate::served_script::run_script;
+use cv_commands::run_script;
 use std::test::Fail;
 
 const REFUSED: [(&str, &str); 19] = [

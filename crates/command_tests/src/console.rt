@@ -1,8 +1,7 @@
 //! A standard input that holds bytes, and a standard output that keeps them.
 ghost use Rattle.std.specs.Prelude.{◌≤◌};
 
-use crate::fault::RunFault;
-use crate::standard::{ask, pipe, show};
+use cv_commands::{RunFault, ask, pipe, show};
 use std::alloc::{Allocator, Global};
 use std::fmt::Display;
 use std::io::{self, BufRead, Lines};

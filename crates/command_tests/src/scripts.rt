@@ -1,22 +1,5 @@
 //! Scripts and reply lines, against values from outside.
-mod built_in;
-mod byes;
-mod calls;
-mod charmaps;
-mod console;
-mod exchanges;
-mod interleavings;
-mod large_uploads;
-mod limits;
-mod parts;
-mod refused_charmaps;
-mod refused_uploads;
-mod standard;
-mod streams;
-mod strict;
-mod uploads;
-
-use super::*;
+use cv_commands::{RunFault, ask_script, run_script, show_replies, status};
 use cv_loop::ServeFault;
 use std::alloc::{AllocError, Global};
 use std::test::Fail;

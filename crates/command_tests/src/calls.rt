@@ -1,6 +1,5 @@
 //! `call_over` where the peer gives its replies in pieces, closes or fails, and where it takes no more.
-use crate::calling::call_over;
-use crate::fault::RunFault;
+use cv_commands::{RunFault, call_over};
 use cv_loop::{FromReader, ServeFault, ToWriter};
 use std::alloc::Global;
 use std::io::{self, ErrorKind, Read, Write};

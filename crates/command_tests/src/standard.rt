@@ -1,7 +1,6 @@
 //! The commands that work from standard input to standard output.
-use super::console::{Console, chain};
-use crate::fault::RunFault;
-use crate::standard::{ask, run, show};
+use crate::console::{Console, chain};
+use cv_commands::{RunFault, ask, run, show};
 use std::test::Fail;
 
 const SCRIPT: &[u8] = b"7 1 open US-ASCII ISO-8859-1\n7 2 conv 0 8 41e942\n8 1 close 3\n";

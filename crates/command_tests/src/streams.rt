@@ -1,7 +1,6 @@
 //! Streams of frames that are cut off, or have a length that no frame has: `pipe` answers what stands before, and `show` prints nothing.
-use super::console::{Console, piped};
-use crate::fault::{RunFault, status};
-use crate::standard::show;
+use crate::console::{Console, piped};
+use cv_commands::{RunFault, show, status};
 use cv_loop::ServeFault;
 use std::sync::Wait;
 use std::test::Fail;

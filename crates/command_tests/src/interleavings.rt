@@ -1,5 +1,5 @@
 //! The requests of two callers in each order that keeps those of each in theirs: every request has the reply that it has alone.
-use crate::served_script::run_script;
+use cv_commands::run_script;
 use std::alloc::Global;
 use std::test::Fail;
 

@@ -1,5 +1,5 @@
 //! Charmaps that callers upload, and conversions through them: bytes that are right by docs/PROTOCOL.md.
-use super::exchanges::{Case, check};
+use crate::exchanges::{Case, check};
 use std::test::Fail;
 
 const CASES: [Case; 9] = [

@@ -1,9 +1,9 @@
 //! Shards that wait for one another: a pool that ran them one after another, or under one lock, would be late.
 use super::request;
-use crate::{Gate, Open, Pool};
 use cv_cache::{Compiler, Plain};
 use cv_charmap::CompileFault;
 use cv_frame::ops::{CONV, PUT};
+use cv_pool::{Gate, Open, Pool};
 use cv_trie::Charmap;
 use std::alloc::Global;
 use std::sync::Arc;

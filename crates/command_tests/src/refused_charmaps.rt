@@ -1,5 +1,5 @@
 //! Texts that are no charmaps, against the line and the cause that are said of them. A `|` stands for the end of a line.
-use crate::tests::charmaps::checked;
+use crate::charmaps::checked;
 use std::test::Fail;
 
 /// Each refused text, and what is said of it.

@@ -2,7 +2,7 @@
 use Rattle.std.proofs.Common.{◌≡◌, ◌≢◌, ℕ, ◌+◌, ◌<◌, ◌≤◌, List, [], ◌∷◌, length, drop, get_or, slice_set, get_or-set_other, get_or-set_same, refl, sym, subst, ◌∙◌, ap, arith, bit_or, below_more, inl, inr, suc, Some}
 use Rattle.std.specs.Prelude.{Contains}
 use Rattle.std.proofs.Math.Seq.{drop-cons}
-use Rattle.std.proofs.lemmas.Bool.{cases_lt}
+use Rattle.std.proofs.lemmas.Bool.{cases_lt, cases_eq}
 use Rattle.std.proofs.lemmas.List.{length-drop}
 use Rattle.std.proofs.lemmas.Nat.{le_or_l, le_or_r}
 use Rattle.cv_base.specs.Items.{taken, Stands}
@@ -48,6 +48,13 @@ ones_more pairs ones n v low p q b h l = elim (cases_lt b n) [
       let same : b ≡ n = omega arith in
       let e : get_or (slice_set ones n v) b 0 ≡ v = rw same (rw get_or-set_same refl) in
       rw (e, same) (q (rw e at l)))
+]
+
+-- a byte more has no number above that of no character
+pub plain_more : (ones : List ℕ) (n v : ℕ) → n < length ones → ((b : ℕ) → b < 256 → get_or ones b 0 ≤ no_character) → v ≤ no_character → (b : ℕ) → b < 256 → get_or (slice_set ones n v) b 0 ≤ no_character
+plain_more ones n v low p q b l = elim (cases_eq b n) [
+  | inl same ↦ rw same (rw get_or-set_same q)
+  | inr ne ↦ rw get_or-set_other (p b l)
 ]
 
 -- none of some numbers is above the bits of all of them, joined

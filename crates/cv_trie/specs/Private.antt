@@ -1,4 +1,5 @@
 pub mod Ones
+pub mod Twos
 pub mod Paging
 pub mod Compiled
 pub mod Fronts

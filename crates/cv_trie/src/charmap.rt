@@ -9,6 +9,7 @@ use crate::longest::longest;
 use crate::ones::ones_of;
 use crate::pages::Pages;
 use crate::reading::read_front;
+use crate::twos::twos_of;
 use crate::writing::{put_character, write_run};
 use cv_base::{
     AsciiForm, BlockCodec, Codec, Item, Memory, Piece, Policy, Put, ReadBlock, ReadState, Scalar,
@@ -25,8 +26,10 @@ pub struct Charmap {
     name: Vec<u8>,
     /// The pairs, found by their bytes.
     trie: ByteTrie,
-    /// For each byte the character that it is by itself.
+    /// For each byte the character that it is by itself, or where its row begins.
     ones: Vec<u32>,
+    /// Rows of the characters of two bytes, for bytes with which many begin.
+    twos: Vec<u32>,
     /// The place of each character's first pair.
     pages: Pages,
     /// How many bytes the longest pair has.
@@ -45,7 +48,7 @@ impl Model for Charmap {
 
     ghost view = { λ m. record { name = m.name.items; pairs = m.trie.entries } };
 
-    ghost invariant = { λ m. IsCompiled m.trie.entries m.ones.items m.pages.tops.items m.pages.cells.items
+    ghost invariant = { λ m. IsCompiled m.trie.entries m.ones.items m.twos.items m.pages.tops.items m.pages.cells.items
         m.most m.reads_ascii m.writes_ascii };
 }
 
@@ -55,7 +58,8 @@ impl Charmap {
         ensures { IfOk result (λ m. m ≡ pairs) }
     {
         let (name, trie) = pairs.into_parts();
-        let ones = ones_of(alloc, &trie)?;
+        let mut ones = ones_of(alloc, &trie)?;
+        let twos = twos_of(alloc, trie.entries(), &mut ones)?;
         let pages = Pages::of(alloc, trie.entries())?;
         let most = longest(trie.entries());
         let reads_ascii = does_read_ascii(&trie);
@@ -64,6 +68,7 @@ impl Charmap {
             name,
             trie,
             ones,
+            twos,
             pages,
             most,
             reads_ascii,
@@ -134,7 +139,7 @@ impl BlockCodec for Charmap {
     #[tactic(auto, using(cv_base::proofs::BlockLaws::nothing_read))]
     fn read_block(&self, state: ReadState, input: &[u8], buffer: &mut [Scalar]) -> ReadBlock {
         match state {
-            ReadState::Start => read_front(&self.trie, &self.ones, input, buffer),
+            ReadState::Start => read_front(&self.trie, &self.ones, &self.twos, input, buffer),
             _ => ReadBlock::nothing(state),
         }
     }

@@ -10,6 +10,7 @@ mod longest;
 mod ones;
 mod pages;
 mod reading;
+mod twos;
 mod writing;
 
 pub use charmap::Charmap;

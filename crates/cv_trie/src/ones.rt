@@ -10,8 +10,9 @@ use cv_base::Scalar;
 use cv_byte_trie::{ByteTrie, Entry, TAIL};
 use std::alloc::{AllocError, Global};
 
-/// Stands for no character. It is a bit that no character has, so that the bits of several tell whether it is among them.
-const NO_CHARACTER: u32 = 0x8000_0000;
+/// Stands for no character, as each number above it does. It is a bit that no character has, so that the bits of several numbers
+/// tell whether such a one is among them. It is the lowest such bit: an address can then leave it out at no cost.
+pub(crate) const NO_CHARACTER: u32 = 0x0020_0000;
 
 /// How many bytes are read at once.
 const MANY: usize = 8;
@@ -20,6 +21,7 @@ const MANY: usize = 8;
 fn one_of(entries: &[Entry], code: u32) -> u32
     requires entries { AreEntries entries.now }
     requires low { code < tails → code < length entries.now }
+    ensures least { result ≤ no_character }
     ensures leaf { result < no_character → code < tails }
     ensures character { result < no_character → result ≡ character_at entries.now code }
 {
@@ -34,6 +36,8 @@ fn one_of(entries: &[Entry], code: u32) -> u32
 pub(crate) fn ones_of(alloc: Global, trie: &ByteTrie) -> Result<Vec<u32>, AllocError>
     ensures long { IfOk result (λ ones. length ones.items ≡ 256) }
     ensures ones { IfOk result (λ ones. AreOnes trie.now.entries ones.items 256) }
+    ensures plain { IfOk result (λ ones.
+        (b : ℕ) → b < 256 → slice_index ones.items b ≤ no_character) }
 {
     trie.assert_leads();
     let root = trie.root();

@@ -6,15 +6,17 @@ ghost use Rattle.cv_byte_trie.specs.Tries.{tails};
 ghost use Rattle.cv_byte_trie.specs.Tables.{edge_of};
 ghost use Rattle.cv_trie.specs.Charmaps.{map_reads};
 ghost use Rattle.cv_trie.specs.Private.Ones.{AreOnes};
+ghost use Rattle.cv_trie.specs.Private.Twos.{AreTwos};
 ghost use Rattle.cv_trie.specs.Private.Fronts.{IsReadFront};
 ghost use Rattle.cv_trie.specs.Private.Followed.{IsFound};
 
 use crate::front::Front;
-use crate::ones::read_ones;
+use crate::ones::{NO_CHARACTER, read_ones};
+use crate::twos::read_twos;
 use cv_base::{ReadBlock, ReadState, Scalar};
 use cv_byte_trie::{ByteTrie, Entry, NODE, NONE, TAIL};
 
-/// How many characters are read one after another, however long, before shorter ones are tried again. It decides speed alone.
+/// How many characters are read one after another, however long, before the tables are tried again. It decides speed alone.
 const LONGER_AT_ONCE: usize = 32;
 
 /// The entry that stands at a place of a text, or none.
@@ -72,53 +74,6 @@ fn follow(trie: &ByteTrie, root: &[u32], input: &[u8], used: usize) -> Followed
     Followed { code, size }
 }
 
-/// Follows the one or two bytes of a short string at a place of a text. Most maps have no others, and it goes around no loop.
-#[inline(always)]
-fn follow_short(trie: &ByteTrie, root: &[u32], input: &[u8], used: usize) -> Followed
-    requires root { (b : ℕ) → b < 256 → slice_index root.now b ≡ edge_of trie.now.steps 0 b }
-    requires size { length root.now ≡ 256 }
-    requires within { used + 2 ≤ length input.now }
-    ensures found { result.code < tails
-        → IsFound trie.now.entries (drop used input.now) result.size result.code }
-    ensures within { result.size ≤ length (drop used input.now) }
-{
-    trie.assert_leads();
-    // What it ensures says that the pairs can be looked up.
-    let _pairs = trie.len();
-    let first = root[input[used] as usize];
-    if first <= NONE {
-        return Followed {
-            code: first,
-            size: 1,
-        };
-    }
-    let code = trie.step(first - NODE, input[used + 1]);
-    Followed { code, size: 2 }
-}
-
-/// Reads characters of one and of two bytes behind what was read.
-#[inline(always)]
-fn read_short(trie: &ByteTrie, input: &[u8], buffer: &mut [Scalar], front: Front) -> Front
-    requires { IsReadFront trie.now.entries input.now front buffer.old }
-    ensures read { IsReadFront trie.now.entries input.now result buffer.new }
-    ensures on { front.n ≤ result.n }
-{
-    let root = trie.root();
-    let entries = trie.entries();
-    let mut n = front.n;
-    let mut used = front.used;
-    while n < buffer.len() && input.len() - used >= 2 {
-        let short = follow_short(trie, root, input, used);
-        if short.code >= TAIL {
-            break;
-        }
-        buffer[n] = entries[short.code as usize].character();
-        n += 1;
-        used += short.size;
-    }
-    Front { n, used }
-}
-
 /// Reads some characters behind what was read, however long. It stands apart, so that the loops around it keep their registers.
 #[inline(never)]
 fn read_longer(trie: &ByteTrie, input: &[u8], buffer: &mut [Scalar], front: Front) -> Front
@@ -143,27 +98,35 @@ fn read_longer(trie: &ByteTrie, input: &[u8], buffer: &mut [Scalar], front: Fron
     Front { n, used }
 }
 
-/// Reads the characters at the front of a text into the front of a buffer. Those of one byte have a loop of their own, and those
-/// of up to two.
+/// Reads the characters at the front of a text into the front of a buffer. Only where the next stands in no table are bytes
+/// followed through the trie.
 #[inline(never)]
 pub(crate) fn read_front(
     trie: &ByteTrie,
     ones: &[u32],
+    twos: &[u32],
     input: &[u8],
     buffer: &mut [Scalar],
 ) -> ReadBlock
     requires long { length ones.now ≡ 256 }
     requires ones { AreOnes trie.now.entries ones.now 256 }
+    requires twos { 0 < length twos.now → AreTwos trie.now.entries ones.now twos.now }
     ensures block { IsReadBlock (map_reads trie.now.entries) ReadState.Start input.now
         result buffer.new }
     ensures size { length buffer.new ≡ length buffer.old }
 {
     let mut front = Front { n: 0, used: 0 };
-    while front.n < buffer.len() {
+    while front.n < buffer.len() && front.used < input.len() {
         let before = front.n;
-        front = read_ones(trie, ones, input, buffer, front);
-        front = read_short(trie, input, buffer, front);
-        front = read_longer(trie, input, buffer, front);
+        if ones[input[front.used] as usize] < NO_CHARACTER {
+            front = read_ones(trie, ones, input, buffer, front);
+        }
+        if !twos.is_empty() {
+            front = read_twos(trie, ones, twos, input, buffer, front);
+        }
+        if front.n == before {
+            front = read_longer(trie, input, buffer, front);
+        }
         if front.n == before {
             break;
         }

@@ -5,7 +5,7 @@ use Rattle.cv_charmap.specs.Entries.{Pair}
 
 -- stands for no character
 abbrev pub no_character : ℕ
-no_character = 0x80000000
+no_character = 0x200000
 
 -- A byte is this character by itself.
 abbrev pub IsOne : List Pair → ℕ → ℕ → Type 0

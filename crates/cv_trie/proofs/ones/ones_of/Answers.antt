@@ -4,7 +4,7 @@ use Rattle.cv_byte_trie.specs.Entries.{Entry, AreEntries, character_at}
 use Rattle.cv_byte_trie.specs.Tables.{edge_of}
 use Rattle.cv_trie.specs.Private.Ones.{no_character}
 use Rattle.cv_trie.proofs.Following.{root_leaf}
-use Rattle.cv_trie.proofs.OneByte.{one_led, ones_more}
+use Rattle.cv_trie.proofs.OneByte.{one_led, ones_more, plain_more}
 use Rattle.cv_trie.proofs.ones.ones_of.Goals as goal
 
 pub one_of-requires-clause-low : goal.one_of-requires-clause-low
@@ -24,4 +24,5 @@ loop-byte-preserved c =
     record {
       long = length-set c.loop-byte.ones.items b v ∙ i.long;
       ones = ones_more entries c.loop-byte.ones.items b v (omega (arith, i.long)) i.ones (λ l. one_led entries a (edge_of c.args.trie.now.steps) _ c.assert_leads.ensures.trie b code v (omega arith) (c.root-root.ensures.edges b (omega arith)) (c.one_of.ensures.leaf l) (is l));
+      plain = plain_more c.loop-byte.ones.items b v (omega (arith, i.long)) i.plain c.one_of.ensures.least;
     }

@@ -1,0 +1,154 @@
+//! Characters of two bytes.
+ghost use Rattle.std.specs.Prelude.{◌≡◌, ◌≤◌, ◌<◌, ℕ, List, length, slice_index, IfOk};
+ghost use Rattle.cv_byte_trie.specs.Entries.{AreEntries};
+ghost use Rattle.cv_charmap.specs.Entries.{Pair};
+ghost use Rattle.cv_trie.specs.Private.Ones.{AreOnes, no_character};
+ghost use Rattle.cv_trie.specs.Private.Twos.{AreRows, AreTwos, IsCell};
+ghost use Rattle.cv_trie.specs.Private.Fronts.{IsReadFront};
+
+use crate::front::Front;
+use crate::ones::NO_CHARACTER;
+use cv_base::Scalar;
+use cv_byte_trie::{ByteTrie, Entry};
+use std::alloc::{AllocError, Global};
+
+/// How many characters a row has, one for each second byte.
+const ROW: u32 = 256;
+
+/// How many strings of two bytes begin with a byte that has a row, at the least. A row takes a kilobyte, so a map grows by at most
+/// 32 bytes for each of its pairs, and by the row that all other bytes share.
+const DENSE: u8 = 32;
+
+/// How many strings of two bytes begin with each byte, as far as it matters. It decides speed and memory alone.
+fn count_firsts(entries: &[Entry]) -> [u8; 256]
+    ensures { length result ≡ 256 }
+{
+    let mut counts = [0u8; 256];
+    for place in 0..entries.len() {
+        let bytes = entries[place].bytes();
+        if bytes.len() == 2 && counts[bytes[0] as usize] < DENSE {
+            counts[bytes[0] as usize] += 1;
+        }
+    }
+    counts
+}
+
+/// Gives a row to each byte with which enough strings begin: the number that stands for the byte says where. It answers how many
+/// characters all rows have.
+fn number_rows(ones: &mut [u32], counts: &[u8; 256]) -> u32
+    requires long { length ones.old ≡ 256 }
+    requires plain { (b : ℕ) → b < 256 → slice_index ones.old b ≤ no_character }
+    ensures rows { AreRows ones.new 256 result }
+    ensures ones { (pairs : List Pair) → AreOnes pairs ones.old 256 → AreOnes pairs ones.new 256 }
+{
+    let mut size = ROW;
+    for byte in 0..256 {
+        if counts[byte] == DENSE {
+            ones[byte] = NO_CHARACTER + size;
+            size += ROW;
+        }
+    }
+    size
+}
+
+/// The place of an entry in the rows, or 0 where its first byte has none.
+fn cell_for(ones: &[u32], entry: &Entry) -> usize
+    requires { length ones.now ≡ 256 }
+    ensures { 0 < result → IsCell ones.now entry.now.0 result }
+{
+    let bytes = entry.bytes();
+    if bytes.len() != 2 {
+        return 0;
+    }
+    let number = ones[bytes[0] as usize];
+    if number <= NO_CHARACTER {
+        return 0;
+    }
+    (number - NO_CHARACTER) as usize + bytes[1] as usize
+}
+
+/// The rows, with the characters of entries.
+fn fill_rows(
+    alloc: Global,
+    entries: &[Entry],
+    ones: &[u32],
+    size: u32,
+) -> Result<Vec<u32>, AllocError>
+    requires entries { AreEntries entries.now }
+    requires long { length ones.now ≡ 256 }
+    requires rows { AreRows ones.now 256 size }
+    ensures { IfOk result (λ twos. AreTwos entries.now ones.now twos.items) }
+{
+    let mut twos = vec![in alloc; NO_CHARACTER; size as usize]?;
+    for place in 0..entries.len() {
+        let entry = &entries[place];
+        let cell = cell_for(ones, entry);
+        if cell > 0 {
+            twos[cell] = entry.character().value();
+        }
+    }
+    Ok(twos)
+}
+
+/// The characters of two bytes, in rows by their first byte. There are none where no byte has a row.
+pub(crate) fn twos_of(
+    alloc: Global,
+    entries: &[Entry],
+    ones: &mut [u32],
+) -> Result<Vec<u32>, AllocError>
+    requires entries { AreEntries entries.now }
+    requires long { length ones.old ≡ 256 }
+    requires plain { (b : ℕ) → b < 256 → slice_index ones.old b ≤ no_character }
+    requires ones { AreOnes entries.now ones.old 256 }
+    ensures twos { IfOk result
+        (λ twos. 0 < length twos.items → AreTwos entries.now ones.new twos.items) }
+    ensures ones { AreOnes entries.now ones.new 256 }
+{
+    let counts = count_firsts(entries);
+    let size = number_rows(ones, &counts);
+    if size == ROW {
+        return Ok(Vec::new(alloc));
+    }
+    fill_rows(alloc, entries, ones, size)
+}
+
+/// Reads characters of one and of two bytes behind what was read, up to the first that stands in no table. As none has more
+/// bytes, the end of the text is looked for once, and the last of them may be left.
+#[inline(always)]
+pub(crate) fn read_twos(
+    _trie: &ByteTrie,
+    ones: &[u32],
+    twos: &[u32],
+    input: &[u8],
+    buffer: &mut [Scalar],
+    front: Front,
+) -> Front
+    requires read { IsReadFront _trie.now.entries input.now front buffer.old }
+    requires long { length ones.now ≡ 256 }
+    requires ones { AreOnes _trie.now.entries ones.now 256 }
+    requires twos { AreTwos _trie.now.entries ones.now twos.now }
+    ensures read { IsReadFront _trie.now.entries input.now result buffer.new }
+    ensures on { front.n ≤ result.n }
+{
+    let mut n = front.n;
+    let mut used = front.used;
+    let most = n + (buffer.len() - n).min((input.len() - used) / 2);
+    while n < most {
+        let first = ones[input[used] as usize];
+        if first < NO_CHARACTER {
+            buffer[n] = Scalar::known(first);
+            n += 1;
+            used += 1;
+            continue;
+        }
+        let second = input[used + 1] as usize;
+        let character = twos[first as usize + second - NO_CHARACTER as usize];
+        if character >= NO_CHARACTER {
+            break;
+        }
+        buffer[n] = Scalar::known(character);
+        n += 1;
+        used += 2;
+    }
+    Front { n, used }
+}

@@ -88,7 +88,7 @@ pub const FORMS: [(&str, Form); 12] = [
             step: 64,
         },
     ),
-    ("1 to 8 bytes", Form::Mixed { count: 5000 }),
+    ("1 to 8 bytes", Form::Mixed { count: 16_000 }),
     ("one character", Form::Crowded { count: 5000 }),
     (
         "two bytes, whole",

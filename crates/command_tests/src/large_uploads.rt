@@ -1,75 +1,7 @@
-//! The largest uploads: as many mappings, and as many bytes, as there may be.
-use crate::exchanges::{Case, check_by};
+//! The largest uploads: as many bytes as there may be.
 use cv_commands::{ask_script, run_script};
 use std::alloc::Global;
 use std::test::Fail;
-
-const MOST_MAPPINGS: [Case; 3] = [
-    Case {
-        name: "262,144 mappings in one charmap, of each caller",
-        exchanges: &[
-            (
-                "1 1 put <code_set_name> BIG|<mb_cur_max> 3|CHARMAP|<question-mark> \\x40|<U10000>..<U4FFFE> \\x00\\x00\\x00|END CHARMAP",
-                "1 1 OK 00040000",
-            ),
-            (
-                "1 2 put <code_set_name> B|CHARMAP|<question-mark> \\x3F|END CHARMAP",
-                "1 2 QUOTA -",
-            ),
-            (
-                "2 1 put <code_set_name> B|CHARMAP|<question-mark> \\x3F|END CHARMAP",
-                "2 1 OK 00000001",
-            ),
-            ("1 3 open UTF-8 BIG", "1 3 OK 00000000"),
-            ("1 4 conv 0 9 03fffe40", "1 4 OK 0000000000000000f18fbfbe3f"),
-            ("1 5 close 0", "1 5 OK -"),
-            ("1 6 drop big", "1 6 OK -"),
-            (
-                "1 7 put <code_set_name> B|CHARMAP|<question-mark> \\x3F|END CHARMAP",
-                "1 7 OK 00000001",
-            ),
-        ],
-    },
-    Case {
-        name: "262,144 mappings in two charmaps, and one more",
-        exchanges: &[
-            (
-                "1 1 put <code_set_name> BIG|<mb_cur_max> 3|CHARMAP|<question-mark> \\x40|<U10000>..<U4FFFC> \\x00\\x00\\x00|END CHARMAP",
-                "1 1 OK 0003fffe",
-            ),
-            (
-                "1 2 put <code_set_name> C|CHARMAP|<question-mark> \\x3F|<A> \\x41|<B> \\x42|END CHARMAP",
-                "1 2 QUOTA -",
-            ),
-            (
-                "1 3 put <code_set_name> B|CHARMAP|<question-mark> \\x3F|<A> \\x41|END CHARMAP",
-                "1 3 OK 00000002",
-            ),
-            (
-                "1 4 put <code_set_name> C|CHARMAP|<question-mark> \\x3F|END CHARMAP",
-                "1 4 QUOTA -",
-            ),
-        ],
-    },
-    Case {
-        name: "a mapping too many, and no `?`",
-        exchanges: &[
-            (
-                "1 1 put <code_set_name> BAD|<mb_cur_max> 3|CHARMAP|<U10000>..<U20000> \\x00\\x00\\x00|END CHARMAP",
-                "1 1 BADMAP 000000000f",
-            ),
-            (
-                "1 2 put <code_set_name> BAD|<mb_cur_max> 3|CHARMAP|<U10000>..<U50000> \\x00\\x00\\x00|END CHARMAP",
-                "1 2 BADMAP 000000040b",
-            ),
-        ],
-    },
-];
-
-#[test]
-fn charmaps_have_262144_mappings_at_most(rt: HostRuntime) -> Result<(), Fail> {
-    check_by(&rt, &MOST_MAPPINGS, 2)
-}
 
 /// Appends a line: this, and so many letters behind it.
 fn push_line(script: &mut Vec<u8>, command: &str, letters: usize) -> Result<(), Fail> {

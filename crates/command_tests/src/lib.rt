@@ -3,25 +3,17 @@
 #![tactic(auto)]
 
 #[cfg(test)]
-mod built_in;
-#[cfg(test)]
-mod byes;
-#[cfg(test)]
 mod calls;
 #[cfg(test)]
 mod charmaps;
 #[cfg(test)]
 mod console;
 #[cfg(test)]
-mod exchanges;
-#[cfg(test)]
 mod interleavings;
 #[cfg(test)]
 mod large_uploads;
 #[cfg(test)]
-mod limits;
-#[cfg(test)]
-mod parts;
+mod longest_names;
 #[cfg(test)]
 mod refused_charmaps;
 #[cfg(test)]
@@ -32,7 +24,3 @@ mod scripts;
 mod standard;
 #[cfg(test)]
 mod streams;
-#[cfg(test)]
-mod strict;
-#[cfg(test)]
-mod uploads;

@@ -3,7 +3,7 @@ use Rattle.std.proofs.Common.{◌≡◌, ℕ, List, [], ◌∷◌, ◌++◌, dro
 use Rattle.std.proofs.lemmas.List.{append-nil}
 use Rattle.std.proofs.lemmas.List.Concat.{flat_map-append}
 use Rattle.cv_frame.specs.Message.{Message}
-use Rattle.cv_frame.specs.Cut.{front_of, Cut, cut_of, messages_of, rest_of, no_frames}
+use Rattle.cv_frame.specs.Cut.{front_of, Cut, cut_of, messages_of, rest_of, no_frames, IsRest}
 use Rattle.cv_frame.specs.declared.reading.Frame.TheVariants.{Whole}
 use Rattle.cv_frame.proofs.Cuts.{cut_whole, cut_rest, front_short}
 use Rattle.cv_commands.specs.Lines.{line_of, lines_of}
@@ -40,3 +40,7 @@ ShownBefore-all replies rest lines p none =
       sym (p.shown ∙ ap (λ (c : Cut). lines ++ lines_of c.messages) e ∙ append-nil lines),
       p.others ∙ ap (λ (c : Cut). c.rest) e,
     )
+
+-- where no whole reply stands at the front of a rest, that is what is left of all
+pub ShownBefore-stops : (replies rest lines : List ℕ) → ShownBefore replies rest lines → IsRest rest → rest_of replies ≡ rest
+ShownBefore-stops replies rest lines p none = p.others ∙ ap (λ (c : Cut). c.rest) (cut_rest rest none)

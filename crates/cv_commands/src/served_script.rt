@@ -4,6 +4,7 @@ ghost use Rattle.cv_world.specs.Requests.{turn};
 ghost use Rattle.cv_world.specs.Worlds.{no_tables};
 ghost use Rattle.cv_loop.specs.Serving.{AnswersEach};
 ghost use Rattle.cv_commands.specs.Faults.{IsNoFailedWrite};
+ghost use Rattle.cv_commands.specs.Served.{AnswersScript};
 
 use crate::fault::RunFault;
 use crate::input::MAX_READS;
@@ -42,7 +43,8 @@ pub fn run_script<R: Threads + Wait + Sync>(
     workers: u32,
 ) -> Result<Vec<u8>, RunFault>
     requires { (1 ≤ workers) × (workers ≤ 16) }
-    ensures { IfErr result IsNoFailedWrite }
+    ensures answers { IfOk result (λ lines. AnswersScript script.now lines.items) }
+    ensures err { IfErr result IsNoFailedWrite }
 {
     let replies = serve_frames(rt, alloc, ask_script(alloc, script)?, workers)?;
     show_replies(alloc, &replies)

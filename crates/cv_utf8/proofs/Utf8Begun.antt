@@ -4,6 +4,7 @@ use Rattle.std.proofs.Math.Dec.{ltb}
 use Rattle.std.proofs.Math.Seq.{drop-cons}
 use Rattle.std.proofs.lemmas.Bool.{le-ltb, lt-ltb}
 use Rattle.cv_base.specs.Scalars.{IsScalar}
+use Rattle.std.specs.Int.{bit_at}
 use Rattle.cv_block.specs.Spelled.{IsSpelledAt}
 use Rattle.cv_utf8.specs.Utf8.{utf8_bytes}
 use Rattle.cv_utf8.specs.Private.Utf8Short.{is_behind}
@@ -159,9 +160,9 @@ at_last text at used true false w e f (inl h) (inl g) =
     absurd (clash _ (rw place at (w.over 17 (lit≤ tt) g)) f)
 
 -- what begins in the lanes of whole characters stands one behind the other
-pub whole_begun : (text : List ℕ) (at used : ℕ) (vs beginnings : List ℕ) → at + 18 ≤ length text → ((i : ℕ) → Fits w8 (get_or text i 0)) → AreWhole text at used → ((k : ℕ) → k < 16 → get_or vs k 0 ≡ whole_value text (at + k))
-    → ((k : ℕ) → k < 16 → get_or beginnings k 0 ≡ begins_if (is_behind (get_or text (at + k) 0)) (ltb k used)) → AreBegun text at vs beginnings used
-whole_begun text at used vs beginnings room fits w are begun =
+pub whole_begun : (text : List ℕ) (at used : ℕ) (vs : List ℕ) (begun : ℕ) → at + 18 ≤ length text → ((i : ℕ) → Fits w8 (get_or text i 0)) → AreWhole text at used → ((k : ℕ) → k < 16 → get_or vs k 0 ≡ whole_value text (at + k))
+    → ((k : ℕ) → k < 16 → bit_at begun k ≡ begins_if (is_behind (get_or text (at + k) 0)) (ltb k used)) → AreBegun text at vs begun used
+whole_begun text at used vs begun room fits w are bits =
     let here : at + 0 ≡ at = omega arith in
     record {
       reach = λ k. min used (k + reach_of text at k);
@@ -170,5 +171,5 @@ whole_begun text at used vs beginnings room fits w are begun =
       lanes = λ k l.
           let place : at + (k + 1) ≡ at + k + 1 = omega arith in
           let next : at + k + 1 + 1 ≡ at + k + 2 = omega arith in
-          rw (place, next) (lane_of text at used k (get_or vs k 0) (get_or beginnings k 0) (is_behind (get_or text (at + k) 0)) room w fits l (are k l) refl (begun k l) (lt_or_le k used));
+          rw (place, next) (lane_of text at used k (get_or vs k 0) (bit_at begun k) (is_behind (get_or text (at + k) 0)) room w fits l (are k l) refl (bits k l) (lt_or_le k used));
     }

@@ -1,52 +1,46 @@
 -- What begins in each lane of a window of UTF-8, and its number, as vectors compute them.
-use Rattle.std.proofs.Common.{◌≡◌, ℕ, ◌+◌, ◌-◌, ◌*◌, ◌%◌, ◌^◌, ◌<◌, ◌≤◌, Bool, true, false, cond, Fits, List, [], ◌∷◌, length, take, drop, get_or, map, refl, ◌∙◌, ap, ap₂, arith, zero, suc, w8}
+use Rattle.std.proofs.Common.{◌≡◌, ℕ, ◌+◌, ◌-◌, ◌*◌, ◌%◌, ◌^◌, ◌<◌, ◌≤◌, Bool, true, false, not, cond, Fits, List, [], ◌∷◌, length, take, drop, get_or, map, min, refl, sym, ◌∙◌, ap, arith, zero, suc, w8}
 use Rattle.std.specs.Prelude.{replicate}
-use Rattle.std.specs.Simd.Lanes.{top, zip2, sel_l}
+use Rattle.std.specs.Int.{bit_at}
+use Rattle.std.specs.Int.Bits.{bit_and}
+use Rattle.std.specs.Simd.Lanes.{mask_l, top, zip2, sel_l}
 use Rattle.std.proofs.Math.Dec.{ltb, eqb}
-use Rattle.std.proofs.lemmas.Simd.{length-chunk, get_or-chunk}
-use Rattle.cv_utf8.specs.Private.Utf8Short.{is_behind}
+use Rattle.std.proofs.lemmas.Bool.{ltb-true, ltb-false}
+use Rattle.std.proofs.lemmas.List.{get_or-map}
+use Rattle.std.proofs.lemmas.Nat.Bits.{bit_at_and, bit_at_ones, bit_at_ones_above}
+use Rattle.std.proofs.lemmas.Nat.{one_shl}
+use Rattle.std.proofs.lemmas.Simd.{bit_mask_l, length-chunk, get_or-chunk}
+use Rattle.cv_utf8.specs.Private.Utf8Short.{is_among, is_behind}
 use Rattle.cv_utf8.specs.Private.Utf8Windows.{whole_of, whole_value}
 use Rattle.cv_utf8.proofs.Utf8Marks.{one_if}
 use Rattle.cv_utf8.proofs.Utf8Begun.{begins_if}
 
--- a run of numbers
-abbrev pub run : ℕ → ℕ → ℕ → List ℕ
-run zero j u = []
-run (suc n) j u = cond (top 7 (cond (ltb j u) 255 0)) 1 0 ∷ run n (suc j) u
+-- the lanes that are none behind a first
+not_behind : (x : ℕ) → x < 256 → is_among 0xc0 0xc0 x ≡ not (is_behind x)
+not_behind x h = grind arith
 
-run_is : (b : Bool) → one_if (top 7 (cond b 255 0)) ≡ one_if b
-run_is true = refl
-run_is false = refl
+lane_bit : (b : Bool) → one_if (not b) ≡ cond b 0 1
+lane_bit true = refl
+lane_bit false = refl
 
-run_at : (n j u k : ℕ) → k < n → get_or (run n j u) k 0 ≡ cond (ltb (k + j) u) 1 0
-run_at zero j u k h = absurd (omega arith)
-run_at (suc n) j u zero h =
-    let same : 0 + j ≡ j = omega arith in
-    rw same (run_is (ltb j u))
-run_at (suc n) j u (suc k) h =
-    let same : k + suc j ≡ suc k + j = omega arith in
-    run_at n (suc j) u k (omega arith) ∙ ap (λ i. cond (ltb i u) 1 0) same
+within : (a k u : ℕ) (b c : Bool) → a ≡ cond b 0 1 → c ≡ ltb k u → min a (bit_at (2 ^ u - 1) k) ≡ begins_if b c
+within a k u true c e f = omega (arith, e)
+within a k u false true e f = omega (arith, e, bit_at_ones u k (ltb-true k u (sym f)))
+within a k u false false e f = omega (arith, e, bit_at_ones_above u k (ltb-false k u (sym f)))
 
-abbrev begin_all : ℕ → List ℕ → List ℕ → List ℕ
-begin_all n xs ws = sel_l (map (top 7) (zip2 (λ a b. cond (ltb a b) 255 0) (zip2 (λ a b. (a + (256 - b)) % 256) xs (replicate n 0x80)) (replicate n 0x40))) (replicate n 0) ws
+-- which lanes begin a character
+pub beginning_at : (text : List ℕ) (at used m k : ℕ) → at + 16 ≤ length text → ((i : ℕ) → Fits w8 (get_or text i 0)) → m ≡ mask_l (map (is_among 0xc0 0xc0) (take 16 (drop at text))) → k < 16
+    → bit_at (bit_and m (2 ^ used - 1)) k ≡ begins_if (is_behind (get_or text (at + k) 0)) (ltb k used)
+beginning_at text at used m k room fits e h =
+    let xs : List ℕ = take 16 (drop at text) in
+    let x : ℕ = get_or text (at + k) 0 in
+    let lane : get_or (map (is_among 0xc0 0xc0) xs) k false ≡ is_among 0xc0 0xc0 x = get_or-map (is_among 0xc0 0xc0) xs k 0 false (omega (arith, length-chunk at 16 text room)) ∙ ap (is_among 0xc0 0xc0) (get_or-chunk at 16 text k 0 h) in
+    let bit : bit_at m k ≡ cond (is_behind x) 0 1 = ap (λ n. bit_at n k) e ∙ bit_mask_l (map (is_among 0xc0 0xc0) xs) k ∙ ap one_if (lane ∙ not_behind x (fits (at + k)).fits) ∙ lane_bit (is_behind x) in
+    bit_at_and m (2 ^ used - 1) k ∙ within (bit_at m k) k used (is_behind x) (ltb k used) bit refl
 
-begin_is : (b : Bool) (w : ℕ) → cond (top 7 (cond b 255 0)) 0 w ≡ cond b 0 w
-begin_is true w = refl
-begin_is false w = refl
-
-begins_at : (n : ℕ) (xs ws : List ℕ) (k : ℕ) → length xs ≡ n → length ws ≡ n → k < n → get_or (begin_all n xs ws) k 0 ≡ cond (is_behind (get_or xs k 0)) 0 (get_or ws k 0)
-begins_at zero xs ws k e f h = absurd (omega arith)
-begins_at (suc n) [] ws k e f h = cc
-begins_at (suc n) (x ∷ xs) [] k e f h = cc
-begins_at (suc n) (x ∷ xs) (w ∷ ws) zero e f h = begin_is (is_behind x) w
-begins_at (suc n) (x ∷ xs) (w ∷ ws) (suc k) e f h = begins_at n xs ws k (omega arith) (omega arith) (omega arith)
-
--- what each lane begins
-pub beginning_at : (text : List ℕ) (at used k : ℕ) → at + 16 ≤ length text → k < 16 → get_or (begin_all 16 (take 16 (drop at text)) (run 16 0 used)) k 0 ≡ begins_if (is_behind (get_or text (at + k) 0)) (ltb k used)
-beginning_at text at used k room h =
-    let same : k + 0 ≡ k = omega arith in
-    let w : get_or (run 16 0 used) k 0 ≡ cond (ltb k used) 1 0 = run_at 16 0 used k h ∙ ap (λ i. cond (ltb i used) 1 0) same in
-    begins_at 16 (take 16 (drop at text)) (run 16 0 used) k (length-chunk at 16 text room) refl h ∙ ap₂ (λ x y. cond (is_behind x) 0 y) (get_or-chunk at 16 text k 0 h) w
+-- so many lowest bits
+pub lowest : (used : ℕ) → used ≤ 18 → (1 * 2 ^ used) % 2 ^ 64 ≡ 2 ^ used
+lowest used h = one_shl used 64 (omega arith)
 
 abbrev wide : List ℕ → List ℕ
 wide xs = map (λ a. a) xs

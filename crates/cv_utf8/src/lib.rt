@@ -4,10 +4,15 @@
 mod blocks;
 pub mod laws;
 mod utf8;
+mod utf8_begun;
+mod utf8_four_places;
+mod utf8_fours;
 mod utf8_front;
+mod utf8_lanes;
 mod utf8_long;
+mod utf8_pair_places;
+mod utf8_pairs;
 mod utf8_reading;
-mod utf8_short_words;
 mod utf8_spelling;
 mod utf8_windows;
 

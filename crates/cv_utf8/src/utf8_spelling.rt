@@ -7,8 +7,9 @@ ghost use Rattle.cv_block.specs.Units.{AreScalarsBelow};
 ghost use Rattle.cv_block.specs.Words.{AreWords, AreSizes};
 ghost use Rattle.cv_utf8.specs.Utf8.{utf8_bytes};
 
+use crate::utf8_fours::write_middle;
+use crate::utf8_pairs::write_short;
 use crate::utf8_reading::{inner_at, last_at};
-use crate::utf8_short_words::{write_middle, write_short};
 use crate::utf8_windows::read_many;
 use cv_base::Scalar;
 use cv_block::{MANY, Spelled, Spelling, Words, write_words};

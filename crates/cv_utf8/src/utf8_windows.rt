@@ -1,13 +1,13 @@
 //! Reading UTF-8 by windows of sixteen bytes, with no branch on which characters they are.
-ghost use Rattle.std.specs.Prelude.{◌≡◌, ◌+◌, ◌++◌, ◌≤◌, ◌<◌, ℕ, length, take, drop, get_or, slice_index, cond, nat_lt, IsTrue, map, Bool, false, List};
+ghost use Rattle.std.specs.Prelude.{◌≡◌, ◌+◌, ◌++◌, ◌≤◌, ◌<◌, ℕ, length, take, drop, get_or, slice_index, cond, nat_lt, IsTrue, map, Bool, false};
 ghost use Rattle.std.specs.Int.{bit_at};
 ghost use Rattle.std.specs.Simd.Lanes.{mask_l};
-ghost use Rattle.cv_base.specs.Scalars.{IsScalar};
 ghost use Rattle.cv_block.specs.Spelled.{IsReadSpelled};
 ghost use Rattle.cv_utf8.specs.Utf8.{utf8_bytes};
 ghost use Rattle.cv_utf8.specs.Private.Utf8Short.{is_among, is_behind, IsShortAt, short_value};
-ghost use Rattle.cv_utf8.specs.Private.Utf8Windows.{AreBegun, AreWhole, AreMarks, IsOneAt, IsTwoAt, IsThreeAt, whole_value};
+ghost use Rattle.cv_utf8.specs.Private.Utf8Windows.{AreWhole, AreMarks, IsOneAt, IsTwoAt, IsThreeAt, whole_value};
 
+use crate::utf8_begun::put_begun;
 use crate::utf8_long::{read_fours, read_threes};
 use cv_base::Scalar;
 use cv_block::{MANY, Spelled, is_ascii_block};
@@ -53,48 +53,16 @@ fn short_values(input: &[u8], at: usize) -> [u16; MANY]
         .to_array()
 }
 
-/// For each of sixteen bytes how many characters begin there, of those in the first `used` bytes: none where it is one behind a first.
+/// Which of sixteen bytes begin a character, of those in the first `used` bytes, as bits.
 #[inline(always)]
-fn beginnings(input: &[u8], at: usize, used: usize) -> [u8; MANY]
+fn beginnings(input: &[u8], at: usize, used: usize) -> u64
     requires within { at + 16 ≤ length input.now }
     requires few { used ≤ 18 }
-    ensures { (k : ℕ) → k < 16 → get_or result k 0
+    ensures few { result < 0x10000 }
+    ensures bits { (k : ℕ) → k < 16 → bit_at result k
         ≡ cond (is_behind (get_or input.now (at + k) 0)) 0 (cond (nat_lt k used) 1 0) }
 {
-    let bytes = u8x16::from_slice(&input[at..]) - u8x16::splat(0x80);
-    let lanes = u8x16::from_array([0, 1, 2, 3, 4, 5, 6, 7, 8, 9, 10, 11, 12, 13, 14, 15]);
-    let within = lanes
-        .simd_lt(u8x16::splat(used as u8))
-        .select(u8x16::splat(1), u8x16::splat(0));
-    bytes
-        .simd_lt(u8x16::splat(0x40))
-        .select(u8x16::splat(0), within)
-        .to_array()
-}
-
-/// Puts the characters that begin among sixteen bytes into a buffer. At each byte a character is put,
-/// behind those that began before it, so that none of this takes a branch.
-#[inline(always)]
-fn put_begun(
-    values: [u16; MANY],
-    beginnings: [u8; MANY],
-    used: usize,
-    buffer: &mut [Scalar],
-    n: usize,
-) -> Spelled
-    requires room { n + 16 ≤ length buffer.old }
-    requires scalars { (k : ℕ) → k < 16 → IsScalar (get_or values k 0) }
-    requires begins { (k : ℕ) → k < 16 → get_or beginnings k 0 ≤ 1 }
-    ensures many { result.n ≤ 16 }
-    ensures read { (text : List ℕ) (at : ℕ) → AreBegun text at values beginnings used
-        → IsReadSpelled utf8_bytes text at buffer.old n result buffer.new }
-{
-    let mut more = 0;
-    for lane in 0..MANY {
-        buffer[n + more] = Scalar::known(values[lane] as u32);
-        more += beginnings[lane] as usize;
-    }
-    Spelled { n: more, used }
+    among(u8x16::from_slice(&input[at..]), 0xc0, 0xc0) & ((1 << used) - 1)
 }
 
 /// Whether the byte is one behind a first.
@@ -117,7 +85,7 @@ fn read_short(input: &[u8], at: usize, buffer: &mut [Scalar], n: usize) -> Spell
 {
     let used = MANY + is_behind(input[at + MANY]) as usize;
     put_begun(
-        short_values(input, at),
+        &short_values(input, at),
         beginnings(input, at, MANY),
         used,
         buffer,
@@ -197,7 +165,7 @@ fn read_whole(input: &[u8], at: usize, buffer: &mut [Scalar], n: usize) -> Spell
 {
     let used = whole(input, at);
     put_begun(
-        whole_values(input, at),
+        &whole_values(input, at),
         beginnings(input, at, used),
         used,
         buffer,

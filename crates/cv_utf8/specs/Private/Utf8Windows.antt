@@ -1,22 +1,27 @@
 -- Windows of sixteen bytes of UTF-8 that are read at once.
-use Rattle.std.specs.Prelude.{◌≡◌, ℕ, ◌+◌, ◌*◌, ◌%◌, ◌≤◌, ◌<◌, ◌⊎◌, true, false, cond, nat_lt, nat_eq, List, get_or}
+use Rattle.std.specs.Prelude.{◌≡◌, ℕ, ◌+◌, ◌*◌, ◌%◌, ◌≤◌, ◌<◌, ◌⊎◌, ◌/◌, true, false, cond, nat_lt, nat_eq, List, [], ◌∷◌, get_or}
 use Rattle.std.specs.Int.{bit_at}
 use Rattle.cv_block.specs.Spelled.{IsSpelledAt}
 use Rattle.cv_utf8.specs.Utf8.{utf8_bytes}
 use Rattle.cv_utf8.specs.Private.Utf8Bytes.{IsTail}
 use Rattle.cv_utf8.specs.Private.Utf8Short.{is_behind}
 
+-- those of some numbers whose bit is set, the lowest bit for the first
+abbrev pub kept : ℕ → List ℕ → List ℕ
+kept marks [] = []
+kept marks (x ∷ xs) = cond (nat_eq (marks % 2) 1) (x ∷ kept (marks / 2) xs) (kept (marks / 2) xs)
+
 -- At a lane no character begins and the place that is reached stays, or the character at that place begins, and the next stands behind it.
 abbrev pub IsLane : List ℕ → ℕ → ℕ → ℕ → ℕ → ℕ → Type 0
 IsLane text at value beginning reached next =
     ((beginning ≡ 0) × (next ≡ reached)) ⊎ ((beginning ≡ 1) × ((size : ℕ) × (next ≡ reached + size) × IsSpelledAt utf8_bytes text (at + reached) value size))
 
--- The characters that begin at sixteen lanes stand one behind the other at a place of a text, and have so many bytes.
-pub record AreBegun (text : List ℕ) (at : ℕ) (values beginnings : List ℕ) (used : ℕ) : Type 0 where
+-- The characters that begin at sixteen lanes, as bits say, stand one behind the other at a place of a text, and have so many bytes.
+pub record AreBegun (text : List ℕ) (at : ℕ) (values : List ℕ) (begun used : ℕ) : Type 0 where
   pub reach : ℕ → ℕ
   pub begins : reach 0 ≡ 0
   pub ends : reach 16 ≡ used
-  pub lanes : (k : ℕ) → k < 16 → IsLane text at (get_or values k 0) (get_or beginnings k 0) (reach k) (reach (k + 1))
+  pub lanes : (k : ℕ) → k < 16 → IsLane text at (get_or values k 0) (bit_at begun k) (reach k) (reach (k + 1))
 
 -- The byte is ASCII.
 abbrev pub IsOneAt : List ℕ → ℕ → Type 0

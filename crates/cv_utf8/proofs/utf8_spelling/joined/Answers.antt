@@ -1,5 +1,5 @@
 use Rattle.std.proofs.Common.{arith}
-use Rattle.cv_utf8.proofs.Utf8ShortWords.{joined_more}
+use Rattle.cv_utf8.proofs.Utf8Joined.{joined_more}
 use Rattle.cv_utf8.proofs.utf8_spelling.joined.Goals as goal
 
 pub loop-lane-preserved : goal.loop-lane-preserved

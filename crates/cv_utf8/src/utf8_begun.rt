@@ -1,0 +1,84 @@
+//! Putting the characters that begin among sixteen bytes one behind the other.
+ghost use Rattle.std.specs.Prelude.{◌≡◌, ◌+◌, ◌++◌, ◌≤◌, ◌<◌, ℕ, List, length, take, get_or, count_ones};
+ghost use Rattle.cv_base.specs.Scalars.{IsScalar};
+ghost use Rattle.cv_block.specs.Spelled.{IsReadSpelled};
+ghost use Rattle.cv_utf8.specs.Utf8.{utf8_bytes};
+ghost use Rattle.cv_utf8.specs.Private.Utf8Windows.{AreBegun, kept};
+
+use crate::utf8_lanes::LANES;
+use cv_base::Scalar;
+use cv_block::{MANY, Spelled};
+use std::simd::prelude::*;
+
+/// How many numbers are packed at once.
+const EIGHT: usize = 8;
+
+/// Those of eight numbers whose bit is set, one behind the other, the lowest bit for the first. What is behind them is the first of
+/// the eight.
+#[inline(always)]
+fn packed(numbers: u16x8, begun: u64) -> u16x8
+    requires few { begun < 256 }
+    requires scalars { (k : ℕ) → k < 8 → IsScalar (get_or numbers k 0) }
+    ensures scalars { (k : ℕ) → k < 8 → IsScalar (get_or result k 0) }
+    ensures front { take (count_ones begun) result ≡ kept begun numbers }
+{
+    let lanes = u8x16::from_array(LANES[begun as usize]);
+    let bytes = numbers.to_le_bytes().swizzle_dyn_within::<16>(lanes);
+    u16x8::from_le_bytes(bytes)
+}
+
+/// Puts eight characters into a buffer, behind its first `n`.
+#[inline(always)]
+fn put_eight(numbers: &[u16; EIGHT], buffer: &mut [Scalar], n: usize)
+    requires room { n + 8 ≤ length buffer.old }
+    requires scalars { (k : ℕ) → k < 8 → IsScalar (get_or numbers.now k 0) }
+    ensures stand { take (n + 8) buffer.new ≡ take n buffer.old ++ numbers.now }
+    ensures size { length buffer.new ≡ length buffer.old }
+{
+    for lane in 0..EIGHT {
+        buffer[n + lane] = Scalar::known(numbers[lane] as u32);
+    }
+}
+
+/// Puts those of eight characters whose bit is set into a buffer, behind its first `n`, and answers how many they are. What is
+/// behind them may be any.
+#[inline(always)]
+fn put_kept(numbers: u16x8, begun: u64, buffer: &mut [Scalar], n: usize) -> usize
+    requires few { begun < 256 }
+    requires room { n + 8 ≤ length buffer.old }
+    requires scalars { (k : ℕ) → k < 8 → IsScalar (get_or numbers k 0) }
+    ensures few { result ≤ 8 }
+    ensures count { result ≡ length (kept begun numbers) }
+    ensures stand { take (n + result) buffer.new ≡ take n buffer.old ++ kept begun numbers }
+    ensures size { length buffer.new ≡ length buffer.old }
+{
+    put_eight(&packed(numbers, begun).to_array(), buffer, n);
+    begun.count_ones() as usize
+}
+
+/// Puts the characters that begin among sixteen bytes into a buffer, those of eight at once, so that none of this takes a branch.
+#[inline(always)]
+pub(crate) fn put_begun(
+    numbers: &[u16; MANY],
+    begun: u64,
+    used: usize,
+    buffer: &mut [Scalar],
+    n: usize,
+) -> Spelled
+    requires long { length numbers.now ≡ 16 }
+    requires few { begun < 0x10000 }
+    requires room { n + 16 ≤ length buffer.old }
+    requires scalars { (k : ℕ) → k < 16 → IsScalar (get_or numbers.now k 0) }
+    ensures many { result.n ≤ 16 }
+    ensures read { (text : List ℕ) (at : ℕ) → AreBegun text at numbers.now begun used
+        → IsReadSpelled utf8_bytes text at buffer.old n result buffer.new }
+{
+    let low = u16x8::from_slice(numbers);
+    let high = u16x8::from_slice(&numbers[EIGHT..]);
+    let first = put_kept(low, begun % 256, buffer, n);
+    let second = put_kept(high, begun / 256, buffer, n + first);
+    Spelled {
+        n: first + second,
+        used,
+    }
+}

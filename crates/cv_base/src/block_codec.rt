@@ -18,7 +18,7 @@ pub trait BlockCodec: Codec {
         ensures block { IsReadBlock (Self.reads self.now) state input.now result buffer.new }
         ensures size { length buffer.new ≡ length buffer.old };
 
-    /// Writes at most 64 characters at a place of a slice, or `?` for each that the encoding lacks, where the policy allows it.
+    /// Writes at most 256 characters at a place of a slice, or `?` for each that the encoding lacks, where the policy allows it.
     /// Bytes of the slice around them stay. It may write none also where the policy allows all: the characters are put one by
     /// one then.
     fn write_block(
@@ -29,7 +29,7 @@ pub trait BlockCodec: Codec {
         out: &mut [u8],
         at: usize,
     ) -> Option<WrittenBlock>
-        requires few { length characters.now ≤ 64 }
+        requires few { length characters.now ≤ 256 }
         requires room { at + 8 * length characters.now ≤ length out.old }
         ensures { MayWriteBlock policy (Self.writes self.now) state characters.now
             out.old at result out.new };

@@ -26,5 +26,5 @@ pub use spelling::{MANY, Spelled, Spelling};
 pub use surrogates::{first_of, is_high, is_low, is_surrogate, joined, second_of};
 pub use unit::{Byte, Four, Two, Unit};
 pub use unit_fronts::unit_front;
-pub use unit_runs::{read_units, values_of, write_units};
-pub use words::{Words, put_words, write_words};
+pub use unit_runs::{read_units, write_units};
+pub use words::{Words, write_words};

@@ -65,8 +65,8 @@ fn write_some<S: Spelling>(characters: &[Scalar], n: usize, out: &mut [u8], at: 
     }
 }
 
-/// Writes characters at the front of a slice, and answers how many bytes they have.
-#[inline(always)]
+/// Writes characters at the front of a slice, and answers how many bytes they have. It stands once for buffers of all sizes.
+#[inline(never)]
 fn write_front<S: Spelling>(characters: &[Scalar], out: &mut [u8]) -> usize
     requires { 4 * length characters.now ≤ length out.old }
     ensures few { result ≤ 4 * length characters.now }
@@ -84,7 +84,31 @@ fn write_front<S: Spelling>(characters: &[Scalar], out: &mut [u8]) -> usize
     used
 }
 
-/// Writes a block of at most 64 characters in a spelling that the state keeps. Bytes of the slice around it stay.
+/// Writes a block of characters in a spelling that the state keeps, by a buffer of so many bytes, which are cleared.
+#[inline(always)]
+fn write_by<S: Spelling, const BYTES: usize>(
+    state: WriteState,
+    characters: &[Scalar],
+    out: &mut [u8],
+    at: usize,
+) -> WrittenBlock
+    requires few { 4 * length characters.now ≤ BYTES }
+    requires small { BYTES ≤ 1024 }
+    requires room { at + 4 * length characters.now ≤ length out.old }
+    ensures { IsSpelledWritten S.bytes_of state characters.now out.old at result out.new }
+{
+    let mut front = [0u8; BYTES];
+    let wrote = write_front::<S>(characters, &mut front);
+    out[at..at + wrote].copy_from_slice(&front[..wrote]);
+    WrittenBlock {
+        wrote,
+        count: 0,
+        next: state,
+    }
+}
+
+/// Writes a block of at most 256 characters in a spelling that the state keeps. Bytes of the slice around it stay. Few characters are
+/// written by a small buffer, which costs less to clear.
 #[inline(never)]
 pub fn write_spelled<S: Spelling>(
     state: WriteState,
@@ -92,16 +116,13 @@ pub fn write_spelled<S: Spelling>(
     out: &mut [u8],
     at: usize,
 ) -> WrittenBlock
-    requires few { length characters.now ≤ 64 }
+    requires few { length characters.now ≤ 256 }
     requires room { at + 4 * length characters.now ≤ length out.old }
     ensures { IsSpelledWritten S.bytes_of state characters.now out.old at result out.new }
 {
-    let mut front = [0u8; 256];
-    let wrote = write_front::<S>(characters, &mut front);
-    out[at..at + wrote].copy_from_slice(&front[..wrote]);
-    WrittenBlock {
-        wrote,
-        count: 0,
-        next: state,
+    if characters.len() <= 64 {
+        write_by::<S, 256>(state, characters, out, at)
+    } else {
+        write_by::<S, 1024>(state, characters, out, at)
     }
 }

@@ -85,7 +85,7 @@ pub fn read_units<U: Unit>(input: &[u8], at: usize, buffer: &mut [Scalar], n: us
 
 /// The numbers of many characters, from the `n`th on. They are read before any is written, so that the writing is done by blocks.
 #[inline(always)]
-pub fn values_of(characters: &[Scalar], n: usize) -> [u32; MANY]
+pub(crate) fn values_of(characters: &[Scalar], n: usize) -> [u32; MANY]
     requires { n + 16 ≤ length characters.now }
     ensures values { result ≡ take 16 (drop n characters.now) }
     ensures scalars { AreScalarsBelow result 16 }

@@ -33,7 +33,7 @@ pub trait Words {
 /// Writes words one behind the other, each by its size, and answers how many bytes they have together. What is behind them may be
 /// anything.
 #[inline(always)]
-pub fn put_words<W: Words>(
+fn put_words<W: Words>(
     values: &[u32; MANY],
     words: &[u32; MANY],
     sizes: &[u32; MANY],

@@ -178,6 +178,7 @@ impl Codec for Encoding {
 }
 
 impl BlockCodec for Encoding {
+    #[inline(always)]
     fn read_block(&self, state: ReadState, input: &[u8], buffer: &mut [Scalar]) -> ReadBlock {
         match self {
             Encoding::Ascii => Ascii.read_block(state, input, buffer),
@@ -190,6 +191,7 @@ impl BlockCodec for Encoding {
         }
     }
 
+    #[inline(always)]
     fn write_block(
         &self,
         policy: Policy,

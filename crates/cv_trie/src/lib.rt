@@ -4,9 +4,11 @@
 mod ascii;
 mod charmap;
 mod front;
+mod front_writing;
 mod items;
 pub mod laws;
 mod longest;
+mod many;
 mod ones;
 mod pages;
 mod reading;

@@ -6,6 +6,7 @@ ghost use Rattle.cv_trie.specs.Private.Ones.{AreOnes, no_character};
 ghost use Rattle.cv_trie.specs.Private.Fronts.{IsReadFront};
 
 use crate::front::Front;
+use crate::many::{MANY, joined};
 use cv_base::Scalar;
 use cv_byte_trie::{ByteTrie, Entry, TAIL};
 use std::alloc::{AllocError, Global};
@@ -13,9 +14,6 @@ use std::alloc::{AllocError, Global};
 /// Stands for no character, as each number above it does. It is a bit that no character has, so that the bits of several numbers
 /// tell whether such a one is among them. It is the lowest such bit: an address can then leave it out at no cost.
 pub(crate) const NO_CHARACTER: u32 = 0x0020_0000;
-
-/// How many bytes are read at once.
-const MANY: usize = 8;
 
 /// The character that a byte is by itself, by the code to which it leads from the root.
 fn one_of(entries: &[Entry], code: u32) -> u32
@@ -64,18 +62,6 @@ fn numbers_of(ones: &[u32], input: &[u8], at: usize) -> [u32; MANY]
         numbers[k] = ones[input[at + k] as usize];
     }
     numbers
-}
-
-/// The bits of eight numbers, joined.
-#[inline(always)]
-fn joined(numbers: &[u32; MANY]) -> u32
-    ensures { (k : ℕ) → k < 8 → slice_index numbers.now k ≤ result }
-{
-    let mut joined = 0;
-    for k in 0..MANY {
-        joined |= numbers[k];
-    }
-    joined
 }
 
 /// Puts the characters of eight bytes behind what was read. What they are characters of is there for the contract.

@@ -1,8 +1,10 @@
 //! The place of each character's first entry.
-ghost use Rattle.std.specs.Prelude.{◌≡◌, ◌≤◌, ◌<◌, ◌+◌, ◌*◌, ℕ, length, IfOk};
+ghost use Rattle.std.specs.Prelude.{◌≡◌, ◌≤◌, ◌<◌, ◌+◌, ◌*◌, ◌/◌, ℕ, length, slice_index, IfOk};
 ghost use Rattle.cv_byte_trie.specs.Entries.{AreEntries, character_at};
 ghost use Rattle.cv_trie.specs.Private.Paging.{place_of, AreNumbered, ArePaged, AreWhole, AreFirst};
 
+use crate::many::{MANY, joined};
+use cv_base::Scalar;
 use cv_byte_trie::Entry;
 use std::alloc::{AllocError, Global};
 
@@ -108,4 +110,71 @@ impl Pages {
         };
         self.cells[page as usize * 64 + (character % 64) as usize]
     }
+    /// The place of the first entry of a character that is no higher than the last page.
+    #[inline(always)]
+    fn low_place(&self, character: u32) -> u32
+        requires { character / 64 < length self.now.tops.items }
+        ensures { result ≡ place_of self.now.tops.items self.now.cells.items character }
+    {
+        let page = self.tops[(character / 64) as usize];
+        self.cells[page as usize * 64 + (character % 64) as usize]
+    }
+
+    /// The places of eight characters that are no higher than the last page. None is tested, so that no branch is taken.
+    #[inline(always)]
+    fn low_places(&self, values: &[u32; MANY]) -> [u32; MANY]
+        requires low { (k : ℕ) → k < 8 → slice_index values.now k / 64 < length self.now.tops.items }
+        ensures long { length result ≡ 8 }
+        ensures places { (k : ℕ) → k < 8 → slice_index result k
+            ≡ place_of self.now.tops.items self.now.cells.items (slice_index values.now k) }
+    {
+        let mut places = [NOWHERE; MANY];
+        for k in 0..MANY {
+            places[k] = self.low_place(values[k]);
+        }
+        places
+    }
+
+    /// The places of eight characters. It stands apart, as it is seldom needed.
+    #[inline(never)]
+    fn any_places(&self, values: &[u32; MANY]) -> [u32; MANY]
+        ensures long { length result ≡ 8 }
+        ensures places { (k : ℕ) → k < 8 → slice_index result k
+            ≡ place_of self.now.tops.items self.now.cells.items (slice_index values.now k) }
+    {
+        let mut places = [NOWHERE; MANY];
+        for k in 0..MANY {
+            places[k] = self.place(values[k]);
+        }
+        places
+    }
+
+    /// The places of the first entries of eight characters from the `n`th on.
+    #[inline(always)]
+    pub(crate) fn places(&self, characters: &[Scalar], n: usize) -> [u32; MANY]
+        requires { n + 8 ≤ length characters.now }
+        ensures long { length result ≡ 8 }
+        ensures places { (k : ℕ) → k < 8 → slice_index result k
+            ≡ place_of self.now.tops.items self.now.cells.items (slice_index characters.now (n + k)) }
+    {
+        let values = values_of(characters, n);
+        if (joined(&values) / 64) as usize >= self.tops.len() {
+            return self.any_places(&values);
+        }
+        self.low_places(&values)
+    }
+}
+
+/// The numbers of eight characters from the `n`th on.
+#[inline(always)]
+fn values_of(characters: &[Scalar], n: usize) -> [u32; MANY]
+    requires { n + 8 ≤ length characters.now }
+    ensures long { length result ≡ 8 }
+    ensures values { (k : ℕ) → k < 8 → slice_index result k ≡ slice_index characters.now (n + k) }
+{
+    let mut values = [0; MANY];
+    for k in 0..MANY {
+        values[k] = characters[n + k].value();
+    }
+    values
 }

@@ -8,8 +8,14 @@ use std::alloc::{AllocError, Global};
 /// What each byte of a room is before a call.
 pub const UNWRITTEN: u8 = 0xC1;
 
-/// By how much ample room is more than the output has, so that no block ends for want of it: 64 characters have eight bytes each.
+/// How many bytes a text has at the least of which a long block is taken.
+const LONG: usize = 256;
+
+/// By how much ample room is more than the output has, so that no short block ends for want of it: 64 characters have eight bytes each.
 const AMPLE: usize = 64 * 8;
+
+/// By how much it is more than the output of a long text, so that no long block ends for want of it.
+const AMPLE_FOR_LONG: usize = 256 * 8;
 
 /// What a call came to otherwise than its items.
 #[derive(Clone, Copy, Debug)]
@@ -66,10 +72,11 @@ fn compare(
     }
 }
 
-/// How large the room of a call is whose items have so many bytes.
-fn size_of(room: Part, most: usize) -> usize {
+/// How large the room of a call is that is given a text, and whose items have so many bytes.
+fn size_of(room: Part, input: &[u8], most: usize) -> usize {
     match room {
-        Part::All => most.saturating_add(AMPLE),
+        Part::All if input.len() < LONG => most.saturating_add(AMPLE),
+        Part::All => most.saturating_add(AMPLE_FOR_LONG),
         part => part.of(most),
     }
 }
@@ -83,7 +90,7 @@ fn call(
     buffer: &mut [u8],
 ) -> Result<usize, Fault> {
     let chain = Chain::of(alloc, conversion, input)?;
-    let size = size_of(room, chain.most()).min(buffer.len());
+    let size = size_of(room, input, chain.most()).min(buffer.len());
     let out = buffer.get_mut(..size).unwrap_or(&mut []);
     let expected = chain.within(input, size);
     let outcome = conversion.convert(input, out);

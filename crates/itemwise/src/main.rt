@@ -4,6 +4,7 @@
 
 mod calls;
 mod chain;
+mod long_trials;
 mod pairs;
 mod scripts;
 mod shapes;

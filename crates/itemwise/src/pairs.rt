@@ -8,7 +8,7 @@ use cv_pivot::{Conversion, States};
 use std::alloc::{AllocError, Global};
 
 /// How many bytes the largest room has: that of some 1,030 characters of at most six bytes, and ample room behind them.
-const BUFFER: usize = 8192;
+const BUFFER: usize = 12_288;
 
 /// Why not all calls were compared.
 #[derive(Debug, Drop)]

@@ -1,5 +1,6 @@
 //! Which texts are converted, how they are cut, and into what room.
 
+use crate::long_trials::{long_runs, long_stops};
 use crate::scripts::{LIMITS, PLAIN, SCRIPTS, Script};
 use crate::shapes::{Middle, Run, Shape};
 use crate::stops::{CHARACTERS, bytes_in};
@@ -32,7 +33,7 @@ pub struct Trial {
     pub room: Part,
 }
 
-/// Loops take 16, 32 or 64 characters or bytes at once, and a conversion 64 characters.
+/// Loops take 16, 32 or 64 characters or bytes at once, and a conversion 64 characters before it takes 256.
 const BOUNDS: [usize; 4] = [16, 32, 64, 128];
 
 /// The longest run: two blocks, and one more character.
@@ -70,7 +71,7 @@ fn is_tried(place: usize, length: usize) -> bool {
 }
 
 /// A text of one run.
-fn run(script: Script, length: usize) -> Shape {
+pub fn run(script: Script, length: usize) -> Shape {
     Shape {
         front: Run { script, length },
         middle: Middle::Nothing,
@@ -192,7 +193,7 @@ fn seams(trials: &mut Vec<Trial>) -> Result<(), AllocError> {
 }
 
 /// A run with something behind so many of its characters.
-fn interrupted(script: Script, length: usize, place: usize, middle: Middle) -> Shape {
+pub fn interrupted(script: Script, length: usize, place: usize, middle: Middle) -> Shape {
     Shape {
         front: Run {
             script,
@@ -254,6 +255,9 @@ pub fn inner_trials(alloc: Global) -> Result<Vec<Trial>, AllocError> {
 pub fn trials(alloc: Global, spelling: &str) -> Result<Vec<Trial>, AllocError> {
     let mut trials = inner_trials(alloc)?;
     bytes(&mut trials)?;
+    long_runs(&mut trials)?;
+    long_stops(&mut trials, Middle::Character('漢'))?;
+    long_stops(&mut trials, Middle::Byte(0xff))?;
     for c in CHARACTERS.iter().chain(&LIMITS) {
         interruptions(&mut trials, Middle::Character(*c))?;
     }

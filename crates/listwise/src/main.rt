@@ -18,12 +18,15 @@ fn compare<R: Print + AllocGlobal>(rt: &R, name: &str, form: Form, pairs: Pairs)
     let around = reading::read_around(rt.alloc(), &map, form)?;
     let firsts = writing::firsts(rt.alloc(), form)?;
     let written = writing::written_alone(&map, form, &firsts);
-    let blocks = writing::written_in_blocks(&map, form, &firsts);
+    let blocks = writing::written_in_blocks(&map, form, &firsts, 64);
+    let long = writing::written_in_blocks(&map, form, &firsts, 256);
     println!(rt;
         "{name}: {} pairs, {alone} read alone, {joined} in blocks, {around} texts",
         map.len()
     )?;
-    println!(rt; "{name}: {written} scalar values written alone, {blocks} blocks")
+    println!(rt;
+        "{name}: {written} scalar values written alone, {blocks} blocks of 64, {long} of 256"
+    )
 }
 
 fn compare_each<R: Print + AllocGlobal>(rt: &R) -> io::Result<()> {

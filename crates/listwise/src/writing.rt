@@ -1,9 +1,16 @@
 //! Characters that are written.
+ghost use Rattle.std.specs.Prelude.{◌<◌, ◌≤◌, length};
 
 use crate::forms::Form;
 use cv_base::{BlockCodec, Codec, Policy, Scalar, WriteState};
 use cv_trie::Charmap;
 use std::alloc::{AllocError, Global};
+
+/// How many characters a block has at most.
+const MOST: usize = 256;
+
+/// How many bytes those have at most.
+const MOST_BYTES: usize = 2048;
 
 /// Stands for no pair.
 const NONE: u32 = u32::MAX;
@@ -41,12 +48,12 @@ pub fn written_alone(map: &Charmap, form: Form, firsts: &[u32]) -> u32 {
     count
 }
 
-/// What 64 numbers are written as, and for how many it is `?`: the first pair stands in for what the list lacks.
-fn wanted(form: Form, firsts: &[u32]) -> ([u8; 512], usize, usize) {
-    let mut bytes = [0u8; 512];
+/// What some numbers are written as, and for how many it is `?`: the first pair stands in for what the list lacks.
+fn wanted(form: Form, firsts: &[u32]) -> ([u8; MOST_BYTES], usize, usize) {
+    let mut bytes = [0u8; MOST_BYTES];
     let mut end = 0usize;
     let mut lacking = 0usize;
-    for first in firsts.iter().take(64) {
+    for first in firsts {
         let known = if *first == NONE { 0 } else { *first };
         for byte in form.bytes(known).as_slice() {
             if let Some(place) = bytes.get_mut(end) {
@@ -63,11 +70,13 @@ fn wanted(form: Form, firsts: &[u32]) -> ([u8; 512], usize, usize) {
 fn is_written_under(
     map: &Charmap,
     policy: Policy,
-    characters: &[Scalar; 64],
+    characters: &[Scalar],
     form: Form,
     firsts: &[u32],
-) -> bool {
-    let mut out = [0u8; 512];
+) -> bool
+    requires { length characters.now ≤ 256 }
+{
+    let mut out = [0u8; MOST_BYTES];
     let written = map.write_block(policy, WriteState::Start, characters, &mut out, 0);
     let (bytes, end, lacking) = wanted(form, firsts);
     match written {
@@ -81,26 +90,29 @@ fn is_written_under(
     }
 }
 
-/// Whether a block of 64 characters is written as the list says, under each policy.
+/// Whether a block of characters is written as the list says, under each policy.
 fn is_block_written(map: &Charmap, form: Form, top: u32, firsts: &[u32]) -> bool {
-    let mut characters = [Scalar::substitute(); 64];
+    let mut characters = [Scalar::substitute(); MOST];
+    let characters = characters.get_mut(..firsts.len()).unwrap_or(&mut []);
     for (k, character) in characters.iter_mut().enumerate() {
         let Some(scalar) = Scalar::new(top.saturating_add(k as u32)) else {
             return true;
         };
         *character = scalar;
     }
-    is_written_under(map, Policy::Substitute, &characters, form, firsts)
-        && is_written_under(map, Policy::Strict, &characters, form, firsts)
+    is_written_under(map, Policy::Substitute, characters, form, firsts)
+        && is_written_under(map, Policy::Strict, characters, form, firsts)
 }
 
-/// How many blocks of 64 numbers are written as the list says. Those of surrogates count, too.
-pub fn written_in_blocks(map: &Charmap, form: Form, firsts: &[u32]) -> u32 {
+/// How many blocks of so many numbers are written as the list says. Those of surrogates count, too.
+pub fn written_in_blocks(map: &Charmap, form: Form, firsts: &[u32], size: u32) -> u32
+    requires { 0 < size }
+{
     let mut count = 0u32;
     let mut top = 0u32;
-    for chunk in firsts.chunks(64) {
+    for chunk in firsts.chunks(size as usize) {
         count = count.saturating_add(u32::from(is_block_written(map, form, top, chunk)));
-        top = top.saturating_add(64);
+        top = top.saturating_add(size);
     }
     count
 }

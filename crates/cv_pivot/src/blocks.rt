@@ -1,0 +1,107 @@
+//! Taking a block of characters.
+ghost use Rattle.std.specs.Prelude.{◌≡◌, ◌≤◌, length, MatchOption};
+ghost use Rattle.cv_pivot.specs.Private.Steps.{StridesOrStops};
+
+use crate::outcome::States;
+use crate::step::Step;
+use cv_base::{BlockCodec, Policy, Scalar};
+
+/// How many characters a short block has at most.
+const SHORT_BLOCK: usize = 64;
+
+/// How many characters a long block has at most.
+const LONG_BLOCK: usize = 256;
+
+/// How many bytes a character has at most in any encoding.
+const MOST_BYTES: usize = 8;
+
+/// How many bytes a block is sought in at the least: fewer are mostly the front of a character at the end of a text.
+const LEAST_BYTES: usize = 4;
+
+/// How long the next block is at most. It decides speed alone: what a block costs besides its characters is spread over more of
+/// them where it is long, but a short one costs less to clear, and behind it a run of ASCII may stand.
+#[derive(Clone, Copy, Debug)]
+pub(crate) enum BlockSize {
+    /// The first block, and the next behind a run of small characters or an item by itself.
+    Short,
+    /// The next behind a block, where so many bytes are left.
+    Long,
+}
+
+impl BlockSize {
+    /// The size behind a block, or behind none.
+    #[inline(always)]
+    fn behind(took: &Option<Step>) -> BlockSize {
+        match took {
+            Some(_) => BlockSize::Long,
+            None => BlockSize::Short,
+        }
+    }
+}
+
+/// Takes a block of at most so many characters, if the source reads one, and the target writes it under the policy. The buffer has a
+/// size of its own: a function clears all of its buffers when it is entered.
+#[inline(always)]
+fn block<F: BlockCodec, T: BlockCodec, const MOST: usize>(
+    from: &F,
+    to: &T,
+    policy: Policy,
+    states: &mut States,
+    rest: &[u8],
+    out: &mut [u8],
+    at: usize,
+) -> Option<Step>
+    requires room { at ≤ length out.old }
+    requires few { MOST ≤ 256 }
+    ensures { MatchOption result ((states.new ≡ states.old) × (out.new ≡ out.old)) (λ step.
+        StridesOrStops (F.reads from.now) (T.writes to.now) policy states.old rest.now
+        out.old at step states.new out.new) }
+{
+    let limit = MOST.min((out.len() - at) / MOST_BYTES);
+    let mut buffer = [Scalar::substitute(); MOST];
+    let read = from.read_block(states.reading, rest, &mut buffer[..limit]);
+    if read.used == 0 {
+        return None;
+    }
+    let characters = &buffer[..read.n];
+    let written = to.write_block(policy, states.writing, characters, out, at)?;
+    *states = States {
+        reading: read.next,
+        writing: written.next,
+    };
+    Some(Step::Took {
+        used: read.used,
+        wrote: written.wrote,
+        count: written.count,
+    })
+}
+
+/// Takes a block of the size that is due, if there is one. None is sought in fewer than four bytes.
+#[inline(always)]
+pub(crate) fn sized_block<F: BlockCodec, T: BlockCodec>(
+    from: &F,
+    to: &T,
+    size: &mut BlockSize,
+    policy: Policy,
+    states: &mut States,
+    rest: &[u8],
+    out: &mut [u8],
+    at: usize,
+) -> Option<Step>
+    requires { at ≤ length out.old }
+    ensures { MatchOption result ((states.new ≡ states.old) × (out.new ≡ out.old)) (λ step.
+        StridesOrStops (F.reads from.now) (T.writes to.now) policy states.old rest.now
+        out.old at step states.new out.new) }
+{
+    if rest.len() < LEAST_BYTES {
+        return None;
+    }
+    let took = match *size {
+        BlockSize::Long if rest.len() >= LONG_BLOCK => {
+            block::<F, T, LONG_BLOCK>(from, to, policy, states, rest, out, at)
+        }
+        _ => block::<F, T, SHORT_BLOCK>(from, to, policy, states, rest, out, at),
+    };
+    *size = BlockSize::behind(&took);
+    took
+}

@@ -1,0 +1,195 @@
+//! Writing characters at the front of a buffer, several at once.
+ghost use Rattle.std.specs.Prelude.{◌≡◌, ◌≢◌, ◌≤◌, ◌<◌, ◌+◌, ◌*◌, ◌++◌, ℕ, length, take, slice_index, Some};
+ghost use Rattle.cv_base.specs.Scalars.{question};
+ghost use Rattle.cv_base.specs.Chains.{output, written};
+ghost use Rattle.cv_base.specs.declared.state.WriteState.{WriteState};
+ghost use Rattle.cv_byte_trie.specs.Entries.{bytes_at};
+ghost use Rattle.cv_charmap.specs.Maps.{IsMap};
+ghost use Rattle.cv_trie.specs.Charmaps.{map_writes};
+ghost use Rattle.cv_trie.specs.Private.Paging.{place_of, nowhere, AreFirst};
+ghost use Rattle.cv_trie.specs.Private.Fronts.{IsWrittenFront};
+
+use crate::many::{MANY, joined};
+use crate::pages::{NOWHERE, Pages};
+use cv_base::Scalar;
+use cv_byte_trie::Entry;
+
+/// What was written at the front of a buffer.
+#[derive(Clone, Copy, Debug)]
+pub(crate) struct Written {
+    /// How many bytes.
+    pub(crate) used: usize,
+    /// For how many characters they are `?`.
+    pub(crate) count: usize,
+}
+
+/// The place of the entry that is written for a character, or that of `?`, and for how many characters it is `?`.
+#[inline(always)]
+fn choose(pages: &Pages, _entries: &[Entry], substitute: u32, c: Scalar) -> (u32, usize)
+    requires names { AreFirst pages.now.tops.items pages.now.cells.items _entries.now }
+    requires is { substitute ≡ place_of pages.now.tops.items pages.now.cells.items question }
+    requires some { substitute ≢ nowhere }
+    ensures low { result.0 < length _entries.now }
+    ensures few { result.1 ≤ 1 }
+    ensures written { written (map_writes _entries.now) WriteState.Start (Some c)
+        ≡ output (bytes_at _entries.now result.0) result.1 WriteState.Start }
+{
+    let place = pages.place(c.value());
+    if place == NOWHERE {
+        (substitute, 1)
+    } else {
+        (place, 0)
+    }
+}
+
+/// Puts the bytes of an entry at a place, and answers how many they are. What is behind them may be anything: eight bytes are
+/// copied, whose number is known when the code is compiled.
+#[inline(always)]
+fn put_entry(front: &mut [u8], used: usize, entry: &Entry) -> usize
+    requires { used + 8 ≤ length front.old }
+    ensures few { result ≤ 8 }
+    ensures size { result ≡ length entry.now.0 }
+    ensures stand { take (used + result) front.new ≡ take used front.old ++ entry.now.0 }
+    ensures long { length front.new ≡ length front.old }
+{
+    front[used..used + 8].copy_from_slice(entry.padded());
+    entry.len()
+}
+
+/// Writes the characters from the `n`th to the `end`th one by one, behind those before them. It stands apart, so that the loops around it
+/// keep their registers.
+#[inline(never)]
+fn put_few(
+    pages: &Pages,
+    entries: &[Entry],
+    substitute: u32,
+    characters: &[Scalar],
+    n: usize,
+    end: usize,
+    front: &mut [u8],
+    before: Written,
+) -> Written
+    requires names { AreFirst pages.now.tops.items pages.now.cells.items entries.now }
+    requires is { substitute ≡ place_of pages.now.tops.items pages.now.cells.items question }
+    requires some { substitute ≢ nowhere }
+    requires order { n ≤ end }
+    requires within { end ≤ length characters.now }
+    requires room { 8 * length characters.now ≤ length front.old }
+    requires short { before.used ≤ 8 * n }
+    requires few { before.count ≤ n }
+    requires written { IsWrittenFront (map_writes entries.now) (take n characters.now) front.old
+        before.used before.count }
+    ensures short { result.used ≤ 8 * end }
+    ensures few { result.count ≤ end }
+    ensures long { length front.new ≡ length front.old }
+    ensures written { IsWrittenFront (map_writes entries.now) (take end characters.now) front.new
+        result.used result.count }
+{
+    let mut used = before.used;
+    let mut count = before.count;
+    for k in n..end {
+        let (place, lacking) = choose(pages, entries, substitute, characters[k]);
+        used += put_entry(front, used, &entries[place as usize]);
+        count += lacking;
+    }
+    Written { used, count }
+}
+
+/// Writes eight characters from the `n`th on, of which each has a place, behind those before them. No branch is taken.
+#[inline(always)]
+fn put_found(
+    _pages: &Pages,
+    entries: &[Entry],
+    _characters: &[Scalar],
+    places: &[u32; MANY],
+    n: usize,
+    front: &mut [u8],
+    used: usize,
+) -> usize
+    requires names { AreFirst _pages.now.tops.items _pages.now.cells.items entries.now }
+    requires within { n + 8 ≤ length _characters.now }
+    requires room { 8 * length _characters.now ≤ length front.old }
+    requires short { used ≤ 8 * n }
+    requires places { (k : ℕ) → k < 8 → slice_index places.now k
+        ≡ place_of _pages.now.tops.items _pages.now.cells.items (slice_index _characters.now (n + k)) }
+    requires found { (k : ℕ) → k < 8 → slice_index places.now k ≢ nowhere }
+    ensures short { result ≤ 8 * (n + 8) }
+    ensures long { length front.new ≡ length front.old }
+    ensures written { (count : ℕ)
+        → IsWrittenFront (map_writes entries.now) (take n _characters.now) front.old used count
+        → IsWrittenFront (map_writes entries.now) (take (n + 8) _characters.now) front.new result count }
+{
+    let mut now = used;
+    for k in 0..MANY {
+        now += put_entry(front, now, &entries[places[k] as usize]);
+    }
+    now
+}
+
+/// Writes eight characters from the `n`th on, behind those before them.
+#[inline(always)]
+fn put_many(
+    pages: &Pages,
+    entries: &[Entry],
+    substitute: u32,
+    characters: &[Scalar],
+    n: usize,
+    front: &mut [u8],
+    before: Written,
+) -> Written
+    requires names { AreFirst pages.now.tops.items pages.now.cells.items entries.now }
+    requires is { substitute ≡ place_of pages.now.tops.items pages.now.cells.items question }
+    requires some { substitute ≢ nowhere }
+    requires within { n + 8 ≤ length characters.now }
+    requires room { 8 * length characters.now ≤ length front.old }
+    requires short { before.used ≤ 8 * n }
+    requires few { before.count ≤ n }
+    requires written { IsWrittenFront (map_writes entries.now) (take n characters.now) front.old
+        before.used before.count }
+    ensures short { result.used ≤ 8 * (n + 8) }
+    ensures few { result.count ≤ n + 8 }
+    ensures long { length front.new ≡ length front.old }
+    ensures written { IsWrittenFront (map_writes entries.now) (take (n + 8) characters.now)
+        front.new result.used result.count }
+{
+    let places = pages.places(characters, n);
+    if joined(&places) == NOWHERE {
+        let end = n + MANY;
+        return put_few(
+            pages, entries, substitute, characters, n, end, front, before,
+        );
+    }
+    Written {
+        used: put_found(pages, entries, characters, &places, n, front, before.used),
+        count: before.count,
+    }
+}
+
+/// Writes characters at the front of a buffer, eight at once.
+#[inline(always)]
+pub(crate) fn write_front(
+    pages: &Pages,
+    entries: &[Entry],
+    characters: &[Scalar],
+    front: &mut [u8],
+) -> Written
+    requires map { IsMap entries.now }
+    requires names { AreFirst pages.now.tops.items pages.now.cells.items entries.now }
+    requires room { 8 * length characters.now ≤ length front.old }
+    ensures short { result.used ≤ 8 * length characters.now }
+    ensures long { length front.new ≡ length front.old }
+    ensures written { IsWrittenFront (map_writes entries.now) characters.now front.new
+        result.used result.count }
+{
+    let substitute = pages.place(0x3F);
+    let mut n = 0;
+    let mut written = Written { used: 0, count: 0 };
+    while characters.len() - n >= MANY {
+        written = put_many(pages, entries, substitute, characters, n, front, written);
+        n += MANY;
+    }
+    let end = characters.len();
+    put_few(
+        pages, entries, substitute, characters, n, end, front, written,
+    )
+}

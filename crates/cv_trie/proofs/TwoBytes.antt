@@ -139,6 +139,22 @@ twos_more pairs a ones twos size r t place cell v low is here =
       ];
     }
 
+-- what stands for no character can stand anywhere
+pub twos_kept : (pairs : List Entry) (ones twos : List ℕ) (cell v : ℕ) → no_character ≤ v → AreTwos pairs ones twos → AreTwos pairs ones (slice_set twos cell v)
+twos_kept pairs ones twos cell v none t = record {
+  within = λ b l. (let w = t.within b l in omega (arith, length-set twos cell v));
+  each = λ b c lb lc l. elim (cases_eq (row_of ones b + c) cell) [
+    | inl same ↦ absurd (
+        let w = t.within b lb in
+        let inside : cell < length twos = omega arith in
+        let e : two_at ones (slice_set twos cell v) b c ≡ v = rw same (get_or-set_same twos cell v 0 inside) in
+        omega arith)
+    | inr ne ↦ (
+        let e : two_at ones (slice_set twos cell v) b c ≡ two_at ones twos b c = get_or-set_other twos cell (row_of ones b + c) v 0 ne in
+        rw e (t.each b c lb lc (rw e at l)))
+  ];
+}
+
 -- ---- reading
 
 -- what stands for two bytes, where the number of a row and that of a place in it are added up first

@@ -4,6 +4,7 @@ ghost use Rattle.cv_charmap.specs.Maps.{IsMap};
 ghost use Rattle.cv_trie.specs.Charmaps.{map_reads, map_writes, map_closes};
 
 use crate::ascii::{does_read_ascii, does_write_ascii};
+use crate::fours::Fours;
 use crate::items::next_item;
 use crate::longest::longest;
 use crate::ones::ones_of;
@@ -30,6 +31,8 @@ pub struct Charmap {
     ones: Vec<u32>,
     /// Rows of the characters of two bytes, for bytes with which many begin.
     twos: Vec<u32>,
+    /// Where the entries of four bytes are likely to stand, by the first two and the last two.
+    fours: Fours,
     /// The place of each character's first pair.
     pages: Pages,
     /// How many bytes the longest pair has.
@@ -59,7 +62,8 @@ impl Charmap {
     {
         let (name, trie) = pairs.into_parts();
         let mut ones = ones_of(alloc, &trie)?;
-        let twos = twos_of(alloc, trie.entries(), &mut ones)?;
+        let mut twos = twos_of(alloc, trie.entries(), &mut ones)?;
+        let fours = Fours::of(alloc, trie.entries(), &ones, &mut twos)?;
         let pages = Pages::of(alloc, trie.entries())?;
         let most = longest(trie.entries());
         let reads_ascii = does_read_ascii(&trie);
@@ -69,6 +73,7 @@ impl Charmap {
             trie,
             ones,
             twos,
+            fours,
             pages,
             most,
             reads_ascii,
@@ -139,7 +144,14 @@ impl BlockCodec for Charmap {
     #[tactic(auto, using(cv_base::proofs::BlockLaws::nothing_read))]
     fn read_block(&self, state: ReadState, input: &[u8], buffer: &mut [Scalar]) -> ReadBlock {
         match state {
-            ReadState::Start => read_front(&self.trie, &self.ones, &self.twos, input, buffer),
+            ReadState::Start => read_front(
+                &self.trie,
+                &self.ones,
+                &self.twos,
+                &self.fours,
+                input,
+                buffer,
+            ),
             _ => ReadBlock::nothing(state),
         }
     }

@@ -3,6 +3,7 @@
 
 mod ascii;
 mod charmap;
+mod fours;
 mod front;
 mod front_writing;
 mod items;

@@ -10,6 +10,7 @@ ghost use Rattle.cv_trie.specs.Private.Twos.{AreTwos};
 ghost use Rattle.cv_trie.specs.Private.Fronts.{IsReadFront};
 ghost use Rattle.cv_trie.specs.Private.Followed.{IsFound};
 
+use crate::fours::{Fours, read_fours};
 use crate::front::Front;
 use crate::ones::{NO_CHARACTER, read_ones};
 use crate::twos::read_twos;
@@ -105,6 +106,7 @@ pub(crate) fn read_front(
     trie: &ByteTrie,
     ones: &[u32],
     twos: &[u32],
+    fours: &Fours,
     input: &[u8],
     buffer: &mut [Scalar],
 ) -> ReadBlock
@@ -123,6 +125,9 @@ pub(crate) fn read_front(
         }
         if !twos.is_empty() {
             front = read_twos(trie, ones, twos, input, buffer, front);
+            if !fours.is_empty() {
+                front = read_fours(trie, ones, twos, fours, input, buffer, front);
+            }
         }
         if front.n == before {
             front = read_longer(trie, input, buffer, front);

@@ -3,7 +3,7 @@ ghost use Rattle.std.specs.Prelude.{◌≡◌, ◌≤◌, ◌<◌, ℕ, List, le
 ghost use Rattle.cv_byte_trie.specs.Entries.{AreEntries};
 ghost use Rattle.cv_charmap.specs.Entries.{Pair};
 ghost use Rattle.cv_trie.specs.Private.Ones.{AreOnes, no_character};
-ghost use Rattle.cv_trie.specs.Private.Twos.{AreRows, AreTwos, IsCell};
+ghost use Rattle.cv_trie.specs.Private.Twos.{AreRows, AreTwos, IsCell, most_cells};
 ghost use Rattle.cv_trie.specs.Private.Fronts.{IsReadFront};
 
 use crate::front::Front;
@@ -15,18 +15,18 @@ use std::alloc::{AllocError, Global};
 /// How many characters a row has, one for each second byte.
 const ROW: u32 = 256;
 
-/// How many strings of two bytes begin with a byte that has a row, at the least. A row takes a kilobyte, so a map grows by at most
-/// 32 bytes for each of its pairs, and by the row that all other bytes share.
+/// How many strings of two or of four bytes begin with a byte that has a row, at the least. A row takes a kilobyte, so a map grows
+/// by at most 32 bytes for each of its pairs, and by the row that all other bytes share.
 const DENSE: u8 = 32;
 
-/// How many strings of two bytes begin with each byte, as far as it matters. It decides speed and memory alone.
+/// How many strings of two or of four bytes begin with each byte, as far as it matters. It decides speed and memory alone.
 fn count_firsts(entries: &[Entry]) -> [u8; 256]
     ensures { length result ≡ 256 }
 {
     let mut counts = [0u8; 256];
     for place in 0..entries.len() {
         let bytes = entries[place].bytes();
-        if bytes.len() == 2 && counts[bytes[0] as usize] < DENSE {
+        if (bytes.len() == 2 || bytes.len() == 4) && counts[bytes[0] as usize] < DENSE {
             counts[bytes[0] as usize] += 1;
         }
     }
@@ -39,6 +39,7 @@ fn number_rows(ones: &mut [u32], counts: &[u8; 256]) -> u32
     requires long { length ones.old ≡ 256 }
     requires plain { (b : ℕ) → b < 256 → slice_index ones.old b ≤ no_character }
     ensures rows { AreRows ones.new 256 result }
+    ensures few { result ≤ most_cells }
     ensures ones { (pairs : List Pair) → AreOnes pairs ones.old 256 → AreOnes pairs ones.new 256 }
 {
     let mut size = ROW;
@@ -77,7 +78,8 @@ fn fill_rows(
     requires entries { AreEntries entries.now }
     requires long { length ones.now ≡ 256 }
     requires rows { AreRows ones.now 256 size }
-    ensures { IfOk result (λ twos. AreTwos entries.now ones.now twos.items) }
+    ensures twos { IfOk result (λ twos. AreTwos entries.now ones.now twos.items) }
+    ensures size { IfOk result (λ twos. length twos.items ≡ size) }
 {
     let mut twos = vec![in alloc; NO_CHARACTER; size as usize]?;
     for place in 0..entries.len() {
@@ -102,6 +104,7 @@ pub(crate) fn twos_of(
     requires ones { AreOnes entries.now ones.old 256 }
     ensures twos { IfOk result
         (λ twos. 0 < length twos.items → AreTwos entries.now ones.new twos.items) }
+    ensures few { IfOk result (λ twos. length twos.items ≤ most_cells) }
     ensures ones { AreOnes entries.now ones.new 256 }
 {
     let counts = count_firsts(entries);

@@ -12,10 +12,13 @@ pub enum Form {
     Mixed { count: u32 },
     /// So many byte strings of three bytes, all of one character but the first.
     Crowded { count: u32 },
+    /// So many byte strings of four bytes but for the first 32, which have one, as GB18030 has them; twenty values of the fourth byte
+    /// are side by side, of which four have the last four bits of others.
+    Dense { count: u32 },
 }
 
 /// Each form, and what it is called.
-pub const FORMS: [(&str, Form); 12] = [
+pub const FORMS: [(&str, Form); 13] = [
     (
         "1 byte",
         Form::Sized {
@@ -98,6 +101,7 @@ pub const FORMS: [(&str, Form); 12] = [
             step: 1,
         },
     ),
+    ("four bytes, dense", Form::Dense { count: 13_000 }),
 ];
 
 /// The bytes of a pair.
@@ -118,6 +122,26 @@ impl Bytes {
         Bytes {
             all: spread(n).to_le_bytes(),
             size,
+        }
+    }
+
+    /// One or four bytes: the first 32 numbers have one, and then each 20 numbers have the first three in common.
+    fn dense(n: u32) -> Bytes {
+        let rest = n.saturating_sub(32);
+        let first = 0x81 + (rest / 12_600 % 64) as u8;
+        let second = 0x30 + (rest / 1260 % 10) as u8;
+        let third = 0x81 + (rest / 20 % 63) as u8;
+        let fourth = 0x30 + (rest % 20) as u8;
+        if n < 32 {
+            Bytes {
+                all: [0x20 + n as u8, 0, 0, 0, 0, 0, 0, 0],
+                size: 1,
+            }
+        } else {
+            Bytes {
+                all: [first, second, third, fourth, 0, 0, 0, 0],
+                size: 4,
+            }
         }
     }
 
@@ -156,6 +180,7 @@ impl Form {
             Form::Sized { count, .. } => count,
             Form::Mixed { count } => count,
             Form::Crowded { count } => count,
+            Form::Dense { count } => count,
         }
     }
 
@@ -166,6 +191,7 @@ impl Form {
             Form::Mixed { .. } if n < 32 => Bytes::marked(1, n),
             Form::Mixed { .. } => Bytes::marked((n % 7) as u8 + 2, n),
             Form::Crowded { .. } => Bytes::of(3, n),
+            Form::Dense { .. } => Bytes::dense(n),
         }
     }
 
@@ -174,6 +200,7 @@ impl Form {
         match self {
             Form::Sized { step, .. } => counted(n, step),
             Form::Mixed { .. } => counted(n, 5),
+            Form::Dense { .. } => counted(n, 2),
             Form::Crowded { .. } => counted(n.min(1), 0x4E00),
         }
     }

@@ -16,6 +16,10 @@ row_of ones first = slice_index ones first - no_character
 abbrev pub two_at : List ℕ → List ℕ → ℕ → ℕ → ℕ
 two_at ones twos first second = slice_index twos (row_of ones first + second)
 
+-- how many numbers rows have at most: those of 256 bytes, and that of all others
+abbrev pub most_cells : ℕ
+most_cells = 65792
+
 -- Of the first so many bytes each has its row among so many numbers. Row 0 is that of all bytes that have no other, and the others come one behind another.
 pub record AreRows (ones : List ℕ) (n size : ℕ) : Type 0 where
   pub some : 256 ≤ size

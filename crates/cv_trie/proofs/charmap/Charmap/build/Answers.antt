@@ -1,4 +1,4 @@
-use Rattle.std.proofs.Common.{◌≡◌, ◌<◌, List, arith, length, sym, subst}
+use Rattle.std.proofs.Common.{◌≡◌, ℕ, ◌<◌, List, arith, length, sym, subst, ap}
 use Rattle.std.specs.Prelude.{IsTrue}
 use Rattle.cv_base.specs.Ascii.{WritesAscii}
 use Rattle.cv_base.specs.declared.ascii_form.AsciiForm.TheVariants.{Byte}
@@ -16,16 +16,24 @@ use Rattle.cv_trie.proofs.charmap.Charmap.build.Goals as goal
 pub invariant_of-result : goal.invariant_of-result
 invariant_of-result c =
     let ones = c.twos_of.new.ones in
-    let twos = c.in_ok-twos.twos.items in
+    let twos = c.of.new.twos in
     let pages = c.in_ok-pages.pages in
+    let pairs = c.into_parts-name.result.1.entries in
     let size : c.in_ok-ones.ones.len ≡ length ones = omega arith in
-    rw (size, take-append_seam) (record {
+    let rows : c.in_ok-twos.twos.len ≡ length twos = omega (arith, c.in_ok-fours.ensures.size) in
+    let there : c.deref.result.now ≡ ones = rw (size, take-append_seam) at c.deref.ensures.value in
+    let lent : c.deref_mut-2.result.now ≡ c.in_ok-twos.twos.items = c.deref_mut-2.ensures.value in
+    rw (size, rows, take-append_seam, take-append_seam) (record {
       map = subst (λ (x : List Entry). IsMap x) (sym c.into_parts-name.ensures.pairs) c.into_parts-name.ensures.map;
       long = omega (arith, c.in_ok-ones.ensures.long);
       singles = subst (λ (x : List Entry). AreOnes x ones 256) c.entries.ensures.value c.twos_of.ensures.ones;
-      doubles = subst (λ (x : List Entry). 0 < length twos → AreTwos x ones twos) c.entries.ensures.value c.in_ok-twos.ensures.twos;
-      names = subst (λ (x : List Entry). AreFirst pages.tops.items pages.cells.items x) c.entries-2.ensures.value c.in_ok-pages.ensures;
-      sizes = subst (λ (x : List Entry). HaveAtMost c.longest-most.result x) c.entries-3.ensures.value c.longest-most.ensures;
+      doubles = λ some. (
+          let held : 0 < length c.in_ok-twos.twos.items = omega (arith, some, c.in_ok-fours.ensures.size, ap length lent) in
+          let before : AreTwos pairs ones c.in_ok-twos.twos.items = subst (λ (x : List Entry). AreTwos x ones c.in_ok-twos.twos.items) c.entries.ensures.value (c.in_ok-twos.ensures.twos held) in
+          let given : AreTwos pairs c.deref.result.now c.deref_mut-2.result.now = rw (there, lent) before in
+          subst (λ (x : List ℕ). AreTwos pairs x twos) there (c.in_ok-fours.ensures.twos pairs given));
+      names = subst (λ (x : List Entry). AreFirst pages.tops.items pages.cells.items x) c.entries-3.ensures.value c.in_ok-pages.ensures;
+      sizes = subst (λ (x : List Entry). HaveAtMost c.longest-most.result x) c.entries-4.ensures.value c.longest-most.ensures;
       reads_ascii = c.does_read_ascii-reads_ascii.ensures;
-      writes_ascii = subst (λ (x : List Entry). IsTrue c.does_write_ascii-writes_ascii.result → WritesAscii (map_writes x) write.Start Byte) c.entries-4.ensures.value c.does_write_ascii-writes_ascii.ensures;
+      writes_ascii = subst (λ (x : List Entry). IsTrue c.does_write_ascii-writes_ascii.result → WritesAscii (map_writes x) write.Start Byte) c.entries-5.ensures.value c.does_write_ascii-writes_ascii.ensures;
     })

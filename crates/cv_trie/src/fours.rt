@@ -1,0 +1,236 @@
+//! Characters of four bytes.
+ghost use Rattle.std.specs.Prelude.{◌≡◌, ◌≤◌, ◌<◌, ◌+◌, ℕ, IsTrue, List, length, drop, slice_index, Some};
+ghost use Rattle.cv_base.specs.Scalars.{IsScalar};
+ghost use Rattle.cv_base.specs.Items.{taken, Stands};
+ghost use Rattle.cv_base.specs.declared.state.ReadState.TheVariants as read;
+ghost use Rattle.cv_charmap.specs.Entries.{Pair};
+ghost use Rattle.cv_charmap.specs.Lists.{most_pairs};
+ghost use Rattle.cv_trie.specs.Charmaps.{map_reads};
+ghost use Rattle.cv_trie.specs.Private.Ones.{AreOnes, no_character};
+ghost use Rattle.cv_trie.specs.Private.Twos.{AreTwos, most_cells};
+ghost use Rattle.cv_trie.specs.Private.Fronts.{IsReadFront};
+
+use crate::front::Front;
+use crate::ones::NO_CHARACTER;
+use crate::pages::NOWHERE;
+use cv_base::Scalar;
+use cv_byte_trie::{ByteTrie, Entry};
+use std::alloc::{AllocError, Global};
+
+/// How many cells a block has: for each third byte one for each value of the last four bits of the fourth.
+const BLOCK: u32 = 4096;
+
+/// How many strings of four bytes begin with two bytes that have a block, at the least. A block takes 16 KiB, so a map grows by at
+/// most 32 bytes for each of its pairs.
+const DENSE: u32 = 512;
+
+/// The places of entries of four bytes, in blocks by their first two, where there are rows. A place is a guess, since bytes whose last
+/// four bits are the same have one cell: who takes it sees whether the entry has the bytes.
+#[derive(Debug, Drop)]
+pub(crate) struct Fours {
+    cells: Vec<u32>,
+}
+
+/// The place in the rows of the first two of four bytes. 0: the first has no row, or there are not four.
+fn front_of(ones: &[u32], entry: &Entry) -> usize
+    requires { length ones.now ≡ 256 }
+{
+    let bytes = entry.bytes();
+    if bytes.len() != 4 {
+        return 0;
+    }
+    let number = ones[bytes[0] as usize];
+    if number <= NO_CHARACTER {
+        return 0;
+    }
+    (number - NO_CHARACTER) as usize + bytes[1] as usize
+}
+
+/// Counts how many strings of four bytes begin with each two bytes, as far as it matters, in the rows: what stands there for no
+/// character is then above its number by the count.
+fn count_fronts(entries: &[Entry], ones: &[u32], twos: &mut [u32])
+    requires long { length ones.now ≡ 256 }
+    ensures size { length twos.new ≡ length twos.old }
+    ensures twos { (pairs : List Pair) → AreTwos pairs ones.now twos.old
+        → AreTwos pairs ones.now twos.new }
+{
+    for place in 0..entries.len() {
+        let front = front_of(ones, &entries[place]);
+        if front > 0 && front < twos.len() {
+            let count = twos[front];
+            if count >= NO_CHARACTER && count < NO_CHARACTER + DENSE {
+                twos[front] = count + 1;
+            }
+        }
+    }
+}
+
+/// Gives a block to each two bytes with which enough strings begin: the number that stands for them in the rows says where. It
+/// answers how many cells all blocks have.
+fn number_blocks(_ones: &[u32], twos: &mut [u32]) -> u32
+    requires few { length twos.old ≤ most_cells }
+    ensures size { length twos.new ≡ length twos.old }
+    ensures twos { (pairs : List Pair) → AreTwos pairs _ones.now twos.old
+        → AreTwos pairs _ones.now twos.new }
+{
+    let mut size = 0;
+    for front in 0..twos.len() {
+        let count = twos[front];
+        if count == NO_CHARACTER + DENSE {
+            twos[front] = NO_CHARACTER + 1 + size;
+            size += BLOCK;
+        } else if count > NO_CHARACTER {
+            twos[front] = NO_CHARACTER;
+        }
+    }
+    size
+}
+
+/// The cell of the last two of four bytes, in the block of the first two.
+#[inline(always)]
+fn cell_of(number: u32, third: u8, fourth: u8) -> usize
+    requires { no_character < number }
+{
+    number as usize + third as usize * 16 + (fourth & 15) as usize - (NO_CHARACTER as usize + 1)
+}
+
+/// The cells of blocks, with the places of entries. Where two have one cell, it names the later.
+fn fill_blocks(
+    alloc: Global,
+    entries: &[Entry],
+    ones: &[u32],
+    twos: &[u32],
+    size: u32,
+) -> Result<Vec<u32>, AllocError>
+    requires few { length entries.now ≤ most_pairs }
+    requires long { length ones.now ≡ 256 }
+{
+    let mut cells = vec![in alloc; NOWHERE; size as usize]?;
+    for place in 0..entries.len() {
+        let entry = &entries[place];
+        let front = front_of(ones, entry);
+        if front > 0 && front < twos.len() && twos[front] > NO_CHARACTER {
+            let bytes = entry.padded();
+            let cell = cell_of(twos[front], bytes[2], bytes[3]);
+            if cell < cells.len() {
+                cells[cell] = place as u32;
+            }
+        }
+    }
+    Ok(cells)
+}
+
+impl Fours {
+    /// The blocks of entries. The rows then say where each begins.
+    pub(crate) fn of(
+        alloc: Global,
+        entries: &[Entry],
+        ones: &[u32],
+        twos: &mut [u32],
+    ) -> Result<Fours, AllocError>
+        requires few { length entries.now ≤ most_pairs }
+        requires long { length ones.now ≡ 256 }
+        requires cells { length twos.old ≤ most_cells }
+        ensures size { length twos.new ≡ length twos.old }
+        ensures twos { (pairs : List Pair) → AreTwos pairs ones.now twos.old
+            → AreTwos pairs ones.now twos.new }
+    {
+        count_fronts(entries, ones, twos);
+        let size = number_blocks(ones, twos);
+        let cells = fill_blocks(alloc, entries, ones, twos, size)?;
+        Ok(Fours { cells })
+    }
+
+    /// Whether no string of four bytes has a cell.
+    #[inline(always)]
+    pub(crate) fn is_empty(&self) -> bool {
+        self.cells.is_empty()
+    }
+}
+
+/// Whether four bytes stand at a place of a text.
+#[inline(always)]
+fn are_there(own: &[u8; 8], input: &[u8], used: usize) -> bool
+    requires long { length own.now ≡ 8 }
+    requires within { used + 4 ≤ length input.now }
+    ensures { IsTrue result → (k : ℕ) → k < 4
+        → slice_index own.now k ≡ slice_index input.now (used + k) }
+{
+    for k in 0..4 {
+        if own[k] != input[used + k] {
+            return false;
+        }
+    }
+    true
+}
+
+/// The character of the entry that a cell names, if it has the four bytes at a place of a text.
+#[inline(always)]
+fn four_at(entries: &[Entry], cells: &[u32], cell: usize, input: &[u8], used: usize) -> u32
+    requires within { used + 4 ≤ length input.now }
+    ensures scalar { result < no_character → IsScalar result }
+    ensures stands { result < no_character → Stands (map_reads entries.now) read.Start
+        (drop used input.now) (taken 4 (Some result) read.Start) }
+{
+    if cell >= cells.len() {
+        return NO_CHARACTER;
+    }
+    let place = cells[cell] as usize;
+    if place >= entries.len() {
+        return NO_CHARACTER;
+    }
+    let entry = &entries[place];
+    if entry.len() != 4 || !are_there(entry.padded(), input, used) {
+        return NO_CHARACTER;
+    }
+    entry.character().value()
+}
+
+/// Reads characters of one and of four bytes behind what was read, up to the first that stands in no table. As none has more
+/// bytes, the end of the text is looked for once, and the last of them may be left.
+#[inline(never)]
+pub(crate) fn read_fours(
+    trie: &ByteTrie,
+    ones: &[u32],
+    twos: &[u32],
+    fours: &Fours,
+    input: &[u8],
+    buffer: &mut [Scalar],
+    front: Front,
+) -> Front
+    requires read { IsReadFront trie.now.entries input.now front buffer.old }
+    requires long { length ones.now ≡ 256 }
+    requires ones { AreOnes trie.now.entries ones.now 256 }
+    requires twos { AreTwos trie.now.entries ones.now twos.now }
+    ensures read { IsReadFront trie.now.entries input.now result buffer.new }
+    ensures on { front.n ≤ result.n }
+{
+    let entries = trie.entries();
+    let cells = fours.cells.as_slice();
+    let mut n = front.n;
+    let mut used = front.used;
+    let most = n + (buffer.len() - n).min((input.len() - used) / 4);
+    while n < most {
+        let first = ones[input[used] as usize];
+        if first < NO_CHARACTER {
+            buffer[n] = Scalar::known(first);
+            n += 1;
+            used += 1;
+            continue;
+        }
+        let second = input[used + 1] as usize;
+        let number = twos[first as usize + second - NO_CHARACTER as usize];
+        if number <= NO_CHARACTER {
+            break;
+        }
+        let cell = cell_of(number, input[used + 2], input[used + 3]);
+        let character = four_at(entries, cells, cell, input, used);
+        if character >= NO_CHARACTER {
+            break;
+        }
+        buffer[n] = Scalar::known(character);
+        n += 1;
+        used += 4;
+    }
+    Front { n, used }
+}

@@ -3,7 +3,7 @@ use Rattle.std.proofs.Common.{◌≡◌, ◌≢◌, ◌==◌, ℕ, zero, suc, �
 use Rattle.std.specs.List.{find, slice_index}
 use Rattle.std.proofs.Math.ListN.{replicate}
 use Rattle.std.proofs.lemmas.Bool.{cases_lt, cases_eq}
-use Rattle.std.proofs.lemmas.List.{get_or-set_same, get_or-set_other}
+use Rattle.std.proofs.lemmas.List.{get_or-set_same, get_or-set_other, get_or_past}
 use Rattle.cv_base.specs.declared.state.WriteState.{WriteState}
 use Rattle.cv_base.specs.declared.state.WriteState.TheVariants as write
 use Rattle.cv_byte_trie.specs.Entries.{Entry, bytes_at, character_at}
@@ -13,49 +13,64 @@ use Rattle.cv_trie.specs.Private.Paging.{nowhere, cell_of, place_of, AreNumbered
 
 -- ---- numbering pages
 
-everywhere : (x n t : ℕ) → get_or (replicate n x) t x ≡ x
+-- what stands in a list of the same number
+pub everywhere : (x n t : ℕ) → get_or (replicate n x) t x ≡ x
 everywhere x zero t = refl
 everywhere x (suc n) zero = refl
 everywhere x (suc n) (suc t) = everywhere x n t
 
 -- pages that are all empty
-pub none_numbered : (n : ℕ) → AreNumbered (replicate n 0) 1
+pub none_numbered : (n : ℕ) → AreNumbered (replicate n 0) 64
 none_numbered n =
     let zeros : (t : ℕ) → slice_index (replicate n 0) t ≡ 0 = λ t. everywhere 0 n t in
     record {
+      whole = refl;
       some = omega arith;
-      below = λ t. rw (zeros t) (omega arith);
+      begins = λ t. rw (zeros t) refl;
+      within = λ t. rw (zeros t) (omega arith);
       apart = λ s t e some. absurd (let z : slice_index (replicate n 0) t ≡ 0 = zeros t in omega arith);
     }
 
 -- one more page
-pub numbered_more : (tops : List ℕ) (count t : ℕ) → AreNumbered tops count → t < length tops → AreNumbered (slice_set tops t count) (count + 1)
-numbered_more tops count t n low =
-    let same : get_or (slice_set tops t count) t 0 ≡ count = get_or-set_same tops t count 0 low in
-    let other : (s : ℕ) → s ≢ t → get_or (slice_set tops t count) s 0 ≡ get_or tops s 0 = λ s ne. get_or-set_other tops t s count 0 ne in
+pub numbered_more : (tops : List ℕ) (size t : ℕ) → AreNumbered tops size → t < length tops → AreNumbered (slice_set tops t size) (size + 64)
+numbered_more tops size t n low =
+    let same : get_or (slice_set tops t size) t 0 ≡ size = get_or-set_same tops t size 0 low in
+    let other : (s : ℕ) → s ≢ t → get_or (slice_set tops t size) s 0 ≡ get_or tops s 0 = λ s ne. get_or-set_other tops t s size 0 ne in
     record {
+      whole = omega (arith, n.whole);
       some = omega arith;
-      below = λ s. elim (cases_eq s t) [
+      begins = λ s. elim (cases_eq s t) [
+        | inl e ↦ rw (e, same) n.whole
+        | inr ne ↦ rw (other s ne) (n.begins s)
+      ];
+      within = λ s. elim (cases_eq s t) [
         | inl e ↦ rw (e, same) (omega arith)
-        | inr ne ↦ rw (other s ne) (let b = n.below s in omega arith)
+        | inr ne ↦ rw (other s ne) (let b = n.within s in omega arith)
       ];
       apart = λ s u e some. elim (cases_eq s t) [
         | inl es ↦ elim (cases_eq u t) [
           | inl eu ↦ es ∙ sym eu
-          | inr nu ↦ absurd (let b = n.below u in let f = other u nu in let g : get_or (slice_set tops t count) s 0 ≡ count = ap (λ (i : ℕ). get_or (slice_set tops t count) i 0) es ∙ same in omega arith)
+          | inr nu ↦ absurd (let b = n.within u in let f = other u nu in let g : get_or (slice_set tops t size) s 0 ≡ size = ap (λ (i : ℕ). get_or (slice_set tops t size) i 0) es ∙ same in omega arith)
         ]
         | inr ns ↦ elim (cases_eq u t) [
-          | inl eu ↦ absurd (let b = n.below s in let f = other s ns in let g : get_or (slice_set tops t count) u 0 ≡ count = ap (λ (i : ℕ). get_or (slice_set tops t count) i 0) eu ∙ same in omega arith)
+          | inl eu ↦ absurd (let b = n.within s in let f = other s ns in let g : get_or (slice_set tops t size) u 0 ≡ size = ap (λ (i : ℕ). get_or (slice_set tops t size) i 0) eu ∙ same in omega arith)
           | inr nu ↦ n.apart s u (sym (other s ns) ∙ e ∙ other u nu) (let f = other u nu in omega arith)
         ]
       ];
     }
 
 -- a page stays one
-pub paged_more : (tops : List ℕ) (count t s : ℕ) → AreNumbered tops count → t < length tops → 0 < get_or tops s 0 → 0 < get_or (slice_set tops t count) s 0
-paged_more tops count t s n low some = elim (cases_eq s t) [
-  | inl e ↦ rw (e, get_or-set_same tops t count 0 low) n.some
-  | inr ne ↦ rw (get_or-set_other tops t s count 0 ne) some
+pub paged_more : (tops : List ℕ) (size t s : ℕ) → AreNumbered tops size → t < length tops → 0 < get_or tops s 0 → 0 < get_or (slice_set tops t size) s 0
+paged_more tops size t s n low some = elim (cases_eq s t) [
+  | inl e ↦ rw (e, get_or-set_same tops t size 0 low) (omega (arith, n.some))
+  | inr ne ↦ rw (get_or-set_other tops t s size 0 ne) some
+]
+
+-- what has a page is no higher than the last
+pub has_page : (tops : List ℕ) (t : ℕ) → 0 < get_or tops t 0 → t < length tops
+has_page tops t some = elim (cases_lt t (length tops)) [
+  | inl low ↦ low
+  | inr past ↦ absurd (let none = get_or_past tops t 0 past in omega arith)
 ]
 
 -- ---- naming places
@@ -72,20 +87,20 @@ none_named tops size entries =
     }
 
 -- two characters have two cells, where one has a page of its own
-cells_apart : (tops : List ℕ) (count c d : ℕ) → AreNumbered tops count → 0 < get_or tops (c / 64) 0 → cell_of tops d ≡ cell_of tops c → d ≡ c
-cells_apart tops count c d n some e =
-    let page : get_or tops (d / 64) 0 ≡ get_or tops (c / 64) 0 = omega arith in
+cells_apart : (tops : List ℕ) (size c d : ℕ) → AreNumbered tops size → 0 < get_or tops (c / 64) 0 → cell_of tops d ≡ cell_of tops c → d ≡ c
+cells_apart tops size c d n some e =
+    let page : get_or tops (d / 64) 0 ≡ get_or tops (c / 64) 0 = omega (arith, e, n.begins (c / 64), n.begins (d / 64)) in
     let within : d % 64 ≡ c % 64 = omega arith in
     let top : d / 64 ≡ c / 64 = n.apart (d / 64) (c / 64) page some in
     omega arith
 
 -- the next entry's character is named its place, if it has none
-pub named_more : (tops cells : List ℕ) (count k c : ℕ) (entries : List Entry) → AreNumbered tops count → 0 < get_or tops (c / 64) 0 → cell_of tops c < length cells → k < nowhere → c ≡ character_at entries k
+pub named_more : (tops cells : List ℕ) (size k c : ℕ) (entries : List Entry) → AreNumbered tops size → 0 < get_or tops (c / 64) 0 → cell_of tops c < length cells → k < nowhere → c ≡ character_at entries k
     → place_of tops cells c ≡ nowhere → NameFirst (place_of tops cells) k entries → NameFirst (place_of tops (slice_set cells (cell_of tops c) k)) (k + 1) entries
-named_more tops cells count k c entries n some within small is vacant h =
+named_more tops cells size k c entries n some within small is vacant h =
     let q : ℕ → ℕ = place_of tops (slice_set cells (cell_of tops c) k) in
     let mine : q c ≡ k = get_or-set_same cells (cell_of tops c) k nowhere within in
-    let other : (d : ℕ) → d ≢ c → q d ≡ place_of tops cells d = λ d ne. get_or-set_other cells (cell_of tops c) (cell_of tops d) k nowhere (λ e. ne (cells_apart tops count c d n some e)) in
+    let other : (d : ℕ) → d ≢ c → q d ≡ place_of tops cells d = λ d ne. get_or-set_other cells (cell_of tops c) (cell_of tops d) k nowhere (λ e. ne (cells_apart tops size c d n some e)) in
     record {
       low = λ d has. elim (cases_eq d c) [
         | inl e ↦ (let now : q d ≡ k = ap q e ∙ mine in omega arith)

@@ -6,4 +6,5 @@ pub mod TwoBytes
 pub mod FourBytes
 pub mod FirstPlaces
 pub mod Written
+pub mod ReadyBytes
 pub mod MapReadBack

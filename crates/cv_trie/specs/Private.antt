@@ -1,6 +1,7 @@
 pub mod Ones
 pub mod Twos
 pub mod Paging
+pub mod Shorts
 pub mod Compiled
 pub mod Fronts
 pub mod Followed

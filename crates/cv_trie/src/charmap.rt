@@ -52,7 +52,7 @@ impl Model for Charmap {
     ghost view = { λ m. record { name = m.name.items; pairs = m.trie.entries } };
 
     ghost invariant = { λ m. IsCompiled m.trie.entries m.ones.items m.twos.items m.pages.tops.items m.pages.cells.items
-        m.most m.reads_ascii m.writes_ascii };
+        m.pages.shorts.bytes.items m.pages.shorts.sizes.items m.most m.reads_ascii m.writes_ascii };
 }
 
 impl Charmap {

@@ -1,5 +1,5 @@
 //! Writing characters at the front of a buffer, several at once.
-ghost use Rattle.std.specs.Prelude.{◌≡◌, ◌≢◌, ◌≤◌, ◌<◌, ◌+◌, ◌*◌, ◌++◌, ℕ, length, take, slice_index, Some};
+ghost use Rattle.std.specs.Prelude.{◌≡◌, ◌≢◌, ◌≤◌, ◌<◌, ◌+◌, ◌*◌, ◌/◌, ◌++◌, ℕ, length, take, slice_index, Some, IfSome};
 ghost use Rattle.cv_base.specs.Scalars.{question};
 ghost use Rattle.cv_base.specs.Chains.{output, written};
 ghost use Rattle.cv_base.specs.declared.state.WriteState.{WriteState};
@@ -7,12 +7,17 @@ ghost use Rattle.cv_byte_trie.specs.Entries.{bytes_at};
 ghost use Rattle.cv_charmap.specs.Maps.{IsMap};
 ghost use Rattle.cv_trie.specs.Charmaps.{map_writes};
 ghost use Rattle.cv_trie.specs.Private.Paging.{place_of, nowhere, AreFirst};
+ghost use Rattle.cv_trie.specs.Private.Shorts.{AreShorts};
 ghost use Rattle.cv_trie.specs.Private.Fronts.{IsWrittenFront};
 
-use crate::many::{MANY, joined};
+use crate::many::MANY;
 use crate::pages::{NOWHERE, Pages};
+use crate::shorts::NO_SIZE;
 use cv_base::Scalar;
 use cv_byte_trie::Entry;
+
+/// The room in which the bytes of eight characters are put, whatever their sizes stand for.
+const READY_ROOM: usize = MANY * NO_SIZE as usize;
 
 /// What was written at the front of a buffer.
 #[derive(Clone, Copy, Debug)]
@@ -95,35 +100,42 @@ fn put_few(
     Written { used, count }
 }
 
-/// Writes eight characters from the `n`th on, of which each has a place, behind those before them. No branch is taken.
+/// Writes eight characters from the `n`th on behind those before them, if the bytes of each stand ready. None is tested by itself, so
+/// that no branch is taken: the sizes of eight say together whether one has none. What is behind the bytes may be anything.
 #[inline(always)]
-fn put_found(
-    _pages: &Pages,
-    entries: &[Entry],
-    _characters: &[Scalar],
-    places: &[u32; MANY],
+fn put_ready(
+    pages: &Pages,
+    _entries: &[Entry],
+    characters: &[Scalar],
     n: usize,
     front: &mut [u8],
     used: usize,
-) -> usize
-    requires names { AreFirst _pages.now.tops.items _pages.now.cells.items entries.now }
-    requires within { n + 8 ≤ length _characters.now }
-    requires room { 8 * length _characters.now ≤ length front.old }
+) -> Option<usize>
+    requires names { AreFirst pages.now.tops.items pages.now.cells.items _entries.now }
+    requires shorts { AreShorts pages.now.cells.items pages.now.shorts.bytes.items
+        pages.now.shorts.sizes.items _entries.now }
+    requires within { n + 8 ≤ length characters.now }
+    requires low { (k : ℕ) → k < 8
+        → slice_index characters.now (n + k) / 64 < length pages.now.tops.items }
+    requires room { used + 264 ≤ length front.old }
     requires short { used ≤ 8 * n }
-    requires places { (k : ℕ) → k < 8 → slice_index places.now k
-        ≡ place_of _pages.now.tops.items _pages.now.cells.items (slice_index _characters.now (n + k)) }
-    requires found { (k : ℕ) → k < 8 → slice_index places.now k ≢ nowhere }
-    ensures short { result ≤ 8 * (n + 8) }
+    ensures short { IfSome result (λ now. now ≤ 8 * (n + 8)) }
     ensures long { length front.new ≡ length front.old }
-    ensures written { (count : ℕ)
-        → IsWrittenFront (map_writes entries.now) (take n _characters.now) front.old used count
-        → IsWrittenFront (map_writes entries.now) (take (n + 8) _characters.now) front.new result count }
+    ensures stays { take used front.new ≡ take used front.old }
+    ensures written { IfSome result (λ now. (count : ℕ)
+        → IsWrittenFront (map_writes _entries.now) (take n characters.now) front.old used count
+        → IsWrittenFront (map_writes _entries.now) (take (n + 8) characters.now) front.new now count) }
 {
     let mut now = used;
     for k in 0..MANY {
-        now += put_entry(front, now, &entries[places[k] as usize]);
+        let cell = pages.low_cell(characters[n + k].value());
+        now += pages.shorts.put(cell, front, now);
     }
-    now
+    if now - used < NO_SIZE as usize {
+        Some(now)
+    } else {
+        None
+    }
 }
 
 /// Writes eight characters from the `n`th on, behind those before them.
@@ -138,6 +150,8 @@ fn put_many(
     before: Written,
 ) -> Written
     requires names { AreFirst pages.now.tops.items pages.now.cells.items entries.now }
+    requires shorts { AreShorts pages.now.cells.items pages.now.shorts.bytes.items
+        pages.now.shorts.sizes.items entries.now }
     requires is { substitute ≡ place_of pages.now.tops.items pages.now.cells.items question }
     requires some { substitute ≢ nowhere }
     requires within { n + 8 ≤ length characters.now }
@@ -152,17 +166,19 @@ fn put_many(
     ensures written { IsWrittenFront (map_writes entries.now) (take (n + 8) characters.now)
         front.new result.used result.count }
 {
-    let places = pages.places(characters, n);
-    if joined(&places) == NOWHERE {
-        let end = n + MANY;
-        return put_few(
-            pages, entries, substitute, characters, n, end, front, before,
-        );
+    if front.len() - before.used >= READY_ROOM
+        && pages.are_low(characters, n)
+        && let Some(used) = put_ready(pages, entries, characters, n, front, before.used)
+    {
+        return Written {
+            used,
+            count: before.count,
+        };
     }
-    Written {
-        used: put_found(pages, entries, characters, &places, n, front, before.used),
-        count: before.count,
-    }
+    let end = n + MANY;
+    put_few(
+        pages, entries, substitute, characters, n, end, front, before,
+    )
 }
 
 /// Writes characters at the front of a buffer, eight at once.
@@ -175,6 +191,8 @@ pub(crate) fn write_front(
 ) -> Written
     requires map { IsMap entries.now }
     requires names { AreFirst pages.now.tops.items pages.now.cells.items entries.now }
+    requires shorts { AreShorts pages.now.cells.items pages.now.shorts.bytes.items
+        pages.now.shorts.sizes.items entries.now }
     requires room { 8 * length characters.now ≤ length front.old }
     ensures short { result.used ≤ 8 * length characters.now }
     ensures long { length front.new ≡ length front.old }

@@ -13,6 +13,7 @@ mod many;
 mod ones;
 mod pages;
 mod reading;
+mod shorts;
 mod twos;
 mod writing;
 

@@ -116,8 +116,8 @@ pub(crate) fn twos_of(
 }
 
 /// Reads characters of one and of two bytes behind what was read, up to the first that stands in no table. As none has more
-/// bytes, the end of the text is looked for once, and the last of them may be left.
-#[inline(always)]
+/// bytes, the end of the text is looked for once, and the last of them may be left. It stands apart, so that its loop has the registers.
+#[inline(never)]
 pub(crate) fn read_twos(
     _trie: &ByteTrie,
     ones: &[u32],

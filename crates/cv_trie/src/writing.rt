@@ -6,6 +6,7 @@ ghost use Rattle.cv_base.specs.declared.state.WriteState.{WriteState};
 ghost use Rattle.cv_charmap.specs.Maps.{IsMap};
 ghost use Rattle.cv_trie.specs.Charmaps.{map_writes};
 ghost use Rattle.cv_trie.specs.Private.Paging.{AreFirst};
+ghost use Rattle.cv_trie.specs.Private.Shorts.{AreShorts};
 
 use crate::front_writing::{Written, write_front};
 use crate::pages::{NOWHERE, Pages};
@@ -61,6 +62,8 @@ fn write_by<const BYTES: usize>(
 ) -> Option<WrittenBlock>
     requires map { IsMap entries.now }
     requires names { AreFirst pages.now.tops.items pages.now.cells.items entries.now }
+    requires shorts { AreShorts pages.now.cells.items pages.now.shorts.bytes.items
+        pages.now.shorts.sizes.items entries.now }
     requires few { 8 * length characters.now ≤ BYTES }
     requires small { BYTES ≤ 2048 }
     requires room { at + 8 * length characters.now ≤ length out.old }
@@ -93,6 +96,8 @@ pub(crate) fn write_run(
 ) -> Option<WrittenBlock>
     requires map { IsMap entries.now }
     requires names { AreFirst pages.now.tops.items pages.now.cells.items entries.now }
+    requires shorts { AreShorts pages.now.cells.items pages.now.shorts.bytes.items
+        pages.now.shorts.sizes.items entries.now }
     requires few { length characters.now ≤ 256 }
     requires room { at + 8 * length characters.now ≤ length out.old }
     ensures { MayWriteBlock policy (map_writes entries.now) WriteState.Start characters.now

@@ -203,6 +203,24 @@ fn read_ascii(input: &[u8], at: usize, buffer: &mut [Scalar], n: usize) -> Spell
     }
 }
 
+/// Reads characters at the front of which one of three or of four bytes seems to stand: as many as have four, or three where the fifth
+/// likely has, or else those of sixteen bytes.
+#[inline(always)]
+fn read_high(input: &[u8], at: usize, buffer: &mut [Scalar], n: usize) -> Spelled
+    requires within { at + 18 ≤ length input.now }
+    requires room { n + 16 ≤ length buffer.old }
+    ensures many { result.n ≤ 16 }
+    ensures read { IsReadSpelled utf8_bytes input.now at buffer.old n result buffer.new }
+{
+    if input[at] >= 0xf0 {
+        return read_fours(input, at, buffer, n);
+    }
+    if input[at + 12] >= 0xe0 {
+        return read_threes(input, at, buffer, n);
+    }
+    read_whole(input, at, buffer, n)
+}
+
 /// Reads the characters of up to three bytes that begin among sixteen bytes, up to one that has four. Where one of four bytes
 /// stands at the front, or of three and the fifth likely too, those behind it that have as many are read.
 #[inline(always)]
@@ -215,12 +233,8 @@ pub(crate) fn read_many(input: &[u8], at: usize, buffer: &mut [Scalar], n: usize
     if input.len() - at < MANY + 2 {
         return Spelled { n: 0, used: 0 };
     }
-    let (first, fifth) = (input[at], input[at + 12]);
-    if first >= 0xf0 {
-        return read_fours(input, at, buffer, n);
-    }
-    if first >= 0xe0 && fifth >= 0xe0 {
-        return read_threes(input, at, buffer, n);
+    if input[at] >= 0xe0 {
+        return read_high(input, at, buffer, n);
     }
     if input[at + 1] >= 0xf0 {
         return Spelled { n: 0, used: 0 };

@@ -11,19 +11,21 @@ use Rattle.cv_trie.specs.Charmaps.{map_reads, map_writes}
 use Rattle.cv_trie.specs.Private.Ones.{AreOnes}
 use Rattle.cv_trie.specs.Private.Twos.{AreTwos}
 use Rattle.cv_trie.specs.Private.Paging.{AreFirst}
+use Rattle.cv_trie.specs.Private.Shorts.{AreShorts}
 
 -- No pair has more bytes than so many, and those have 8 at most.
 pub record HaveAtMost (most : ℕ) (pairs : List Pair) : Type 0 where
   pub few : most ≤ 8
   pub each : (k : ℕ) → k < length pairs → length (bytes_at pairs k) ≤ most
 
--- The list is a charmap's; the bytes that are characters by themselves stand in their table, and characters of two bytes in the rows, if there are any; its pages name the first place of each character and nothing else; and where ASCII stands for itself.
-pub record IsCompiled (pairs : List Pair) (ones twos tops cells : List ℕ) (most : ℕ) (reads writes : Bool) : Type 0 where
+-- The list is a charmap's; the bytes that are characters by themselves stand in their table, and characters of two bytes in the rows, if there are any; its pages name the first place of each character and nothing else; bytes that stand ready are those of the entries there; and where ASCII stands for itself.
+pub record IsCompiled (pairs : List Pair) (ones twos tops cells : List ℕ) (ready : List (List ℕ)) (lengths : List ℕ) (most : ℕ) (reads writes : Bool) : Type 0 where
   pub map : IsMap pairs
   pub long : length ones ≡ 256
   pub singles : AreOnes pairs ones 256
   pub doubles : 0 < length twos → AreTwos pairs ones twos
   pub names : AreFirst tops cells pairs
+  pub shorts : AreShorts cells ready lengths pairs
   pub sizes : HaveAtMost most pairs
   pub reads_ascii : IsTrue reads → ReadsAscii (map_reads pairs) read.Start Byte
   pub writes_ascii : IsTrue writes → WritesAscii (map_writes pairs) write.Start Byte

@@ -1,23 +1,25 @@
 -- Pages of 64 characters each, which name places in a list.
-use Rattle.std.specs.Prelude.{◌≡◌, ◌≢◌, ℕ, ◌+◌, ◌*◌, ◌/◌, ◌%◌, ◌<◌, ◌≤◌, List, length, slice_index, slice_index_or}
+use Rattle.std.specs.Prelude.{◌≡◌, ◌≢◌, ℕ, ◌+◌, ◌/◌, ◌%◌, ◌<◌, ◌≤◌, List, length, slice_index, slice_index_or}
 use Rattle.cv_byte_trie.specs.Entries.{Entry, character_at}
 
 -- stands for no place
 abbrev pub nowhere : ℕ
 nowhere = 0xFFFFFFFF
 
--- where the cell of a character stands, by the numbers of the pages
+-- where the cell of a character stands, by where each page begins
 abbrev pub cell_of : List ℕ → ℕ → ℕ
-cell_of tops character = slice_index tops (character / 64) * 64 + character % 64
+cell_of tops character = slice_index tops (character / 64) + character % 64
 
 -- the place that pages name for a character
 abbrev pub place_of : List ℕ → List ℕ → ℕ → ℕ
 place_of tops cells character = slice_index_or cells (cell_of tops character) nowhere
 
--- There are so many pages. Page 0 is that of all characters that have no other, and no other is that of two.
-pub record AreNumbered (tops : List ℕ) (count : ℕ) : Type 0 where
-  pub some : 0 < count
-  pub below : (t : ℕ) → slice_index tops t < count
+-- Pages have so many cells. That at 0 is the page of all characters that have no other, and no other is that of two.
+pub record AreNumbered (tops : List ℕ) (size : ℕ) : Type 0 where
+  pub whole : size % 64 ≡ 0
+  pub some : 64 ≤ size
+  pub begins : (t : ℕ) → slice_index tops t % 64 ≡ 0
+  pub within : (t : ℕ) → slice_index tops t + 64 ≤ size
   pub apart : (s t : ℕ) → slice_index tops s ≡ slice_index tops t → 0 < slice_index tops t → s ≡ t
 
 -- Each of the first so many entries has a page for its character.
@@ -26,7 +28,7 @@ ArePaged tops k entries = (j : ℕ) → j < k → 0 < slice_index tops (characte
 
 -- Each page has its cells.
 abbrev pub AreWhole : List ℕ → List ℕ → Type 0
-AreWhole tops cells = (t : ℕ) → slice_index tops t * 64 + 64 ≤ length cells
+AreWhole tops cells = (t : ℕ) → slice_index tops t + 64 ≤ length cells
 
 -- Of the first so many entries each character has the place of its first, and any other character has none.
 pub record NameFirst (place : ℕ → ℕ) (k : ℕ) (entries : List Entry) : Type 0 where

@@ -11,6 +11,7 @@ use Rattle.cv_trie.specs.Private.Compiled.{HaveAtMost}
 use Rattle.cv_trie.specs.Private.Ones.{AreOnes}
 use Rattle.cv_trie.specs.Private.Twos.{AreTwos}
 use Rattle.cv_trie.specs.Private.Paging.{AreFirst}
+use Rattle.cv_trie.specs.Private.Shorts.{AreShorts}
 use Rattle.cv_trie.proofs.charmap.Charmap.build.Goals as goal
 
 pub invariant_of-result : goal.invariant_of-result
@@ -32,7 +33,8 @@ invariant_of-result c =
           let before : AreTwos pairs ones c.in_ok-twos.twos.items = subst (λ (x : List Entry). AreTwos x ones c.in_ok-twos.twos.items) c.entries.ensures.value (c.in_ok-twos.ensures.twos held) in
           let given : AreTwos pairs c.deref.result.now c.deref_mut-2.result.now = rw (there, lent) before in
           subst (λ (x : List ℕ). AreTwos pairs x twos) there (c.in_ok-fours.ensures.twos pairs given));
-      names = subst (λ (x : List Entry). AreFirst pages.tops.items pages.cells.items x) c.entries-3.ensures.value c.in_ok-pages.ensures;
+      names = subst (λ (x : List Entry). AreFirst pages.tops.items pages.cells.items x) c.entries-3.ensures.value c.in_ok-pages.ensures.names;
+      shorts = subst (λ (x : List Entry). AreShorts pages.cells.items pages.shorts.bytes.items pages.shorts.sizes.items x) c.entries-3.ensures.value c.in_ok-pages.ensures.shorts;
       sizes = subst (λ (x : List Entry). HaveAtMost c.longest-most.result x) c.entries-4.ensures.value c.longest-most.ensures;
       reads_ascii = c.does_read_ascii-reads_ascii.ensures;
       writes_ascii = subst (λ (x : List Entry). IsTrue c.does_write_ascii-writes_ascii.result → WritesAscii (map_writes x) write.Start Byte) c.entries-5.ensures.value c.does_write_ascii-writes_ascii.ensures;

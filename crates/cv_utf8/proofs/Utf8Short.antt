@@ -1,7 +1,7 @@
 -- Characters of one and of two bytes that are read at once, as vectors compute them.
-use Rattle.std.proofs.Common.{◌≡◌, ℕ, ◌+◌, ◌-◌, ◌*◌, ◌/◌, ◌%◌, ◌^◌, ◌<◌, ◌≤◌, ◌⊎◌, inl, inr, Bool, true, false, cond, Fits, List, [], ◌∷◌, length, take, drop, get_or, map, refl, sym, ◌∙◌, ap, ap₂, arith, zero, suc, w8, lit≤}
+use Rattle.std.proofs.Common.{◌≡◌, ℕ, ◌+◌, ◌-◌, ◌*◌, ◌/◌, ◌%◌, ◌^◌, ◌<◌, ◌≤◌, ◌⊎◌, inl, inr, Bool, true, false, cond, Fits, List, [], ◌∷◌, length, take, drop, get_or, map, refl, sym, ◌∙◌, ap, arith, suc, w8, lit≤}
 use Rattle.std.specs.Prelude.{replicate}
-use Rattle.std.specs.Simd.Lanes.{mask_l, top, zip2, sel_l}
+use Rattle.std.specs.Simd.Lanes.{mask_l, top, zip2}
 use mir.Val.{bool_byte}
 use Rattle.std.proofs.Math.Dec.{ltb}
 use Rattle.std.proofs.Math.Seq.{drop-cons}
@@ -53,40 +53,6 @@ short_lanes text at room high behind k h =
     let a = same_lane (is_among 0xc2 0x1e) (is_among 0xc0 0x40) xs xs long long high k h in
     let b = same_lane (is_among 0xc2 0x1e) is_behind xs ys long also behind k h in
     (rw x at a, rw (x, y) at b)
-
--- ---- the numbers of the characters
-
-abbrev wide : List ℕ → List ℕ
-wide xs = map (λ a. a) xs
-
-abbrev rem_all : ℕ → ℕ → List ℕ → List ℕ
-rem_all n k xs = zip2 (λ a b. a % b) xs (replicate n k)
-
-abbrev values : ℕ → List ℕ → List ℕ → List ℕ
-values n xs ys = sel_l (map (top 15) (zip2 (λ a b. cond (ltb a b) 0xffff 0) (wide xs) (replicate n 0xc0))) (wide xs)
-    (zip2 (λ a b. (a + b) % 2 ^ 16) (zip2 (λ a b. (a * b) % 2 ^ 16) (rem_all n 32 (wide xs)) (replicate n 64)) (rem_all n 64 (wide ys)))
-
-abbrev lane_value : ℕ → ℕ → ℕ
-lane_value x y = cond (top 15 (cond (ltb x 0xc0) 0xffff 0)) x ((((x % 32) * 64) % 2 ^ 16 + y % 64) % 2 ^ 16)
-
-values_at : (n : ℕ) (xs ys : List ℕ) (k : ℕ) → length xs ≡ n → length ys ≡ n → k < n → get_or (values n xs ys) k 0 ≡ lane_value (get_or xs k 0) (get_or ys k 0)
-values_at zero xs ys k e f h = absurd (omega arith)
-values_at (suc n) [] ys k e f h = cc
-values_at (suc n) (x ∷ xs) [] k e f h = cc
-values_at (suc n) (x ∷ xs) (y ∷ ys) zero e f h = refl
-values_at (suc n) (x ∷ xs) (y ∷ ys) (suc k) e f h = values_at n xs ys k (omega arith) (omega arith) (omega arith)
-
-value_is : (x y : ℕ) → x < 256 → y < 256 → lane_value x y ≡ short_of x y
-value_is x y h k = grind arith
-
--- the number in each lane
-pub value_at : (text : List ℕ) (at k : ℕ) → at + 17 ≤ length text → ((i : ℕ) → Fits w8 (get_or text i 0)) → k < 16 → get_or (values 16 (take 16 (drop at text)) (take 16 (drop (at + 1) text))) k 0 ≡ short_value text (at + k)
-value_at text at k room fits h =
-    let place : at + 1 + k ≡ at + k + 1 = omega arith in
-    let x = get_or-chunk at 16 text k 0 h in
-    let y = get_or-chunk (at + 1) 16 text k 0 h ∙ ap (λ i. get_or text i 0) place in
-    values_at 16 (take 16 (drop at text)) (take 16 (drop (at + 1) text)) k (length-chunk at 16 text (omega arith)) (length-chunk (at + 1) 16 text (omega arith)) h
-    ∙ ap₂ lane_value x y ∙ value_is (get_or text (at + k) 0) (get_or text (at + k + 1) 0) (fits (at + k)).fits (fits (at + k + 1)).fits
 
 -- ---- a byte and the next
 

@@ -1,5 +1,5 @@
 -- What begins in each lane of a window of UTF-8, and its number, as vectors compute them.
-use Rattle.std.proofs.Common.{◌≡◌, ℕ, ◌+◌, ◌-◌, ◌*◌, ◌%◌, ◌^◌, ◌<◌, ◌≤◌, Bool, true, false, not, cond, Fits, List, [], ◌∷◌, length, take, drop, get_or, map, min, refl, sym, ◌∙◌, ap, arith, zero, suc, w8}
+use Rattle.std.proofs.Common.{◌≡◌, ℕ, ◌+◌, ◌-◌, ◌*◌, ◌/◌, ◌%◌, ◌^◌, ◌<◌, ◌≤◌, Bool, true, false, not, cond, Fits, List, [], ◌∷◌, length, take, drop, get_or, map, min, refl, sym, ◌∙◌, ap, arith, zero, suc, w8}
 use Rattle.std.specs.Prelude.{replicate}
 use Rattle.std.specs.Int.{bit_at}
 use Rattle.std.specs.Int.Bits.{bit_and}
@@ -10,8 +10,9 @@ use Rattle.std.proofs.lemmas.List.{get_or-map}
 use Rattle.std.proofs.lemmas.Nat.Bits.{bit_at_and, bit_at_ones, bit_at_ones_above}
 use Rattle.std.proofs.lemmas.Nat.{one_shl}
 use Rattle.std.proofs.lemmas.Simd.{bit_mask_l, length-chunk, get_or-chunk}
-use Rattle.cv_utf8.specs.Private.Utf8Short.{is_among, is_behind}
-use Rattle.cv_utf8.specs.Private.Utf8Windows.{whole_of, whole_value}
+use lib.Lanes.{Each1}
+use Rattle.cv_utf8.specs.Private.Utf8Short.{is_among, is_behind, short_of}
+use Rattle.cv_utf8.specs.Private.Utf8Windows.{whole_of}
 use Rattle.cv_utf8.proofs.Utf8Marks.{one_if}
 use Rattle.cv_utf8.proofs.Utf8Begun.{begins_if}
 
@@ -42,63 +43,167 @@ beginning_at text at used m k room fits e h =
 pub lowest : (used : ℕ) → used ≤ 18 → (1 * 2 ^ used) % 2 ^ 64 ≡ 2 ^ used
 lowest used h = one_shl used 64 (omega arith)
 
-abbrev wide : List ℕ → List ℕ
-wide xs = map (λ a. a) xs
+-- ---- bytes
 
 abbrev splat : ℕ → (ℕ → ℕ → ℕ) → ℕ → List ℕ → List ℕ
 splat n f k xs = zip2 f xs (replicate n k)
 
-abbrev is_below : ℕ → ℕ → List ℕ → List Bool
-is_below n k xs = map (top 15) (splat n (λ a b. cond (ltb a b) 0xffff 0) k xs)
+abbrev mask : Bool → Bool
+mask b = top 7 (cond b 0xff 0)
+
+abbrev are_below : ℕ → ℕ → List ℕ → List Bool
+are_below n k xs = map (top 7) (splat n (λ a b. cond (ltb a b) 0xff 0) k xs)
+
+abbrev are_equal : ℕ → ℕ → List ℕ → List Bool
+are_equal n k xs = map (top 7) (splat n (λ a b. cond (eqb a b) 0xff 0) k xs)
 
 abbrev rem_of : ℕ → ℕ → ℕ
 rem_of a b = a % b
 
+abbrev part_of : ℕ → ℕ → ℕ
+part_of a b = a / b
+
 abbrev product_of : ℕ → ℕ → ℕ
-product_of a b = (a * b) % 2 ^ 16
+product_of a b = (a * b) % 2 ^ 8
 
 abbrev sum_of : ℕ → ℕ → ℕ
-sum_of a b = (a + b) % 2 ^ 16
+sum_of a b = (a + b) % 2 ^ 8
 
-abbrev high_all : ℕ → List ℕ → List ℕ
-high_all n xs = splat n rem_of 16 (wide xs)
+-- the low byte of two
+abbrev low_two : ℕ → List ℕ → List ℕ → List ℕ
+low_two n xs ys = zip2 sum_of (splat n product_of 64 xs) (splat n rem_of 64 ys)
+
+-- the high byte of two
+abbrev high_two : ℕ → List ℕ → List ℕ
+high_two n xs = splat n part_of 4 (splat n rem_of 32 xs)
 
 abbrev middle_all : ℕ → List ℕ → List ℕ → List ℕ
-middle_all n xs ys = sel_l (map (top 15) (splat n (λ a b. cond (eqb a b) 0xffff 0) 13 (high_all n xs))) (splat n rem_of 32 (wide ys)) (splat n rem_of 64 (wide ys))
+middle_all n xs ys = sel_l (are_equal n 13 (splat n rem_of 16 xs)) (splat n rem_of 32 ys) (splat n rem_of 64 ys)
 
-abbrev two_all : ℕ → List ℕ → List ℕ → List ℕ
-two_all n xs ys = zip2 sum_of (splat n product_of 64 (splat n rem_of 32 (wide xs))) (splat n rem_of 64 (wide ys))
+-- the high byte of three
+abbrev high_three : ℕ → List ℕ → List ℕ → List ℕ
+high_three n xs ys = zip2 sum_of (splat n product_of 16 xs) (splat n part_of 4 (middle_all n xs ys))
 
-abbrev three_all : ℕ → List ℕ → List ℕ → List ℕ → List ℕ
-three_all n xs ys zs = zip2 sum_of (zip2 sum_of (splat n product_of 4096 (high_all n xs)) (splat n product_of 64 (middle_all n xs ys))) (splat n rem_of 64 (wide zs))
+abbrev short_lows : ℕ → List ℕ → List ℕ → List ℕ
+short_lows n xs ys = sel_l (are_below n 0xc0 xs) xs (low_two n xs ys)
 
-abbrev value_all : ℕ → List ℕ → List ℕ → List ℕ → List ℕ
-value_all n xs ys zs = sel_l (is_below n 0xc0 (wide xs)) (wide xs) (sel_l (is_below n 0xe0 (wide xs)) (two_all n xs ys) (three_all n xs ys zs))
+abbrev short_highs : ℕ → List ℕ → List ℕ
+short_highs n xs = sel_l (are_below n 0xc0 xs) (replicate n 0) (high_two n xs)
 
-abbrev mask : Bool → Bool
-mask b = top 15 (cond b 0xffff 0)
+abbrev lows : ℕ → List ℕ → List ℕ → List ℕ → List ℕ
+lows n xs ys zs = sel_l (are_below n 0xc0 xs) xs (sel_l (are_below n 0xe0 xs) (low_two n xs ys) (low_two n ys zs))
 
-abbrev lane_value : ℕ → ℕ → ℕ → ℕ
-lane_value x y z = cond (mask (ltb x 0xc0)) x (cond (mask (ltb x 0xe0)) (sum_of (product_of (x % 32) 64) (y % 64)) (sum_of (sum_of (product_of (x % 16) 4096) (product_of (cond (mask (eqb (x % 16) 13)) (y % 32) (y % 64)) 64)) (z % 64)))
+abbrev highs : ℕ → List ℕ → List ℕ → List ℕ
+highs n xs ys = sel_l (are_below n 0xc0 xs) (replicate n 0) (sel_l (are_below n 0xe0 xs) (high_two n xs) (high_three n xs ys))
 
-values_at : (n : ℕ) (xs ys zs : List ℕ) (k : ℕ) → length xs ≡ n → length ys ≡ n → length zs ≡ n → k < n → get_or (value_all n xs ys zs) k 0 ≡ lane_value (get_or xs k 0) (get_or ys k 0) (get_or zs k 0)
-values_at zero xs ys zs k e f g h = absurd (omega arith)
-values_at (suc n) [] ys zs k e f g h = cc
-values_at (suc n) (x ∷ xs) [] zs k e f g h = cc
-values_at (suc n) (x ∷ xs) (y ∷ ys) [] k e f g h = cc
-values_at (suc n) (x ∷ xs) (y ∷ ys) (z ∷ zs) zero e f g h = refl
-values_at (suc n) (x ∷ xs) (y ∷ ys) (z ∷ zs) (suc k) e f g h = values_at n xs ys zs k (omega arith) (omega arith) (omega arith) (omega arith)
+-- ---- one lane
 
-value_is : (x y z : ℕ) → x < 256 → y < 256 → z < 256 → lane_value x y z ≡ whole_of x y z
-value_is x y z h k l = grind arith
+abbrev lane_low_two : ℕ → ℕ → ℕ
+lane_low_two x y = sum_of (product_of x 64) (y % 64)
 
--- the number in each lane
-pub value_at : (text : List ℕ) (at k : ℕ) → at + 18 ≤ length text → ((i : ℕ) → Fits w8 (get_or text i 0)) → k < 16 → get_or (value_all 16 (take 16 (drop at text)) (take 16 (drop (at + 1) text)) (take 16 (drop (at + 2) text))) k 0 ≡ whole_value text (at + k)
-value_at text at k room fits h =
-    let one : at + 1 + k ≡ at + k + 1 = omega arith in
-    let two : at + 2 + k ≡ at + k + 2 = omega arith in
-    let x = get_or-chunk at 16 text k 0 h in
-    let y = get_or-chunk (at + 1) 16 text k 0 h ∙ ap (λ i. get_or text i 0) one in
-    let z = get_or-chunk (at + 2) 16 text k 0 h ∙ ap (λ i. get_or text i 0) two in
-    values_at 16 (take 16 (drop at text)) (take 16 (drop (at + 1) text)) (take 16 (drop (at + 2) text)) k (length-chunk at 16 text (omega arith)) (length-chunk (at + 1) 16 text (omega arith)) (length-chunk (at + 2) 16 text (omega arith)) h
-    ∙ rw (x, y, z) (value_is (get_or text (at + k) 0) (get_or text (at + k + 1) 0) (get_or text (at + k + 2) 0) (fits (at + k)).fits (fits (at + k + 1)).fits (fits (at + k + 2)).fits)
+abbrev lane_high_two : ℕ → ℕ
+lane_high_two x = x % 32 / 4
+
+abbrev lane_high_three : ℕ → ℕ → ℕ
+lane_high_three x y = sum_of (product_of x 16) (cond (mask (eqb (x % 16) 13)) (y % 32) (y % 64) / 4)
+
+abbrev lane_short_low : ℕ → ℕ → ℕ
+lane_short_low x y = cond (mask (ltb x 0xc0)) x (lane_low_two x y)
+
+abbrev lane_short_high : ℕ → ℕ
+lane_short_high x = cond (mask (ltb x 0xc0)) 0 (lane_high_two x)
+
+abbrev lane_low : ℕ → ℕ → ℕ → ℕ
+lane_low x y z = cond (mask (ltb x 0xc0)) x (cond (mask (ltb x 0xe0)) (lane_low_two x y) (lane_low_two y z))
+
+abbrev lane_high : ℕ → ℕ → ℕ
+lane_high x y = cond (mask (ltb x 0xc0)) 0 (cond (mask (ltb x 0xe0)) (lane_high_two x) (lane_high_three x y))
+
+short_lows_at : (n : ℕ) (xs ys : List ℕ) (k : ℕ) → length xs ≡ n → length ys ≡ n → k < n → get_or (short_lows n xs ys) k 0 ≡ lane_short_low (get_or xs k 0) (get_or ys k 0)
+short_lows_at zero xs ys k e f h = absurd (omega arith)
+short_lows_at (suc n) [] ys k e f h = cc
+short_lows_at (suc n) (x ∷ xs) [] k e f h = cc
+short_lows_at (suc n) (x ∷ xs) (y ∷ ys) zero e f h = refl
+short_lows_at (suc n) (x ∷ xs) (y ∷ ys) (suc k) e f h = short_lows_at n xs ys k (omega arith) (omega arith) (omega arith)
+
+short_highs_at : (n : ℕ) (xs : List ℕ) (k : ℕ) → length xs ≡ n → k < n → get_or (short_highs n xs) k 0 ≡ lane_short_high (get_or xs k 0)
+short_highs_at zero xs k e h = absurd (omega arith)
+short_highs_at (suc n) [] k e h = cc
+short_highs_at (suc n) (x ∷ xs) zero e h = refl
+short_highs_at (suc n) (x ∷ xs) (suc k) e h = short_highs_at n xs k (omega arith) (omega arith)
+
+lows_at : (n : ℕ) (xs ys zs : List ℕ) (k : ℕ) → length xs ≡ n → length ys ≡ n → length zs ≡ n → k < n → get_or (lows n xs ys zs) k 0 ≡ lane_low (get_or xs k 0) (get_or ys k 0) (get_or zs k 0)
+lows_at zero xs ys zs k e f g h = absurd (omega arith)
+lows_at (suc n) [] ys zs k e f g h = cc
+lows_at (suc n) (x ∷ xs) [] zs k e f g h = cc
+lows_at (suc n) (x ∷ xs) (y ∷ ys) [] k e f g h = cc
+lows_at (suc n) (x ∷ xs) (y ∷ ys) (z ∷ zs) zero e f g h = refl
+lows_at (suc n) (x ∷ xs) (y ∷ ys) (z ∷ zs) (suc k) e f g h = lows_at n xs ys zs k (omega arith) (omega arith) (omega arith) (omega arith)
+
+highs_at : (n : ℕ) (xs ys : List ℕ) (k : ℕ) → length xs ≡ n → length ys ≡ n → k < n → get_or (highs n xs ys) k 0 ≡ lane_high (get_or xs k 0) (get_or ys k 0)
+highs_at zero xs ys k e f h = absurd (omega arith)
+highs_at (suc n) [] ys k e f h = cc
+highs_at (suc n) (x ∷ xs) [] k e f h = cc
+highs_at (suc n) (x ∷ xs) (y ∷ ys) zero e f h = refl
+highs_at (suc n) (x ∷ xs) (y ∷ ys) (suc k) e f h = highs_at n xs ys k (omega arith) (omega arith) (omega arith)
+
+short_low_is : (x y : ℕ) → x < 256 → y < 256 → lane_short_low x y ≡ short_of x y % 256
+short_low_is x y h k = grind arith
+
+short_high_is : (x : ℕ) → x < 256 → lane_short_high x ≡ short_of x 0 / 256
+short_high_is x h = grind arith
+
+low_is : (x y z : ℕ) → x < 256 → y < 256 → z < 256 → lane_low x y z ≡ whole_of x y z % 256
+low_is x y z h k l = grind arith
+
+high_is : (x y : ℕ) → x < 256 → y < 256 → lane_high x y ≡ whole_of x y 0 / 256
+high_is x y h k = grind arith
+
+-- ---- sixteen lanes
+
+-- a lane is a byte
+pub lane_fits : (xs : List ℕ) (i : ℕ) → Each1 (Fits w8) xs → get_or xs i 0 < 256
+lane_fits [] i p = omega arith
+lane_fits (x ∷ xs) zero p = p.0.fits
+lane_fits (x ∷ xs) (suc i) p = lane_fits xs i p.1
+
+-- the low bytes of characters of up to two bytes
+pub short_low_at : (xs ys : List ℕ) (k : ℕ) → length xs ≡ 16 → length ys ≡ 16 → Each1 (Fits w8) xs → Each1 (Fits w8) ys → k < 16 → get_or (short_lows 16 xs ys) k 0 ≡ short_of (get_or xs k 0) (get_or ys k 0) % 256
+short_low_at xs ys k long also few less h = short_lows_at 16 xs ys k long also h ∙ short_low_is (get_or xs k 0) (get_or ys k 0) (lane_fits xs k few) (lane_fits ys k less)
+
+-- the high bytes of characters of up to two bytes
+pub short_high_at : (xs : List ℕ) (k : ℕ) → length xs ≡ 16 → Each1 (Fits w8) xs → k < 16 → get_or (short_highs 16 xs) k 0 ≡ short_of (get_or xs k 0) 0 / 256
+short_high_at xs k long few h = short_highs_at 16 xs k long h ∙ short_high_is (get_or xs k 0) (lane_fits xs k few)
+
+-- the low bytes of characters of up to three bytes
+pub low_at : (xs ys zs : List ℕ) (k : ℕ) → length xs ≡ 16 → length ys ≡ 16 → length zs ≡ 16 → Each1 (Fits w8) xs → Each1 (Fits w8) ys → Each1 (Fits w8) zs → k < 16
+    → get_or (lows 16 xs ys zs) k 0 ≡ whole_of (get_or xs k 0) (get_or ys k 0) (get_or zs k 0) % 256
+low_at xs ys zs k long also too few less least h = lows_at 16 xs ys zs k long also too h ∙ low_is (get_or xs k 0) (get_or ys k 0) (get_or zs k 0) (lane_fits xs k few) (lane_fits ys k less) (lane_fits zs k least)
+
+-- the high bytes of characters of up to three bytes
+pub high_at : (xs ys : List ℕ) (k : ℕ) → length xs ≡ 16 → length ys ≡ 16 → Each1 (Fits w8) xs → Each1 (Fits w8) ys → k < 16 → get_or (highs 16 xs ys) k 0 ≡ whole_of (get_or xs k 0) (get_or ys k 0) 0 / 256
+high_at xs ys k long also few less h = highs_at 16 xs ys k long also h ∙ high_is (get_or xs k 0) (get_or ys k 0) (lane_fits xs k few) (lane_fits ys k less)
+
+-- the numbers of both
+
+abbrev words : ℕ → List ℕ → List ℕ → List ℕ
+words n ls hs = zip2 (λ a b. (a + b) % 2 ^ 16) (map (λ a. a) ls) (zip2 (λ a b. (a * b) % 2 ^ 16) (map (λ a. a) hs) (replicate n 256))
+
+words_at : (n : ℕ) (ls hs : List ℕ) (k : ℕ) → length ls ≡ n → length hs ≡ n → k < n → get_or (words n ls hs) k 0 ≡ (get_or ls k 0 + (get_or hs k 0 * 256) % 2 ^ 16) % 2 ^ 16
+words_at zero ls hs k e f h = absurd (omega arith)
+words_at (suc n) [] hs k e f h = cc
+words_at (suc n) (l ∷ ls) [] k e f h = cc
+words_at (suc n) (l ∷ ls) (m ∷ hs) zero e f h = refl
+words_at (suc n) (l ∷ ls) (m ∷ hs) (suc k) e f h = words_at n ls hs k (omega arith) (omega arith) (omega arith)
+
+-- each number is that of its bytes
+pub word_at : (ls hs : List ℕ) (k : ℕ) → length ls ≡ 16 → length hs ≡ 16 → Each1 (Fits w8) ls → Each1 (Fits w8) hs → k < 16 → get_or (words 16 ls hs) k 0 ≡ get_or ls k 0 + 256 * get_or hs k 0
+word_at ls hs k long also few less h = words_at 16 ls hs k long also h ∙ omega (arith, lane_fits ls k few, lane_fits hs k less)
+
+-- a number of two bytes
+pub short_word : (x y : ℕ) → x < 256 → y < 256 → short_of x y % 256 + 256 * (short_of x 0 / 256) ≡ short_of x y
+short_word x y h k = grind arith
+
+-- a number of three bytes
+pub whole_word : (x y z : ℕ) → x < 256 → y < 256 → z < 256 → whole_of x y z % 256 + 256 * (whole_of x y 0 / 256) ≡ whole_of x y z
+whole_word x y z h k l = grind arith

@@ -1,11 +1,11 @@
 //! Reading UTF-8 by windows of sixteen bytes, with no branch on which characters they are.
-ghost use Rattle.std.specs.Prelude.{◌≡◌, ◌+◌, ◌++◌, ◌≤◌, ◌<◌, ℕ, length, take, drop, get_or, slice_index, cond, nat_lt, IsTrue, map, Bool, false};
+ghost use Rattle.std.specs.Prelude.{◌≡◌, ◌+◌, ◌*◌, ◌/◌, ◌%◌, ◌++◌, ◌≤◌, ◌<◌, ℕ, length, take, drop, get_or, slice_index, cond, nat_lt, IsTrue, map, Bool, false};
 ghost use Rattle.std.specs.Int.{bit_at};
 ghost use Rattle.std.specs.Simd.Lanes.{mask_l};
 ghost use Rattle.cv_block.specs.Spelled.{IsReadSpelled};
 ghost use Rattle.cv_utf8.specs.Utf8.{utf8_bytes};
-ghost use Rattle.cv_utf8.specs.Private.Utf8Short.{is_among, is_behind, IsShortAt, short_value};
-ghost use Rattle.cv_utf8.specs.Private.Utf8Windows.{AreWhole, AreMarks, IsOneAt, IsTwoAt, IsThreeAt, whole_value};
+ghost use Rattle.cv_utf8.specs.Private.Utf8Short.{is_among, is_behind, IsShortAt, short_of, short_value};
+ghost use Rattle.cv_utf8.specs.Private.Utf8Windows.{AreWhole, AreMarks, IsOneAt, IsTwoAt, IsThreeAt, whole_of, whole_value};
 
 use crate::utf8_begun::put_begun;
 use crate::utf8_long::{read_fours, read_threes};
@@ -37,20 +37,46 @@ fn are_short(input: &[u8], at: usize) -> bool
     firsts == high && firsts == seconds
 }
 
-/// The numbers of the characters that begin at sixteen places, if they have one or two bytes.
+/// The numbers whose low and high bytes are given.
+#[inline(always)]
+fn joined(low: u8x16, high: u8x16) -> [u16; MANY]
+    ensures { (k : ℕ) → k < 16 → get_or result k 0 ≡ get_or low k 0 + 256 * get_or high k 0 }
+{
+    (low.cast::<u16>() + high.cast::<u16>() * u16x16::splat(256)).to_array()
+}
+
+/// The low bytes of the numbers of characters that have the bytes, one or two.
+#[inline(always)]
+fn short_low(first: u8x16, second: u8x16) -> u8x16
+    ensures { (k : ℕ) → k < 16 → get_or result k 0
+        ≡ short_of (get_or first k 0) (get_or second k 0) % 256 }
+{
+    let sixty_four = u8x16::splat(64);
+    let two = first * sixty_four + second % sixty_four;
+    first.simd_lt(u8x16::splat(0xc0)).select(first, two)
+}
+
+/// The high bytes of the numbers of characters that begin with the bytes and have one or two.
+#[inline(always)]
+fn short_high(first: u8x16) -> u8x16
+    ensures { (k : ℕ) → k < 16 → get_or result k 0 ≡ short_of (get_or first k 0) 0 / 256 }
+{
+    let two = first % u8x16::splat(32) / u8x16::splat(4);
+    first
+        .simd_lt(u8x16::splat(0xc0))
+        .select(u8x16::splat(0), two)
+}
+
+/// The numbers of the characters that begin at sixteen places, if they have one or two bytes. They are computed by bytes, of which a
+/// vector has twice as many.
 #[inline(always)]
 fn short_values(input: &[u8], at: usize) -> [u16; MANY]
     requires { at + 17 ≤ length input.now }
     ensures { (k : ℕ) → k < 16 → get_or result k 0 ≡ short_value input.now (at + k) }
 {
-    let bytes = u8x16::from_slice(&input[at..]).cast::<u16>();
-    let behind = u8x16::from_slice(&input[at + 1..]).cast::<u16>();
-    let of_first = bytes % u16x16::splat(32) * u16x16::splat(64);
-    let two = of_first + behind % u16x16::splat(64);
-    bytes
-        .simd_lt(u16x16::splat(0xc0))
-        .select(bytes, two)
-        .to_array()
+    let first = u8x16::from_slice(&input[at..]);
+    let second = u8x16::from_slice(&input[at + 1..]);
+    joined(short_low(first, second), short_high(first))
 }
 
 /// Which of sixteen bytes begin a character, of those in the first `used` bytes, as bits.
@@ -131,27 +157,47 @@ fn whole(input: &[u8], at: usize) -> usize
     covered.trailing_ones() as usize
 }
 
+/// The low bytes of the numbers of characters that have the bytes, up to three.
+#[inline(always)]
+fn low_bytes(first: u8x16, second: u8x16, third: u8x16) -> u8x16
+    ensures { (k : ℕ) → k < 16 → get_or result k 0
+        ≡ whole_of (get_or first k 0) (get_or second k 0) (get_or third k 0) % 256 }
+{
+    let sixty_four = u8x16::splat(64);
+    let two = first * sixty_four + second % sixty_four;
+    let three = second * sixty_four + third % sixty_four;
+    let many = first.simd_lt(u8x16::splat(0xe0)).select(two, three);
+    first.simd_lt(u8x16::splat(0xc0)).select(first, many)
+}
+
+/// The high bytes of the numbers of characters that have the bytes, up to three.
+#[inline(always)]
+fn high_bytes(first: u8x16, second: u8x16) -> u8x16
+    ensures { (k : ℕ) → k < 16 → get_or result k 0
+        ≡ whole_of (get_or first k 0) (get_or second k 0) 0 / 256 }
+{
+    let four = u8x16::splat(4);
+    let two = first % u8x16::splat(32) / four;
+    let middle = (first % u8x16::splat(16))
+        .simd_eq(u8x16::splat(13))
+        .select(second % u8x16::splat(32), second % u8x16::splat(64));
+    let three = first * u8x16::splat(16) + middle / four;
+    let many = first.simd_lt(u8x16::splat(0xe0)).select(two, three);
+    first
+        .simd_lt(u8x16::splat(0xc0))
+        .select(u8x16::splat(0), many)
+}
+
 /// The numbers of the characters that begin at sixteen places, if they have up to three bytes. All are scalar values, whatever the bytes are.
 #[inline(always)]
 fn whole_values(input: &[u8], at: usize) -> [u16; MANY]
     requires { at + 18 ≤ length input.now }
     ensures { (k : ℕ) → k < 16 → get_or result k 0 ≡ whole_value input.now (at + k) }
 {
-    let sixty_four = u16x16::splat(64);
-    let first = u8x16::from_slice(&input[at..]).cast::<u16>();
-    let second = u8x16::from_slice(&input[at + 1..]).cast::<u16>();
-    let third = u8x16::from_slice(&input[at + 2..]).cast::<u16>();
-    let two = first % u16x16::splat(32) * sixty_four + second % sixty_four;
-    let high = first % u16x16::splat(16);
-    let middle = high
-        .simd_eq(u16x16::splat(13))
-        .select(second % u16x16::splat(32), second % sixty_four);
-    let three = high * u16x16::splat(4096) + middle * sixty_four + third % sixty_four;
-    let many = first.simd_lt(u16x16::splat(0xe0)).select(two, three);
-    first
-        .simd_lt(u16x16::splat(0xc0))
-        .select(first, many)
-        .to_array()
+    let first = u8x16::from_slice(&input[at..]);
+    let second = u8x16::from_slice(&input[at + 1..]);
+    let third = u8x16::from_slice(&input[at + 2..]);
+    joined(low_bytes(first, second, third), high_bytes(first, second))
 }
 
 /// Reads the whole characters of up to three bytes at the front of sixteen bytes. It stands apart, so that the loops

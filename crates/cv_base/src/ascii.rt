@@ -88,6 +88,7 @@ impl BlockCodec for Ascii {
         }
     }
 
+    #[inline(always)]
     fn write_block(
         &self,
         policy: Policy,

@@ -60,10 +60,11 @@ pub(crate) fn read_bytes(limit: u32, input: &[u8], buffer: &mut [Scalar]) -> Rea
 
 /// The byte of a character below a limit, or else `?`, and for how many characters it is `?`.
 #[inline(always)]
-fn byte_of(limit: u32, c: Scalar) -> (u8, usize)
+fn byte_of(limit: u32, c: Scalar) -> (u8, u32)
     requires from { question < limit }
     requires to { limit ≤ 256 }
-    ensures { written (byte_writes limit) WriteState.Start (Some c)
+    ensures few { result.1 ≤ 1 }
+    ensures is { written (byte_writes limit) WriteState.Start (Some c)
         ≡ output (result.0 ∷ []) result.1 WriteState.Start }
 {
     let value = c.value();
@@ -108,7 +109,8 @@ fn narrow(_limit: u32, characters: &[Scalar], out: &mut [u8], at: usize) -> Writ
     }
 }
 
-/// Writes characters below a limit, and `?` for others. Bytes of the slice around them stay.
+/// Writes characters below a limit, and `?` for others. Bytes of the slice around them stay. The count has the size of a character,
+/// so that the loop is done by blocks of four.
 #[inline(always)]
 fn narrow_or_substitute(
     limit: u32,
@@ -116,6 +118,7 @@ fn narrow_or_substitute(
     out: &mut [u8],
     at: usize,
 ) -> WrittenBlock
+    requires few { length characters.now ≤ 256 }
     requires room { at + length characters.now ≤ length out.old }
     requires from { question < limit }
     requires to { limit ≤ 256 }
@@ -130,7 +133,7 @@ fn narrow_or_substitute(
     }
     WrittenBlock {
         wrote: characters.len(),
-        count,
+        count: count as usize,
         next: WriteState::Start,
     }
 }
@@ -144,17 +147,16 @@ pub(crate) fn write_bytes(
     out: &mut [u8],
     at: usize,
 ) -> Option<WrittenBlock>
+    requires few { length characters.now ≤ 256 }
     requires room { at + length characters.now ≤ length out.old }
     requires from { question < limit }
     requires to { limit ≤ 256 }
     ensures { MayWriteBlock policy (byte_writes limit) WriteState.Start characters.now
         out.old at result out.new }
 {
-    if are_below(limit, characters) {
-        return Some(narrow(limit, characters, out, at));
-    }
     match policy {
         Policy::Substitute => Some(narrow_or_substitute(limit, characters, out, at)),
+        Policy::Strict if are_below(limit, characters) => Some(narrow(limit, characters, out, at)),
         Policy::Strict => None,
     }
 }

@@ -87,6 +87,7 @@ impl BlockCodec for Latin1 {
         }
     }
 
+    #[inline(always)]
     fn write_block(
         &self,
         policy: Policy,

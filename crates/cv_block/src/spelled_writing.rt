@@ -109,7 +109,7 @@ fn write_by<S: Spelling, const BYTES: usize>(
 
 /// Writes a block of at most 256 characters in a spelling that the state keeps. Bytes of the slice around it stay. Few characters are
 /// written by a small buffer, which costs less to clear.
-#[inline(never)]
+#[inline(always)]
 pub fn write_spelled<S: Spelling>(
     state: WriteState,
     characters: &[Scalar],

@@ -39,7 +39,7 @@ fn are_short(input: &[u8], at: usize) -> bool
 
 /// The numbers whose low and high bytes are given.
 #[inline(always)]
-fn joined(low: u8x16, high: u8x16) -> [u16; MANY]
+fn numbers_of(low: u8x16, high: u8x16) -> [u16; MANY]
     ensures { (k : ℕ) → k < 16 → get_or result k 0 ≡ get_or low k 0 + 256 * get_or high k 0 }
 {
     (low.cast::<u16>() + high.cast::<u16>() * u16x16::splat(256)).to_array()
@@ -76,7 +76,7 @@ fn short_values(input: &[u8], at: usize) -> [u16; MANY]
 {
     let first = u8x16::from_slice(&input[at..]);
     let second = u8x16::from_slice(&input[at + 1..]);
-    joined(short_low(first, second), short_high(first))
+    numbers_of(short_low(first, second), short_high(first))
 }
 
 /// Which of sixteen bytes begin a character, of those in the first `used` bytes, as bits.
@@ -197,7 +197,7 @@ fn whole_values(input: &[u8], at: usize) -> [u16; MANY]
     let first = u8x16::from_slice(&input[at..]);
     let second = u8x16::from_slice(&input[at + 1..]);
     let third = u8x16::from_slice(&input[at + 2..]);
-    joined(low_bytes(first, second, third), high_bytes(first, second))
+    numbers_of(low_bytes(first, second, third), high_bytes(first, second))
 }
 
 /// Reads the whole characters of up to three bytes at the front of sixteen bytes. It stands apart, so that the loops

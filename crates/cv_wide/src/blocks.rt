@@ -20,6 +20,7 @@ impl BlockCodec for Utf16 {
         }
     }
 
+    #[inline(always)]
     #[tactic(auto, using(crate::proofs::AllWritten::in_allowed))]
     fn write_block(
         &self,
@@ -75,6 +76,7 @@ impl BlockCodec for Utf32 {
         }
     }
 
+    #[inline(always)]
     #[tactic(auto, using(crate::proofs::AllWritten::in_allowed))]
     fn write_block(
         &self,

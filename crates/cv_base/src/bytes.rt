@@ -25,14 +25,14 @@ fn widen(input: &[u8], n: usize, buffer: &mut [Scalar])
     }
 }
 
-/// How many of the first `most` bytes of a text are below a limit, up to one that isn't.
+/// How many of the first `most` bytes of a text are below a limit, up to one that isn't. A text of US-ASCII is tested at once.
 #[inline(always)]
 fn below(limit: u32, input: &[u8], most: usize) -> usize
     requires { most ≤ length input.now }
     ensures within { result ≤ most }
     ensures below { (k : ℕ) → k < result → slice_index input.now k < limit }
 {
-    if limit >= 256 {
+    if limit >= 256 || limit >= 128 && input[..most].is_ascii() {
         return most;
     }
     let mut n = 0;

@@ -49,15 +49,15 @@ pub fn take_latin_run(
     take_run::<OfLatin>(form, target, rest, out, at)
 }
 
-/// Whether the first unit of a form may be below 256, by the byte that has the next bits. It decides speed alone.
+/// Whether the first and the sixteenth unit of a form may be below 256, by the byte that has the next bits. It decides speed alone.
 #[inline(always)]
 pub fn begins_latin(form: AsciiForm, rest: &[u8]) -> bool {
-    let beside = match form {
+    let (first, last) = match form {
         AsciiForm::Byte => return true,
-        AsciiForm::Two(Endian::Big) => 0,
-        AsciiForm::Two(Endian::Little) => 1,
-        AsciiForm::Four(Endian::Big) => 2,
-        AsciiForm::Four(Endian::Little) => 1,
+        AsciiForm::Two(Endian::Big) => (0, 30),
+        AsciiForm::Two(Endian::Little) => (1, 31),
+        AsciiForm::Four(Endian::Big) => (2, 62),
+        AsciiForm::Four(Endian::Little) => (1, 61),
     };
-    beside < rest.len() && rest[beside] == 0
+    last < rest.len() && rest[first] == 0 && rest[last] == 0
 }

@@ -78,18 +78,18 @@ same_parts n i j a b h l e = ext_get_or 0 (take n (drop i a)) (take n (drop j b)
     get_or-take n (drop i a) k 0 s ∙ get_or-drop i a k 0 ∙ e k s ∙ sym (get_or-drop j b k 0) ∙ sym (get_or-take n (drop j b) k 0 s)))
 
 -- a run of direct characters of a window is written
-pub writes_run : (characters : List ℕ) (base : ℕ) (bytes : List ℕ) (stops n at run : ℕ) (before after : List ℕ) → ((i : ℕ) → i < 64 → bit_at stops i ≡ 0 → (is_direct (get_or bytes i 0) ≡ true) × (get_or bytes i 0 ≡ get_or characters (base + i) 0)) → length bytes ≡ 80 → base ≤ n → n < base + 64 → n + 16 ≤ length characters → at + 16 ≤ length before
-    → n - base + run ≤ 64 → ((i : ℕ) → i < run → bit_at stops (n - base + i) ≡ 0) → after ≡ take at before ++ take 16 (drop (n - base) bytes) ++ drop (at + 16) before → (r : ℕ) → r ≤ run → r ≤ 16 → WritesOn characters (place write.Start n at) before (place write.Start (n + r) (at + r)) after
-writes_run characters base bytes stops n at run before after window padded b p many room within clear put r k s =
+pub writes_run : (characters : List ℕ) (base : ℕ) (bytes : List ℕ) (stops n at run : ℕ) (before after : List ℕ) → ((i : ℕ) → i < 64 → bit_at stops i ≡ 0 → (is_direct (get_or bytes i 0) ≡ true) × (get_or bytes i 0 ≡ get_or characters (base + i) 0)) → length bytes ≡ 80 → base ≤ n → n < base + 64 → (many : ℕ) → n + many ≤ length characters → at + many ≤ length before
+    → n - base + run ≤ 64 → ((i : ℕ) → i < run → bit_at stops (n - base + i) ≡ 0) → after ≡ take at before ++ take many (drop (n - base) bytes) ++ drop (at + many) before → many ≤ 16 → (r : ℕ) → r ≤ run → r ≤ many → WritesOn characters (place write.Start n at) before (place write.Start (n + r) (at + r)) after
+writes_run characters base bytes stops n at run before after window padded b p many left room within clear put most r k s =
     let there : (i : ℕ) → base + (n - base + i) ≡ n + i = λ i. omega arith in
     let found : (i : ℕ) → i < r → (is_direct (get_or bytes (n - base + i) 0) ≡ true) × (get_or bytes (n - base + i) 0 ≡ get_or characters (n + i) 0) = (λ i l. subst (λ (j : ℕ). (is_direct (get_or bytes (n - base + i) 0) ≡ true) × (get_or bytes (n - base + i) 0 ≡ get_or characters j 0)) (there i) (window (n - base + i) (omega arith) (clear i (omega arith)))) in
     let long : length (take at before) ≡ at = simp length-take (omega arith) in
-    let part : length (take 16 (drop (n - base) bytes)) ≡ 16 = simp (length-take, length-drop) (omega arith) in
-    let whole : length (take at before ++ take 16 (drop (n - base) bytes)) ≡ at + 16 = simp length-append (omega arith) in
-    let front : take (at + 16) after ≡ take at before ++ take 16 (drop (n - base) bytes) = ap (take (at + 16)) put ∙ take_at (take at before ++ take 16 (drop (n - base) bytes)) (drop (at + 16) before) (at + 16) whole in
-    writes_direct characters n at r 16 before after s many room (λ i l. subst (λ (c : ℕ). is_direct c ≡ true) (found i l).1 (found i l).0)
-    (front_of_put at r 16 before after (drop (n - base) bytes) (omega arith) s front ∙ ap (λ (x : List ℕ). take at before ++ x) (same_parts r (n - base) n bytes characters (omega arith) (omega arith) (λ i l. (found i l).1)))
-    (ap (drop (at + 16)) put ∙ drop_at (take at before ++ take 16 (drop (n - base) bytes)) (drop (at + 16) before) (at + 16) whole)
+    let part : length (take many (drop (n - base) bytes)) ≡ many = simp (length-take, length-drop) (omega arith) in
+    let whole : length (take at before ++ take many (drop (n - base) bytes)) ≡ at + many = simp length-append (omega arith) in
+    let front : take (at + many) after ≡ take at before ++ take many (drop (n - base) bytes) = ap (take (at + many)) put ∙ take_at (take at before ++ take many (drop (n - base) bytes)) (drop (at + many) before) (at + many) whole in
+    writes_direct characters n at r many before after s left room (λ i l. subst (λ (c : ℕ). is_direct c ≡ true) (found i l).1 (found i l).0)
+    (front_of_put at r many before after (drop (n - base) bytes) (omega arith) s front ∙ ap (λ (x : List ℕ). take at before ++ x) (same_parts r (n - base) n bytes characters (omega arith) (omega arith) (λ i l. (found i l).1)))
+    (ap (drop (at + many)) put ∙ drop_at (take at before ++ take many (drop (n - base) bytes)) (drop (at + many) before) (at + many) whole)
     (ap length put ∙ simp (length-append, length-drop) (omega arith))
 
 -- one character more is narrowed

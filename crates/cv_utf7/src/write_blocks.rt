@@ -2,33 +2,28 @@
 ghost use Rattle.std.specs.Prelude.{◌≤◌, ◌<◌, ◌+◌, ◌-◌, ◌*◌, length};
 ghost use Rattle.cv_utf7.specs.Private.WriteSteps.{place, WritesOn};
 
-use crate::byte_sets::{WINDOW, not_written_direct};
-use crate::write_runs::{MANY_WRITTEN, narrowed, write_direct, write_run};
+use crate::byte_sets::not_written_direct;
+use crate::write_runs::{MANY_WRITTEN, narrowed, window_size, write_direct, write_run};
 use crate::write_sequences::{Reached, write_inside, write_one, write_sequence};
 use cv_base::{Scalar, WriteState};
 use std::simd::prelude::*;
 
-/// Writes direct characters, and sequences between them, from a place of a window to its last or as far as there are many more.
+/// Writes direct characters, and sequences between them, from a place to the last of a window.
 #[inline(always)]
-fn write_window(
-    characters: &[Scalar],
-    base: usize,
-    from: usize,
-    out: &mut [u8],
-    at: usize,
-) -> Reached
-    requires within { base + 64 ≤ length characters.now }
-    requires place { (base ≤ from) × (from < base + 64) }
-    requires many { from + 16 ≤ length characters.now }
+fn write_window(characters: &[Scalar], from: usize, out: &mut [u8], at: usize) -> Reached
+    requires some { from < length characters.now }
+    requires many { 16 ≤ length characters.now }
     requires room { at + 8 * (length characters.now - from) ≤ length out.old }
     ensures more { WritesOn characters.now (place WriteState.Start from at) out.old result out.new }
     ensures on { from < result.n }
 {
-    let bytes = narrowed(characters, base);
+    let size = window_size(characters.len());
+    let base = from.min(characters.len() - size);
+    let bytes = narrowed(characters, base, size);
     let stops = not_written_direct(u8x64::from_slice(&bytes));
     let mut n = from;
     let mut end = at;
-    while n - base < WINDOW && characters.len() - n >= MANY_WRITTEN {
+    while n - base < size {
         let (run, goes_on) = write_run(characters, base, &bytes, stops, n, out, end);
         n += run;
         end += run;
@@ -60,8 +55,8 @@ fn write_outside(characters: &[Scalar], from: usize, out: &mut [u8], at: usize) 
     ensures on { from < result.n }
 {
     let len = characters.len();
-    if len >= WINDOW && len - from >= MANY_WRITTEN {
-        return write_window(characters, from.min(len - WINDOW), from, out, at);
+    if len >= MANY_WRITTEN {
+        return write_window(characters, from, out, at);
     }
     let run = write_direct(characters, from, out, at);
     if from + run == len {

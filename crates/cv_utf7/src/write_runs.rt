@@ -43,28 +43,49 @@ fn narrow(c: Scalar) -> u8
     if value < 128 { value as u8 } else { 0 }
 }
 
-/// 64 characters as bytes, with 0 where one is not ASCII, and 16 bytes behind them.
+/// How many of so many characters a window has at most: as many sixteens as there are, up to four.
 #[inline(always)]
-pub(crate) fn narrowed(characters: &[Scalar], n: usize) -> [u8; 80]
-    requires { n + 64 ≤ length characters.now }
+pub(crate) fn window_size(len: usize) -> usize
+    ensures most { result ≤ 64 }
+    ensures within { result ≤ len }
+    ensures some { 16 ≤ len → 16 ≤ result }
+{
+    len.min(WINDOW) / MANY_WRITTEN * MANY_WRITTEN
+}
+
+/// So many characters as bytes, with 0 where one is not ASCII, and zeros behind them.
+#[inline(always)]
+pub(crate) fn narrowed(characters: &[Scalar], n: usize, size: usize) -> [u8; 80]
+    requires most { size ≤ 64 }
+    requires within { n + size ≤ length characters.now }
     ensures { (i : ℕ) → i < 64 → is_direct (get_or result i 0) ≡ true
         → get_or result i 0 ≡ get_or characters.now (n + i) 0 }
 {
     let mut bytes = [0u8; PADDED_WINDOW];
-    for i in 0..WINDOW {
+    for i in 0..size {
         bytes[i] = narrow(characters[n + i]);
     }
     bytes
 }
 
-/// Copies 16 bytes.
+/// Copies the bytes of a run: 16 where as many characters are left, and else no more than the run has. Answers how many were copied.
 #[inline(always)]
-fn copy_many(bytes: &[u8], from: usize, out: &mut [u8], at: usize)
+fn copy_run(bytes: &[u8], from: usize, run: usize, left: usize, out: &mut [u8], at: usize) -> usize
     requires within { from + 16 ≤ length bytes.now }
-    requires room { at + 16 ≤ length out.old }
-    ensures { out.new ≡ take at out.old ++ take 16 (drop from bytes.now) ++ drop (at + 16) out.old }
+    requires room { at + left ≤ length out.old }
+    ensures most { result ≤ 16 }
+    ensures left { result ≤ left }
+    ensures run { (r : ℕ) → r ≤ run → r ≤ left → r ≤ 16 → r ≤ result }
+    ensures copied { out.new ≡ take at out.old ++ take result (drop from bytes.now)
+        ++ drop (at + result) out.old }
 {
-    out[at..at + MANY_WRITTEN].copy_from_slice(&bytes[from..from + MANY_WRITTEN]);
+    if left >= MANY_WRITTEN {
+        out[at..at + MANY_WRITTEN].copy_from_slice(&bytes[from..from + MANY_WRITTEN]);
+        return MANY_WRITTEN;
+    }
+    let n = run.min(left);
+    out[at..at + n].copy_from_slice(&bytes[from..from + n]);
+    n
 }
 
 /// Writes the direct characters of a run, 16 at most. Answers how many they are, and whether the run may go on.
@@ -83,19 +104,21 @@ pub(crate) fn write_run(
         × (get_or bytes.now i 0 ≡ get_or characters.now (base + i) 0) }
     requires padded { length bytes.now ≡ 80 }
     requires place { (base ≤ n) × (n < base + 64) }
-    requires many { n + 16 ≤ length characters.now }
-    requires room { at + 16 ≤ length out.old }
+    requires some { n < length characters.now }
+    requires room { at + 8 * (length characters.now - n) ≤ length out.old }
     ensures run { WritesOn characters.now (place WriteState.Start n at) out.old
         (place WriteState.Start (n + result.0) (at + result.0)) out.new }
-    ensures few { result.0 ≤ 16 }
+    ensures within { n + result.0 ≤ length characters.now }
     ensures on { IsTrue result.1 → 0 < result.0 }
-    ensures stops { result.1 ≡ false → result.0 < 16 }
+    ensures stops { result.1 ≡ false → n + result.0 < length characters.now }
 {
     let place = n - base;
     let run = run_at(stops, place);
-    copy_many(bytes, place, out, at);
-    if run >= MANY_WRITTEN {
-        (MANY_WRITTEN, true)
+    let left = characters.len() - n;
+    let most = left.min(MANY_WRITTEN);
+    copy_run(bytes, place, run, left, out, at);
+    if run >= most {
+        (most, true)
     } else {
         (run, false)
     }

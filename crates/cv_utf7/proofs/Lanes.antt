@@ -1,9 +1,9 @@
 -- Sets of bytes, lane by lane.
-use Rattle.std.proofs.Common.{◌≡◌, ℕ, zero, suc, ◌+◌, ◌-◌, ◌*◌, ◌/◌, ◌%◌, ◌^◌, ◌<◌, Bool, true, false, cond, eqb, List, [], ◌∷◌, map, length, get_or, replicate, bit_and, refl, sym, ap, ◌∙◌, inl, inr, subst, arith, w8, Fits, eqb-true}
+use Rattle.std.proofs.Common.{◌≡◌, ℕ, zero, suc, ◌+◌, ◌-◌, ◌*◌, ◌/◌, ◌%◌, ◌^◌, ◌<◌, Bool, true, false, cond, eqb, List, [], ◌∷◌, map, length, get_or, replicate, bit_and, ◌≤◌, ◌++◌, drop, take, length-drop, length-take, get_or-drop, get_or-take, refl, sym, ap, ◌∙◌, inl, inr, subst, arith, w8, Fits, eqb-true}
 use Rattle.std.specs.Prelude.{nat_eq}
 use Rattle.std.specs.Int.{bit_at}
-use Rattle.std.proofs.lemmas.Bool.{cases_eq, cases_Bool, and_parts, agree_below_at}
-use Rattle.std.proofs.lemmas.List.{get_or-map, length-map, ext_get_or}
+use Rattle.std.proofs.lemmas.Bool.{cases_lt, cases_eq, cases_Bool, and_parts, agree_below_at}
+use Rattle.std.proofs.lemmas.List.{get_or_append_left, get_or-append_right, get_or-replicate, get_or_past, get_or-map, length-map, ext_get_or}
 use Rattle.std.proofs.lemmas.Nat.{and_le_r}
 use Rattle.std.proofs.lemmas.Simd.{Each1-all, Each1-weaker, Each1-zip2, Each2-splat, below_from_Fits, length-zip2, get_or-zip2, zip2_splat, swz_l, SwzOk, SwzOk-from_below, length-swz_l, get_or-swz_l_below, bitmask_splat, bit_mask_l}
 use lib.Lanes.{zip2, mask_l, top, Each1}
@@ -112,3 +112,12 @@ lower_half set v fits copies = looked_up set (λ x. bit_and x 15) v _ fits (zip2
 -- the look-up by the higher half
 pub higher_half : (v : List ℕ) → IsWindow v → swz_l w8 16 HALF_BITS 0 (zip2 down v (replicate 64 4)) ≡ map (λ b. get_or half_bits (b / 16) 0) v
 higher_half v fits = looked_up HALF_BITS (λ x. x / 16) v _ fits (zip2_splat down v 64 4 fits.0) (λ x h. omega arith) refl ∙ same_entries v fits.1
+
+-- the rest of a text with zeros behind it has the bytes of the text, and none where it ends
+pub padded_same : (at : ℕ) (text front : List ℕ) → front ≡ take (length text - at) (drop at text) → (i : ℕ) → i < 64 → get_or (front ++ drop (length text - at) (replicate 64 0)) i 0 ≡ get_or text (at + i) 0
+padded_same at text front e i l =
+    let long : length front ≡ length text - at = ap length e ∙ simp (length-take, length-drop) (omega arith) in
+    elim (cases_lt i (length text - at)) [
+      | inl m ↦ get_or_append_left front _ 0 i (omega arith) ∙ ap (λ (x : List ℕ). get_or x i 0) e ∙ get_or-take (length text - at) (drop at text) i 0 m ∙ get_or-drop at text i 0
+      | inr m ↦ get_or-append_right front _ (length text - at) i 0 long m ∙ get_or-drop (length text - at) (replicate 64 0) (i - (length text - at)) 0 ∙ get_or-replicate 64 (length text - at + (i - (length text - at))) 0 0 (omega arith) ∙ sym (get_or_past text (at + i) 0 (omega arith))
+    ]

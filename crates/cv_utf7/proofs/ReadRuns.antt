@@ -68,10 +68,10 @@ front_of_put n run most before after bytes h r e =
     sym (take-take (n + run) (n + most) after (omega arith)) ∙ ap (take (n + run)) e ∙ ap (λ (k : ℕ). take (k + run) (take n before ++ take most bytes)) (sym long) ∙ take-append-add (take n before) (take most bytes) run ∙ ap (λ (x : List ℕ). take n before ++ x) (take-take run most bytes r)
 
 -- a run of direct bytes of a window is read
-pub reads_run : (text : List ℕ) (base stops used n run most : ℕ) (before after : List ℕ) → ((i : ℕ) → i < 64 → bit_at stops i ≡ 0 → may_be_direct (get_or text (base + i) 0) ≡ true) → base ≤ used → used + 16 ≤ length text → most ≤ 16 → n + most ≤ length before → length after ≡ length before
+pub reads_run : (text : List ℕ) (base stops used n run most : ℕ) (before after : List ℕ) → ((i : ℕ) → i < 64 → bit_at stops i ≡ 0 → may_be_direct (get_or text (base + i) 0) ≡ true) → base ≤ used → used + most ≤ length text → n + most ≤ length before → length after ≡ length before
     → used - base + run ≤ 64 → ((i : ℕ) → i < run → bit_at stops (used - base + i) ≡ 0) → take (n + most) after ≡ take n before ++ take most (drop used text)
     → (m : ℕ) → m ≤ run → m ≤ most → ReadsOn text (place read.Start used n) before (place read.Start (used + m) (n + m)) after
-reads_run text base stops used n run most before after window b h few l size w clear put m k s =
+reads_run text base stops used n run most before after window b h l size w clear put m k s =
     reads_direct text used n m before after (omega arith) (omega arith) size (λ i p. (
     let there : base + (used - base + i) ≡ used + i = omega arith in
     subst (λ (j : ℕ). may_be_direct (get_or text j 0) ≡ true) there (window (used - base + i) (omega arith) (clear i (omega arith)))))

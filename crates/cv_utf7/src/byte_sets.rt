@@ -68,14 +68,29 @@ fn outside(set: [u8; 64], bytes: u8x64) -> u64
     found.simd_eq(u8x64::splat(0)).to_bitmask()
 }
 
-/// A bit for each of 64 bytes that may not be direct in a text that is read.
+/// The bytes from a place of a text on, 64 at most, and zeros behind its end.
+#[inline(always)]
+fn padded(input: &[u8], at: usize) -> u8x64
+    requires { at ≤ length input.now }
+    ensures { (i : ℕ) → i < 64 → get_or result i 0 ≡ get_or input.now (at + i) 0 }
+{
+    let size = input.len() - at;
+    if size >= WINDOW {
+        return u8x64::from_slice(&input[at..]);
+    }
+    let mut bytes = [0u8; WINDOW];
+    bytes[..size].copy_from_slice(&input[at..]);
+    u8x64::from_array(bytes)
+}
+
+/// A bit for each of 64 bytes that may not be direct in a text that is read, and for each behind its end.
 #[inline(always)]
 pub(crate) fn not_direct(input: &[u8], at: usize) -> u64
-    requires { at + 64 ≤ length input.now }
+    requires { at ≤ length input.now }
     ensures { (i : ℕ) → i < 64 → bit_at result i ≡ 0
         → may_be_direct (get_or input.now (at + i) 0) ≡ true }
 {
-    outside(MAY_STAND, u8x64::from_slice(&input[at..]))
+    outside(MAY_STAND, padded(input, at))
 }
 
 /// A bit for each of 64 bytes that is not written as itself.

@@ -8,21 +8,19 @@ use crate::read_sequences::{read_inside, read_lone, read_sequence};
 use crate::utf7::Utf7;
 use cv_base::{Codec, Item, ReadBlock, ReadState, Scalar};
 
-/// The bytes that a window needs: its own, those of a run that begins in it, and those of a sequence behind that.
-const REACH: usize = WINDOW + MANY_READ + 5;
-
 /// Reads direct characters, and sequences between them, from the first byte of a window to its last or to what stops it.
 #[inline(always)]
 fn read_window(input: &[u8], base: usize, buffer: &mut [Scalar], n: usize) -> ReadBlock
-    requires within { base + 85 ≤ length input.now }
+    requires within { base ≤ length input.now }
     requires room { n + 10 ≤ length buffer.old }
     ensures more { ReadsOn input.now (place ReadState.Start base n) buffer.old result buffer.new }
     ensures on { base ≤ result.used }
 {
     let stops = not_direct(input, base);
+    let size = WINDOW.min(input.len() - base);
     let mut used = base;
     let mut count = n;
-    while used - base < WINDOW && buffer.len() - count >= FEW_READ + 2 {
+    while used - base < size && buffer.len() - count >= FEW_READ + 2 {
         let (run, goes_on) = read_run(input, base, stops, used, buffer, count);
         used += run;
         count += run;
@@ -60,7 +58,7 @@ fn read_outside(input: &[u8], start: usize, buffer: &mut [Scalar], n: usize) -> 
 {
     let mut used = start;
     let mut count = n;
-    while input.len() - used >= REACH && buffer.len() - count >= FEW_READ + 2 {
+    while input.len() - used >= MANY_READ && buffer.len() - count >= FEW_READ + 2 {
         let block = read_window(input, used, buffer, count);
         match block.next {
             ReadState::Start if block.used > used => {

@@ -59,23 +59,37 @@ fn put_few(input: &[u8], at: usize, buffer: &mut [Scalar], n: usize)
     }
 }
 
-/// Puts 16 bytes into the buffer, or 8 where there is no place for so many and two more. Answers how many they are.
+/// Puts 16 bytes into the buffer, or 8 where there is no place for so many and two more, or they don't stand there. Answers how many
+/// they are.
 #[inline(always)]
 fn put_some(input: &[u8], at: usize, buffer: &mut [Scalar], n: usize) -> usize
-    requires within { at + 16 ≤ length input.now }
+    requires within { at + 8 ≤ length input.now }
     requires room { n + 10 ≤ length buffer.old }
     ensures stand { take (n + result) buffer.new ≡ take n buffer.old ++ take result
         (drop at input.now) }
+    ensures within { at + result ≤ length input.now }
     ensures most { result ≤ 16 }
     ensures some { 8 ≤ result }
     ensures fits { n + result + 2 ≤ length buffer.old }
 {
-    if buffer.len() - n >= MANY_READ + 2 {
+    if input.len() - at >= MANY_READ && buffer.len() - n >= MANY_READ + 2 {
         put_many(input, at, buffer, n);
         return MANY_READ;
     }
     put_few(input, at, buffer, n);
     FEW_READ
+}
+
+/// Puts so many bytes into the buffer.
+#[inline(always)]
+fn put_rest(input: &[u8], at: usize, many: usize, buffer: &mut [Scalar], n: usize)
+    requires within { at + many ≤ length input.now }
+    requires room { n + many ≤ length buffer.old }
+    ensures { take (n + many) buffer.new ≡ take n buffer.old ++ take many (drop at input.now) }
+{
+    for i in 0..many {
+        buffer[n + i] = Scalar::known(input[at + i] as u32);
+    }
 }
 
 /// Reads the direct characters of a run, as many as are put at once. Answers how many they are, and whether the run may go on.
@@ -91,15 +105,21 @@ pub(crate) fn read_run(
     requires window { (i : ℕ) → i < 64 → bit_at stops i ≡ 0
         → may_be_direct (get_or input.now (base + i) 0) ≡ true }
     requires place { (base ≤ used) × (used < base + 64) }
-    requires within { used + 16 ≤ length input.now }
+    requires within { used < length input.now }
     requires room { n + 10 ≤ length buffer.old }
     ensures run { ReadsOn input.now (place ReadState.Start used n) buffer.old
         (place ReadState.Start (used + result.0) (n + result.0)) buffer.new }
-    ensures most { result.0 ≤ 16 }
+    ensures within { used + result.0 ≤ length input.now }
     ensures on { IsTrue result.1 → 0 < result.0 }
     ensures fits { n + result.0 + 2 ≤ length buffer.old }
 {
     let run = run_at(stops, used - base);
+    let left = input.len() - used;
+    if left < FEW_READ {
+        let rest = run.min(left);
+        put_rest(input, used, rest, buffer, n);
+        return (rest, rest == left);
+    }
     let most = put_some(input, used, buffer, n);
     if run >= most {
         (most, true)

@@ -8,6 +8,9 @@ use crate::units::Unit;
 use cv_base::{Bits, Item, ReadBlock, ReadState, Scalar};
 use cv_block::is_surrogate;
 
+/// The bytes of a shifted sequence of one character, and the one that ends it.
+const LONE: usize = 5;
+
 /// Whether a byte ends a shifted sequence in which no bits are left.
 #[inline(always)]
 fn ends_sequence(b: u8) -> bool
@@ -43,12 +46,15 @@ fn lone(input: &[u8], at: usize) -> Option<Scalar>
 #[inline(always)]
 #[tactic(auto, using(crate::proofs::LoneSequences::lone_reads))]
 pub(crate) fn read_lone(input: &[u8], used: usize, buffer: &mut [Scalar], n: usize) -> usize
-    requires within { used + 5 ≤ length input.now }
+    requires within { used ≤ length input.now }
     requires room { n + 2 ≤ length buffer.old }
     ensures some { 0 < result → ReadsOn input.now (place ReadState.Start used n) buffer.old
         (place ReadState.Start (used + 5) (n + result)) buffer.new }
     ensures none { result ≡ 0 → buffer.new ≡ buffer.old }
 {
+    if input.len() - used < LONE {
+        return 0;
+    }
     let Some(c) = lone(input, used) else {
         return 0;
     };

@@ -36,48 +36,82 @@ impl Cut {
         }
     }
 
+    /// The two digits of a code unit behind no bits.
+    #[inline(always)]
+    pub(crate) fn behind_none(pending: Bits, unit: u32) -> Cut
+        requires none { pending.count ≡ 0 }
+        requires unit { unit < 0x10000 }
+        ensures same { written_bits (bits_of pending ++ character_bits unit)
+            ≡ (digits (bits (6 * result.n) result.value), write.Shifted result.next) }
+        ensures count { result.n ≡ 2 }
+    {
+        Cut {
+            n: 2,
+            value: unit as u64 / 16,
+            next: Bits {
+                count: 4,
+                value: (unit % 16) as u8,
+            },
+        }
+    }
+
+    /// The three digits of a code unit behind two bits, which leave none.
+    #[inline(always)]
+    pub(crate) fn behind_two(pending: Bits, unit: u32) -> Cut
+        requires two { pending.count ≡ 2 }
+        requires unit { unit < 0x10000 }
+        ensures same { written_bits (bits_of pending ++ character_bits unit)
+            ≡ (digits (bits (6 * result.n) result.value), write.Shifted result.next) }
+        ensures count { result.n ≡ 3 }
+    {
+        Cut {
+            n: 3,
+            value: pending.value as u64 * 0x1_0000 + unit as u64,
+            next: Bits { count: 0, value: 0 },
+        }
+    }
+
+    /// The three digits of a code unit behind four bits.
+    #[inline(always)]
+    pub(crate) fn behind_four(pending: Bits, unit: u32) -> Cut
+        requires four { pending.count ≡ 4 }
+        requires unit { unit < 0x10000 }
+        ensures same { written_bits (bits_of pending ++ character_bits unit)
+            ≡ (digits (bits (6 * result.n) result.value), write.Shifted result.next) }
+        ensures count { result.n ≡ 3 }
+    {
+        Cut {
+            n: 3,
+            value: (pending.value as u64 * 0x1_0000 + unit as u64) / 4,
+            next: Bits {
+                count: 2,
+                value: (unit % 4) as u8,
+            },
+        }
+    }
+
     /// The digits of a character that is one code unit.
     #[inline(always)]
-    #[tactic(auto, using(crate::proofs::Cuts::units))]
-    fn of_unit(pending: Bits, value: u32) -> Cut
-        requires { value < 0x10000 }
-        ensures same { written_bits (bits_of pending ++ character_bits value)
+    fn of_unit(pending: Bits, unit: u32) -> Cut
+        requires { unit < 0x10000 }
+        ensures same { written_bits (bits_of pending ++ character_bits unit)
             ≡ (digits (bits (6 * result.n) result.value), write.Shifted result.next) }
         ensures count { (result.n ≡ 2) ⊎ (result.n ≡ 3) }
         ensures first { pending.count ≡ 0 → result.n ≡ 2 }
     {
-        let all = pending.value as u64 * 0x1_0000 + value as u64;
         if pending.count == 0 {
-            return Cut {
-                n: 2,
-                value: all / 16,
-                next: Bits {
-                    count: 4,
-                    value: (all % 16) as u8,
-                },
-            };
+            return Cut::behind_none(pending, unit);
         }
         if pending.count == 2 {
-            return Cut {
-                n: 3,
-                value: all,
-                next: Bits { count: 0, value: 0 },
-            };
+            return Cut::behind_two(pending, unit);
         }
-        Cut {
-            n: 3,
-            value: all / 4,
-            next: Bits {
-                count: 2,
-                value: (all % 4) as u8,
-            },
-        }
+        Cut::behind_four(pending, unit)
     }
 
     /// The digits of a character that is two code units.
     #[inline(always)]
     #[tactic(auto, using(crate::proofs::Cuts::pairs))]
-    fn of_pair(pending: Bits, value: u32) -> Cut
+    pub(crate) fn of_pair(pending: Bits, value: u32) -> Cut
         requires large { 0x10000 ≤ value }
         requires in_range { value < 0x110000 }
         ensures same { written_bits (bits_of pending ++ character_bits value)

@@ -3,13 +3,13 @@ ghost use Rattle.std.specs.Prelude.{◌≡◌, ◌⊎◌, [], ◌∷◌, ◌++�
 ghost use Rattle.cv_base.specs.Places.{PutsAt};
 ghost use Rattle.cv_base.specs.declared.state.WriteState.{WriteState};
 ghost use Rattle.cv_utf7.specs.Sets.{digit_of};
-ghost use Rattle.cv_utf7.specs.BitLists.{bits, bits_of, digits};
-ghost use Rattle.cv_utf7.specs.Utf7.{plus, last_digit, utf7_closes};
+ghost use Rattle.cv_utf7.specs.BitLists.{bits, bits_of, character_bits, digits};
+ghost use Rattle.cv_utf7.specs.Utf7.{plus, last_digit, written_bits, utf7_closes};
 
 use crate::cut::Cut;
 use crate::sets::digit_for;
 use cv_base::place::write_slice;
-use cv_base::{Bits, Piece, Put, WriteState};
+use cv_base::{Bits, Piece, Put, Scalar, WriteState};
 
 /// What closes a shifted sequence.
 #[inline(always)]
@@ -39,7 +39,7 @@ fn closing_digit(pending: Bits) -> u8
 /// Writes the digits of a character.
 #[inline(always)]
 #[tactic(auto, using(crate::proofs::Cuts::spelled))]
-pub(crate) fn put_digits(cut: Cut, out: &mut [u8], at: usize) -> Put
+fn put_digits(cut: Cut, out: &mut [u8], at: usize) -> Put
     requires place { at ≤ length out.old }
     requires count { (cut.n ≡ 2) ⊎ (cut.n ≡ 3) ⊎ (cut.n ≡ 5) ⊎ (cut.n ≡ 6) }
     ensures { PutsAt (Some (digits (bits (6 * cut.n) cut.value), WriteState.Shifted cut.next))
@@ -67,6 +67,37 @@ pub(crate) fn put_digits(cut: Cut, out: &mut [u8], at: usize) -> Put
     }
     write_slice(out, at, [cut.digit(5), b, c, d, e, f]);
     wrote
+}
+
+/// Writes the digits of a code unit. Each count of pending bits has code of its own, in which the count of digits is known.
+#[inline(always)]
+fn put_unit(pending: Bits, unit: u32, out: &mut [u8], at: usize) -> Put
+    requires place { at ≤ length out.old }
+    requires unit { unit < 0x10000 }
+    ensures { PutsAt (Some (written_bits (bits_of pending ++ character_bits unit)))
+        out.old at result out.new }
+{
+    if pending.count == 0 {
+        return put_digits(Cut::behind_none(pending, unit), out, at);
+    }
+    if pending.count == 2 {
+        return put_digits(Cut::behind_two(pending, unit), out, at);
+    }
+    put_digits(Cut::behind_four(pending, unit), out, at)
+}
+
+/// Writes the digits of a character in a shifted sequence.
+#[inline(always)]
+pub(crate) fn put_shifted(pending: Bits, c: Scalar, out: &mut [u8], at: usize) -> Put
+    requires { at ≤ length out.old }
+    ensures { PutsAt (Some (written_bits (bits_of pending ++ character_bits c)))
+        out.old at result out.new }
+{
+    let value = c.value();
+    if value < 0x1_0000 {
+        return put_unit(pending, value, out, at);
+    }
+    put_digits(Cut::of_pair(pending, value), out, at)
 }
 
 /// Writes `+` and the digits of the first character of a shifted sequence.

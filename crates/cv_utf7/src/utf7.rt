@@ -6,7 +6,7 @@ ghost use Rattle.cv_utf7.specs.Utf7.{utf7_reads, utf7_writes, utf7_closes, write
 use crate::cut::Cut;
 use crate::items::{NONE, item_at_start, item_in_shift};
 use crate::sets::stands;
-use crate::shifted_bytes::{closing, put_closed, put_digits, put_first};
+use crate::shifted_bytes::{closing, put_closed, put_first, put_shifted};
 use cv_base::place::write_slice;
 use cv_base::{Codec, Item, Piece, Put, ReadState, Scalar, WriteState};
 
@@ -72,7 +72,7 @@ impl Codec for Utf7 {
         if stands(value) {
             return put_closed(pending, value as u8, out, at);
         }
-        put_digits(Cut::of(pending, c), out, at)
+        put_shifted(pending, c, out, at)
     }
 
     fn close(&self, state: WriteState) -> Piece {

@@ -8,6 +8,9 @@ use crate::write_sequences::{Reached, write_inside, write_one, write_sequence};
 use cv_base::{Scalar, WriteState};
 use std::simd::prelude::*;
 
+/// How many characters a window is made of at the least: fewer are written sooner one by one.
+const LEAST: usize = 2 * MANY_WRITTEN;
+
 /// Writes direct characters, and sequences between them, from a place to the last of a window.
 #[inline(always)]
 fn write_window(characters: &[Scalar], from: usize, out: &mut [u8], at: usize) -> Reached
@@ -55,7 +58,7 @@ fn write_outside(characters: &[Scalar], from: usize, out: &mut [u8], at: usize) 
     ensures on { from < result.n }
 {
     let len = characters.len();
-    if len >= MANY_WRITTEN {
+    if len >= LEAST && len - from >= MANY_WRITTEN {
         return write_window(characters, from, out, at);
     }
     let run = write_direct(characters, from, out, at);

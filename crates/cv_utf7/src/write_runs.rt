@@ -84,7 +84,9 @@ fn copy_run(bytes: &[u8], from: usize, run: usize, left: usize, out: &mut [u8], 
         return MANY_WRITTEN;
     }
     let n = run.min(left);
-    out[at..at + n].copy_from_slice(&bytes[from..from + n]);
+    if n > 0 {
+        out[at..at + n].copy_from_slice(&bytes[from..from + n]);
+    }
     n
 }
 

@@ -267,6 +267,20 @@ fn read_high(input: &[u8], at: usize, buffer: &mut [Scalar], n: usize) -> Spelle
     read_whole(input, at, buffer, n)
 }
 
+/// Reads sixteen characters of ASCII among the last bytes, if they stand there.
+#[inline(always)]
+fn read_last(input: &[u8], at: usize, buffer: &mut [Scalar], n: usize) -> Spelled
+    requires within { at ≤ length input.now }
+    requires room { n + 16 ≤ length buffer.old }
+    ensures many { result.n ≤ 16 }
+    ensures read { IsReadSpelled utf8_bytes input.now at buffer.old n result buffer.new }
+{
+    if input.len() - at >= MANY && is_ascii_block(input, at) {
+        return read_ascii(input, at, buffer, n);
+    }
+    Spelled { n: 0, used: 0 }
+}
+
 /// Reads the characters of up to three bytes that begin among sixteen bytes, up to one that has four. Where one of four bytes
 /// stands at the front, or of three and the fifth likely too, those behind it that have as many are read.
 #[inline(always)]
@@ -276,8 +290,9 @@ pub(crate) fn read_many(input: &[u8], at: usize, buffer: &mut [Scalar], n: usize
     ensures many { result.n ≤ 16 }
     ensures read { IsReadSpelled utf8_bytes input.now at buffer.old n result buffer.new }
 {
-    if input.len() - at < MANY + 2 {
-        return Spelled { n: 0, used: 0 };
+    let left = input.len() - at;
+    if left < MANY + 2 {
+        return read_last(input, at, buffer, n);
     }
     if input[at] >= 0xe0 {
         return read_high(input, at, buffer, n);

@@ -1,5 +1,5 @@
 -- Sets of bytes, lane by lane.
-use Rattle.std.proofs.Common.{◌≡◌, ℕ, zero, suc, ◌+◌, ◌-◌, ◌*◌, ◌/◌, ◌%◌, ◌^◌, ◌<◌, Bool, true, false, cond, eqb, List, [], ◌∷◌, map, length, get_or, replicate, bit_and, ◌≤◌, ◌++◌, drop, take, length-drop, length-take, get_or-drop, get_or-take, refl, sym, ap, ◌∙◌, inl, inr, subst, arith, w8, Fits, eqb-true}
+use Rattle.std.proofs.Common.{◌≡◌, ℕ, zero, suc, ◌+◌, ◌-◌, ◌*◌, ◌/◌, ◌%◌, ◌^◌, ◌<◌, Bool, true, false, cond, eqb, List, [], ◌∷◌, map, length, get_or, replicate, bit_and, ◌++◌, drop, take, length-drop, length-take, get_or-drop, get_or-take, refl, sym, ap, ◌∙◌, inl, inr, subst, arith, w8, Fits, eqb-true}
 use Rattle.std.specs.Prelude.{nat_eq}
 use Rattle.std.specs.Int.{bit_at}
 use Rattle.std.proofs.lemmas.Bool.{cases_lt, cases_eq, cases_Bool, and_parts, agree_below_at}

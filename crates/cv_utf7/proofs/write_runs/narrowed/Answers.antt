@@ -1,4 +1,4 @@
-use Rattle.std.proofs.Common.{arith, refl, ◌∙◌, ap, sym, length-set, ◌≡◌, true, get_or, inl, inr}
+use Rattle.std.proofs.Common.{arith, refl, ◌∙◌, ap, sym, length-set, inl, inr}
 use Rattle.std.proofs.lemmas.Bool.{cases_lt}
 use Rattle.std.proofs.lemmas.List.{get_or_read, get_or-replicate, get_or-set_other}
 use Rattle.cv_utf7.specs.Sets.{is_direct}

@@ -190,8 +190,6 @@ spell_length cut = digits_length cut.n (bits (6 * cut.n) cut.value) (length-bits
 
 pub ruleset spelled = (spell_2, spell_3, spell_5, spell_length)
 
-pub ruleset units = (cut_unit, value_below)
-
 pub ruleset pairs = (cut_pair, value_below)
 
 pub ruleset closings = (closing_none, closing_some)

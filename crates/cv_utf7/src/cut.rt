@@ -1,6 +1,7 @@
 //! Bits cut into digits.
 ghost use Rattle.std.specs.Prelude.{◌≡◌, [], ◌∷◌, ◌⊎◌, ◌++◌, ◌*◌, ◌/◌, ◌%◌, ◌^◌, ◌<◌, ◌≤◌};
 
+use crate::items::NONE;
 use crate::sets::digit_for;
 use cv_base::{Bits, Scalar};
 use cv_block::{first_of, second_of};
@@ -20,19 +21,18 @@ impl Cut {
     ghost use Rattle.cv_utf7.specs.BitLists.{bits, bits_of, character_bits, digits};
     ghost use Rattle.cv_utf7.specs.Utf7.{written_bits};
 
-    /// The digits of a character behind pending bits.
+    /// The digits of the first character of a shifted sequence.
     #[inline(always)]
-    pub(crate) fn of(pending: Bits, c: Scalar) -> Cut
-        ensures same { written_bits (bits_of pending ++ character_bits c)
+    pub(crate) fn first(c: Scalar) -> Cut
+        ensures same { written_bits (bits 0 0 ++ character_bits c)
             ≡ (digits (bits (6 * result.n) result.value), write.Shifted result.next) }
-        ensures count { (result.n ≡ 2) ⊎ (result.n ≡ 3) ⊎ (result.n ≡ 5) ⊎ (result.n ≡ 6) }
-        ensures first { pending.count ≡ 0 → (result.n ≡ 2) ⊎ (result.n ≡ 5) }
+        ensures count { (result.n ≡ 2) ⊎ (result.n ≡ 5) }
     {
         let value = c.value();
         if value < 0x1_0000 {
-            Cut::of_unit(pending, value)
+            Cut::behind_none(NONE, value)
         } else {
-            Cut::of_pair(pending, value)
+            Cut::of_pair(NONE, value)
         }
     }
 
@@ -88,24 +88,6 @@ impl Cut {
                 value: (unit % 4) as u8,
             },
         }
-    }
-
-    /// The digits of a character that is one code unit.
-    #[inline(always)]
-    fn of_unit(pending: Bits, unit: u32) -> Cut
-        requires { unit < 0x10000 }
-        ensures same { written_bits (bits_of pending ++ character_bits unit)
-            ≡ (digits (bits (6 * result.n) result.value), write.Shifted result.next) }
-        ensures count { (result.n ≡ 2) ⊎ (result.n ≡ 3) }
-        ensures first { pending.count ≡ 0 → result.n ≡ 2 }
-    {
-        if pending.count == 0 {
-            return Cut::behind_none(pending, unit);
-        }
-        if pending.count == 2 {
-            return Cut::behind_two(pending, unit);
-        }
-        Cut::behind_four(pending, unit)
     }
 
     /// The digits of a character that is two code units.

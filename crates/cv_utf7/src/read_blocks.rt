@@ -3,7 +3,7 @@ ghost use Rattle.std.specs.Prelude.{◌≡◌, ◌≤◌, ◌<◌, ◌+◌, Matc
 ghost use Rattle.cv_utf7.specs.Private.ReadSteps.{place, ReadsOn};
 
 use crate::byte_sets::{WINDOW, not_direct};
-use crate::read_runs::{FEW_READ, MANY_READ, read_direct, read_run};
+use crate::read_runs::{LONE_PLACES, MANY_READ, read_direct, read_run};
 use crate::read_sequences::{read_inside, read_lone, read_sequence};
 use crate::utf7::Utf7;
 use cv_base::{Codec, Item, ReadBlock, ReadState, Scalar};
@@ -12,7 +12,7 @@ use cv_base::{Codec, Item, ReadBlock, ReadState, Scalar};
 #[inline(always)]
 fn read_window(input: &[u8], base: usize, buffer: &mut [Scalar], n: usize) -> ReadBlock
     requires within { base ≤ length input.now }
-    requires room { n + 10 ≤ length buffer.old }
+    requires room { n + 3 ≤ length buffer.old }
     ensures more { ReadsOn input.now (place ReadState.Start base n) buffer.old result buffer.new }
     ensures on { base ≤ result.used }
 {
@@ -20,7 +20,7 @@ fn read_window(input: &[u8], base: usize, buffer: &mut [Scalar], n: usize) -> Re
     let size = WINDOW.min(input.len() - base);
     let mut used = base;
     let mut count = n;
-    while used - base < size && buffer.len() - count >= FEW_READ + 2 {
+    while used - base < size && buffer.len() - count > LONE_PLACES {
         let (run, goes_on) = read_run(input, base, stops, used, buffer, count);
         used += run;
         count += run;
@@ -58,7 +58,7 @@ fn read_outside(input: &[u8], start: usize, buffer: &mut [Scalar], n: usize) -> 
 {
     let mut used = start;
     let mut count = n;
-    while input.len() - used >= MANY_READ && buffer.len() - count >= FEW_READ + 2 {
+    while input.len() - used >= MANY_READ && buffer.len() - count > LONE_PLACES {
         let block = read_window(input, used, buffer, count);
         match block.next {
             ReadState::Start if block.used > used => {

@@ -12,8 +12,8 @@ use std::simd::prelude::*;
 /// How many bytes of a run are put into the buffer at once.
 pub(crate) const MANY_READ: usize = 16;
 
-/// How many where there is no place for so many.
-pub(crate) const FEW_READ: usize = 8;
+/// How many places the character of a shifted sequence takes with the one behind it.
+pub(crate) const LONE_PLACES: usize = 2;
 
 /// Reads direct characters, and answers how many they are.
 #[inline(always)]
@@ -46,40 +46,6 @@ fn put_many(input: &[u8], at: usize, buffer: &mut [Scalar], n: usize)
     }
 }
 
-/// Puts 8 bytes into the buffer.
-#[inline(always)]
-fn put_few(input: &[u8], at: usize, buffer: &mut [Scalar], n: usize)
-    requires within { at + 8 ≤ length input.now }
-    requires room { n + 8 ≤ length buffer.old }
-    ensures { take (n + 8) buffer.new ≡ take n buffer.old ++ take 8 (drop at input.now) }
-{
-    let bytes = u8x8::from_slice(&input[at..]).to_array();
-    for i in 0..FEW_READ {
-        buffer[n + i] = Scalar::known(bytes[i] as u32);
-    }
-}
-
-/// Puts 16 bytes into the buffer, or 8 where there is no place for so many and two more, or they don't stand there. Answers how many
-/// they are.
-#[inline(always)]
-fn put_some(input: &[u8], at: usize, buffer: &mut [Scalar], n: usize) -> usize
-    requires within { at + 8 ≤ length input.now }
-    requires room { n + 10 ≤ length buffer.old }
-    ensures stand { take (n + result) buffer.new ≡ take n buffer.old ++ take result
-        (drop at input.now) }
-    ensures within { at + result ≤ length input.now }
-    ensures most { result ≤ 16 }
-    ensures some { 8 ≤ result }
-    ensures fits { n + result + 2 ≤ length buffer.old }
-{
-    if input.len() - at >= MANY_READ && buffer.len() - n >= MANY_READ + 2 {
-        put_many(input, at, buffer, n);
-        return MANY_READ;
-    }
-    put_few(input, at, buffer, n);
-    FEW_READ
-}
-
 /// Puts so many bytes into the buffer.
 #[inline(always)]
 fn put_rest(input: &[u8], at: usize, many: usize, buffer: &mut [Scalar], n: usize)
@@ -106,7 +72,7 @@ pub(crate) fn read_run(
         → may_be_direct (get_or input.now (base + i) 0) ≡ true }
     requires place { (base ≤ used) × (used < base + 64) }
     requires within { used < length input.now }
-    requires room { n + 10 ≤ length buffer.old }
+    requires room { n + 3 ≤ length buffer.old }
     ensures run { ReadsOn input.now (place ReadState.Start used n) buffer.old
         (place ReadState.Start (used + result.0) (n + result.0)) buffer.new }
     ensures within { used + result.0 ≤ length input.now }
@@ -114,16 +80,12 @@ pub(crate) fn read_run(
     ensures fits { n + result.0 + 2 ≤ length buffer.old }
 {
     let run = run_at(stops, used - base);
-    let left = input.len() - used;
-    if left < FEW_READ {
-        let rest = run.min(left);
-        put_rest(input, used, rest, buffer, n);
-        return (rest, rest == left);
+    let most = (input.len() - used).min(buffer.len() - n - LONE_PLACES);
+    if most >= MANY_READ {
+        put_many(input, used, buffer, n);
+        return (run.min(MANY_READ), run >= MANY_READ);
     }
-    let most = put_some(input, used, buffer, n);
-    if run >= most {
-        (most, true)
-    } else {
-        (run, false)
-    }
+    let rest = run.min(most);
+    put_rest(input, used, rest, buffer, n);
+    (rest, rest == most)
 }

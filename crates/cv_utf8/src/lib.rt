@@ -4,6 +4,7 @@
 mod blocks;
 pub mod laws;
 mod utf8;
+mod utf8_ascii;
 mod utf8_begun;
 mod utf8_four_places;
 mod utf8_fours;

@@ -7,6 +7,7 @@ ghost use Rattle.cv_utf8.specs.Utf8.{utf8_bytes};
 ghost use Rattle.cv_utf8.specs.Private.Utf8Short.{is_among, is_behind, IsShortAt, short_of, short_value};
 ghost use Rattle.cv_utf8.specs.Private.Utf8Windows.{AreWhole, AreMarks, IsOneAt, IsTwoAt, IsThreeAt, whole_of, whole_value};
 
+use crate::utf8_ascii::{read_ascii, read_last};
 use crate::utf8_begun::put_begun;
 use crate::utf8_long::{read_fours, read_threes};
 use cv_base::Scalar;
@@ -219,36 +220,6 @@ fn read_whole(input: &[u8], at: usize, buffer: &mut [Scalar], n: usize) -> Spell
     )
 }
 
-/// Puts sixteen bytes into a buffer, each as the character of its number. All are read before one is put, so that they are put at once.
-#[inline(always)]
-fn put_bytes(input: &[u8], at: usize, buffer: &mut [Scalar], n: usize)
-    requires within { at + 16 ≤ length input.now }
-    requires room { n + 16 ≤ length buffer.old }
-    ensures stand { take (n + 16) buffer.new ≡ take n buffer.old ++ take 16 (drop at input.now) }
-    ensures size { length buffer.new ≡ length buffer.old }
-{
-    let block = u8x16::from_slice(&input[at..]).to_array();
-    for lane in 0..MANY {
-        buffer[n + lane] = Scalar::known(block[lane] as u32);
-    }
-}
-
-/// Reads sixteen characters of ASCII.
-#[inline(always)]
-fn read_ascii(input: &[u8], at: usize, buffer: &mut [Scalar], n: usize) -> Spelled
-    requires within { at + 16 ≤ length input.now }
-    requires room { n + 16 ≤ length buffer.old }
-    requires ascii { (k : ℕ) → at ≤ k → k < at + 16 → slice_index input.now k < 128 }
-    ensures many { result.n ≤ 16 }
-    ensures read { IsReadSpelled utf8_bytes input.now at buffer.old n result buffer.new }
-{
-    put_bytes(input, at, buffer, n);
-    Spelled {
-        n: MANY,
-        used: MANY,
-    }
-}
-
 /// Reads characters at the front of which one of three or of four bytes seems to stand: as many as have four, or three where the fifth
 /// likely has, or else those of sixteen bytes.
 #[inline(always)]
@@ -265,20 +236,6 @@ fn read_high(input: &[u8], at: usize, buffer: &mut [Scalar], n: usize) -> Spelle
         return read_threes(input, at, buffer, n);
     }
     read_whole(input, at, buffer, n)
-}
-
-/// Reads sixteen characters of ASCII among the last bytes, if they stand there.
-#[inline(always)]
-fn read_last(input: &[u8], at: usize, buffer: &mut [Scalar], n: usize) -> Spelled
-    requires within { at ≤ length input.now }
-    requires room { n + 16 ≤ length buffer.old }
-    ensures many { result.n ≤ 16 }
-    ensures read { IsReadSpelled utf8_bytes input.now at buffer.old n result buffer.new }
-{
-    if input.len() - at >= MANY && is_ascii_block(input, at) {
-        return read_ascii(input, at, buffer, n);
-    }
-    Spelled { n: 0, used: 0 }
 }
 
 /// Reads the characters of up to three bytes that begin among sixteen bytes, up to one that has four. Where one of four bytes

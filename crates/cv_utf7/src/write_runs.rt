@@ -68,26 +68,17 @@ pub(crate) fn narrowed(characters: &[Scalar], n: usize, size: usize) -> [u8; 80]
     bytes
 }
 
-/// Copies the bytes of a run: 16 where as many characters are left, and else no more than the run has. Answers how many were copied.
+/// Copies so many bytes, if there are any.
 #[inline(always)]
-fn copy_run(bytes: &[u8], from: usize, run: usize, left: usize, out: &mut [u8], at: usize) -> usize
-    requires within { from + 16 ≤ length bytes.now }
-    requires room { at + left ≤ length out.old }
-    ensures most { result ≤ 16 }
-    ensures left { result ≤ left }
-    ensures run { (r : ℕ) → r ≤ run → r ≤ left → r ≤ 16 → r ≤ result }
-    ensures copied { out.new ≡ take at out.old ++ take result (drop from bytes.now)
-        ++ drop (at + result) out.old }
+fn copy(bytes: &[u8], from: usize, many: usize, out: &mut [u8], at: usize)
+    requires within { from + many ≤ length bytes.now }
+    requires room { at + many ≤ length out.old }
+    ensures { out.new ≡ take at out.old ++ take many (drop from bytes.now)
+        ++ drop (at + many) out.old }
 {
-    if left >= MANY_WRITTEN {
-        out[at..at + MANY_WRITTEN].copy_from_slice(&bytes[from..from + MANY_WRITTEN]);
-        return MANY_WRITTEN;
+    if many > 0 {
+        out[at..at + many].copy_from_slice(&bytes[from..from + many]);
     }
-    let n = run.min(left);
-    if n > 0 {
-        out[at..at + n].copy_from_slice(&bytes[from..from + n]);
-    }
-    n
 }
 
 /// Writes the direct characters of a run, 16 at most. Answers how many they are, and whether the run may go on.
@@ -117,10 +108,14 @@ pub(crate) fn write_run(
     let place = n - base;
     let run = run_at(stops, place);
     let left = characters.len() - n;
-    let most = left.min(MANY_WRITTEN);
-    copy_run(bytes, place, run, left, out, at);
-    if run >= most {
-        (most, true)
+    if left < MANY_WRITTEN {
+        let few = run.min(left);
+        copy(bytes, place, few, out, at);
+        return (few, few == left);
+    }
+    copy(bytes, place, MANY_WRITTEN, out, at);
+    if run >= MANY_WRITTEN {
+        (MANY_WRITTEN, true)
     } else {
         (run, false)
     }

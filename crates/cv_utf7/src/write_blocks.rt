@@ -62,14 +62,15 @@ fn write_outside(characters: &[Scalar], from: usize, out: &mut [u8], at: usize) 
         return write_window(characters, from, out, at);
     }
     let run = write_direct(characters, from, out, at);
-    if from + run == len {
-        return Reached {
-            n: len,
-            end: at + run,
-            next: WriteState::Start,
-        };
+    let reached = Reached {
+        n: from + run,
+        end: at + run,
+        next: WriteState::Start,
+    };
+    if reached.n == len {
+        return reached;
     }
-    write_sequence(characters, from + run, out, at + run)
+    write_one(characters, reached, out)
 }
 
 /// Writes on from a place, as far as it goes at once.

@@ -1,8 +1,9 @@
 -- Runs, unit by unit.
-use Rattle.std.proofs.Common.{◌≡◌, ℕ, ◌+◌, ◌-◌, ◌*◌, ◌<◌, ◌≤◌, List, [], ◌∷◌, ◌++◌, length, take, drop, get_or, refl, sym, ◌∙◌, ap, subst, arith, zero, suc, length-append, length-take, append_assoc, append-nil, add-zero, take-append-drop, bit_or, inl, inr}
+use Rattle.std.proofs.Common.{◌≡◌, ℕ, ◌+◌, ◌-◌, ◌*◌, ◌<◌, ◌≤◌, List, [], ◌∷◌, ◌++◌, length, take, drop, get_or, get_or-drop, refl, sym, ◌∙◌, ap, subst, arith, zero, suc, length-append, length-take, append_assoc, append-nil, add-zero, add-suc, take-append-drop, bit_or, inl, inr}
 use Rattle.std.proofs.Math.Nat.{mul-suc, mul-zero, mul-add, mul-le-mul_left}
 use Rattle.std.proofs.Math.Seq.{drop-cons, take-suc}
 use Rattle.std.proofs.lemmas.Bool.{cases_lt}
+use Rattle.std.proofs.lemmas.List.{drop-drop, take_all}
 use Rattle.std.proofs.lemmas.Grind.{flat_map-append}
 use Rattle.std.proofs.lemmas.Nat.{le_or_l, le_or_r}
 use Rattle.cv_base.specs.Items.{Begins}
@@ -129,9 +130,67 @@ put_more form target text before at n end c now after fits e is p q =
     let units : front ++ unit_of target c ≡ take at before ++ units_of target (characters ++ c ∷ []) = append_assoc (take at before) (units_of target characters) (unit_of target c) ∙ ap (λ (x : List ℕ). take at before ++ x) (sym (units_of-more target characters c)) in
     wrote ∙ rw (units, places, is) refl
 
+-- the lowest bytes of units, and of those behind them
+pub characters_join : (form : AsciiForm) (text : List ℕ) (n m : ℕ) → characters_in form text (n + m) ≡ characters_in form text n ++ characters_in form (drop (unit_size form * n) text) m
+unfolding characters_in
+characters_join form text n zero = rw (add-zero, append-nil) refl
+characters_join form text n (suc m) =
+    let behind : List ℕ = drop (unit_size form * n) text in
+    let there : unit_size form * n + (unit_size form * m + offset form) ≡ unit_size form * (n + m) + offset form = omega (arith, mul-add (unit_size form) n m) in
+    let byte : get_or behind (unit_size form * m + offset form) 0 ≡ get_or text (unit_size form * (n + m) + offset form) 0 = get_or-drop (unit_size form * n) text (unit_size form * m + offset form) 0 ∙ ap (λ (k : ℕ). get_or text k 0) there in
+    rw (add-suc, byte, characters_join form text n m) (append_assoc (characters_in form text n) (characters_in form behind m) _)
+
+-- units more are written
+pub put_join : (form target : AsciiForm) (text before : List ℕ) (at n m place end : ℕ) (now after : List ℕ) → at + unit_size target * (n + m) ≤ length before → place ≡ unit_size form * n → end ≡ at + unit_size target * n
+    → now ≡ put_run form target text before at n → after ≡ put_run form target (drop place text) now end m
+    → after ≡ put_run form target text before at (n + m)
+put_join form target text before at n m place end now after fits e is p q =
+    let characters = characters_in form text n in
+    let more : List ℕ = units_of target (characters_in form (drop place text) m) in
+    let front : List ℕ = take at before ++ units_of target characters in
+    let size = mul-add (unit_size target) n m in
+    let long : end ≡ length front = omega (arith, is, size, length-append (take at before) (units_of target characters), length-take at before, length-run form target text n) in
+    let now_is : now ≡ front ++ drop end before = p ∙ rw is refl in
+    let wide : length more ≡ unit_size target * m = length-run form target (drop place text) m in
+    let wrote : after ≡ (front ++ more) ++ drop (end + unit_size target * m) before = q ∙ rw now_is (rw wide at (out_more front more before end long)) in
+    let there : end + unit_size target * m ≡ at + unit_size target * (n + m) = omega (arith, is, size) in
+    let units : units_of target characters ++ more ≡ units_of target (characters_in form text (n + m)) = sym (flat_map-append (unit_of target) characters (characters_in form (drop place text) m)) ∙ ap (units_of target) (rw e (sym (characters_join form text n m))) in
+    wrote ∙ rw (append_assoc (take at before) (units_of target characters) more, units, there) refl
+
+-- the lowest bytes of bytes are the bytes
+pub bytes_are : (text : List ℕ) (n : ℕ) → n ≤ length text → characters_in Byte text n ≡ take n text
+unfolding characters_in
+bytes_are text zero h = refl
+bytes_are text (suc n) h =
+    let place : 1 * n + 0 ≡ n = omega arith in
+    ap (λ (x : List ℕ). x ++ get_or text (1 * n + 0) 0 ∷ []) (bytes_are text n (omega arith)) ∙ rw place (sym (take-suc text n 0 h))
+
+-- sixteen bytes are their lowest bytes
+pub sixteen_are : (text : List ℕ) → length text ≡ 16 → characters_in Byte text 16 ≡ text
+sixteen_are text h = bytes_are text 16 (omega (arith, h)) ∙ take_all 16 text (omega (arith, h))
+
+-- a run behind a place is one of the whole text
+pub run_behind : (limit : ℕ) (form : AsciiForm) (text : List ℕ) (place m : ℕ) → IsRunBelow limit form (drop place text) m → (k : ℕ) → k < m → IsBelowAt limit form text (place + unit_size form * k)
+run_behind limit form text place m p k h =
+    let q = p k h in
+    record { c = q.c; small = q.small; stands = subst (λ (x : List ℕ). Begins (unit_of form q.c) x) (drop-drop (unit_size form * k) place text) q.stands }
+
+-- how many lowest bytes there are
+pub length-characters : (form : AsciiForm) (text : List ℕ) (n : ℕ) → length (characters_in form text n) ≡ n
+unfolding characters_in
+length-characters form text zero = refl
+length-characters form text (suc n) = omega (arith, length-append (characters_in form text n) (get_or text (unit_size form * n + offset form) 0 ∷ []), length-characters form text n)
+
 -- small bytes are a run
 pub bytes_run : (limit : ℕ) (text : List ℕ) (n : ℕ) → n ≤ length text → ((k : ℕ) → k < n → get_or text k 0 < limit) → IsRunBelow limit Byte text n
 bytes_run limit text n l p k h = let e : 1 * k ≡ k = omega arith in rw e (record { c = get_or text k 0; small = p k h; stands = rw (drop-cons text k 0 (omega arith)) (refl, tt) })
+
+-- small bytes at a place are units of one byte each
+pub bytes_at : (limit : ℕ) (form : AsciiForm) (text : List ℕ) (at n : ℕ) → form ≡ Byte → at + unit_size form * n ≤ length text → ((k : ℕ) → at ≤ k → k < at + n → get_or text k 0 < limit) → (k : ℕ) → k < n → IsBelowAt limit form text (at + unit_size form * k)
+bytes_at limit form text at n is fits p k h =
+    let place : at + unit_size form * k ≡ at + k = rw is (omega arith) in
+    let within : at + k < length text = (let fits : at + 1 * n ≤ length text = rw is at fits in omega arith) in
+    rw (place, is) (record { c = get_or text (at + k) 0; small = p (at + k) (omega arith) (omega arith); stands = rw (drop-cons text (at + k) 0 within) (refl, tt) })
 
 -- the bytes of a run of bytes are those of the text
 pub bytes_copied : (text : List ℕ) (n : ℕ) → n ≤ length text → units_of Byte (characters_in Byte text n) ≡ take n text

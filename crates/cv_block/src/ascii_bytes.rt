@@ -18,36 +18,6 @@ pub fn is_ascii_block(bytes: &[u8], at: usize) -> bool
     lanes.simd_ge(u8x16::splat(128)).to_bitmask() == 0
 }
 
-/// How many bytes at the front are below 128.
-#[inline]
-fn ascii_prefix(bytes: &[u8]) -> usize
-    ensures within { result ≤ length bytes.now }
-    ensures ascii { (k : ℕ) → k < result → slice_index bytes.now k < 128 }
-{
-    let mut at = 0;
-    while bytes.len() - at >= 16 && is_ascii_block(bytes, at) {
-        at += 16;
-    }
-    while at < bytes.len() && bytes[at] < 128 {
-        at += 1;
-    }
-    at
-}
-
-/// How many bytes of ASCII stand at the front, `most` at most.
-#[inline]
-pub(crate) fn byte_run(rest: &[u8], most: usize) -> usize
-    ensures fits { result ≤ most }
-    ensures within { result ≤ length rest.now }
-    ensures ascii { (k : ℕ) → k < result → slice_index rest.now k < 128 }
-{
-    if rest.len() < most {
-        ascii_prefix(rest)
-    } else {
-        ascii_prefix(&rest[..most])
-    }
-}
-
 /// Copies a block of bytes.
 #[inline(always)]
 fn copy_block(rest: &[u8], from: usize, out: &mut [u8], at: usize)

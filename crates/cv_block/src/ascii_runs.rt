@@ -65,66 +65,43 @@ fn joined_below<R: Repertoire, U: Unit>(bytes: &[u8], at: usize, n: usize) -> bo
     joined < R::limit()
 }
 
-/// Whether `n` units are of characters of the run.
+/// Whether a block of units is of characters of the run.
 #[inline(always)]
-fn are_below<R: Repertoire, U: Unit>(bytes: &[u8], at: usize, n: usize) -> bool
-    requires { at + unit_size U.form * n ≤ length bytes.now }
-    ensures { IsTrue result → (k : ℕ) → k < n
+fn are_below<R: Repertoire, U: Unit>(bytes: &[u8], at: usize) -> bool
+    requires { at + unit_size U.form * 16 ≤ length bytes.now }
+    ensures { IsTrue result → (k : ℕ) → k < 16
         → IsBelowAt R.limit U.form bytes.now (at + unit_size U.form * k) }
 {
-    if R::JOINS {
-        joined_below::<R, U>(bytes, at, n)
+    if U::is_byte() {
+        R::are_bytes(bytes, at)
+    } else if R::JOINS {
+        joined_below::<R, U>(bytes, at, BLOCK)
     } else {
-        each_below::<R, U>(bytes, at, n)
+        each_below::<R, U>(bytes, at, BLOCK)
     }
 }
 
-/// How many units of a run stand at the front, `most` at most. It may be none where they are fewer than a block.
-#[inline]
-fn unit_run<R: Repertoire, U: Unit>(rest: &[u8], most: usize) -> usize
-    ensures fits { result ≤ most }
-    ensures within { unit_size U.form * result ≤ length rest.now }
-    ensures small { IsRunBelow R.limit U.form rest.now result }
-{
-    let mut n = 0;
-    let mut at = 0;
-    while most - n >= BLOCK
-        && rest.len() - at >= U::size() * BLOCK
-        && are_below::<R, U>(rest, at, BLOCK)
-    {
-        at += U::size() * BLOCK;
-        n += BLOCK;
-    }
-    if n == 0 {
-        return 0;
-    }
-    while n < most && rest.len() - at >= U::size() && is_below::<R, U>(rest, at) {
-        at += U::size();
-        n += 1;
-    }
-    n
-}
-
-/// Whether it is worth while to look for a run of units of this form, by the first of them. It decides speed alone.
+/// Whether a block of units of the run stands at the front. It decides speed alone: a test of fewer would often send for a run where
+/// there is none.
 #[inline(always)]
-fn may_begin<R: Repertoire, U: Unit>(rest: &[u8]) -> bool {
-    rest.len() >= U::size() && is_below::<R, U>(rest, 0)
+fn begins<R: Repertoire, U: Unit>(rest: &[u8]) -> bool {
+    rest.len() >= U::size() * BLOCK && are_below::<R, U>(rest, 0)
 }
 
 /// Whether it is worth while to look for a run of units of a form. It decides speed alone.
 #[inline(always)]
 fn form_may_run<R: Repertoire>(form: AsciiForm, rest: &[u8]) -> bool {
     match form {
-        AsciiForm::Byte => R::bytes_may_run(rest),
-        AsciiForm::Two(Endian::Big) => may_begin::<R, Two<BigEndian>>(rest),
-        AsciiForm::Two(Endian::Little) => may_begin::<R, Two<LittleEndian>>(rest),
-        AsciiForm::Four(Endian::Big) => may_begin::<R, Four<BigEndian>>(rest),
-        AsciiForm::Four(Endian::Little) => may_begin::<R, Four<LittleEndian>>(rest),
+        AsciiForm::Byte => begins::<R, Byte>(rest),
+        AsciiForm::Two(Endian::Big) => begins::<R, Two<BigEndian>>(rest),
+        AsciiForm::Two(Endian::Little) => begins::<R, Two<LittleEndian>>(rest),
+        AsciiForm::Four(Endian::Big) => begins::<R, Four<BigEndian>>(rest),
+        AsciiForm::Four(Endian::Little) => begins::<R, Four<LittleEndian>>(rest),
     }
 }
 
-/// Writes the characters of the first `n` units of one form in another. No unit is tested, so that the loop is done by blocks.
-#[inline]
+/// Writes the characters of the first `n` units of one form in another. No unit is tested.
+#[inline(always)]
 fn write_units<From: Unit, To: Unit>(rest: &[u8], n: usize, out: &mut [u8], at: usize)
     requires stand { unit_size From.form * n ≤ length rest.now }
     requires fit { at + unit_size To.form * n ≤ length out.old }
@@ -141,24 +118,78 @@ fn write_units<From: Unit, To: Unit>(rest: &[u8], n: usize, out: &mut [u8], at: 
     }
 }
 
-/// Writes the characters of the first `n` units of one form in a form.
-#[inline]
-fn write_from<From: Unit>(to: AsciiForm, rest: &[u8], n: usize, out: &mut [u8], at: usize)
-    requires stand { unit_size From.form * n ≤ length rest.now }
-    requires fit { at + unit_size to * n ≤ length out.old }
-    ensures { out.new
-        ≡ take at out.old ++ units_of to (characters_in From.form rest.now n)
-        ++ drop (at + unit_size to * n) out.old }
+/// The lowest bytes of a block of units.
+#[inline(always)]
+fn low_bytes<U: Unit>(units: &[u8]) -> [u8; BLOCK]
+    requires { unit_size U.form * 16 ≤ length units.now }
+    ensures { result ≡ characters_in U.form units.now 16 }
 {
-    match to {
-        AsciiForm::Byte => write_units::<From, Byte>(rest, n, out, at),
-        AsciiForm::Two(Endian::Big) => write_units::<From, Two<BigEndian>>(rest, n, out, at),
-        AsciiForm::Two(Endian::Little) => write_units::<From, Two<LittleEndian>>(rest, n, out, at),
-        AsciiForm::Four(Endian::Big) => write_units::<From, Four<BigEndian>>(rest, n, out, at),
-        AsciiForm::Four(Endian::Little) => write_units::<From, Four<LittleEndian>>(
-            rest, n, out, at,
-        ),
+    let mut low = [0; BLOCK];
+    let mut place = 0;
+    for k in 0..BLOCK {
+        low[k] = character::<U>(units, place) as u8;
+        place += U::size();
     }
+    low
+}
+
+/// Writes the characters of a block of units of one form in another. They are copied into an array of their own before the first is
+/// written: LLVM is not told that two slices don't overlap, and would take them one after another.
+#[inline(always)]
+fn write_block<From: Unit, To: Unit>(units: &[u8], out: &mut [u8], at: usize)
+    requires stand { unit_size From.form * 16 ≤ length units.now }
+    requires fit { at + unit_size To.form * 16 ≤ length out.old }
+    ensures { out.new
+        ≡ take at out.old ++ units_of To.form (characters_in From.form units.now 16)
+        ++ drop (at + unit_size To.form * 16) out.old }
+{
+    let low = low_bytes::<From>(units);
+    write_units::<Byte, To>(&low, BLOCK, out, at);
+}
+
+/// Writes the blocks of a run's units that stand at the front in another form, of `most` units at most, and answers how many units they
+/// are. Each block is tested and written in one pass.
+#[inline(always)]
+fn take_blocks<R: Repertoire, From: Unit, To: Unit>(
+    rest: &[u8],
+    most: usize,
+    out: &mut [u8],
+    at: usize,
+) -> usize
+    requires stand { unit_size From.form * most ≤ length rest.now }
+    requires fit { at + unit_size To.form * most ≤ length out.old }
+    ensures within { result ≤ most }
+    ensures small { IsRunBelow R.limit From.form rest.now result }
+    ensures out { out.new
+        ≡ take at out.old ++ units_of To.form (characters_in From.form rest.now result)
+        ++ drop (at + unit_size To.form * result) out.old }
+{
+    let mut n = 0;
+    let mut used = 0;
+    let mut end = at;
+    while most - n >= BLOCK && are_below::<R, From>(rest, used) {
+        write_block::<From, To>(&rest[used..], out, end);
+        n += BLOCK;
+        used += From::size() * BLOCK;
+        end += To::size() * BLOCK;
+    }
+    n
+}
+
+/// How many units of a run stand at the front, `most` at most.
+#[inline(always)]
+fn unit_run<R: Repertoire, U: Unit>(rest: &[u8], most: usize) -> usize
+    requires { unit_size U.form * most ≤ length rest.now }
+    ensures within { result ≤ most }
+    ensures small { IsRunBelow R.limit U.form rest.now result }
+{
+    let mut n = 0;
+    let mut at = 0;
+    while n < most && is_below::<R, U>(rest, at) {
+        n += 1;
+        at += U::size();
+    }
+    n
 }
 
 /// How many bytes a unit of a form has.
@@ -173,40 +204,31 @@ pub fn unit_bytes(form: AsciiForm) -> usize
     }
 }
 
-/// How many units of a form fit in a room.
+/// Writes the run of units that stands at the front in another form, as far as there is room, and answers how many they are. It may be
+/// none where the run is shorter than a block.
 #[inline(always)]
-fn units_in(form: AsciiForm, room: usize) -> usize
-    ensures { unit_size form * result ≤ room }
-{
-    match form {
-        AsciiForm::Byte => room,
-        AsciiForm::Two(_) => room / 2,
-        AsciiForm::Four(_) => room / 4,
-    }
-}
-
-/// Writes the run of bytes that stands at the front in a form, as far as there is room, and answers how many they are.
-#[inline(always)]
-fn take_bytes<R: Repertoire>(target: AsciiForm, rest: &[u8], out: &mut [u8], at: usize) -> usize
+fn take_in<R: Repertoire, From: Unit, To: Unit>(rest: &[u8], out: &mut [u8], at: usize) -> usize
     requires { at ≤ length out.old }
-    ensures stand { unit_size AsciiForm.Byte * result ≤ length rest.now }
-    ensures fit { at + unit_size target * result ≤ length out.old }
-    ensures small { IsRunBelow R.limit AsciiForm.Byte rest.now result }
+    ensures stand { unit_size From.form * result ≤ length rest.now }
+    ensures fit { at + unit_size To.form * result ≤ length out.old }
+    ensures small { IsRunBelow R.limit From.form rest.now result }
     ensures none { result ≡ 0 → out.new ≡ out.old }
     ensures out { out.new
-        ≡ take at out.old ++ units_of target (characters_in AsciiForm.Byte rest.now result)
-        ++ drop (at + unit_size target * result) out.old }
+        ≡ take at out.old ++ units_of To.form (characters_in From.form rest.now result)
+        ++ drop (at + unit_size To.form * result) out.old }
 {
-    let n = R::byte_run(rest, units_in(target, out.len() - at));
-    if n == 0 {
-        return 0;
+    let most = (rest.len() / From::size()).min((out.len() - at) / To::size());
+    let n = take_blocks::<R, From, To>(rest, most, out, at);
+    if n == 0 || n == most {
+        return n;
     }
-    write_from::<Byte>(target, rest, n, out, at);
-    n
+    let behind = &rest[From::size() * n..];
+    let few = unit_run::<R, From>(behind, most - n);
+    write_units::<From, To>(behind, few, out, at + To::size() * n);
+    n + few
 }
 
-/// Writes the run of units that stands at the front in a form, as far as there is room, and answers how many they are. It may be none
-/// where the run is shorter than a block.
+/// Writes the run of units that stands at the front in a form, as `take_in`.
 #[inline(always)]
 fn take_units<R: Repertoire, From: Unit>(
     target: AsciiForm,
@@ -223,12 +245,13 @@ fn take_units<R: Repertoire, From: Unit>(
         ≡ take at out.old ++ units_of target (characters_in From.form rest.now result)
         ++ drop (at + unit_size target * result) out.old }
 {
-    let n = unit_run::<R, From>(rest, units_in(target, out.len() - at));
-    if n == 0 {
-        return 0;
+    match target {
+        AsciiForm::Byte => take_in::<R, From, Byte>(rest, out, at),
+        AsciiForm::Two(Endian::Big) => take_in::<R, From, Two<BigEndian>>(rest, out, at),
+        AsciiForm::Two(Endian::Little) => take_in::<R, From, Two<LittleEndian>>(rest, out, at),
+        AsciiForm::Four(Endian::Big) => take_in::<R, From, Four<BigEndian>>(rest, out, at),
+        AsciiForm::Four(Endian::Little) => take_in::<R, From, Four<LittleEndian>>(rest, out, at),
     }
-    write_from::<From>(target, rest, n, out, at);
-    n
 }
 
 /// Writes the run that stands at the front in a form in another, as `take_run`. It stands apart, so that loops around it stay small.
@@ -250,7 +273,7 @@ fn take_form<R: Repertoire>(
         ++ drop (at + unit_size target * result) out.old }
 {
     match form {
-        AsciiForm::Byte => take_bytes::<R>(target, rest, out, at),
+        AsciiForm::Byte => take_units::<R, Byte>(target, rest, out, at),
         AsciiForm::Two(Endian::Big) => take_units::<R, Two<BigEndian>>(target, rest, out, at),
         AsciiForm::Two(Endian::Little) => take_units::<R, Two<LittleEndian>>(target, rest, out, at),
         AsciiForm::Four(Endian::Big) => take_units::<R, Four<BigEndian>>(target, rest, out, at),

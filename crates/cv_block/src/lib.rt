@@ -19,7 +19,7 @@ mod words;
 pub use ascii_bytes::is_ascii_block;
 pub use ascii_runs::unit_bytes;
 pub use byte_order::{BigEndian, ByteOrder, LittleEndian};
-pub use small_runs::{begins_latin, take_ascii_run, take_latin_run};
+pub use small_runs::{take_ascii_run, take_latin_run};
 pub use spelled_reading::read_spelled;
 pub use spelled_writing::write_spelled;
 pub use spelling::{MANY, Spelled, Spelling};

@@ -1,11 +1,10 @@
 //! Which characters a run has, known when the code is compiled, so that each loop over runs stands once.
-ghost use Rattle.std.specs.Prelude.{◌≡◌, ◌≤◌, ◌<◌, ◌+◌, ◌++◌, ℕ, length, take, drop, slice_index};
+ghost use Rattle.std.specs.Prelude.{◌≡◌, ◌≤◌, ◌<◌, ◌+◌, ◌++◌, ℕ, length, take, drop, slice_index, IsTrue};
 ghost use Rattle.cv_base.specs.declared.ascii_form.AsciiForm.{AsciiForm};
 ghost use Rattle.cv_block.specs.AsciiRuns.{IsRunBelow};
 
 use crate::ascii_bytes;
 use crate::ascii_bytes::is_ascii_block;
-use crate::spelling::MANY;
 
 /// The characters below a limit.
 pub(crate) trait Repertoire {
@@ -19,14 +18,10 @@ pub(crate) trait Repertoire {
     /// Whether many units are tested faster by their joined bits than each by itself. It decides speed alone.
     const JOINS: bool;
 
-    /// Whether it is worth while to look for a run of bytes at the front.
-    fn bytes_may_run(rest: &[u8]) -> bool;
-
-    /// How many bytes of a run stand at the front, `most` at most.
-    fn byte_run(rest: &[u8], most: usize) -> usize
-        ensures fits { result ≤ most }
-        ensures within { result ≤ length rest.now }
-        ensures small { (k : ℕ) → k < result → slice_index rest.now k < limit };
+    /// Whether sixteen bytes are of characters of the run.
+    fn are_bytes(bytes: &[u8], at: usize) -> bool
+        requires { at + 16 ≤ length bytes.now }
+        ensures { IsTrue result → (k : ℕ) → at ≤ k → k < at + 16 → slice_index bytes.now k < limit };
 
     /// Copies the bytes of a run at the front of a text, and answers how many they are. It may be none where they are few.
     fn copy_run(rest: &[u8], out: &mut [u8], at: usize) -> usize
@@ -54,13 +49,8 @@ impl Repertoire for OfAscii {
     }
 
     #[inline(always)]
-    fn bytes_may_run(rest: &[u8]) -> bool {
-        rest.len() >= MANY && is_ascii_block(rest, 0)
-    }
-
-    #[inline(always)]
-    fn byte_run(rest: &[u8], most: usize) -> usize {
-        ascii_bytes::byte_run(rest, most)
+    fn are_bytes(bytes: &[u8], at: usize) -> bool {
+        is_ascii_block(bytes, at)
     }
 
     #[inline(always)]
@@ -83,13 +73,8 @@ impl Repertoire for OfLatin {
     }
 
     #[inline(always)]
-    fn bytes_may_run(rest: &[u8]) -> bool {
-        rest.len() >= MANY
-    }
-
-    #[inline(always)]
-    fn byte_run(rest: &[u8], most: usize) -> usize {
-        rest.len().min(most)
+    fn are_bytes(_bytes: &[u8], _at: usize) -> bool {
+        true
     }
 
     #[inline(always)]

@@ -5,7 +5,7 @@ ghost use Rattle.cv_block.specs.AsciiRuns.{IsRunBelow, characters_in, units_of};
 
 use crate::ascii_runs::take_run;
 use crate::repertoire::{OfAscii, OfLatin};
-use cv_base::{AsciiForm, Endian};
+use cv_base::AsciiForm;
 
 /// Writes the run of ASCII that stands at the front, as `take_run`.
 #[inline(always)]
@@ -28,8 +28,8 @@ pub fn take_ascii_run(
     take_run::<OfAscii>(form, target, rest, out, at)
 }
 
-/// Writes the run of characters below 256 that stands at the front, as `take_run`. It stands apart, so that loops around it stay small.
-#[inline(never)]
+/// Writes the run of characters below 256 that stands at the front, as `take_run`.
+#[inline(always)]
 pub fn take_latin_run(
     form: AsciiForm,
     target: AsciiForm,
@@ -47,17 +47,4 @@ pub fn take_latin_run(
         ++ drop (at + unit_size target * result) out.old }
 {
     take_run::<OfLatin>(form, target, rest, out, at)
-}
-
-/// Whether the first and the sixteenth unit of a form may be below 256, by the byte that has the next bits. It decides speed alone.
-#[inline(always)]
-pub fn begins_latin(form: AsciiForm, rest: &[u8]) -> bool {
-    let (first, last) = match form {
-        AsciiForm::Byte => return true,
-        AsciiForm::Two(Endian::Big) => (0, 30),
-        AsciiForm::Two(Endian::Little) => (1, 31),
-        AsciiForm::Four(Endian::Big) => (2, 62),
-        AsciiForm::Four(Endian::Little) => (1, 61),
-    };
-    last < rest.len() && rest[first] == 0 && rest[last] == 0
 }

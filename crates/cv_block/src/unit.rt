@@ -16,6 +16,10 @@ pub trait Unit {
     fn size() -> usize
         ensures { result ≡ unit_size form };
 
+    /// Whether it is one byte.
+    fn is_byte() -> bool
+        ensures { IsTrue result → form ≡ AsciiForm.Byte };
+
     /// The number of the unit that stands here.
     fn number(bytes: &[u8], at: usize) -> u32
         requires { at + unit_size form ≤ length bytes.now }
@@ -42,6 +46,11 @@ impl Unit for Byte {
     #[inline(always)]
     fn size() -> usize {
         1
+    }
+
+    #[inline(always)]
+    fn is_byte() -> bool {
+        true
     }
 
     #[inline(always)]
@@ -74,6 +83,11 @@ impl<O: ByteOrder> Unit for Two<O> {
     }
 
     #[inline(always)]
+    fn is_byte() -> bool {
+        false
+    }
+
+    #[inline(always)]
     fn number(bytes: &[u8], at: usize) -> u32 {
         O::two(bytes, at)
     }
@@ -100,6 +114,11 @@ impl<O: ByteOrder> Unit for Four<O> {
     #[inline(always)]
     fn size() -> usize {
         4
+    }
+
+    #[inline(always)]
+    fn is_byte() -> bool {
+        false
     }
 
     #[inline(always)]

@@ -1,4 +1,4 @@
-use Rattle.std.proofs.Common.{◌≤◌, ◌+◌, ◌*◌, length, refl, arith, mul-zero, add-zero}
+use Rattle.std.proofs.Common.{◌≤◌, ◌+◌, ◌*◌, refl, arith, mul-zero, add-zero}
 use Rattle.std.proofs.Math.Nat.{mul-add, mul-le-mul_left}
 use Rattle.std.proofs.lemmas.List.{take_rest}
 use Rattle.cv_base.specs.Units.{unit_size}

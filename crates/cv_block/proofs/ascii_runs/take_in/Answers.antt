@@ -1,8 +1,7 @@
-use Rattle.std.proofs.Common.{◌≡◌, ◌≤◌, ◌+◌, ◌*◌, length, drop, refl, arith, rules}
-use Rattle.std.proofs.Math.Nat.{mul-add, mul-le-mul_left}
+use Rattle.std.proofs.Common.{◌≤◌, ◌+◌, ◌*◌, length, refl, arith, rules}
+use Rattle.std.proofs.Math.Nat.{mul-le-mul_left}
 use Rattle.std.proofs.lemmas.List.{take_rest}
 use Rattle.cv_base.specs.Units.{unit_size}
-use Rattle.cv_block.specs.AsciiRuns.{IsRunBelow}
 use Rattle.cv_block.proofs.AsciiRuns.{runs_join, run_behind, put_join}
 use Rattle.cv_block.proofs.ascii_runs.take_in.Goals as goal
 

@@ -1,4 +1,4 @@
-use Rattle.std.proofs.Common.{◌≡◌, ◌∙◌, length, ap, arith}
+use Rattle.std.proofs.Common.{◌≡◌, ◌∙◌, length, ap}
 use Rattle.cv_block.proofs.AsciiRuns.{sixteen_are, length-characters}
 use Rattle.cv_block.proofs.ascii_runs.write_block.Goals as goal
 

@@ -7,6 +7,7 @@ ghost use Rattle.cv_byte_trie.specs.Tables.{edge_of};
 ghost use Rattle.cv_trie.specs.Charmaps.{map_reads};
 ghost use Rattle.cv_trie.specs.Private.Ones.{AreOnes};
 ghost use Rattle.cv_trie.specs.Private.Twos.{AreTwos};
+ghost use Rattle.cv_trie.specs.Private.Starts.{AreStarts};
 ghost use Rattle.cv_trie.specs.Private.Fronts.{IsReadFront};
 ghost use Rattle.cv_trie.specs.Private.Followed.{IsFound};
 
@@ -14,6 +15,7 @@ use crate::fours::{Fours, read_fours};
 use crate::front::Front;
 use crate::ones::{NO_CHARACTER, read_ones};
 use crate::twos::read_twos;
+use crate::windows::read_windows;
 use cv_base::{ReadBlock, ReadState, Scalar};
 use cv_byte_trie::{ByteTrie, Entry, NODE, NONE, TAIL};
 
@@ -106,6 +108,7 @@ pub(crate) fn read_front(
     trie: &ByteTrie,
     ones: &[u32],
     twos: &[u32],
+    starts: &[u32],
     fours: &Fours,
     input: &[u8],
     buffer: &mut [Scalar],
@@ -113,6 +116,7 @@ pub(crate) fn read_front(
     requires long { length ones.now ≡ 256 }
     requires ones { AreOnes trie.now.entries ones.now 256 }
     requires twos { 0 < length twos.now → AreTwos trie.now.entries ones.now twos.now }
+    requires starts { 0 < length twos.now → AreStarts ones.now twos.now starts.now }
     ensures block { IsReadBlock (map_reads trie.now.entries) ReadState.Start input.now
         result buffer.new }
     ensures size { length buffer.new ≡ length buffer.old }
@@ -124,6 +128,7 @@ pub(crate) fn read_front(
             front = read_ones(trie, ones, input, buffer, front);
         }
         if !twos.is_empty() {
+            front = read_windows(trie, ones, twos, starts, input, buffer, front);
             front = read_twos(trie, ones, twos, input, buffer, front);
             if !fours.is_empty() {
                 front = read_fours(trie, ones, twos, fours, input, buffer, front);

@@ -13,6 +13,7 @@ ghost use Rattle.cv_trie.specs.Private.Followed.{IsFound};
 
 use crate::fours::{Fours, read_fours};
 use crate::front::Front;
+use crate::many::MANY;
 use crate::ones::{NO_CHARACTER, read_ones};
 use crate::twos::read_twos;
 use crate::windows::read_windows;
@@ -102,7 +103,8 @@ fn read_longer(trie: &ByteTrie, input: &[u8], buffer: &mut [Scalar], front: Fron
 }
 
 /// Reads the characters at the front of a text into the front of a buffer. Only where the next stands in no table are bytes
-/// followed through the trie.
+/// followed through the trie. Where rows are there, and less than eight places of a buffer are left behind eight characters, these stay
+/// empty: one by one they would take longer than as part of the next eight.
 #[inline(never)]
 pub(crate) fn read_front(
     trie: &ByteTrie,
@@ -124,11 +126,16 @@ pub(crate) fn read_front(
     let mut front = Front { n: 0, used: 0 };
     while front.n < buffer.len() && front.used < input.len() {
         let before = front.n;
+        if !twos.is_empty() {
+            front = read_windows(trie, ones, twos, starts, input, buffer, front);
+            if front.n > before && buffer.len() - front.n < MANY {
+                break;
+            }
+        }
         if ones[input[front.used] as usize] < NO_CHARACTER {
             front = read_ones(trie, ones, input, buffer, front);
         }
         if !twos.is_empty() {
-            front = read_windows(trie, ones, twos, starts, input, buffer, front);
             front = read_twos(trie, ones, twos, input, buffer, front);
             if !fours.is_empty() {
                 front = read_fours(trie, ones, twos, fours, input, buffer, front);

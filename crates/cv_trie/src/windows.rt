@@ -64,6 +64,7 @@ fn put_eight(
     requires within { front.used + 16 ≤ length _input.now }
     ensures read { IsReadFront _trie.now.entries _input.now result buffer.new }
     ensures on { result.n ≡ front.n + 8 }
+    ensures used { result.used ≡ front.used + cut.now.used }
 {
     for k in 0..MANY {
         buffer[front.n + k] = Scalar::known(numbers[k]);
@@ -88,10 +89,12 @@ pub(crate) fn read_windows(
     front: Front,
 ) -> Front
     requires read { IsReadFront trie.now.entries input.now front buffer.old }
+    requires more { front.used < length input.now }
     requires ones { AreOnes trie.now.entries ones.now 256 }
     requires twos { AreTwos trie.now.entries ones.now twos.now }
     requires starts { AreStarts ones.now twos.now starts.now }
     ensures read { IsReadFront trie.now.entries input.now result buffer.new }
+    ensures more { result.used < length input.now }
     ensures on { front.n ≤ result.n }
 {
     let mut now = front;

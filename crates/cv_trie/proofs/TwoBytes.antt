@@ -97,13 +97,13 @@ ones_kept pairs ones n v low none p b byte l = elim (cases_eq b n) [
 
 -- ---- filling rows
 
--- rows that are all empty
-pub twos_none : (pairs : List Entry) (ones : List ℕ) (size : ℕ) → AreRows ones 256 size → AreTwos pairs ones (replicate size no_character)
+-- rows that are all empty, and the cells behind them
+pub twos_none : (pairs : List Entry) (ones : List ℕ) (size : ℕ) → AreRows ones 256 size → AreTwos pairs ones (replicate (size + 128) no_character)
 twos_none pairs ones size r = record {
-  within = λ b l. rw length-replicate (r.within b l);
+  within = λ b l. (let w = r.within b l in rw length-replicate (omega arith));
   each = λ b c first second some. absurd (
       let w = r.within b first in
-      let e : two_at ones (replicate size no_character) b c ≡ no_character = get_or-replicate size (row_of ones b + c) no_character 0 (omega arith) in
+      let e : two_at ones (replicate (size + 128) no_character) b c ≡ no_character = get_or-replicate (size + 128) (row_of ones b + c) no_character 0 (omega arith) in
       omega arith);
 }
 
@@ -121,7 +121,7 @@ twos_more pairs a ones twos size r t place cell v low is here =
     let bytes = bytes_at pairs place in
     let first = get_or bytes 0 0 in
     let second = get_or bytes 1 0 in
-    let fits : row_of ones first + 256 ≤ length twos = t.within first here.first in
+    let fits : row_of ones first + 384 ≤ length twos = t.within first here.first in
     let inside : cell < length twos = (let c = here.at in let s = here.second in omega arith) in
     let entry : IsTwo pairs first second v = rw is (a.scalar place low, subst (λ (w : List ℕ). Contains pairs (w, character_at pairs place)) (two_bytes bytes here.two) (holds_place pairs place low)) in
     record {

@@ -10,6 +10,7 @@ use crate::longest::longest;
 use crate::ones::ones_of;
 use crate::pages::Pages;
 use crate::reading::read_front;
+use crate::starts::starts_of;
 use crate::twos::twos_of;
 use crate::writing::{put_character, write_run};
 use cv_base::{
@@ -29,8 +30,10 @@ pub struct Charmap {
     trie: ByteTrie,
     /// For each byte the character that it is by itself, or where its row begins.
     ones: Vec<u32>,
-    /// Rows of the characters of two bytes, for bytes with which many begin.
+    /// Rows of the characters of two bytes, for bytes with which many begin, and behind them what single bytes below 128 are.
     twos: Vec<u32>,
+    /// Where in this table each byte's row or its own cell stands.
+    starts: Vec<u32>,
     /// Where the entries of four bytes are likely to stand, by the first two and the last two.
     fours: Fours,
     /// The place of each character's first pair.
@@ -51,7 +54,7 @@ impl Model for Charmap {
 
     ghost view = { λ m. record { name = m.name.items; pairs = m.trie.entries } };
 
-    ghost invariant = { λ m. IsCompiled m.trie.entries m.ones.items m.twos.items m.pages.tops.items m.pages.cells.items
+    ghost invariant = { λ m. IsCompiled m.trie.entries m.ones.items m.twos.items m.starts.items m.pages.tops.items m.pages.cells.items
         m.pages.shorts.bytes.items m.pages.shorts.sizes.items m.most m.reads_ascii m.writes_ascii };
 }
 
@@ -64,6 +67,7 @@ impl Charmap {
         let mut ones = ones_of(alloc, &trie)?;
         let mut twos = twos_of(alloc, trie.entries(), &mut ones)?;
         let fours = Fours::of(alloc, trie.entries(), &ones, &mut twos)?;
+        let starts = starts_of(alloc, trie.entries(), &ones, &mut twos)?;
         let pages = Pages::of(alloc, trie.entries())?;
         let most = longest(trie.entries());
         let reads_ascii = does_read_ascii(&trie);
@@ -73,6 +77,7 @@ impl Charmap {
             trie,
             ones,
             twos,
+            starts,
             fours,
             pages,
             most,
@@ -148,6 +153,7 @@ impl BlockCodec for Charmap {
                 &self.trie,
                 &self.ones,
                 &self.twos,
+                &self.starts,
                 &self.fours,
                 input,
                 buffer,

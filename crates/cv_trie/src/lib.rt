@@ -14,7 +14,9 @@ mod ones;
 mod pages;
 mod reading;
 mod shorts;
+mod starts;
 mod twos;
+mod windows;
 mod writing;
 
 pub use charmap::Charmap;

@@ -7,13 +7,16 @@ ghost use Rattle.cv_byte_trie.specs.Tables.{edge_of};
 ghost use Rattle.cv_trie.specs.Charmaps.{map_reads};
 ghost use Rattle.cv_trie.specs.Private.Ones.{AreOnes};
 ghost use Rattle.cv_trie.specs.Private.Twos.{AreTwos};
+ghost use Rattle.cv_trie.specs.Private.Starts.{AreStarts};
 ghost use Rattle.cv_trie.specs.Private.Fronts.{IsReadFront};
 ghost use Rattle.cv_trie.specs.Private.Followed.{IsFound};
 
 use crate::fours::{Fours, read_fours};
 use crate::front::Front;
+use crate::many::MANY;
 use crate::ones::{NO_CHARACTER, read_ones};
 use crate::twos::read_twos;
+use crate::windows::read_windows;
 use cv_base::{ReadBlock, ReadState, Scalar};
 use cv_byte_trie::{ByteTrie, Entry, NODE, NONE, TAIL};
 
@@ -100,12 +103,14 @@ fn read_longer(trie: &ByteTrie, input: &[u8], buffer: &mut [Scalar], front: Fron
 }
 
 /// Reads the characters at the front of a text into the front of a buffer. Only where the next stands in no table are bytes
-/// followed through the trie.
+/// followed through the trie. Where rows are there, and less than eight places of a buffer are left behind eight characters, these stay
+/// empty: one by one they would take longer than as part of the next eight.
 #[inline(never)]
 pub(crate) fn read_front(
     trie: &ByteTrie,
     ones: &[u32],
     twos: &[u32],
+    starts: &[u32],
     fours: &Fours,
     input: &[u8],
     buffer: &mut [Scalar],
@@ -113,6 +118,7 @@ pub(crate) fn read_front(
     requires long { length ones.now ≡ 256 }
     requires ones { AreOnes trie.now.entries ones.now 256 }
     requires twos { 0 < length twos.now → AreTwos trie.now.entries ones.now twos.now }
+    requires starts { 0 < length twos.now → AreStarts ones.now twos.now starts.now }
     ensures block { IsReadBlock (map_reads trie.now.entries) ReadState.Start input.now
         result buffer.new }
     ensures size { length buffer.new ≡ length buffer.old }
@@ -120,6 +126,12 @@ pub(crate) fn read_front(
     let mut front = Front { n: 0, used: 0 };
     while front.n < buffer.len() && front.used < input.len() {
         let before = front.n;
+        if !twos.is_empty() {
+            front = read_windows(trie, ones, twos, starts, input, buffer, front);
+            if front.n > before && buffer.len() - front.n < MANY {
+                break;
+            }
+        }
         if ones[input[front.used] as usize] < NO_CHARACTER {
             front = read_ones(trie, ones, input, buffer, front);
         }

@@ -1,5 +1,5 @@
 //! Characters of two bytes.
-ghost use Rattle.std.specs.Prelude.{◌≡◌, ◌≤◌, ◌<◌, ℕ, List, length, slice_index, IfOk};
+ghost use Rattle.std.specs.Prelude.{◌≡◌, ◌≤◌, ◌<◌, ◌+◌, ℕ, List, length, slice_index, IfOk};
 ghost use Rattle.cv_byte_trie.specs.Entries.{AreEntries};
 ghost use Rattle.cv_charmap.specs.Entries.{Pair};
 ghost use Rattle.cv_trie.specs.Private.Ones.{AreOnes, no_character};
@@ -14,6 +14,9 @@ use std::alloc::{AllocError, Global};
 
 /// How many characters a row has, one for each second byte.
 const ROW: u32 = 256;
+
+/// How many cells are left behind the rows, one for each byte below 128.
+pub(crate) const SINGLES: usize = 128;
 
 /// How many strings of two or of four bytes begin with a byte that has a row, at the least. A row takes a kilobyte, so a map grows
 /// by at most 32 bytes for each of its pairs, and by the row that all other bytes share.
@@ -39,7 +42,7 @@ fn number_rows(ones: &mut [u32], counts: &[u8; 256]) -> u32
     requires long { length ones.old ≡ 256 }
     requires plain { (b : ℕ) → b < 256 → slice_index ones.old b ≤ no_character }
     ensures rows { AreRows ones.new 256 result }
-    ensures few { result ≤ most_cells }
+    ensures few { result + 128 ≤ most_cells }
     ensures ones { (pairs : List Pair) → AreOnes pairs ones.old 256 → AreOnes pairs ones.new 256 }
 {
     let mut size = ROW;
@@ -68,7 +71,7 @@ fn cell_for(ones: &[u32], entry: &Entry) -> usize
     (number - NO_CHARACTER) as usize + bytes[1] as usize
 }
 
-/// The rows, with the characters of entries.
+/// The rows, with the characters of entries, and cells behind them.
 fn fill_rows(
     alloc: Global,
     entries: &[Entry],
@@ -79,9 +82,9 @@ fn fill_rows(
     requires long { length ones.now ≡ 256 }
     requires rows { AreRows ones.now 256 size }
     ensures twos { IfOk result (λ twos. AreTwos entries.now ones.now twos.items) }
-    ensures size { IfOk result (λ twos. length twos.items ≡ size) }
+    ensures size { IfOk result (λ twos. length twos.items ≡ size + 128) }
 {
-    let mut twos = vec![in alloc; NO_CHARACTER; size as usize]?;
+    let mut twos = vec![in alloc; NO_CHARACTER; size as usize + SINGLES]?;
     for place in 0..entries.len() {
         let entry = &entries[place];
         let cell = cell_for(ones, entry);

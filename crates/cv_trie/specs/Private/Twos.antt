@@ -16,9 +16,9 @@ row_of ones first = slice_index ones first - no_character
 abbrev pub two_at : List ℕ → List ℕ → ℕ → ℕ → ℕ
 two_at ones twos first second = slice_index twos (row_of ones first + second)
 
--- how many numbers rows have at most: those of 256 bytes, and that of all others
+-- how many numbers there are at most: those of 256 bytes, the row of all others, and 128 cells of single bytes
 abbrev pub most_cells : ℕ
-most_cells = 65792
+most_cells = 65920
 
 -- Of the first so many bytes each has its row among so many numbers. Row 0 is that of all bytes that have no other, and the others come one behind another.
 pub record AreRows (ones : List ℕ) (n size : ℕ) : Type 0 where
@@ -35,7 +35,7 @@ pub record IsCell (ones bytes : List ℕ) (cell : ℕ) : Type 0 where
   pub own : 0 < row_of ones (slice_index bytes 0)
   pub at : cell ≡ row_of ones (slice_index bytes 0) + slice_index bytes 1
 
--- Each first byte has a row, and what stands there for a second byte is the character of the two, unless it is none.
+-- Each first byte has a row, behind which 128 cells are left, and what stands there for a second byte is the character of the two, unless it is none.
 pub record AreTwos (pairs : List Pair) (ones twos : List ℕ) : Type 0 where
-  pub within : (b : ℕ) → b < 256 → row_of ones b + 256 ≤ length twos
+  pub within : (b : ℕ) → b < 256 → row_of ones b + 384 ≤ length twos
   pub each : (b c : ℕ) → b < 256 → c < 256 → two_at ones twos b c < no_character → IsTwo pairs b c (two_at ones twos b c)

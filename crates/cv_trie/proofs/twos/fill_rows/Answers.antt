@@ -1,4 +1,4 @@
-use Rattle.std.proofs.Common.{◌≡◌, ℕ, List, ◌∙◌, sym, subst, replicate, arith}
+use Rattle.std.proofs.Common.{◌≡◌, ◌+◌, ℕ, List, ◌∙◌, sym, subst, replicate, arith}
 use Rattle.cv_byte_trie.specs.Entries.{bytes_at, character_at}
 use Rattle.cv_trie.specs.Private.Ones.{no_character}
 use Rattle.cv_trie.specs.Private.Twos.{IsCell}
@@ -9,7 +9,7 @@ use Rattle.cv_trie.proofs.twos.fill_rows.Goals.{then-cell-gt0, else-cell-gt0}
 
 pub loop-place-init : goal.loop-place-init
 loop-place-init c =
-    let empty : c.in_ok-twos.twos.items ≡ replicate c.args.size no_character = c.in_ok-twos.ensures.items_if_clones_equal (λ y e. e) in
+    let empty : c.in_ok-twos.twos.items ≡ replicate (c.args.size + 128) no_character = c.in_ok-twos.ensures.items_if_clones_equal (λ y e. e) in
     rw empty (twos_none c.args.entries.now c.args.ones.now c.args.size c.requires.rows)
 
 pub loop-place-preserved : goal.loop-place-preserved

@@ -10,32 +10,49 @@ use Rattle.cv_byte_trie.specs.Entries.{Entry}
 use Rattle.cv_trie.specs.Private.Compiled.{HaveAtMost}
 use Rattle.cv_trie.specs.Private.Ones.{AreOnes}
 use Rattle.cv_trie.specs.Private.Twos.{AreTwos}
+use Rattle.cv_trie.specs.Private.Starts.{AreStarts}
 use Rattle.cv_trie.specs.Private.Paging.{AreFirst}
 use Rattle.cv_trie.specs.Private.Shorts.{AreShorts}
 use Rattle.cv_trie.proofs.charmap.Charmap.build.Goals as goal
 
-pub invariant_of-result : goal.invariant_of-result
-invariant_of-result c =
+pub starts_of-requires-clause-twos : goal.starts_of-requires-clause-twos
+starts_of-requires-clause-twos c =
     let ones = c.twos_of.new.ones in
     let twos = c.of.new.twos in
-    let pages = c.in_ok-pages.pages in
     let pairs = c.into_parts-name.result.1.entries in
     let size : c.in_ok-ones.ones.len ≡ length ones = omega arith in
     let rows : c.in_ok-twos.twos.len ≡ length twos = omega (arith, c.in_ok-fours.ensures.size) in
-    let there : c.deref.result.now ≡ ones = rw (size, take-append_seam) at c.deref.ensures.value in
+    let first : c.deref.result.now ≡ ones = rw (size, take-append_seam) at c.deref.ensures.value in
+    let second : c.deref-2.result.now ≡ ones = rw (size, take-append_seam) at c.deref-2.ensures.value in
     let lent : c.deref_mut-2.result.now ≡ c.in_ok-twos.twos.items = c.deref_mut-2.ensures.value in
+    let again : c.deref_mut-3.result.now ≡ twos = rw (rows, take-append_seam) at c.deref_mut-3.ensures.value in
+    λ some. (
+    let held : 0 < length c.in_ok-twos.twos.items = omega (arith, some, c.in_ok-fours.ensures.size, ap length lent, ap length again) in
+    let before : AreTwos pairs ones c.in_ok-twos.twos.items = subst (λ (x : List Entry). AreTwos x ones c.in_ok-twos.twos.items) c.entries.ensures.value (c.in_ok-twos.ensures.twos held) in
+    let given : AreTwos pairs c.deref.result.now c.deref_mut-2.result.now = rw (first, lent) before in
+    let kept : AreTwos pairs ones twos = subst (λ (x : List ℕ). AreTwos pairs x twos) first (c.in_ok-fours.ensures.twos pairs given) in
+    let there : AreTwos pairs c.deref-2.result.now c.deref_mut-3.result.now = rw (second, again) kept in
+    subst (λ (x : List Entry). AreTwos x c.deref-2.result.now c.deref_mut-3.result.now) (sym c.entries-3.ensures.value) there)
+
+pub invariant_of-result : goal.invariant_of-result
+invariant_of-result c =
+    let ones = c.twos_of.new.ones in
+    let twos = c.starts_of.new.twos in
+    let starts = c.in_ok-starts.starts.items in
+    let pages = c.in_ok-pages.pages in
+    let pairs = c.into_parts-name.result.1.entries in
+    let size : c.in_ok-ones.ones.len ≡ length ones = omega arith in
+    let rows : c.in_ok-twos.twos.len ≡ length twos = omega (arith, c.in_ok-fours.ensures.size, c.in_ok-starts.ensures.size) in
+    let second : c.deref-2.result.now ≡ ones = rw (size, take-append_seam) at c.deref-2.ensures.value in
     rw (size, rows, take-append_seam, take-append_seam) (record {
       map = subst (λ (x : List Entry). IsMap x) (sym c.into_parts-name.ensures.pairs) c.into_parts-name.ensures.map;
       long = omega (arith, c.in_ok-ones.ensures.long);
       singles = subst (λ (x : List Entry). AreOnes x ones 256) c.entries.ensures.value c.twos_of.ensures.ones;
-      doubles = λ some. (
-          let held : 0 < length c.in_ok-twos.twos.items = omega (arith, some, c.in_ok-fours.ensures.size, ap length lent) in
-          let before : AreTwos pairs ones c.in_ok-twos.twos.items = subst (λ (x : List Entry). AreTwos x ones c.in_ok-twos.twos.items) c.entries.ensures.value (c.in_ok-twos.ensures.twos held) in
-          let given : AreTwos pairs c.deref.result.now c.deref_mut-2.result.now = rw (there, lent) before in
-          subst (λ (x : List ℕ). AreTwos pairs x twos) there (c.in_ok-fours.ensures.twos pairs given));
-      names = subst (λ (x : List Entry). AreFirst pages.tops.items pages.cells.items x) c.entries-3.ensures.value c.in_ok-pages.ensures.names;
-      shorts = subst (λ (x : List Entry). AreShorts pages.cells.items pages.shorts.bytes.items pages.shorts.sizes.items x) c.entries-3.ensures.value c.in_ok-pages.ensures.shorts;
-      sizes = subst (λ (x : List Entry). HaveAtMost c.longest-most.result x) c.entries-4.ensures.value c.longest-most.ensures;
+      doubles = λ some. subst (λ (x : List ℕ). AreTwos pairs x twos) second (subst (λ (x : List Entry). AreTwos x c.deref-2.result.now twos) c.entries-3.ensures.value (c.in_ok-starts.ensures.twos some));
+      begins = λ some. subst (λ (x : List ℕ). AreStarts x twos starts) second (c.in_ok-starts.ensures.starts some);
+      names = subst (λ (x : List Entry). AreFirst pages.tops.items pages.cells.items x) c.entries-4.ensures.value c.in_ok-pages.ensures.names;
+      shorts = subst (λ (x : List Entry). AreShorts pages.cells.items pages.shorts.bytes.items pages.shorts.sizes.items x) c.entries-4.ensures.value c.in_ok-pages.ensures.shorts;
+      sizes = subst (λ (x : List Entry). HaveAtMost c.longest-most.result x) c.entries-5.ensures.value c.longest-most.ensures;
       reads_ascii = c.does_read_ascii-reads_ascii.ensures;
-      writes_ascii = subst (λ (x : List Entry). IsTrue c.does_write_ascii-writes_ascii.result → WritesAscii (map_writes x) write.Start Byte) c.entries-5.ensures.value c.does_write_ascii-writes_ascii.ensures;
+      writes_ascii = subst (λ (x : List Entry). IsTrue c.does_write_ascii-writes_ascii.result → WritesAscii (map_writes x) write.Start Byte) c.entries-6.ensures.value c.does_write_ascii-writes_ascii.ensures;
     })

@@ -1,0 +1,24 @@
+-- Where characters of one and two bytes begin, and which bytes they have.
+use Rattle.std.specs.Prelude.{◌≡◌, ℕ, zero, suc, ◌+◌, ◌*◌, ◌/◌, ◌%◌, ◌^◌, ◌<◌, Bool, nat_le, cond, List, slice_index}
+
+-- A byte is the first of two.
+abbrev pub leads : ℕ → Bool
+leads byte = nat_le 128 byte
+
+-- where a character begins, behind so many others of which the first stands at a place
+unfoldable pub place_of : List ℕ → ℕ → ℕ → ℕ
+place_of text at zero = at
+place_of text at (suc k) = place_of text at k + (1 + cond (leads (slice_index text (place_of text at k))) 1 0)
+
+-- the byte behind the first of a character, or 0 where that stands by itself
+abbrev pub second_of : List ℕ → ℕ → ℕ
+second_of text place = cond (leads (slice_index text place)) (slice_index text (place + 1)) 0
+
+-- These are the two bytes of each of so many characters, of which the first stands at a place.
+pub record AreCut (text : List ℕ) (at n : ℕ) (pairs : List ℕ) : Type 0 where
+  pub first : (k : ℕ) → k < n → slice_index pairs (2 * k) ≡ slice_index text (place_of text at k)
+  pub second : (k : ℕ) → k < n → slice_index pairs (2 * k + 1) ≡ second_of text (place_of text at k)
+
+-- Bits say which of so many bytes from a place on are the first of two.
+abbrev pub AreMarked : List ℕ → ℕ → ℕ → ℕ → Type 0
+AreMarked text at n marks = (i : ℕ) → i < n → marks / 2 ^ i % 2 ≡ cond (leads (slice_index text (at + i))) 1 0

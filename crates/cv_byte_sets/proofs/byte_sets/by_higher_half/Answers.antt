@@ -1,5 +1,5 @@
-use Rattle.cv_utf7.proofs.Lanes.{high_ok, higher_half}
-use Rattle.cv_utf7.proofs.byte_sets.by_higher_half.Goals as goal
+use Rattle.cv_byte_sets.proofs.Lanes.{high_ok, higher_half}
+use Rattle.cv_byte_sets.proofs.byte_sets.by_higher_half.Goals as goal
 
 pub swizzle : goal.swizzle
 swizzle c = high_ok c.args.bytes c.fits-bytes

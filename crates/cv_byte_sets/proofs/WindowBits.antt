@@ -5,13 +5,12 @@ use Rattle.std.proofs.Math.Nat.{div-div-eq-div-mul, div-le_self, div-lt_iff_lt-m
 use Rattle.std.specs.Int.{bit_at, trailing_zeros}
 use Rattle.std.proofs.lemmas.Nat.Bits.{bit_at-zero, bit_at_above, bit_at-trailing_zeros}
 use Rattle.std.proofs.lemmas.Bool.{cases_lt}
-use Rattle.cv_utf7.specs.Private.ReadSteps.{place}
 
--- bits of a window that are not set
-pub bit_on : (stops place i : ℕ) → bit_at (stops / 2 ^ place) i ≡ 0 → bit_at stops (place + i) ≡ 0
-bit_on stops place i h =
+-- a bit of a window that begins at a place
+bit_on : (stops place i : ℕ) → bit_at stops (place + i) ≡ bit_at (stops / 2 ^ place) i
+bit_on stops place i =
     let e : stops / 2 ^ (place + i) ≡ stops / 2 ^ place / 2 ^ i = ap (λ (k : ℕ). stops / k) (pow-add 2 place i) ∙ sym (div-div-eq-div-mul stops (2 ^ place) (2 ^ i)) in
-    ap (λ (k : ℕ). k % 2) e ∙ h
+    ap (λ (k : ℕ). k % 2) e
 
 -- the lowest bit that is set lies within the window
 pub run_within : (stops place : ℕ) → place < 64 → stops < 2 ^ 64 → (stops / 2 ^ place ≡ 0 → ⊥) → place + trailing_zeros w64 (stops / 2 ^ place) ≤ 64
@@ -30,8 +29,14 @@ run_within stops place h l z =
 pub run_clear : (stops place : ℕ) → place < 64 → stops < 2 ^ 64 → (stops / 2 ^ place ≡ 0 → ⊥) → (i : ℕ) → i < trailing_zeros w64 (stops / 2 ^ place) → bit_at stops (place + i) ≡ 0
 run_clear stops place h l z i k =
     let less : stops / 2 ^ place < 2 ^ 64 = omega (arith, div-le_self stops (2 ^ place)) in
-    bit_on stops place i ((bit_at-trailing_zeros w64 (stops / 2 ^ place) (omega arith) less).2 i k)
+    bit_on stops place i ∙ (bit_at-trailing_zeros w64 (stops / 2 ^ place) (omega arith) less).2 i k
+
+-- it is set
+pub run_ends : (stops place : ℕ) → place < 64 → stops < 2 ^ 64 → (stops / 2 ^ place ≡ 0 → ⊥) → bit_at stops (place + trailing_zeros w64 (stops / 2 ^ place)) ≡ 1
+run_ends stops place h l z =
+    let less : stops / 2 ^ place < 2 ^ 64 = omega (arith, div-le_self stops (2 ^ place)) in
+    bit_on stops place (trailing_zeros w64 (stops / 2 ^ place)) ∙ (bit_at-trailing_zeros w64 (stops / 2 ^ place) (omega arith) less).1
 
 -- no bit is set
 pub run_all_clear : (stops place : ℕ) → stops / 2 ^ place ≡ 0 → (i : ℕ) → bit_at stops (place + i) ≡ 0
-run_all_clear stops place z i = bit_on stops place i (ap (λ (n : ℕ). bit_at n i) z ∙ bit_at-zero i)
+run_all_clear stops place z i = bit_on stops place i ∙ ap (λ (n : ℕ). bit_at n i) z ∙ bit_at-zero i

@@ -1,15 +1,14 @@
 -- Sets of bytes, lane by lane.
 use Rattle.std.proofs.Common.{◌≡◌, ℕ, zero, suc, ◌+◌, ◌-◌, ◌*◌, ◌/◌, ◌%◌, ◌^◌, ◌<◌, Bool, true, false, cond, eqb, List, [], ◌∷◌, map, length, get_or, replicate, bit_and, ◌++◌, drop, take, length-drop, length-take, get_or-drop, get_or-take, refl, sym, ap, ◌∙◌, inl, inr, subst, arith, w8, Fits, eqb-true}
-use Rattle.std.specs.Prelude.{nat_eq}
+use Rattle.std.specs.Prelude.{nat_eq, not}
 use Rattle.std.specs.Int.{bit_at}
-use Rattle.std.proofs.lemmas.Bool.{cases_lt, cases_eq, cases_Bool, and_parts, agree_below_at}
+use Rattle.std.proofs.lemmas.Bool.{cases_lt, cases_eq, and_parts, agree_below_at}
 use Rattle.std.proofs.lemmas.List.{get_or_append_left, get_or-append_right, get_or-replicate, get_or_past, get_or-map, length-map, ext_get_or}
 use Rattle.std.proofs.lemmas.Nat.{and_le_r}
 use Rattle.std.proofs.lemmas.Simd.{Each1-all, Each1-weaker, Each1-zip2, Each2-splat, below_from_Fits, length-zip2, get_or-zip2, zip2_splat, swz_l, SwzOk, SwzOk-from_below, length-swz_l, get_or-swz_l_below, bitmask_splat, bit_mask_l}
 use lib.Lanes.{zip2, mask_l, top, Each1}
-use Rattle.cv_utf7.specs.Sets.{may_be_direct, is_direct, is_set_d, is_set_o, is_blank}
-use Rattle.cv_utf7.specs.Private.ByteSets.{half_bits, is_in, all_below, repeats}
-use Rattle.cv_utf7.specs.declared.byte_sets.TheConstants.{MAY_STAND, STANDS, HALF_BITS}
+use Rattle.cv_byte_sets.specs.ByteSets.{half_bits, is_in, all_below, repeats}
+use Rattle.cv_byte_sets.specs.declared.byte_sets.TheConstants.{HALF_BITS}
 
 -- A window: 64 bytes.
 abbrev pub IsWindow : List ℕ → Type 0
@@ -64,35 +63,27 @@ looked_up t g v js fits e small copies =
     ∙ eqb-true _ _ (every_below (λ j. nat_eq (get_or t (16 * (i / 16) + j) 0) (get_or t j 0)) 16 row (get_or js i 0) below)
     ∙ ap (λ k. get_or t k 0) is ∙ sym (get_or-map (λ x. get_or t (g x) 0) v i 0 0 within))
 
--- where a bit is not set, the byte is in the set
+-- one of two numbers, by a test or its opposite
+turned : (b : Bool) → cond {A = ℕ} b 1 0 ≡ cond {A = ℕ} (not b) 0 1
+turned true = refl
+turned false = refl
+
+-- a bit is set where the byte is not in the set
 pub in_set : (set v xs ys : List ℕ) → length v ≡ 64 → xs ≡ map (λ b. get_or set (bit_and b 15) 0) v → ys ≡ map (λ b. get_or half_bits (b / 16) 0) v
-    → (i : ℕ) → i < 64 → bit_at (mask_l (map (top 7) (zip2 (λ a b. cond (eqb a b) (2 ^ 8 - 1) 0) (zip2 bit_and xs ys) (replicate 64 0))) % 2 ^ 64) i ≡ 0 → is_in set (get_or v i 0) ≡ true
+    → (i : ℕ) → i < 64 → bit_at (mask_l (map (top 7) (zip2 (λ a b. cond (eqb a b) (2 ^ 8 - 1) 0) (zip2 bit_and xs ys) (replicate 64 0))) % 2 ^ 64) i ≡ cond (is_in set (get_or v i 0)) 0 1
 unfolding is_in
-in_set set v xs ys long ex ey i l h =
+in_set set v xs ys long ex ey i l =
     let lx : length xs ≡ 64 = ap length ex ∙ length-map v _ ∙ long in
     let ly : length ys ≡ 64 = ap length ey ∙ length-map v _ ∙ long in
     let lz : length (zip2 bit_and xs ys) ≡ 64 = length-zip2 bit_and xs ys (lx ∙ sym ly) ∙ lx in
     let mask = bitmask_splat w8 eqb (zip2 bit_and xs ys) 64 0 lz (omega arith) in
-    let bit : cond {A = ℕ} (get_or (map (λ x. eqb x 0) (zip2 bit_and xs ys)) i false) 1 0 ≡ 0 = sym (bit_mask_l (map (λ x. eqb x 0) (zip2 bit_and xs ys)) i) ∙ ap (λ m. m / 2 ^ i % 2) (sym mask) ∙ h in
+    let bit : bit_at (mask_l (map (top 7) (zip2 (λ a b. cond (eqb a b) (2 ^ 8 - 1) 0) (zip2 bit_and xs ys) (replicate 64 0))) % 2 ^ 64) i ≡ cond {A = ℕ} (get_or (map (λ x. eqb x 0) (zip2 bit_and xs ys)) i false) 1 0 = ap (λ m. m / 2 ^ i % 2) mask ∙ bit_mask_l (map (λ x. eqb x 0) (zip2 bit_and xs ys)) i in
     let lane : get_or (map (λ x. eqb x 0) (zip2 bit_and xs ys)) i false ≡ eqb (get_or (zip2 bit_and xs ys) i 0) 0 = get_or-map (λ x. eqb x 0) (zip2 bit_and xs ys) i 0 false (omega arith) in
     let x_is : get_or xs i 0 ≡ get_or set (bit_and (get_or v i 0) 15) 0 = ap (λ t. get_or t i 0) ex ∙ get_or-map _ v i 0 0 (omega arith) in
     let y_is : get_or ys i 0 ≡ get_or half_bits (get_or v i 0 / 16) 0 = ap (λ t. get_or t i 0) ey ∙ get_or-map _ v i 0 0 (omega arith) in
     let z_is : get_or (zip2 bit_and xs ys) i 0 ≡ bit_and (get_or set (bit_and (get_or v i 0) 15) 0) (get_or half_bits (get_or v i 0 / 16) 0) = get_or-zip2 bit_and xs ys i 0 0 0 (omega arith) (omega arith) ∙ rw (x_is, y_is) in
     let test : eqb (get_or (zip2 bit_and xs ys) i 0) 0 ≡ eqb (bit_and (get_or set (bit_and (get_or v i 0) 15) 0) (get_or half_bits (get_or v i 0 / 16) 0)) 0 = ap (λ z. eqb z 0) z_is in
-    elim (cases_Bool (eqb (bit_and (get_or set (bit_and (get_or v i 0) 15) 0) (get_or half_bits (get_or v i 0 / 16) 0)) 0)) [
-      | inl t ↦ absurd (let one : cond {A = ℕ} true 1 0 ≡ 0 = ap (λ b. cond b 1 0) (sym (lane ∙ test ∙ t)) ∙ bit in omega arith)
-      | inr f ↦ rw f refl
-    ]
-
--- the sets are those of the bytes that are direct
-pub may_stand_in : (b : ℕ) → b < 256 → is_in MAY_STAND b ≡ may_be_direct b
-unfolding is_in may_be_direct is_set_d is_set_o is_blank
-may_stand_in b l = agree_below_at (is_in MAY_STAND) may_be_direct 256 b refl l
-
--- the set of what is written as itself is the table's
-pub stands_in : (b : ℕ) → b < 256 → is_in STANDS b ≡ is_direct b
-unfolding is_in is_direct is_set_d is_set_o is_blank
-stands_in b l = agree_below_at (is_in STANDS) is_direct 256 b refl l
+    bit ∙ ap (λ b. cond b 1 0) (lane ∙ test) ∙ turned (eqb (bit_and (get_or set (bit_and (get_or v i 0) 15) 0) (get_or half_bits (get_or v i 0 / 16) 0)) 0)
 
 -- the first 16 entries are the bits of the halves
 first_entries : (k : ℕ) → k < 16 → get_or HALF_BITS k 0 ≡ get_or half_bits k 0

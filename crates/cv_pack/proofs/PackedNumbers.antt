@@ -1,16 +1,15 @@
 -- Those of eight numbers whose bit is set, which a table finds among the bytes of all.
-use Rattle.std.proofs.Common.{◌≡◌, ℕ, ◌+◌, ◌*◌, ◌/◌, ◌%◌, ◌^◌, ◌<◌, ◌≤◌, Bool, true, cond, ◌&&◌, List, [], ◌∷◌, ◌++◌, length, take, drop, get_or, inl, inr, refl, sym, ◌∙◌, ap, ap₂, subst, arith, zero, suc, w8}
+use Rattle.std.proofs.Common.{◌≡◌, ℕ, ◌+◌, ◌*◌, ◌/◌, ◌%◌, ◌^◌, ◌<◌, Bool, true, cond, ◌&&◌, List, [], ◌∷◌, ◌++◌, length, take, drop, get_or, inl, inr, refl, sym, ◌∙◌, ap, ap₂, arith, zero, suc, w8}
 use Rattle.std.specs.Prelude.{replicate, count_ones}
 use Rattle.std.specs.List.{flat_map}
 use Rattle.std.specs.Simd.Lanes.{Each1, number_l, digits_l}
-use Rattle.std.proofs.Math.Dec.{eqb, leb}
-use Rattle.std.proofs.lemmas.Bool.{cases_Bool, agree_below_at, and_parts, eqb-true, leb-true}
+use Rattle.std.proofs.Math.Dec.{eqb}
+use Rattle.std.proofs.lemmas.Bool.{cases_Bool, agree_below_at, and_parts, eqb-true}
 use Rattle.std.proofs.lemmas.List.{get_or-map, take-map}
 use Rattle.std.proofs.lemmas.Simd.{Each1-get_or, swz_l, SwzOk, SwzOk-from_below, get_or_narrower}
-use Rattle.cv_base.specs.Scalars.{IsScalar}
-use Rattle.cv_utf8.specs.Private.Utf8Windows.{kept}
-use Rattle.cv_utf8.proofs.Utf8Rows.{same, same_is, all_below, below_is, next_at, at_all, looked_up}
-use Rattle.cv_utf8.specs.declared.utf8_lanes.TheConstants.{LANES}
+use Rattle.cv_pack.specs.Packed.{kept, IsOneOf}
+use Rattle.cv_pack.proofs.Rows.{same, same_is, all_below, below_is, next_at, at_all, looked_up}
+use Rattle.cv_pack.specs.declared.lanes.TheConstants.{LANES}
 
 -- ---- the table
 
@@ -31,7 +30,7 @@ abbrev row : ℕ → List ℕ
 row m = get_or LANES m []
 
 abbrev is_row : ℕ → Bool
-is_row m = same (row m) (flat_map two (lanes m)) && (all_below 8 (lanes m) && (all_below 16 (row m) && (same (take (count_ones m) (lanes m)) (set_bits 8 m 0) && (eqb (length (lanes m)) 8 && (eqb (length (row m)) 16 && leb (count_ones m) 8)))))
+is_row m = same (row m) (flat_map two (lanes m)) && (all_below 8 (lanes m) && (all_below 16 (row m) && (same (take (count_ones m) (lanes m)) (set_bits 8 m 0) && (eqb (length (lanes m)) 8 && eqb (length (row m)) 16))))
 
 rows_are : (m : ℕ) → m < 256 → is_row m ≡ true
 unfolding lib.Count.ones
@@ -44,7 +43,6 @@ record IsRow (m : ℕ) : Type 0 where
   pub front : take (count_ones m) (lanes m) ≡ set_bits 8 m 0
   pub eight : length (lanes m) ≡ 8
   pub sixteen : length (row m) ≡ 16
-  pub few : count_ones m ≤ 8
 
 row_at : (m : ℕ) → m < 256 → IsRow m
 row_at m h =
@@ -52,21 +50,15 @@ row_at m h =
     let b = and_parts (all_below 8 (lanes m)) _ a.1 in
     let c = and_parts (all_below 16 (row m)) _ b.1 in
     let d = and_parts (same (take (count_ones m) (lanes m)) (set_bits 8 m 0)) _ c.1 in
-    let e = and_parts (eqb (length (lanes m)) 8) _ d.1 in
-    let f = and_parts (eqb (length (row m)) 16) (leb (count_ones m) 8) e.1 in
+    let e = and_parts (eqb (length (lanes m)) 8) (eqb (length (row m)) 16) d.1 in
     record {
       is = same_is (row m) (flat_map two (lanes m)) a.0;
       low = below_is 8 (lanes m) b.0;
       below = below_is 16 (row m) c.0;
       front = same_is (take (count_ones m) (lanes m)) (set_bits 8 m 0) d.0;
       eight = eqb-true (length (lanes m)) 8 e.0;
-      sixteen = eqb-true (length (row m)) 16 f.0;
-      few = leb-true (count_ones m) 8 f.1;
+      sixteen = eqb-true (length (row m)) 16 e.1;
     }
-
--- no more than eight bits are set
-pub few_set : (m : ℕ) → m < 256 → count_ones m ≤ 8
-few_set m h = (row_at m h).few
 
 -- a row can be looked up
 pub row_ok : (m : ℕ) → m < 256 → SwzOk w8 16 16 0 (row m)
@@ -136,9 +128,10 @@ packed_front vs m h small long =
     ∙ ap (λ n. at_all vs (set_bits n m 0)) (sym long) ∙ bits_find vs vs m 0 refl
 
 -- each is one of the eight
-pub packed_scalars : (vs : List ℕ) (m : ℕ) → m < 256 → Each1 (λ x. x < 65536) vs → length vs ≡ 8 → ((k : ℕ) → k < 8 → IsScalar (get_or vs k 0)) → (k : ℕ) → k < 8 → IsScalar (get_or (digits_l 65536 8 (number_l 256 (swz_l w8 16 (bytes vs) 0 (row m)))) k 0)
-packed_scalars vs m h small long p k l =
+pub packed_all : (vs : List ℕ) (m : ℕ) → m < 256 → Each1 (λ x. x < 65536) vs → length vs ≡ 8 → (k : ℕ) → k < 8 → IsOneOf vs (get_or (digits_l 65536 8 (number_l 256 (swz_l w8 16 (bytes vs) 0 (row m)))) k 0)
+packed_all vs m h small long k l =
     let r = row_at m h in
     let lane : ℕ = get_or (lanes m) k 0 in
     let is : get_or (at_all vs (lanes m)) k 0 ≡ get_or vs lane 0 = get_or-map (λ p. get_or vs p 0) (lanes m) k 0 0 (omega (arith, r.eight)) in
-    subst (λ (xs : List ℕ). IsScalar (get_or xs k 0)) (sym (packed_are vs m h small long)) (rw is (p lane (Each1-get_or (λ x. x < 8) (lanes m) k 0 (omega (arith, r.eight)) r.low)))
+    let below : lane < 8 = Each1-get_or (λ x. x < 8) (lanes m) k 0 (omega (arith, r.eight)) r.low in
+    (lane, omega (arith, long), ap (λ (xs : List ℕ). get_or xs k 0) (packed_are vs m h small long) ∙ is)

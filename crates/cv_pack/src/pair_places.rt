@@ -1,7 +1,7 @@
-//! Where the bytes of eight characters stand among two for each.
+//! Where the bytes of eight pairs stand that are wanted.
 
-/// For each set of eight characters that have two bytes, as bits, the lowest for the first, where the bytes of all eight stand among two
-/// for each: the first of each, and the second of those in the set. What is behind them is 0.
+/// For each set of eight pairs, as bits, the lowest for the first, where the first byte of each pair stands among the bytes of all, and the
+/// second of those in the set. What is behind them is 0.
 #[rattlefmt::skip]
 pub(crate) static PAIR_PLACES: [[u8; 16]; 256] = [
     [0, 2, 4, 6, 8, 10, 12, 14, 0, 0, 0, 0, 0, 0, 0, 0],

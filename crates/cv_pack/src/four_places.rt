@@ -1,8 +1,7 @@
-//! Where the bytes of four characters stand among four for each.
+//! Where the bytes of four groups of four stand that are wanted.
 
-/// For each set of four characters that have a second byte, as the four lowest bits, and each that have a third, as the four others, where
-/// the bytes of all four stand among four for each: the first of each, then the second and the third of those in the sets. What is behind
-/// them is 0.
+/// For each set of four groups, as the four lowest bits, and each other set, as the four others, where the first byte of each group stands
+/// among the bytes of all, then the second of those in the one set and the third of those in the other. What is behind them is 0.
 #[rattlefmt::skip]
 pub(crate) static FOUR_PLACES: [[u8; 16]; 256] = [
     [0, 4, 8, 12, 0, 0, 0, 0, 0, 0, 0, 0, 0, 0, 0, 0],

@@ -7,7 +7,7 @@ pub mod Digits
 pub mod FewDigits
 pub mod FrontDigits
 pub mod GrownDigits
-pub mod Lanes
+pub mod DirectBytes
 pub mod LoneSequences
 pub mod OneItem
 pub mod PendingBits
@@ -18,7 +18,6 @@ pub mod SetMembers
 pub mod ShiftItems
 pub mod StartItems
 pub mod Tables
-pub mod WindowBits
 pub mod WriteRuns
 pub mod WriteSteps
 pub mod Writes

@@ -2,8 +2,8 @@
 #![tactic(auto)]
 
 mod blocks;
-mod byte_sets;
 mod cut;
+mod direct_bytes;
 mod items;
 pub mod laws;
 mod read_blocks;

@@ -2,11 +2,12 @@
 ghost use Rattle.std.specs.Prelude.{◌≡◌, ◌≤◌, ◌<◌, ◌+◌, MatchOption, IfSome, length};
 ghost use Rattle.cv_utf7.specs.Private.ReadSteps.{place, ReadsOn};
 
-use crate::byte_sets::{WINDOW, not_direct};
+use crate::direct_bytes::not_direct;
 use crate::read_runs::{LONE_PLACES, MANY_READ, read_direct, read_run};
 use crate::read_sequences::{read_inside, read_lone, read_sequence};
 use crate::utf7::Utf7;
 use cv_base::{Codec, Item, ReadBlock, ReadState, Scalar};
+use cv_byte_sets::WINDOW;
 
 /// Reads direct characters, and sequences between them, from the first byte of a window to its last or to what stops it.
 #[inline(always)]

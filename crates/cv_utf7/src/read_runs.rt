@@ -4,9 +4,9 @@ ghost use Rattle.std.specs.Int.{bit_at};
 ghost use Rattle.cv_utf7.specs.Sets.{may_be_direct};
 ghost use Rattle.cv_utf7.specs.Private.ReadSteps.{place, ReadsOn};
 
-use crate::byte_sets::run_at;
 use crate::sets::may_stand;
 use cv_base::{ReadState, Scalar};
+use cv_byte_sets::run_at;
 use std::simd::prelude::*;
 
 /// How many bytes of a run are put into the buffer at once.

@@ -2,7 +2,7 @@
 ghost use Rattle.std.specs.Prelude.{◌≤◌, ◌<◌, ◌+◌, ◌-◌, ◌*◌, length};
 ghost use Rattle.cv_utf7.specs.Private.WriteSteps.{place, WritesOn};
 
-use crate::byte_sets::not_written_direct;
+use crate::direct_bytes::not_written_direct;
 use crate::write_runs::{MANY_WRITTEN, narrowed, window_size, write_direct, write_run};
 use crate::write_sequences::{Reached, write_inside, write_one, write_sequence};
 use cv_base::{Scalar, WriteState};

@@ -4,9 +4,9 @@ ghost use Rattle.std.specs.Int.{bit_at};
 ghost use Rattle.cv_utf7.specs.Sets.{is_direct};
 ghost use Rattle.cv_utf7.specs.Private.WriteSteps.{place, WritesOn};
 
-use crate::byte_sets::{WINDOW, run_at};
 use crate::sets::stands;
 use cv_base::{Scalar, WriteState};
+use cv_byte_sets::{WINDOW, run_at};
 
 /// How many bytes of a run are written at once.
 pub(crate) const MANY_WRITTEN: usize = 16;

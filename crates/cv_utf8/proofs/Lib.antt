@@ -4,10 +4,8 @@ pub mod Utf8Items
 pub mod Utf8ReadBack
 pub mod Utf8Lanes
 pub mod Utf8Joined
-pub mod Utf8Rows
 pub mod Utf8Pairs
 pub mod Utf8Fours
-pub mod Utf8Packed
 pub mod Utf8Short
 pub mod Utf8PutBegun
 pub mod Utf8Marks

@@ -1,20 +1,18 @@
--- Four characters of up to three bytes, whose bytes a table finds among four for each.
-use Rattle.std.proofs.Common.{◌≡◌, ℕ, ◌+◌, ◌*◌, ◌/◌, ◌%◌, ◌^◌, ◌<◌, ◌≤◌, Bool, true, false, cond, ◌&&◌, List, [], ◌∷◌, ◌++◌, length, take, drop, get_or, get_or-take, get_or-drop, map, inl, inr, refl, sym, ◌∙◌, ap, ap₂, arith, zero, suc, w8, length-take}
+-- Four characters of up to three bytes, whose bytes are packed from four for each.
+use Rattle.std.proofs.Common.{◌≡◌, ℕ, ◌+◌, ◌*◌, ◌/◌, ◌%◌, ◌^◌, ◌<◌, ◌≤◌, Bool, true, false, cond, List, [], ◌∷◌, ◌++◌, length, take, drop, get_or, get_or-take, get_or-drop, map, inl, inr, refl, sym, ◌∙◌, ap, ap₂, arith, zero, suc}
 use Rattle.std.specs.Prelude.{replicate, count_ones}
 use Rattle.std.specs.List.{flat_map}
-use Rattle.std.specs.Simd.Lanes.{Each1, mask_l, number_l, digits_l, top, zip2, sel_l}
+use Rattle.std.specs.Simd.Lanes.{mask_l, number_l, digits_l, top, zip2, sel_l}
 use Rattle.std.proofs.Math.Dec.{eqb, leb}
-use Rattle.std.proofs.lemmas.Bool.{cases_Bool, agree_below_at, and_parts, eqb-true}
-use Rattle.std.proofs.lemmas.List.{take-map, length-map}
-use Rattle.std.proofs.lemmas.Simd.{mask_l-lt, mask_l-mod, swz_l, SwzOk, SwzOk-from_below, length-chunk}
-use Rattle.cv_base.specs.Items.{Begins}
-use Rattle.cv_base.proofs.Front.{Begins-take}
+use Rattle.std.proofs.lemmas.Bool.{cases_Bool}
+use Rattle.std.proofs.lemmas.List.{length-map}
+use Rattle.std.proofs.lemmas.Simd.{mask_l-lt, mask_l-mod, length-chunk}
 use Rattle.cv_block.proofs.Lanes.{div_all, rem_all, mul_all, sum_all}
+use Rattle.cv_pack.specs.Packed.{flags, from_fours}
+use Rattle.cv_pack.proofs.Rows.{flags_of}
 use Rattle.cv_utf8.specs.Utf8.{utf8_bytes}
 use Rattle.cv_utf8.specs.Private.Utf8Pairs.{has_two}
 use Rattle.cv_utf8.specs.Private.Utf8Fours.{has_three, four_of}
-use Rattle.cv_utf8.proofs.Utf8Rows.{flags, flags_of, same, same_is, all_below, below_is, next_at, at_all, looked_up}
-use Rattle.cv_utf8.specs.declared.utf8_four_places.TheConstants.{FOUR_PLACES}
 
 -- ---- four bytes for each, as vectors compute them
 
@@ -123,50 +121,7 @@ two_bits vs long = ap (λ l. mask_l l % 2 ^ 64) (twos_are 4 vs long) ∙ mask_l-
 pub three_bits : (vs : List ℕ) → length vs ≡ 4 → mask_l (tests 4 0x800 vs) % 2 ^ 64 ≡ mask_l (map has_three vs)
 three_bits vs long = ap (λ l. mask_l l % 2 ^ 64) (threes_are 4 vs long) ∙ mask_l-mod (map has_three vs) 64 (omega (arith, length-map vs has_three, long))
 
--- ---- the table
-
--- from a place on, the first of each four, and the second and the third where their flags are set
-abbrev places : List Bool → List Bool → ℕ → List ℕ
-places [] cs i = []
-places (b ∷ bs) [] i = []
-places (b ∷ bs) (c ∷ cs) i = i ∷ (cond b (suc i ∷ []) [] ++ (cond c (suc (suc i) ∷ []) [] ++ places bs cs (suc (suc (suc (suc i))))))
-
-abbrev row : ℕ → List ℕ
-row m = get_or FOUR_PLACES m []
-
-abbrev row_places : ℕ → List ℕ
-row_places m = places (flags 4 m) (flags 4 (m / 16)) 0
-
-abbrev is_row : ℕ → Bool
-is_row m = same (take (4 + count_ones m) (row m)) (row_places m) && (all_below 16 (row m) && (eqb (length (row m)) 16 && eqb (length (row_places m)) (4 + count_ones m)))
-
-rows_are : (m : ℕ) → m < 256 → is_row m ≡ true
-unfolding lib.Count.ones
-rows_are m h = agree_below_at is_row (λ m. true) 256 m refl h
-
-record IsRow (m : ℕ) : Type 0 where
-  pub front : take (4 + count_ones m) (row m) ≡ row_places m
-  pub below : Each1 (λ x. x < 16) (row m)
-  pub sixteen : length (row m) ≡ 16
-  pub size : length (row_places m) ≡ 4 + count_ones m
-
-row_at : (m : ℕ) → m < 256 → IsRow m
-row_at m h =
-    let a = and_parts (same (take (4 + count_ones m) (row m)) (row_places m)) _ (rows_are m h) in
-    let b = and_parts (all_below 16 (row m)) _ a.1 in
-    let c = and_parts (eqb (length (row m)) 16) (eqb (length (row_places m)) (4 + count_ones m)) b.1 in
-    record {
-      front = same_is (take (4 + count_ones m) (row m)) (row_places m) a.0;
-      below = below_is 16 (row m) b.0;
-      sixteen = eqb-true (length (row m)) 16 c.0;
-      size = eqb-true (length (row_places m)) (4 + count_ones m) c.1;
-    }
-
--- a row can be looked up
-pub row_ok : (m : ℕ) → m < 256 → SwzOk w8 16 16 0 (row m)
-row_ok m h =
-    let r = row_at m h in
-    SwzOk-from_below w8 16 1 16 0 (row m) refl (omega (arith, r.sixteen)) r.below
+-- ---- what is packed
 
 flags_low : (a c : ℕ) → flags 4 (a + 16 * c) ≡ flags 4 a
 flags_low a c =
@@ -181,13 +136,6 @@ flags_are t vs long =
     let four : length (map t vs) ≡ 4 = length-map vs t ∙ long in
     ap (λ n. flags n (mask_l (map t vs))) (sym four) ∙ flags_of (map t vs)
 
-marks_are : (vs : List ℕ) → length vs ≡ 4 → row_places (marks vs) ≡ places (map has_two vs) (map has_three vs) 0
-marks_are vs long =
-    let high : marks vs / 16 ≡ mask_l (map has_three vs) = omega (arith, four_bits has_two vs long) in
-    ap₂ (λ (bs cs : List Bool). places bs cs 0) (flags_low (mask_l (map has_two vs)) (mask_l (map has_three vs)) ∙ flags_are has_two vs long) (ap (flags 4) high ∙ flags_are has_three vs long)
-
--- ---- what a row finds
-
 one_byte : (v : ℕ) → has_two v ≡ false → (has_three v ≡ false) × (four_of v ≡ v ∷ 0 ∷ 0 ∷ 0 ∷ []) × (utf8_bytes v ≡ v ∷ [])
 one_byte v h = (grind arith, grind arith, grind arith)
 
@@ -197,47 +145,23 @@ two_bytes v h k = (grind arith, grind arith)
 three_bytes : (v : ℕ) → v < 0x10000 → has_three v ≡ true → (has_two v ≡ true) × (four_of v ≡ (0xe0 + v / 4096) ∷ (0x80 + v / 64 % 64) ∷ (0x80 + v % 64) ∷ 0 ∷ []) × (utf8_bytes v ≡ (0xe0 + v / 4096) ∷ (0x80 + v / 64 % 64) ∷ (0x80 + v % 64) ∷ [])
 three_bytes v l h = (grind arith, grind arith, grind arith)
 
--- what stands from a place on
-record Four (text : List ℕ) (i a b c d : ℕ) (rest : List ℕ) : Type 0 where
-  pub first : get_or text i 0 ≡ a
-  pub second : get_or text (suc i) 0 ≡ b
-  pub third : get_or text (suc (suc i)) 0 ≡ c
-  pub left : drop (suc (suc (suc (suc i)))) text ≡ rest
-
-four_at : (text : List ℕ) (i a b c d : ℕ) (rest : List ℕ) → drop i text ≡ a ∷ b ∷ c ∷ d ∷ rest → Four text i a b c d rest
-four_at text i a b c d rest e =
-    let first = next_at text i a (b ∷ c ∷ d ∷ rest) e in
-    let second = next_at text (suc i) b (c ∷ d ∷ rest) first.1 in
-    let third = next_at text (suc (suc i)) c (d ∷ rest) second.1 in
-    let fourth = next_at text (suc (suc (suc i))) d rest third.1 in
-    record { first = first.0; second = second.0; third = third.0; left = fourth.1 }
-
-abbrev part : List ℕ → ℕ → Bool → Bool → List ℕ → List ℕ
-part text i b c on = at_all text (i ∷ (cond b (suc i ∷ []) [] ++ (cond c (suc (suc i) ∷ []) [] ++ on)))
-
-found : (vs text : List ℕ) (i : ℕ) → AreMiddle vs → drop i text ≡ flat_map four_of vs → at_all text (places (map has_two vs) (map has_three vs) i) ≡ flat_map utf8_bytes vs
-found [] text i p e = refl
-found (v ∷ vs) text i p e =
-    let on : List ℕ = places (map has_two vs) (map has_three vs) (suc (suc (suc (suc i)))) in
+packed_are : (vs : List ℕ) → AreMiddle vs → from_fours (map has_two vs) (map has_three vs) (flat_map four_of vs) ≡ flat_map utf8_bytes vs
+packed_are [] p = refl
+packed_are (v ∷ vs) p =
     let left : List ℕ = flat_map utf8_bytes vs in
     let rest : List ℕ = flat_map four_of vs in
+    let more : from_fours (map has_two vs) (map has_three vs) rest ≡ left = packed_are vs (behind_first v vs p) in
     elim (cases_Bool (has_three v)) [
       | inl h ↦ (
           let is = three_bytes v (p 0 (omega arith)) h in
-          let four = four_at text i (0xe0 + v / 4096) (0x80 + v / 64 % 64) (0x80 + v % 64) 0 rest (e ∙ ap (λ (l : List ℕ). l ++ rest) is.1) in
-          let more : at_all text on ≡ left = found vs text (suc (suc (suc (suc i)))) (behind_first v vs p) four.left in
-          ap₂ (λ (b c : Bool). part text i b c on) is.0 h ∙ rw (four.first, four.second, four.third, more) refl ∙ sym (ap (λ (l : List ℕ). l ++ left) is.2))
+          ap₂ (λ (b c : Bool). from_fours (b ∷ map has_two vs) (c ∷ map has_three vs) (four_of v ++ rest)) is.0 h ∙ ap (λ (l : List ℕ). from_fours (true ∷ map has_two vs) (true ∷ map has_three vs) (l ++ rest)) is.1 ∙ ap (λ (l : List ℕ). (0xe0 + v / 4096) ∷ (0x80 + v / 64 % 64) ∷ (0x80 + v % 64) ∷ l) more ∙ sym (ap (λ (l : List ℕ). l ++ left) is.2))
       | inr h ↦ elim (cases_Bool (has_two v)) [
         | inl k ↦ (
             let is = two_bytes v k h in
-            let four = four_at text i (0xc0 + v / 64) (0x80 + v % 64) 0 0 rest (e ∙ ap (λ (l : List ℕ). l ++ rest) is.0) in
-            let more : at_all text on ≡ left = found vs text (suc (suc (suc (suc i)))) (behind_first v vs p) four.left in
-            ap₂ (λ (b c : Bool). part text i b c on) k h ∙ rw (four.first, four.second, more) refl ∙ sym (ap (λ (l : List ℕ). l ++ left) is.1))
+            ap₂ (λ (b c : Bool). from_fours (b ∷ map has_two vs) (c ∷ map has_three vs) (four_of v ++ rest)) k h ∙ ap (λ (l : List ℕ). from_fours (true ∷ map has_two vs) (false ∷ map has_three vs) (l ++ rest)) is.0 ∙ ap (λ (l : List ℕ). (0xc0 + v / 64) ∷ (0x80 + v % 64) ∷ l) more ∙ sym (ap (λ (l : List ℕ). l ++ left) is.1))
         | inr k ↦ (
             let is = one_byte v k in
-            let four = four_at text i v 0 0 0 rest (e ∙ ap (λ (l : List ℕ). l ++ rest) is.1) in
-            let more : at_all text on ≡ left = found vs text (suc (suc (suc (suc i)))) (behind_first v vs p) four.left in
-            ap₂ (λ (b c : Bool). part text i b c on) k h ∙ rw (four.first, more) refl ∙ sym (ap (λ (l : List ℕ). l ++ left) is.2))
+            ap₂ (λ (b c : Bool). from_fours (b ∷ map has_two vs) (c ∷ map has_three vs) (four_of v ++ rest)) k h ∙ ap (λ (l : List ℕ). from_fours (false ∷ map has_two vs) (false ∷ map has_three vs) (l ++ rest)) is.1 ∙ ap (λ (l : List ℕ). v ∷ l) more ∙ sym (ap (λ (l : List ℕ). l ++ left) is.2))
       ]
     ]
 
@@ -251,24 +175,10 @@ part_long characters values n room e = ap length e ∙ length-chunk n 4 characte
 pub part_middle : (characters values : List ℕ) (n : ℕ) → values ≡ take 4 (drop n characters) → ((k : ℕ) → k < 4 → get_or characters (n + k) 0 < 0x10000) → (k : ℕ) → k < 4 → get_or values k 0 < 0x10000
 part_middle characters values n e p k h = rw (e, get_or-take, get_or-drop) (p k h)
 
--- how many bytes they have
-pub size_is : (vs : List ℕ) → length vs ≡ 4 → AreMiddle vs → length (flat_map utf8_bytes vs) ≡ 4 + count_ones (marks vs)
-size_is vs long p =
-    let all = found vs (flat_map four_of vs) 0 p refl in
-    let places_of : List ℕ = places (map has_two vs) (map has_three vs) 0 in
-    sym (ap length all) ∙ length-map places_of (λ i. get_or (flat_map four_of vs) i 0) ∙ ap length (sym (marks_are vs long)) ∙ (row_at (marks vs) (marks_lt vs long)).size
-
--- no more than four for each
-pub size_le : (vs : List ℕ) → length vs ≡ 4 → 4 + count_ones (marks vs) ≤ 16
-size_le vs long =
-    let r = row_at (marks vs) (marks_lt vs long) in
-    omega (arith, ap length r.front, r.size, r.sixteen, length-take (4 + count_ones (marks vs)) (row (marks vs)))
-
--- what a row finds among four bytes for each begins with the bytes of the characters
-pub row_finds : (vs fours : List ℕ) → length vs ≡ 4 → AreMiddle vs → fours ≡ flat_map four_of vs → Begins (flat_map utf8_bytes vs) (swz_l w8 16 fours 0 (row (marks vs)))
-row_finds vs fours long p is =
-    let r = row_at (marks vs) (marks_lt vs long) in
-    let ps : List ℕ = row (marks vs) in
-    let n : ℕ = 4 + count_ones (marks vs) in
-    let front : take n (at_all fours ps) ≡ flat_map utf8_bytes vs = take-map (λ i. get_or fours i 0) n ps ∙ ap (at_all fours) (r.front ∙ marks_are vs long) ∙ found vs fours 0 p is in
-    rw (looked_up fours ps r.sixteen r.below) (rw front at (Begins-take n (at_all fours ps)))
+-- packed, they begin with the bytes of the characters
+pub begin_packed : (vs fours packed : List ℕ) (sizes : ℕ) → length vs ≡ 4 → AreMiddle vs → fours ≡ flat_map four_of vs → sizes ≡ marks vs → take (4 + count_ones sizes) packed ≡ from_fours (flags 4 sizes) (flags 4 (sizes / 16)) fours → take (4 + count_ones sizes) packed ≡ flat_map utf8_bytes vs
+begin_packed vs fours packed sizes long p is bits front =
+    let high : sizes / 16 ≡ mask_l (map has_three vs) = omega (arith, bits, four_bits has_two vs long) in
+    let twos : flags 4 sizes ≡ map has_two vs = ap (flags 4) bits ∙ flags_low (mask_l (map has_two vs)) (mask_l (map has_three vs)) ∙ flags_are has_two vs long in
+    let threes : flags 4 (sizes / 16) ≡ map has_three vs = ap (flags 4) high ∙ flags_are has_three vs long in
+    front ∙ ap₂ (λ (bs cs : List Bool). from_fours bs cs fours) twos threes ∙ ap (from_fours (map has_two vs) (map has_three vs)) is ∙ packed_are vs p

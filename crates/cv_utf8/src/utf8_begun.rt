@@ -1,31 +1,18 @@
 //! Putting the characters that begin among sixteen bytes one behind the other.
-ghost use Rattle.std.specs.Prelude.{◌≡◌, ◌+◌, ◌++◌, ◌≤◌, ◌<◌, ℕ, List, length, take, get_or, count_ones};
+ghost use Rattle.std.specs.Prelude.{◌≡◌, ◌+◌, ◌++◌, ◌≤◌, ◌<◌, ℕ, List, length, take, get_or};
 ghost use Rattle.cv_base.specs.Scalars.{IsScalar};
 ghost use Rattle.cv_block.specs.Spelled.{IsReadSpelled};
+ghost use Rattle.cv_pack.specs.Packed.{kept};
 ghost use Rattle.cv_utf8.specs.Utf8.{utf8_bytes};
-ghost use Rattle.cv_utf8.specs.Private.Utf8Windows.{AreBegun, kept};
+ghost use Rattle.cv_utf8.specs.Private.Utf8Windows.{AreBegun};
 
-use crate::utf8_lanes::LANES;
 use cv_base::Scalar;
 use cv_block::{MANY, Spelled};
+use cv_pack::packed_numbers;
 use std::simd::prelude::*;
 
-/// How many numbers are packed at once.
+/// How many numbers are put at once.
 const EIGHT: usize = 8;
-
-/// Those of eight numbers whose bit is set, one behind the other, the lowest bit for the first. What is behind them is the first of
-/// the eight.
-#[inline(always)]
-fn packed(numbers: u16x8, begun: u64) -> u16x8
-    requires few { begun < 256 }
-    requires scalars { (k : ℕ) → k < 8 → IsScalar (get_or numbers k 0) }
-    ensures scalars { (k : ℕ) → k < 8 → IsScalar (get_or result k 0) }
-    ensures front { take (count_ones begun) result ≡ kept begun numbers }
-{
-    let lanes = u8x16::from_array(LANES[begun as usize]);
-    let bytes = numbers.to_le_bytes().swizzle_dyn_within::<16>(lanes);
-    u16x8::from_le_bytes(bytes)
-}
 
 /// Puts eight characters into a buffer, behind its first `n`.
 #[inline(always)]
@@ -52,7 +39,7 @@ fn put_kept(numbers: u16x8, begun: u64, buffer: &mut [Scalar], n: usize) -> usiz
     ensures stand { take (n + result) buffer.new ≡ take n buffer.old ++ kept begun numbers }
     ensures size { length buffer.new ≡ length buffer.old }
 {
-    put_eight(&packed(numbers, begun).to_array(), buffer, n);
+    put_eight(&packed_numbers(numbers, begun).to_array(), buffer, n);
     begun.count_ones() as usize
 }
 

@@ -7,9 +7,9 @@ ghost use Rattle.cv_utf8.specs.Utf8.{utf8_bytes};
 ghost use Rattle.cv_utf8.specs.Private.Utf8Pairs.{has_two};
 ghost use Rattle.cv_utf8.specs.Private.Utf8Fours.{has_three, four_of};
 
-use crate::utf8_four_places::FOUR_PLACES;
 use cv_base::Scalar;
 use cv_block::{MANY, Spelled};
+use cv_pack::packed_fours;
 use std::simd::prelude::*;
 
 /// How many characters are packed at once.
@@ -70,9 +70,8 @@ fn write_four(characters: &[Scalar], n: usize, out: &mut [u8], at: usize) -> usi
 {
     let numbers = u32x4::from_array(numbers_of(characters, n));
     let sizes = sizes(numbers);
-    let places = u8x16::from_array(FOUR_PLACES[sizes as usize]);
-    let packed = fours(numbers).swizzle_dyn_within::<16>(places).to_array();
-    out[at..at + 16].copy_from_slice(&packed);
+    let bytes = packed_fours(fours(numbers), sizes).to_array();
+    out[at..at + 16].copy_from_slice(&bytes);
     FOUR + sizes.count_ones() as usize
 }
 

@@ -6,9 +6,9 @@ ghost use Rattle.cv_block.specs.Spelled.{IsWrittenSpelled};
 ghost use Rattle.cv_utf8.specs.Utf8.{utf8_bytes};
 ghost use Rattle.cv_utf8.specs.Private.Utf8Pairs.{has_two, pair_of};
 
-use crate::utf8_pair_places::PAIR_PLACES;
 use cv_base::Scalar;
 use cv_block::{MANY, Spelled};
+use cv_pack::packed_pairs;
 use std::simd::prelude::*;
 
 /// How many characters are packed at once.
@@ -64,9 +64,8 @@ fn write_eight(characters: &[Scalar], n: usize, out: &mut [u8], at: usize) -> us
 {
     let numbers = u16x8::from_array(numbers_of(characters, n));
     let twos = twos(numbers);
-    let places = u8x16::from_array(PAIR_PLACES[twos as usize]);
-    let packed = pairs(numbers).swizzle_dyn_within::<16>(places).to_array();
-    out[at..at + 16].copy_from_slice(&packed);
+    let bytes = packed_pairs(pairs(numbers), twos).to_array();
+    out[at..at + 16].copy_from_slice(&bytes);
     EIGHT + twos.count_ones() as usize
 }
 

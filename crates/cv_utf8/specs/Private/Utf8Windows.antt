@@ -1,15 +1,10 @@
 -- Windows of sixteen bytes of UTF-8 that are read at once.
-use Rattle.std.specs.Prelude.{◌≡◌, ℕ, ◌+◌, ◌*◌, ◌%◌, ◌≤◌, ◌<◌, ◌⊎◌, ◌/◌, true, false, cond, nat_lt, nat_eq, List, [], ◌∷◌, get_or}
+use Rattle.std.specs.Prelude.{◌≡◌, ℕ, ◌+◌, ◌*◌, ◌%◌, ◌≤◌, ◌<◌, ◌⊎◌, true, false, cond, nat_lt, nat_eq, List, get_or}
 use Rattle.std.specs.Int.{bit_at}
 use Rattle.cv_block.specs.Spelled.{IsSpelledAt}
 use Rattle.cv_utf8.specs.Utf8.{utf8_bytes}
 use Rattle.cv_utf8.specs.Private.Utf8Bytes.{IsTail}
 use Rattle.cv_utf8.specs.Private.Utf8Short.{is_behind}
-
--- those of some numbers whose bit is set, the lowest bit for the first
-abbrev pub kept : ℕ → List ℕ → List ℕ
-kept marks [] = []
-kept marks (x ∷ xs) = cond (nat_eq (marks % 2) 1) (x ∷ kept (marks / 2) xs) (kept (marks / 2) xs)
 
 -- At a lane no character begins and the place that is reached stays, or the character at that place begins, and the next stands behind it.
 abbrev pub IsLane : List ℕ → ℕ → ℕ → ℕ → ℕ → ℕ → Type 0

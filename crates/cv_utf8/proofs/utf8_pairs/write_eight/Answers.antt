@@ -1,36 +1,33 @@
-use Rattle.std.proofs.Common.{arith, rules, sym, ap, ◌+◌}
+use Rattle.std.proofs.Common.{arith, rules, sym, ap, ◌+◌, ◌≡◌, length, length-take}
 use Rattle.std.specs.Prelude.{count_ones}
 use Rattle.std.specs.List.{flat_map}
+use Rattle.cv_base.proofs.Front.{Begins-take}
 use Rattle.cv_block.proofs.FrontOfAWord.{front_stands}
+use Rattle.cv_pack.proofs.Rows.{few_ones}
 use Rattle.cv_utf8.specs.Utf8.{utf8_bytes}
-use Rattle.cv_utf8.proofs.Utf8Pairs.{AreShort, part_long, part_short, size_is, how_many_le, row_ok, row_finds}
+use Rattle.cv_utf8.proofs.Utf8Pairs.{AreShort, part_long, part_short, begin_packed}
 use Rattle.cv_utf8.proofs.utf8_pairs.write_eight.Goals as goal
 
 pub pairs-requires : goal.pairs-requires
 pairs-requires c = part_short c.args.characters.now c.numbers_of-numbers.result c.args.n c.numbers_of-numbers.ensures c.requires.short
 
-pub swizzle : goal.swizzle
-swizzle c =
-    let numbers = c.numbers_of-numbers in
-    rw c.twos-twos.ensures.bits (row_ok numbers.result (part_long c.args.characters.now numbers.result c.args.n c.requires.within numbers.ensures))
-
 pub returns-clause-few : goal.returns-clause-few
-returns-clause-few c =
-    let numbers = c.numbers_of-numbers in
-    omega (arith, how_many_le numbers.result, part_long c.args.characters.now numbers.result c.args.n c.requires.within numbers.ensures, ap count_ones c.twos-twos.ensures.bits)
+returns-clause-few c = omega (arith, few_ones c.twos-twos.result c.twos-twos.ensures.few)
 
 pub returns-clause-written : goal.returns-clause-written
 returns-clause-written c =
     let numbers = c.numbers_of-numbers in
     let long = part_long c.args.characters.now numbers.result c.args.n c.requires.within numbers.ensures in
     let short : AreShort numbers.result = λ k h. part_short c.args.characters.now numbers.result c.args.n numbers.ensures c.requires.short k (omega (arith, long, h)) in
-    let size = size_is numbers.result short in
-    let count = ap count_ones c.twos-twos.ensures.bits in
-    let begins = row_finds numbers.result c.pairs.result long short c.pairs.ensures in
+    let twos = c.twos-twos in
+    let packed = c.packed_pairs in
+    let front = begin_packed numbers.result c.pairs.result packed.result twos.result long short c.pairs.ensures twos.ensures.bits packed.ensures in
+    let few = few_ones twos.result twos.ensures.few in
+    let size : length (flat_map utf8_bytes numbers.result) ≡ 8 + count_ones twos.result = omega (arith, ap length front, length-take (8 + count_ones twos.result) packed.result, packed.type_inv, few) in
     record {
       within = c.requires.within;
-      uses = rw (sym numbers.ensures) (omega (arith, size, long, count));
-      fits = omega (arith, c.requires.room, how_many_le numbers.result, long, count);
-      stand = rw (sym numbers.ensures) (front_stands c.args.out.now c.copy_from_slice.new.self (flat_map utf8_bytes numbers.result) c.args.at (8 + count_ones c.twos-twos.result) _ (omega (arith, c.requires.room)) (rw (c.copy_from_slice.ensures.after, c.twos-twos.ensures.bits) begins) (omega (arith, size, long, count)));
+      uses = rw (sym numbers.ensures) (sym size);
+      fits = omega (arith, c.requires.room, few);
+      stand = rw (sym numbers.ensures) (front_stands c.args.out.now c.copy_from_slice.new.self (flat_map utf8_bytes numbers.result) c.args.at (8 + count_ones twos.result) _ (omega (arith, c.requires.room)) (rw c.copy_from_slice.ensures.after (rw front at (Begins-take (8 + count_ones twos.result) packed.result))) (sym size));
       size = search rules;
     }

@@ -1,0 +1,4 @@
+pub mod Rows
+pub mod PackedNumbers
+pub mod PackedPairs
+pub mod PackedFours

@@ -1,0 +1,27 @@
+-- What is packed: those of some bytes or numbers that are wanted, one behind the other.
+use Rattle.std.specs.Prelude.{◌≡◌, ℕ, zero, suc, ◌/◌, ◌%◌, ◌<◌, Bool, cond, nat_eq, List, [], ◌∷◌, ◌++◌, length, drop, get_or}
+
+-- the lowest bits of a number, the lowest first
+abbrev pub flags : ℕ → ℕ → List Bool
+flags zero m = []
+flags (suc n) m = nat_eq (m % 2) 1 ∷ flags n (m / 2)
+
+-- those of some numbers whose bit is set, the lowest bit for the first
+abbrev pub kept : ℕ → List ℕ → List ℕ
+kept marks [] = []
+kept marks (x ∷ xs) = cond (nat_eq (marks % 2) 1) (x ∷ kept (marks / 2) xs) (kept (marks / 2) xs)
+
+-- The number is one of some numbers.
+abbrev pub IsOneOf : List ℕ → ℕ → Type 0
+IsOneOf xs x = (j : ℕ) × (j < length xs) × (x ≡ get_or xs j 0)
+
+-- of pairs of bytes the first of each, and the second where its flag is set
+abbrev pub from_pairs : List Bool → List ℕ → List ℕ
+from_pairs [] pairs = []
+from_pairs (two ∷ twos) pairs = get_or pairs 0 0 ∷ (cond two (get_or pairs 1 0 ∷ []) [] ++ from_pairs twos (drop 2 pairs))
+
+-- of groups of four bytes the first of each, and the second and the third where their flags are set
+abbrev pub from_fours : List Bool → List Bool → List ℕ → List ℕ
+from_fours [] threes fours = []
+from_fours (two ∷ twos) [] fours = []
+from_fours (two ∷ twos) (three ∷ threes) fours = get_or fours 0 0 ∷ (cond two (get_or fours 1 0 ∷ []) [] ++ (cond three (get_or fours 2 0 ∷ []) [] ++ from_fours twos threes (drop 4 fours)))

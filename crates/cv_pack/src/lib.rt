@@ -1,0 +1,13 @@
+//! Packing bytes and numbers by look-ups in a vector.
+#![tactic(auto)]
+
+mod four_places;
+mod fours;
+mod lanes;
+mod numbers;
+mod pair_places;
+mod pairs;
+
+pub use fours::packed_fours;
+pub use numbers::packed_numbers;
+pub use pairs::packed_pairs;

@@ -1,0 +1,16 @@
+//! Packing pairs of bytes.
+ghost use Rattle.std.specs.Prelude.{◌≡◌, ◌+◌, ◌<◌, take, count_ones};
+ghost use Rattle.cv_pack.specs.Packed.{flags, from_pairs};
+
+use crate::pair_places::PAIR_PLACES;
+use std::simd::prelude::*;
+
+/// Of eight pairs of bytes the first of each, and the second of those whose bit is set, one behind the other, the lowest bit for the
+/// first pair. What is behind them is the first byte of all.
+#[inline(always)]
+pub fn packed_pairs(pairs: u8x16, twos: u64) -> u8x16
+    requires { twos < 256 }
+    ensures { take (8 + count_ones twos) result ≡ from_pairs (flags 8 twos) pairs }
+{
+    pairs.swizzle_dyn_within::<16>(u8x16::from_array(PAIR_PLACES[twos as usize]))
+}

@@ -1,5 +1,0 @@
-use Rattle.cv_utf7.proofs.Lanes.{in_set}
-use Rattle.cv_utf7.proofs.byte_sets.outside.Goals as goal
-
-pub returns : goal.returns
-returns c = in_set c.args.set c.args.bytes _ _ c.fits-bytes.0 c.by_lower_half.ensures c.by_higher_half.ensures

@@ -31,7 +31,7 @@ fn marks_of(text: &[u8], at: usize) -> u64
         .to_bitmask()
 }
 
-/// The bytes of four characters, and how many they are, where it is known which bytes are the first of two.
+/// The bytes of four characters, where it is known which bytes are the first of two. Behind them are zeros.
 #[inline(always)]
 fn cut_four(text: &[u8], at: usize, marks: u64) -> [u8; 16]
     requires within { at + 16 ≤ length text.now }

@@ -19,7 +19,7 @@ const ROW: u32 = 256;
 pub(crate) const SINGLES: usize = 128;
 
 /// How many strings of two or of four bytes begin with a byte that has a row, at the least. A row takes a kilobyte, so a map grows
-/// by at most 32 bytes for each of its pairs, and by the row that all other bytes share.
+/// by at most 32 bytes for each of its pairs, by the row that all other bytes share, and by what `starts` takes.
 const DENSE: u8 = 32;
 
 /// How many strings of two or of four bytes begin with each byte, as far as it matters. It decides speed and memory alone.

@@ -15,10 +15,13 @@ pub enum Form {
     /// So many byte strings of four bytes but for the first 32, which have one, as GB18030 has them; twenty values of the fourth byte
     /// are side by side, of which four have the last four bits of others.
     Dense { count: u32 },
+    /// So many byte strings of two bytes but for the first 32, which have one, as EUC-KR and GBK have them, and one in the middle of the first
+    /// bytes, which has one too; second bytes go from 0x40 on.
+    Led { count: u32 },
 }
 
 /// Each form, and what it is called.
-pub const FORMS: [(&str, Form); 13] = [
+pub const FORMS: [(&str, Form); 14] = [
     (
         "1 byte",
         Form::Sized {
@@ -102,6 +105,7 @@ pub const FORMS: [(&str, Form); 13] = [
         },
     ),
     ("four bytes, dense", Form::Dense { count: 13_000 }),
+    ("1 and 2 bytes", Form::Led { count: 8000 }),
 ];
 
 /// The bytes of a pair.
@@ -145,6 +149,27 @@ impl Bytes {
         }
     }
 
+    /// One or two bytes: the first 31 numbers have one below 128, the next has 0xA0, and then each 190 have the first in common, which is
+    /// none of these.
+    fn led(n: u32) -> Bytes {
+        let rest = n.saturating_sub(32);
+        let first = 0x81 + (rest / 190 % 126) as u8;
+        let beyond = first + u8::from(first >= 0xA0);
+        let second = 0x40 + (rest % 190) as u8;
+        let single = if n < 31 { 0x20 + n as u8 } else { 0xA0 };
+        if n < 32 {
+            Bytes {
+                all: [single, 0, 0, 0, 0, 0, 0, 0],
+                size: 1,
+            }
+        } else {
+            Bytes {
+                all: [beyond, second, 0, 0, 0, 0, 0, 0],
+                size: 2,
+            }
+        }
+    }
+
     /// The same with the size in the first three bits, so that none begins another.
     fn marked(size: u8, n: u32) -> Bytes {
         let mark = size.saturating_sub(1) % 8 * 32;
@@ -181,6 +206,7 @@ impl Form {
             Form::Mixed { count } => count,
             Form::Crowded { count } => count,
             Form::Dense { count } => count,
+            Form::Led { count } => count,
         }
     }
 
@@ -192,6 +218,7 @@ impl Form {
             Form::Mixed { .. } => Bytes::marked((n % 7) as u8 + 2, n),
             Form::Crowded { .. } => Bytes::of(3, n),
             Form::Dense { .. } => Bytes::dense(n),
+            Form::Led { .. } => Bytes::led(n),
         }
     }
 
@@ -201,6 +228,7 @@ impl Form {
             Form::Sized { step, .. } => counted(n, step),
             Form::Mixed { .. } => counted(n, 5),
             Form::Dense { .. } => counted(n, 2),
+            Form::Led { .. } => counted(n, 3),
             Form::Crowded { .. } => counted(n.min(1), 0x4E00),
         }
     }

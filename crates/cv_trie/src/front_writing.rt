@@ -48,7 +48,8 @@ fn choose(pages: &Pages, _entries: &[Entry], substitute: u32, c: Scalar) -> (u32
 }
 
 /// Puts the bytes of an entry at a place, and answers how many they are. What is behind them may be anything: eight bytes are
-/// copied, whose number is known when the code is compiled.
+/// copied, whose number is known when the code is compiled, by an array of their own, since LLVM isn't told that an entry is no part of
+/// the buffer.
 #[inline(always)]
 fn put_entry(front: &mut [u8], used: usize, entry: &Entry) -> usize
     requires { used + 8 ≤ length front.old }
@@ -57,7 +58,8 @@ fn put_entry(front: &mut [u8], used: usize, entry: &Entry) -> usize
     ensures stand { take (used + result) front.new ≡ take used front.old ++ entry.now.0 }
     ensures long { length front.new ≡ length front.old }
 {
-    front[used..used + 8].copy_from_slice(entry.padded());
+    let bytes = *entry.padded();
+    front[used..used + 8].copy_from_slice(&bytes);
     entry.len()
 }
 
@@ -138,7 +140,7 @@ fn put_ready(
     }
 }
 
-/// Writes eight characters from the `n`th on, behind those before them.
+/// Writes eight characters from the `n`th on, behind those before them: at once, unless one of the eight before them was lacking.
 #[inline(always)]
 fn put_many(
     pages: &Pages,
@@ -146,6 +148,7 @@ fn put_many(
     substitute: u32,
     characters: &[Scalar],
     n: usize,
+    lacked: bool,
     front: &mut [u8],
     before: Written,
 ) -> Written
@@ -166,7 +169,8 @@ fn put_many(
     ensures written { IsWrittenFront (map_writes entries.now) (take (n + 8) characters.now)
         front.new result.used result.count }
 {
-    if front.len() - before.used >= READY_ROOM
+    if !lacked
+        && front.len() - before.used >= READY_ROOM
         && pages.are_low(characters, n)
         && let Some(used) = put_ready(pages, entries, characters, n, front, before.used)
     {
@@ -181,7 +185,8 @@ fn put_many(
     )
 }
 
-/// Writes characters at the front of a buffer, eight at once.
+/// Writes characters at the front of a buffer, eight at once. In a text full of characters that the charmap lacks eight at once are tried in
+/// vain, so behind eight of which one was lacking the next go one by one.
 #[inline(always)]
 pub(crate) fn write_front(
     pages: &Pages,
@@ -202,8 +207,13 @@ pub(crate) fn write_front(
     let substitute = pages.place(0x3F);
     let mut n = 0;
     let mut written = Written { used: 0, count: 0 };
+    let mut lacked = false;
     while characters.len() - n >= MANY {
-        written = put_many(pages, entries, substitute, characters, n, front, written);
+        let before = written;
+        written = put_many(
+            pages, entries, substitute, characters, n, lacked, front, before,
+        );
+        lacked = written.count > before.count;
         n += MANY;
     }
     let end = characters.len();

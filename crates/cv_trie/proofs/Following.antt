@@ -4,7 +4,7 @@ use Rattle.std.specs.Prelude.{Contains, nat_eq}
 use Rattle.std.specs.Cmp.Lexicographic.{pointwise}
 use Rattle.std.proofs.lemmas.Bool.Decides.{Decides-eqb}
 use Rattle.std.proofs.lemmas.Slice.Eq.{starts_is}
-use Rattle.std.proofs.lemmas.List.{get_or_read, get_or-drop, length-drop, length-take-le, take_more_set, length-set}
+use Rattle.std.proofs.lemmas.List.{get_or-drop, length-drop, length-take-le, take_more_set, length-set}
 use Rattle.cv_base.specs.Items.{Taken, taken, Begins, ItemRelation, Stands}
 use Rattle.cv_base.specs.Chains.{used_bytes, read_state}
 use Rattle.cv_base.specs.Blocks.{IsReadBlock}
@@ -12,10 +12,11 @@ use Rattle.cv_base.specs.declared.state.ReadState.TheVariants as read
 use Rattle.cv_base.proofs.Front.{Begins-take, Begins-length, Begins-append}
 use Rattle.cv_byte_trie.proofs.Ways.{Begins-same}
 use Rattle.cv_base.proofs.ChainLaws.{used_bytes-append, read_state-append, characters_of-append, IsChain-append}
-use Rattle.cv_byte_trie.specs.Entries.{Entry, no_entry, bytes_at, character_at, AreEntries}
+use Rattle.cv_byte_trie.specs.Entries.{Entry, bytes_at, character_at, AreEntries}
 use Rattle.cv_byte_trie.specs.Tries.{StepsBy, tails, none, HasTrie}
 use Rattle.cv_byte_trie.specs.Private.Reading.{IsAt}
 use Rattle.cv_byte_trie.proofs.Followed.{leads_to_leaf, leads_to_tail, leads_to_node, tail_low}
+use Rattle.cv_pages.proofs.FirstPlaces.{entry_bytes}
 use Rattle.cv_trie.specs.Charmaps.{map_reads}
 use Rattle.cv_trie.specs.Private.Fronts.{IsReadFront}
 use Rattle.cv_trie.specs.Private.Followed.{IsFollowed, IsFound}
@@ -35,13 +36,6 @@ pub root_reads : (entries : List Entry) (b code : ℕ) → code < length entries
 root_reads entries b code low bytes character =
     let e : Contains entries (b ∷ [], b) = subst (λ (p : Entry). Contains entries p) (ap (λ (w : List ℕ). (w, character_at entries code)) bytes ∙ ap (λ (d : ℕ). (b ∷ [], d)) character) (holds_place entries code low) in
     (b, e, refl)
-
--- an entry that was read
-pub entry_bytes : (entries : List Entry) (k : ℕ) (x : Entry) → k < length entries → x ≡ get_or entries k x → bytes_at entries k ≡ x.0
-entry_bytes entries k x low is = ap (λ (e : Entry). e.0) (sym (get_or_read entries k x low is no_entry))
-
-pub entry_character : (entries : List Entry) (k : ℕ) (x : Entry) → k < length entries → x ≡ get_or entries k x → character_at entries k ≡ x.1
-entry_character entries k x low is = ap (λ (e : Entry). e.1) (sym (get_or_read entries k x low is no_entry))
 
 -- a byte on from a node
 pub followed_on : (entries : List Entry) → AreEntries entries → (S : StepsBy) (count : ℕ) (text : List ℕ) (d i : ℕ) → IsAt S count entries text d i → (b code : ℕ) → d < length text → b ≡ get_or text d 0 → b < 256 → code ≡ S i b → IsFollowed S count entries text (d + 1) code

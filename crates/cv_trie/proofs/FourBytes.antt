@@ -4,8 +4,8 @@ use Rattle.std.proofs.Math.Seq.{drop-cons}
 use Rattle.cv_base.specs.Items.{taken, Begins, Stands}
 use Rattle.cv_base.specs.declared.state.ReadState.TheVariants as read
 use Rattle.cv_byte_trie.specs.Entries.{Entry, bytes_at, character_at}
+use Rattle.cv_pages.proofs.FirstPlaces.{entry_bytes, entry_character}
 use Rattle.cv_trie.specs.Charmaps.{map_reads}
-use Rattle.cv_trie.proofs.Following.{entry_bytes, entry_character}
 use Rattle.cv_trie.proofs.MapItems.{pair_stands}
 
 -- four bytes that are those at a place of a text

@@ -5,7 +5,7 @@ pub mod OneByte
 pub mod TwoBytes
 pub mod EightAtOnce
 pub mod FourBytes
-pub mod FirstPlaces
+pub mod FirstWritten
 pub mod Written
 pub mod ReadyBytes
 pub mod MapReadBack

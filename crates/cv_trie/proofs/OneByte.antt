@@ -1,10 +1,9 @@
 -- Bytes that are characters by themselves, read one after another.
-use Rattle.std.proofs.Common.{◌≡◌, ◌≢◌, ℕ, ◌+◌, ◌<◌, ◌≤◌, List, [], ◌∷◌, length, drop, get_or, slice_set, get_or-set_other, get_or-set_same, refl, sym, subst, ◌∙◌, ap, arith, bit_or, below_more, inl, inr, suc, Some}
+use Rattle.std.proofs.Common.{◌≡◌, ◌≢◌, ℕ, ◌+◌, ◌<◌, ◌≤◌, List, [], ◌∷◌, length, drop, get_or, slice_set, get_or-set_other, get_or-set_same, refl, sym, subst, ◌∙◌, ap, arith, inl, inr, suc, Some}
 use Rattle.std.specs.Prelude.{Contains}
 use Rattle.std.proofs.Math.Seq.{drop-cons}
 use Rattle.std.proofs.lemmas.Bool.{cases_lt, cases_eq}
 use Rattle.std.proofs.lemmas.List.{length-drop}
-use Rattle.std.proofs.lemmas.Nat.{le_or_l, le_or_r}
 use Rattle.cv_base.specs.Items.{taken, Stands}
 use Rattle.cv_base.specs.declared.state.ReadState.TheVariants as read
 use Rattle.cv_byte_trie.specs.Entries.{Entry, AreEntries, character_at}
@@ -56,7 +55,3 @@ plain_more ones n v low p q b l = elim (cases_eq b n) [
   | inl same ↦ rw same (rw get_or-set_same q)
   | inr ne ↦ rw get_or-set_other (p b l)
 ]
-
--- none of some numbers is above the bits of all of them, joined
-pub joined_more : (f : ℕ → ℕ) (m joined : ℕ) → ((k : ℕ) → k < m → f k ≤ joined) → (k : ℕ) → k < m + 1 → f k ≤ bit_or joined (f m)
-joined_more f m joined p = below_more (λ (k : ℕ). f k ≤ bit_or joined (f m)) m (λ k h. omega (arith, p k h, le_or_l joined (f m))) (le_or_r joined (f m))

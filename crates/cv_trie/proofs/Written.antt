@@ -1,6 +1,5 @@
 -- Characters that are written one after another.
-use Rattle.std.proofs.Common.{◌≡◌, ◌≢◌, ℕ, ◌+◌, ◌≤◌, ◌<◌, List, [], ◌∷◌, ◌++◌, length, take, drop, get_or, refl, sym, ◌∙◌, ap, arith, Some, None, Option, length-append}
-use Rattle.std.proofs.lemmas.List.{take_at, drop_at, take-append-le, length-take-le}
+use Rattle.std.proofs.Common.{◌≡◌, ◌≢◌, ℕ, ◌+◌, ◌<◌, List, [], ◌∷◌, ◌++◌, length, take, get_or, refl, sym, ◌∙◌, ap, arith, Some, None, Option, length-append}
 use Rattle.std.proofs.Math.Seq.{drop-cons, take-add}
 use Rattle.std.specs.Prelude.{IsSome}
 use Rattle.cv_base.specs.Scalars.{question}
@@ -11,11 +10,11 @@ use Rattle.cv_base.specs.declared.state.WriteState.TheVariants as write
 use Rattle.cv_base.proofs.ChainLaws.{output_for-append, output_for-one}
 use Rattle.cv_byte_trie.specs.Entries.{Entry, bytes_at}
 use Rattle.cv_charmap.specs.Maps.{IsMap}
+use Rattle.cv_pages.specs.Paging.{nowhere, NameFirst}
 use Rattle.cv_trie.specs.Charmaps.{map_writes}
-use Rattle.cv_trie.specs.Private.Paging.{nowhere, NameFirst}
 use Rattle.cv_trie.specs.Private.Fronts.{IsWrittenFront}
 use Rattle.cv_trie.proofs.MapLaws.{map_substitutes}
-use Rattle.cv_trie.proofs.FirstPlaces.{writes_place, writes_nothing}
+use Rattle.cv_trie.proofs.FirstWritten.{writes_place, writes_nothing}
 
 not_none : {X : Type 0} (o : Option X) → IsSome o → o ≡ None → ⊥
 not_none (Some x) h e = cc
@@ -49,11 +48,3 @@ written_more writes characters buffer after w k used count m c size s low is e n
       counts = rw all (ap (λ (x : ℕ). x + m) s.counts);
       next = rw all refl;
     }
-
--- bytes at a place, with what was copied behind them
-pub stands_at : (front bytes : List ℕ) (used len : ℕ) (rest : List ℕ) → used ≤ length front → len ≤ length bytes → take (used + len) (take used front ++ (bytes ++ rest)) ≡ take used front ++ take len bytes
-stands_at front bytes used len rest a b =
-    let p = take used front in
-    let e : length p ≡ used = length-take-le used front a in
-    take-add used len (p ++ (bytes ++ rest)) ∙ ap (λ (x : List ℕ). x ++ take len (drop used (p ++ (bytes ++ rest)))) (take_at p (bytes ++ rest) used e)
-    ∙ ap (λ (x : List ℕ). p ++ take len x) (drop_at p (bytes ++ rest) used e) ∙ ap (λ (x : List ℕ). p ++ x) (take-append-le len bytes rest b)

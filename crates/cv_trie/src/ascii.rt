@@ -4,11 +4,11 @@ ghost use Rattle.cv_base.specs.Ascii.{ReadsAscii, WritesAscii};
 ghost use Rattle.cv_base.specs.declared.ascii_form.AsciiForm.{AsciiForm};
 ghost use Rattle.cv_base.specs.declared.state.ReadState.{ReadState};
 ghost use Rattle.cv_base.specs.declared.state.WriteState.{WriteState};
+ghost use Rattle.cv_pages.specs.Paging.{AreFirst};
 ghost use Rattle.cv_trie.specs.Charmaps.{map_reads, map_writes};
-ghost use Rattle.cv_trie.specs.Private.Paging.{AreFirst};
 
-use crate::pages::{NOWHERE, Pages};
 use cv_byte_trie::{ByteTrie, Entry, TAIL};
+use cv_pages::{NOWHERE, Pages};
 
 /// Whether each ASCII byte is read as its character.
 pub(crate) fn does_read_ascii(trie: &ByteTrie) -> bool

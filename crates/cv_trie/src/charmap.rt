@@ -8,7 +8,6 @@ use crate::fours::Fours;
 use crate::items::next_item;
 use crate::longest::longest;
 use crate::ones::ones_of;
-use crate::pages::Pages;
 use crate::reading::read_front;
 use crate::starts::starts_of;
 use crate::twos::twos_of;
@@ -19,6 +18,7 @@ use cv_base::{
 };
 use cv_byte_trie::ByteTrie;
 use cv_charmap::Pairs;
+use cv_pages::Pages;
 use std::alloc::Global;
 use std::marker::Model;
 

@@ -12,9 +12,9 @@ ghost use Rattle.cv_trie.specs.Private.Fronts.{IsReadFront};
 
 use crate::front::Front;
 use crate::ones::NO_CHARACTER;
-use crate::pages::NOWHERE;
 use cv_base::Scalar;
 use cv_byte_trie::{ByteTrie, Entry};
+use cv_pages::NOWHERE;
 use std::alloc::{AllocError, Global};
 
 /// How many cells a block has: for each third byte one for each value of the last four bits of the fourth.

@@ -5,16 +5,14 @@ ghost use Rattle.cv_base.specs.Chains.{output, written};
 ghost use Rattle.cv_base.specs.declared.state.WriteState.{WriteState};
 ghost use Rattle.cv_byte_trie.specs.Entries.{bytes_at};
 ghost use Rattle.cv_charmap.specs.Maps.{IsMap};
+ghost use Rattle.cv_pages.specs.Paging.{place_of, nowhere, AreFirst};
+ghost use Rattle.cv_pages.specs.Shorts.{AreShorts};
 ghost use Rattle.cv_trie.specs.Charmaps.{map_writes};
-ghost use Rattle.cv_trie.specs.Private.Paging.{place_of, nowhere, AreFirst};
-ghost use Rattle.cv_trie.specs.Private.Shorts.{AreShorts};
 ghost use Rattle.cv_trie.specs.Private.Fronts.{IsWrittenFront};
 
-use crate::many::MANY;
-use crate::pages::{NOWHERE, Pages};
-use crate::shorts::NO_SIZE;
 use cv_base::Scalar;
 use cv_byte_trie::Entry;
+use cv_pages::{MANY, NO_SIZE, NOWHERE, Pages};
 
 /// The room in which the bytes of eight characters are put, whatever their sizes stand for.
 const READY_ROOM: usize = MANY * NO_SIZE as usize;

@@ -6,9 +6,9 @@ ghost use Rattle.cv_trie.specs.Private.Ones.{AreOnes, no_character};
 ghost use Rattle.cv_trie.specs.Private.Fronts.{IsReadFront};
 
 use crate::front::Front;
-use crate::many::{MANY, joined};
 use cv_base::Scalar;
 use cv_byte_trie::{ByteTrie, Entry, TAIL};
+use cv_pages::{MANY, joined};
 use std::alloc::{AllocError, Global};
 
 /// Stands for no character, as each number above it does. It is a bit that no character has, so that the bits of several numbers

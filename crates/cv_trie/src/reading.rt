@@ -13,12 +13,12 @@ ghost use Rattle.cv_trie.specs.Private.Followed.{IsFound};
 
 use crate::fours::{Fours, read_fours};
 use crate::front::Front;
-use crate::many::MANY;
 use crate::ones::{NO_CHARACTER, read_ones};
 use crate::twos::read_twos;
 use crate::windows::read_windows;
 use cv_base::{ReadBlock, ReadState, Scalar};
 use cv_byte_trie::{ByteTrie, Entry, NODE, NONE, TAIL};
+use cv_pages::MANY;
 
 /// How many characters are read one after another, however long, before the tables are tried again. It decides speed alone.
 const LONGER_AT_ONCE: usize = 32;

@@ -7,11 +7,11 @@ ghost use Rattle.cv_trie.specs.Private.Starts.{AreStarts, number_at};
 ghost use Rattle.cv_trie.specs.Private.Fronts.{IsReadFront};
 
 use crate::front::Front;
-use crate::many::{MANY, joined};
 use crate::ones::NO_CHARACTER;
 use cv_base::Scalar;
 use cv_byte_trie::ByteTrie;
 use cv_lead::{Cut, WINDOW, cut_eight};
+use cv_pages::{MANY, joined};
 
 /// What stands for each of eight characters. None is tested, so that no branch is taken.
 #[inline(always)]

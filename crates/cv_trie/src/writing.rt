@@ -4,14 +4,14 @@ ghost use Rattle.cv_base.specs.Places.{IsPut, PutsAt};
 ghost use Rattle.cv_base.specs.Blocks.{MayWriteBlock};
 ghost use Rattle.cv_base.specs.declared.state.WriteState.{WriteState};
 ghost use Rattle.cv_charmap.specs.Maps.{IsMap};
+ghost use Rattle.cv_pages.specs.Paging.{AreFirst};
+ghost use Rattle.cv_pages.specs.Shorts.{AreShorts};
 ghost use Rattle.cv_trie.specs.Charmaps.{map_writes};
-ghost use Rattle.cv_trie.specs.Private.Paging.{AreFirst};
-ghost use Rattle.cv_trie.specs.Private.Shorts.{AreShorts};
 
 use crate::front_writing::{Written, write_front};
-use crate::pages::{NOWHERE, Pages};
 use cv_base::{Policy, Put, Scalar, WriteState, WrittenBlock};
 use cv_byte_trie::Entry;
+use cv_pages::{NOWHERE, Pages};
 
 /// Puts bytes at a place.
 fn put_bytes(out: &mut [u8], at: usize, bytes: &[u8])

@@ -7,12 +7,12 @@ use Rattle.cv_base.specs.declared.state.WriteState.TheVariants as write
 use Rattle.cv_byte_trie.specs.Entries.{bytes_at}
 use Rattle.cv_charmap.specs.Entries.{Pair}
 use Rattle.cv_charmap.specs.Maps.{IsMap}
+use Rattle.cv_pages.specs.Paging.{AreFirst}
+use Rattle.cv_pages.specs.Shorts.{AreShorts}
 use Rattle.cv_trie.specs.Charmaps.{map_reads, map_writes}
 use Rattle.cv_trie.specs.Private.Ones.{AreOnes}
 use Rattle.cv_trie.specs.Private.Twos.{AreTwos}
 use Rattle.cv_trie.specs.Private.Starts.{AreStarts}
-use Rattle.cv_trie.specs.Private.Paging.{AreFirst}
-use Rattle.cv_trie.specs.Private.Shorts.{AreShorts}
 
 -- No pair has more bytes than so many, and those have 8 at most.
 pub record HaveAtMost (most : ℕ) (pairs : List Pair) : Type 0 where

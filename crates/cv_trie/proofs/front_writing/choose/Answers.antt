@@ -1,4 +1,4 @@
-use Rattle.cv_trie.specs.Private.Paging.{place_of}
+use Rattle.cv_pages.specs.Paging.{place_of}
 use Rattle.cv_trie.proofs.Written.{chosen, chosen_substitute}
 use Rattle.cv_trie.proofs.front_writing.choose.Goals as goal
 

@@ -2,9 +2,9 @@ use Rattle.std.proofs.Common.{◌≡◌, ◌∙◌, ◌+◌, ◌<◌, ◌++◌, 
 use Rattle.std.proofs.lemmas.Grind.{get_or_default_zero}
 use Rattle.std.proofs.lemmas.List.{take-take}
 use Rattle.cv_byte_trie.specs.Entries.{bytes_at}
+use Rattle.cv_pages.specs.Paging.{cell_of, place_of}
+use Rattle.cv_pages.specs.Shorts.{no_size}
 use Rattle.cv_trie.specs.Charmaps.{map_writes}
-use Rattle.cv_trie.specs.Private.Paging.{cell_of, place_of}
-use Rattle.cv_trie.specs.Private.Shorts.{no_size}
 use Rattle.cv_trie.proofs.ReadyBytes.{ready_written}
 use Rattle.cv_trie.proofs.Written.{written_more}
 use Rattle.cv_trie.proofs.front_writing.put_ready.Goals as goal

@@ -1,4 +1,4 @@
-use Rattle.cv_trie.specs.Private.Paging.{place_of}
+use Rattle.cv_pages.specs.Paging.{place_of}
 use Rattle.cv_trie.proofs.Written.{substitute_has}
 use Rattle.cv_trie.proofs.front_writing.write_front.Goals as goal
 

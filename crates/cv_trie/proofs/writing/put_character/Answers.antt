@@ -4,9 +4,10 @@ use Rattle.cv_base.specs.declared.place.Put.TheVariants as put
 use Rattle.cv_base.specs.declared.state.WriteState.{WriteState}
 use Rattle.cv_base.specs.declared.state.WriteState.TheVariants as write
 use Rattle.cv_byte_trie.specs.Entries.{bytes_at}
-use Rattle.cv_trie.specs.Private.Paging.{place_of}
-use Rattle.cv_trie.proofs.Following.{entry_bytes}
-use Rattle.cv_trie.proofs.FirstPlaces.{place_low, writes_place, writes_nothing}
+use Rattle.cv_pages.specs.Paging.{place_of}
+use Rattle.cv_pages.proofs.FirstPlaces.{entry_bytes}
+use Rattle.cv_pages.proofs.FirstPlaces.{place_low}
+use Rattle.cv_trie.proofs.FirstWritten.{writes_place, writes_nothing}
 use Rattle.cv_trie.proofs.writing.put_character.Goals as goal
 
 pub returns-then-place : goal.returns-then-place

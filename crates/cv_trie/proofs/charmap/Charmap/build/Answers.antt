@@ -4,6 +4,8 @@ use Rattle.cv_base.specs.Ascii.{WritesAscii}
 use Rattle.cv_base.specs.declared.ascii_form.AsciiForm.TheVariants.{Byte}
 use Rattle.cv_base.specs.declared.state.WriteState.TheVariants as write
 use Rattle.cv_charmap.specs.Maps.{IsMap}
+use Rattle.cv_pages.specs.Paging.{AreFirst}
+use Rattle.cv_pages.specs.Shorts.{AreShorts}
 use Rattle.cv_trie.specs.Charmaps.{map_writes}
 use Rattle.std.proofs.Math.Seq.{take-append_seam}
 use Rattle.cv_byte_trie.specs.Entries.{Entry}
@@ -11,8 +13,6 @@ use Rattle.cv_trie.specs.Private.Compiled.{HaveAtMost}
 use Rattle.cv_trie.specs.Private.Ones.{AreOnes}
 use Rattle.cv_trie.specs.Private.Twos.{AreTwos}
 use Rattle.cv_trie.specs.Private.Starts.{AreStarts}
-use Rattle.cv_trie.specs.Private.Paging.{AreFirst}
-use Rattle.cv_trie.specs.Private.Shorts.{AreShorts}
 use Rattle.cv_trie.proofs.charmap.Charmap.build.Goals as goal
 
 pub starts_of-requires-clause-twos : goal.starts_of-requires-clause-twos

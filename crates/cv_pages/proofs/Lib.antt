@@ -1,0 +1,3 @@
+pub mod FirstPlaces
+pub mod ReadyBytes
+pub mod JoinedBits

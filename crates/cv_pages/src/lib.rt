@@ -1,0 +1,10 @@
+//! Pages of characters, by which a charmap is written.
+#![tactic(auto)]
+
+mod many;
+mod pages;
+mod shorts;
+
+pub use many::{MANY, joined};
+pub use pages::{NOWHERE, Pages};
+pub use shorts::{NO_SIZE, SHORT, Shorts};

@@ -1,0 +1,82 @@
+//! Bytes that stand ready to be written.
+ghost use Rattle.std.specs.Prelude.{◌≡◌, ◌≤◌, ◌<◌, ◌+◌, ◌++◌, [], length, take, slice_index_or, IfOk};
+ghost use Rattle.cv_pages.specs.Shorts.{IsShort, AreShorts, no_size};
+
+use cv_byte_trie::Entry;
+use std::alloc::{AllocError, Global};
+
+/// How many bytes stand ready at most.
+pub const SHORT: usize = 4;
+
+/// Stands for the size of bytes that are more than four, or none. The sizes of eight are less together, unless it is among them.
+pub const NO_SIZE: u8 = 33;
+
+/// For each cell of pages the bytes of the entry that it names, where they are four at most. So they are written without a look at
+/// the entry.
+#[derive(Debug, Drop)]
+pub struct Shorts {
+    /// The bytes of each cell, with others behind them.
+    pub bytes: Vec<[u8; SHORT]>,
+    /// How many they are.
+    pub sizes: Vec<u8>,
+}
+
+/// The first four bytes of an entry, with others behind them where it has less.
+fn first_four(entry: &Entry) -> [u8; SHORT]
+    requires { length entry.now.0 ≤ 4 }
+    ensures size { length result ≡ 4 }
+    ensures bytes { take (length entry.now.0) result ≡ entry.now.0 }
+{
+    let mut first = [0u8; SHORT];
+    first.copy_from_slice(&entry.padded()[..SHORT]);
+    first
+}
+
+/// The bytes of the entry at a place and their size, if there is one that has four at most.
+fn short_of(entries: &[Entry], place: u32) -> ([u8; SHORT], u8)
+    requires few { length entries.now ≤ 0x1000000 }
+    ensures least { result.1 ≤ no_size }
+    ensures short { result.1 < no_size → IsShort entries.now place result.0 result.1 }
+{
+    if place as usize >= entries.len() || entries[place as usize].len() > SHORT {
+        return ([0; SHORT], NO_SIZE);
+    }
+    let entry = &entries[place as usize];
+    (first_four(entry), entry.len() as u8)
+}
+
+impl Shorts {
+    /// The bytes for cells, by the entries that they name.
+    pub fn of(alloc: Global, cells: &[u32], entries: &[Entry]) -> Result<Shorts, AllocError>
+        requires few { length entries.now ≤ 0x1000000 }
+        ensures long { IfOk result (λ s. length s.bytes.items ≡ length cells.now) }
+        ensures sizes { IfOk result (λ s. length s.sizes.items ≡ length cells.now) }
+        ensures shorts { IfOk result (λ s. AreShorts cells.now s.bytes.items s.sizes.items entries.now) }
+    {
+        let mut bytes = vec![in alloc; [0u8; SHORT]; cells.len()]?;
+        let mut sizes = vec![in alloc; NO_SIZE; cells.len()]?;
+        for cell in 0..cells.len() {
+            let (first, size) = short_of(entries, cells[cell]);
+            bytes[cell] = first;
+            sizes[cell] = size;
+        }
+        Ok(Shorts { bytes, sizes })
+    }
+
+    /// Puts the bytes of a cell at a place, and answers their size. What is behind them may be anything: four bytes are copied,
+    /// whose number is known when the code is compiled.
+    #[inline(always)]
+    pub fn put(&self, cell: usize, front: &mut [u8], used: usize) -> usize
+        requires long { cell < length self.now.bytes.items }
+        requires size { cell < length self.now.sizes.items }
+        requires room { used + 4 ≤ length front.old }
+        ensures size { result ≡ slice_index_or self.now.sizes.items cell no_size }
+        ensures stays { take used front.new ≡ take used front.old }
+        ensures stand { result ≤ 4 → take (used + result) front.new
+            ≡ take used front.old ++ take result (slice_index_or self.now.bytes.items cell []) }
+        ensures long { length front.new ≡ length front.old }
+    {
+        front[used..used + SHORT].copy_from_slice(&self.bytes[cell]);
+        self.sizes[cell] as usize
+    }
+}

@@ -6,21 +6,9 @@ ghost use Rattle.cv_block.specs.AsciiRuns.{IsBelowAt, IsRunBelow, characters_in,
 
 use crate::byte_order::{BigEndian, LittleEndian};
 use crate::repertoire::Repertoire;
+use crate::small_units::{BLOCK, are_below, form_may_run, unit_run};
 use crate::unit::{Byte, Four, Two, Unit};
 use cv_base::{AsciiForm, Endian};
-
-/// How many units are tested at once.
-const BLOCK: usize = 16;
-
-/// Whether the unit of a character of the run stands here.
-#[inline(always)]
-#[tactic(auto, using(crate::proofs::UnitBytes::below_at))]
-fn is_below<R: Repertoire, U: Unit>(bytes: &[u8], at: usize) -> bool
-    requires { at + unit_size U.form ≤ length bytes.now }
-    ensures { IsTrue result → IsBelowAt R.limit U.form bytes.now at }
-{
-    U::number(bytes, at) < R::limit()
-}
 
 /// The character of the unit that stands here if it is one byte, and of another its lowest byte.
 #[inline(always)]
@@ -31,73 +19,6 @@ fn character<U: Unit>(bytes: &[u8], at: usize) -> u32
     ensures lowest { result ≡ get_or bytes.now (at + offset U.form) 0 }
 {
     U::number(bytes, at) % 0x100
-}
-
-/// Whether `n` units are of characters of the run. Each is tested, so that the loop is done by blocks.
-#[inline(always)]
-fn each_below<R: Repertoire, U: Unit>(bytes: &[u8], at: usize, n: usize) -> bool
-    requires { at + unit_size U.form * n ≤ length bytes.now }
-    ensures { IsTrue result → (k : ℕ) → k < n
-        → IsBelowAt R.limit U.form bytes.now (at + unit_size U.form * k) }
-{
-    let mut all = true;
-    let mut place = at;
-    for _unit in 0..n {
-        all &= is_below::<R, U>(bytes, place);
-        place += U::size();
-    }
-    all
-}
-
-/// Whether `n` units are of characters of the run. The bits of all are joined, and those are tested once.
-#[inline(always)]
-fn joined_below<R: Repertoire, U: Unit>(bytes: &[u8], at: usize, n: usize) -> bool
-    requires { at + unit_size U.form * n ≤ length bytes.now }
-    ensures { IsTrue result → (k : ℕ) → k < n
-        → IsBelowAt R.limit U.form bytes.now (at + unit_size U.form * k) }
-{
-    let mut joined = 0;
-    let mut place = at;
-    for _unit in 0..n {
-        joined |= U::number(bytes, place);
-        place += U::size();
-    }
-    joined < R::limit()
-}
-
-/// Whether a block of units is of characters of the run.
-#[inline(always)]
-fn are_below<R: Repertoire, U: Unit>(bytes: &[u8], at: usize) -> bool
-    requires { at + unit_size U.form * 16 ≤ length bytes.now }
-    ensures { IsTrue result → (k : ℕ) → k < 16
-        → IsBelowAt R.limit U.form bytes.now (at + unit_size U.form * k) }
-{
-    if U::is_byte() {
-        R::are_bytes(bytes, at)
-    } else if R::JOINS {
-        joined_below::<R, U>(bytes, at, BLOCK)
-    } else {
-        each_below::<R, U>(bytes, at, BLOCK)
-    }
-}
-
-/// Whether a block of units of the run stands at the front. It decides speed alone: a test of fewer would often send for a run where
-/// there is none.
-#[inline(always)]
-fn begins<R: Repertoire, U: Unit>(rest: &[u8]) -> bool {
-    rest.len() >= U::size() * BLOCK && are_below::<R, U>(rest, 0)
-}
-
-/// Whether it is worth while to look for a run of units of a form. It decides speed alone.
-#[inline(always)]
-fn form_may_run<R: Repertoire>(form: AsciiForm, rest: &[u8]) -> bool {
-    match form {
-        AsciiForm::Byte => begins::<R, Byte>(rest),
-        AsciiForm::Two(Endian::Big) => begins::<R, Two<BigEndian>>(rest),
-        AsciiForm::Two(Endian::Little) => begins::<R, Two<LittleEndian>>(rest),
-        AsciiForm::Four(Endian::Big) => begins::<R, Four<BigEndian>>(rest),
-        AsciiForm::Four(Endian::Little) => begins::<R, Four<LittleEndian>>(rest),
-    }
 }
 
 /// Writes the characters of the first `n` units of one form in another. No unit is tested.
@@ -172,22 +93,6 @@ fn take_blocks<R: Repertoire, From: Unit, To: Unit>(
         n += BLOCK;
         used += From::size() * BLOCK;
         end += To::size() * BLOCK;
-    }
-    n
-}
-
-/// How many units of a run stand at the front, `most` at most.
-#[inline(always)]
-fn unit_run<R: Repertoire, U: Unit>(rest: &[u8], most: usize) -> usize
-    requires { unit_size U.form * most ≤ length rest.now }
-    ensures within { result ≤ most }
-    ensures small { IsRunBelow R.limit U.form rest.now result }
-{
-    let mut n = 0;
-    let mut at = 0;
-    while n < most && is_below::<R, U>(rest, at) {
-        n += 1;
-        at += U::size();
     }
     n
 }

@@ -7,6 +7,7 @@ mod ascii_runs;
 mod byte_order;
 mod repertoire;
 mod small_runs;
+mod small_units;
 mod spelled_reading;
 mod spelled_writing;
 mod spelling;

@@ -1,6 +1,6 @@
 use Rattle.std.proofs.Common.{◌<◌, arith, mul-zero, add-zero, ltb-true}
 use Rattle.cv_block.proofs.AsciiRuns.{unit_more, unit_fits, joined_more, below_weaker}
-use Rattle.cv_block.proofs.ascii_runs.joined_below.Goals as goal
+use Rattle.cv_block.proofs.small_units.joined_below.Goals as goal
 
 pub number-joined-requires : goal.number-joined-requires
 number-joined-requires g c = omega (arith, unit_fits g.U.Unit.form c.loop-unit._unit c.args.n c.loop-unit-test.true)

@@ -1,7 +1,7 @@
 use Rattle.std.proofs.Common.{◌-◌, ◌≡◌, ◌≤◌, ◌*◌}
 use Rattle.cv_base.specs.Units.{unit_size}
 use Rattle.cv_block.specs.AsciiRuns.{IsRunBelow}
-use Rattle.cv_block.proofs.ascii_runs.unit_run.Given as goal
+use Rattle.cv_block.proofs.small_units.unit_run.Given as goal
 
 abbrev pub invariant-loop-n : goal.invariant-loop-n
 invariant-loop-n g l = record {

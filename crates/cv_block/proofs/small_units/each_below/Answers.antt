@@ -1,7 +1,7 @@
 use Rattle.std.proofs.Common.{arith, mul-zero, add-zero}
 use Rattle.std.proofs.lemmas.Bool.{and_parts}
 use Rattle.cv_block.proofs.AsciiRuns.{unit_more, unit_fits, below_more}
-use Rattle.cv_block.proofs.ascii_runs.each_below.Goals as goal
+use Rattle.cv_block.proofs.small_units.each_below.Goals as goal
 
 pub is_below-all-requires : goal.is_below-all-requires
 is_below-all-requires g c = omega (arith, unit_fits g.U.Unit.form c.loop-unit._unit c.args.n c.loop-unit-test.true)

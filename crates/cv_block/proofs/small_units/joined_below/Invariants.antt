@@ -1,7 +1,7 @@
 use Rattle.std.proofs.Common.{ℕ, ◌≡◌, ◌<◌, ◌+◌, ◌*◌}
 use Rattle.cv_base.specs.Units.{unit_size}
 use Rattle.cv_block.specs.AsciiRuns.{IsBelowAt}
-use Rattle.cv_block.proofs.ascii_runs.joined_below.Given as goal
+use Rattle.cv_block.proofs.small_units.joined_below.Given as goal
 
 abbrev pub invariant-loop-unit : goal.invariant-loop-unit
 invariant-loop-unit g l = record {

@@ -1,7 +1,7 @@
 use Rattle.std.proofs.Common.{◌≡◌, refl}
 use Rattle.cv_base.specs.declared.ascii_form.AsciiForm.TheVariants.{Byte}
 use Rattle.cv_block.proofs.AsciiRuns.{bytes_at}
-use Rattle.cv_block.proofs.ascii_runs.are_below.Goals as goal
+use Rattle.cv_block.proofs.small_units.are_below.Goals as goal
 
 pub returns-then-is_byte : goal.returns-then-is_byte
 returns-then-is_byte g c h =

@@ -129,7 +129,8 @@ first_lane text at used k v s room w l u e f b (inr (inr p)) =
 abbrev pub begins_if : Bool → Bool → ℕ
 begins_if b u = cond b 0 (cond u 1 0)
 
-not_read : (b : Bool) → begins_if b false ≡ 0
+-- nothing begins behind what is read
+pub not_read : (b : Bool) → begins_if b false ≡ 0
 not_read true = refl
 not_read false = refl
 

@@ -1,9 +1,9 @@
 -- Which bytes of a window of UTF-8 are of whole characters.
-use Rattle.std.proofs.Common.{◌≡◌, ℕ, ◌+◌, ◌-◌, ◌*◌, ◌%◌, ◌^◌, ◌<◌, ◌≤◌, ◌⊎◌, inl, inr, Bool, true, false, Fits, List, get_or, sym, ◌∙◌, ap, arith, zero, suc, w8, w64, lit≤}
+use Rattle.std.proofs.Common.{◌≡◌, ℕ, ◌+◌, ◌-◌, ◌*◌, ◌%◌, ◌^◌, ◌<◌, ◌≤◌, ◌⊎◌, inl, inr, Bool, true, false, cond, Fits, List, get_or, refl, sym, ◌∙◌, ap, arith, zero, suc, w8, w64, lit≤}
 use Rattle.std.specs.Int.{bit_at, trailing_ones}
 use Rattle.std.specs.Int.RustNames.{bit_or}
 use Rattle.std.proofs.lemmas.Nat.{or_lt}
-use Rattle.std.proofs.lemmas.Nat.Bits.{bit_at_above, bit_at_cat_high, bit_at-trailing_ones}
+use Rattle.std.proofs.lemmas.Nat.Bits.{bit_at-lt, bit_at_above, bit_at_cat_high, bit_at-trailing_ones}
 use Rattle.std.proofs.lemmas.Bool.{ltb-true, lt-ltb}
 use Rattle.cv_utf8.specs.Private.Utf8Short.{is_behind}
 use Rattle.cv_utf8.specs.Private.Utf8Windows.{IsOneAt, IsTwoAt, IsThreeAt, AreMarks, IsFollowing, AreWhole}
@@ -13,9 +13,13 @@ use Rattle.cv_utf8.proofs.Utf8Marks.{in_either, left_in, right_in}
 abbrev moved : ℕ → ℕ → ℕ
 moved m s = (m * 2 ^ s) % 2 ^ 64
 
+-- the places at which marked characters begin
+abbrev pub firsts : ℕ → ℕ → ℕ → ℕ
+firsts one two three = bit_or (bit_or one two) three
+
 -- the places that marked characters cover
 abbrev pub covered : ℕ → ℕ → ℕ → ℕ
-covered one two three = bit_or (bit_or (bit_or (bit_or one two) three) (moved (bit_or two three) 1)) (moved three 2)
+covered one two three = bit_or (bit_or (firsts one two three) (moved (bit_or two three) 1)) (moved three 2)
 
 moved_lt : (m s : ℕ) → m < 2 ^ 16 → s ≤ 2 → moved m s < 2 ^ 18
 moved_lt m zero h l = omega arith
@@ -29,7 +33,8 @@ moved_is m (suc zero) h l = omega arith
 moved_is m (suc (suc zero)) h l = omega arith
 moved_is m (suc (suc (suc s))) h l = absurd (omega arith)
 
-pow_positive : (s : ℕ) → 0 < 2 ^ s
+-- a power of two is positive
+pub pow_positive : (s : ℕ) → 0 < 2 ^ s
 pow_positive zero = omega arith
 pow_positive (suc s) = omega (arith, pow_positive s)
 
@@ -57,9 +62,13 @@ from_two m (suc (suc j)) h e =
     let place : j + 2 ≡ suc (suc j) = omega arith in
     (j, omega arith, sym (moved_up m 2 j h (lit≤ tt)) ∙ ap (bit_at (moved m 2)) place ∙ e)
 
+-- how a byte behind a first is covered
+abbrev IsAfter : ℕ → ℕ → ℕ → Type 0
+IsAfter two three k = ((j : ℕ) × (k ≡ j + 1) × ((bit_at two j ≡ 1) ⊎ (bit_at three j ≡ 1))) ⊎ ((j : ℕ) × (k ≡ j + 2) × (bit_at three j ≡ 1))
+
 -- how a byte is covered
 abbrev IsCovered : ℕ → ℕ → ℕ → ℕ → Type 0
-IsCovered one two three k = (bit_at one k ≡ 1) ⊎ ((bit_at two k ≡ 1) ⊎ ((bit_at three k ≡ 1) ⊎ (((j : ℕ) × (k ≡ j + 1) × ((bit_at two j ≡ 1) ⊎ (bit_at three j ≡ 1))) ⊎ ((j : ℕ) × (k ≡ j + 2) × (bit_at three j ≡ 1)))))
+IsCovered one two three k = (bit_at one k ≡ 1) ⊎ ((bit_at two k ≡ 1) ⊎ ((bit_at three k ≡ 1) ⊎ IsAfter two three k))
 
 cover_one : (one two three k : ℕ) → two < 2 ^ 16 → three < 2 ^ 16 → bit_at (moved (bit_or two three) 1) k ≡ 1 → IsCovered one two three k
 cover_one one two three k h l e =
@@ -128,6 +137,21 @@ pub clash : (b : Bool) → b ≡ true → b ≡ false → ⊥
 clash true e f = cc
 clash false e f = cc
 
+-- a byte that is covered behind a first
+after_behind : (text : List ℕ) (at two three k : ℕ) → AreMarks (IsTwoAt text) at two → AreMarks (IsThreeAt text) at three → IsAfter two three k → is_behind (get_or text (at + k) 0) ≡ true
+after_behind text at two three k q r (inl (j, e, inl f)) =
+    let t = q.1 j (place_lt two j q.0 f (lt_or_le j 16)) f in
+    let place : at + k ≡ at + j + 1 = omega arith in
+    rw place (tail_behind (get_or text (at + j + 1) 0) t.2)
+after_behind text at two three k q r (inl (j, e, inr f)) =
+    let t = r.1 j (place_lt three j r.0 f (lt_or_le j 16)) f in
+    let place : at + k ≡ at + j + 1 = omega arith in
+    rw place (tail_behind (get_or text (at + j + 1) 0) t.2)
+after_behind text at two three k q r (inr (j, e, f)) =
+    let t = r.1 j (place_lt three j r.0 f (lt_or_le j 16)) f in
+    let place : at + k ≡ at + j + 2 = omega arith in
+    rw place (tail_behind (get_or text (at + j + 2) 0) t.3)
+
 of_first : (text : List ℕ) (at one two three used k : ℕ) → AreMarks (IsOneAt text) at one → AreMarks (IsTwoAt text) at two → AreMarks (IsThreeAt text) at three → bit_at (covered one two three) used ≡ 0 → k < used → is_behind (get_or text (at + k) 0) ≡ false → IsCovered one two three k
     → IsOneAt text (at + k) ⊎ ((IsTwoAt text (at + k) × (k + 2 ≤ used)) ⊎ (IsThreeAt text (at + k) × (k + 3 ≤ used)))
 of_first text at one two three used k p q r z h b (inl e) = inl (p.1 k (place_lt one k p.0 e (lt_or_le k 16)) e)
@@ -138,18 +162,41 @@ of_first text at one two three used k p q r z h b (inr (inr (inl e))) =
     let l = goes_on (covered one two three) used k z (next_covered one two three k q.0 r.0 (right_in two three k e)) h in
     let m : k + 2 < used = further (covered one two three) used (k + 2) z (last_covered one two three k r.0 e) (omega arith) (lt_or_le (k + 2) used) in
     inr (inr (r.1 k (place_lt three k r.0 e (lt_or_le k 16)) e, omega arith))
-of_first text at one two three used k p q r z h b (inr (inr (inr (inl (j, e, inl f))))) =
-    let t = q.1 j (place_lt two j q.0 f (lt_or_le j 16)) f in
-    let place : at + k ≡ at + j + 1 = omega arith in
-    absurd (clash _ (tail_behind (get_or text (at + j + 1) 0) t.2) (rw place at b))
-of_first text at one two three used k p q r z h b (inr (inr (inr (inl (j, e, inr f))))) =
-    let t = r.1 j (place_lt three j r.0 f (lt_or_le j 16)) f in
-    let place : at + k ≡ at + j + 1 = omega arith in
-    absurd (clash _ (tail_behind (get_or text (at + j + 1) 0) t.2) (rw place at b))
-of_first text at one two three used k p q r z h b (inr (inr (inr (inr (j, e, f))))) =
-    let t = r.1 j (place_lt three j r.0 f (lt_or_le j 16)) f in
-    let place : at + k ≡ at + j + 2 = omega arith in
-    absurd (clash _ (tail_behind (get_or text (at + j + 2) 0) t.3) (rw place at b))
+of_first text at one two three used k p q r z h b (inr (inr (inr a))) = absurd (clash _ (after_behind text at two three k q r a) b)
+
+-- a first is not behind one
+not_first : (text : List ℕ) (at one two three k : ℕ) → AreMarks (IsOneAt text) at one → AreMarks (IsTwoAt text) at two → AreMarks (IsThreeAt text) at three → get_or text (at + k) 0 < 256 → is_behind (get_or text (at + k) 0) ≡ true
+    → ((bit_at one k ≡ 1) ⊎ (bit_at two k ≡ 1)) ⊎ (bit_at three k ≡ 1) → ⊥
+not_first text at one two three k p q r h b (inl (inl e)) =
+    let s = behind_range (get_or text (at + k) 0) h b in
+    let t = p.1 k (place_lt one k p.0 e (lt_or_le k 16)) e in
+    omega (arith, s.0)
+not_first text at one two three k p q r h b (inl (inr e)) =
+    let s = behind_range (get_or text (at + k) 0) h b in
+    let t = q.1 k (place_lt two k q.0 e (lt_or_le k 16)) e in
+    omega (arith, s.1, t.0)
+not_first text at one two three k p q r h b (inr e) =
+    let s = behind_range (get_or text (at + k) 0) h b in
+    let t = r.1 k (place_lt three k r.0 e (lt_or_le k 16)) e in
+    omega (arith, s.1, t.0)
+
+in_firsts : (one two three k : ℕ) → (bit_at (bit_or one two) k ≡ 1) ⊎ (bit_at three k ≡ 1) → ((bit_at one k ≡ 1) ⊎ (bit_at two k ≡ 1)) ⊎ (bit_at three k ≡ 1)
+in_firsts one two three k (inl e) = inl (in_either one two k e)
+in_firsts one two three k (inr e) = inr e
+
+zero_unless : (n : ℕ) → n < 2 → (n ≡ 1 → ⊥) → n ≡ 0
+zero_unless zero h f = refl
+zero_unless (suc zero) h f = absurd (f refl)
+zero_unless (suc (suc n)) h f = absurd (omega arith)
+
+-- which covered bytes are firsts
+first_is : (text : List ℕ) (at one two three k : ℕ) (b : Bool) → AreMarks (IsOneAt text) at one → AreMarks (IsTwoAt text) at two → AreMarks (IsThreeAt text) at three → get_or text (at + k) 0 < 256 → is_behind (get_or text (at + k) 0) ≡ b → IsCovered one two three k
+    → bit_at (firsts one two three) k ≡ cond b 0 1
+first_is text at one two three k true p q r h b is = zero_unless _ (bit_at-lt (firsts one two three) k) (λ e. not_first text at one two three k p q r h b (in_firsts one two three k (in_either (bit_or one two) three k e)))
+first_is text at one two three k false p q r h b (inl e) = left_in (bit_or one two) three k (left_in one two k e)
+first_is text at one two three k false p q r h b (inr (inl e)) = left_in (bit_or one two) three k (right_in one two k e)
+first_is text at one two three k false p q r h b (inr (inr (inl e))) = right_in (bit_or one two) three k e
+first_is text at one two three k false p q r h b (inr (inr (inr a))) = absurd (clash _ (after_behind text at two three k q r a) b)
 
 of_behind : (text : List ℕ) (at one two three k : ℕ) → AreMarks (IsOneAt text) at one → AreMarks (IsTwoAt text) at two → AreMarks (IsThreeAt text) at three → get_or text (at + k) 0 < 256 → is_behind (get_or text (at + k) 0) ≡ true → IsCovered one two three k → IsFollowing text at k
 of_behind text at one two three k p q r h b (inl e) =
@@ -176,18 +223,7 @@ of_over : (text : List ℕ) (at one two three k : ℕ) → AreMarks (IsOneAt tex
 of_over text at one two three k p q r h (inl e) = let l = place_lt one k p.0 e (lt_or_le k 16) in absurd (omega arith)
 of_over text at one two three k p q r h (inr (inl e)) = let l = place_lt two k q.0 e (lt_or_le k 16) in absurd (omega arith)
 of_over text at one two three k p q r h (inr (inr (inl e))) = let l = place_lt three k r.0 e (lt_or_le k 16) in absurd (omega arith)
-of_over text at one two three k p q r h (inr (inr (inr (inl (j, e, inl f))))) =
-    let t = q.1 j (place_lt two j q.0 f (lt_or_le j 16)) f in
-    let place : at + k ≡ at + j + 1 = omega arith in
-    rw place (tail_behind (get_or text (at + j + 1) 0) t.2)
-of_over text at one two three k p q r h (inr (inr (inr (inl (j, e, inr f))))) =
-    let t = r.1 j (place_lt three j r.0 f (lt_or_le j 16)) f in
-    let place : at + k ≡ at + j + 1 = omega arith in
-    rw place (tail_behind (get_or text (at + j + 1) 0) t.2)
-of_over text at one two three k p q r h (inr (inr (inr (inr (j, e, f))))) =
-    let t = r.1 j (place_lt three j r.0 f (lt_or_le j 16)) f in
-    let place : at + k ≡ at + j + 2 = omega arith in
-    rw place (tail_behind (get_or text (at + j + 2) 0) t.3)
+of_over text at one two three k p q r h (inr (inr (inr a))) = after_behind text at two three k q r a
 
 covered_lt : (one two three : ℕ) → one < 2 ^ 16 → two < 2 ^ 16 → three < 2 ^ 16 → covered one two three < 2 ^ 18
 covered_lt one two three h k l =
@@ -214,3 +250,12 @@ whole_of_marks text at one two three used fits p q r e =
       over = λ k l h. of_over text at one two three k p q r l (is k h);
       behind = λ k h b. of_behind text at one two three k p q r (fits (at + k)).fits b (is k h);
     }
+
+-- where they are whole, those that are marked begin them
+pub firsts_of_marks : (text : List ℕ) (at one two three used k : ℕ) → ((i : ℕ) → Fits w8 (get_or text i 0)) → AreMarks (IsOneAt text) at one → AreMarks (IsTwoAt text) at two → AreMarks (IsThreeAt text) at three → used ≡ trailing_ones w64 (covered one two three) → k < used
+    → bit_at (firsts one two three) k ≡ cond (is_behind (get_or text (at + k) 0)) 0 1
+firsts_of_marks text at one two three used k fits p q r e h =
+    let m : ℕ = covered one two three in
+    let small : m < 2 ^ 18 = covered_lt one two three p.0 q.0 r.0 in
+    let set = (bit_at-trailing_ones w64 m (omega arith)).2 k (rw e at h) in
+    first_is text at one two three k (is_behind (get_or text (at + k) 0)) p q r (fits (at + k)).fits refl (cover one two three k q.0 r.0 set)

@@ -7,7 +7,7 @@ use Rattle.std.proofs.Math.Dec.{ltb}
 use Rattle.std.proofs.Math.Seq.{drop-cons}
 use Rattle.std.proofs.lemmas.Simd.{bitmask_splat, zip2_splat, bit_mask_l, length-chunk, get_or-chunk, length-zip2, map-map}
 use Rattle.std.proofs.lemmas.List.{get_or-map}
-use Rattle.std.proofs.lemmas.Bool.{ltb-true, ltb-false, le-ltb, lt-ltb}
+use Rattle.std.proofs.lemmas.Bool.{ltb-true, ltb-false, le-ltb}
 use Rattle.std.specs.Int.{bit_at}
 use Rattle.cv_block.specs.Spelled.{IsSpelledAt}
 use Rattle.cv_utf8.specs.Utf8.{utf8_bytes}
@@ -143,7 +143,7 @@ all_used text at b e = ap (λ n. 16 + n) (byte_is b ∙ ap one_if e)
 
 -- what begins in the lanes stands one behind the other
 pub short_begun : (text : List ℕ) (at used : ℕ) (vs : List ℕ) (begun : ℕ) → at + 18 ≤ length text → ((i : ℕ) → Fits w8 (get_or text i 0)) → is_behind (get_or text at 0) ≡ false → used ≡ 16 + left_over text (at + 16) → ((k : ℕ) → k < 16 → IsShortAt text (at + k))
-    → ((k : ℕ) → k < 16 → get_or vs k 0 ≡ short_value text (at + k)) → ((k : ℕ) → k < 16 → bit_at begun k ≡ cond (is_behind (get_or text (at + k) 0)) 0 (cond (ltb k 16) 1 0)) → AreBegun text at vs begun used
+    → ((k : ℕ) → k < 16 → get_or vs k 0 ≡ short_value text (at + k)) → ((k : ℕ) → k < 16 → bit_at begun k ≡ cond (is_behind (get_or text (at + k) 0)) 0 1) → AreBegun text at vs begun used
 short_begun text at used vs begun room fits begins e short are bits =
     let here : at + 0 ≡ at = omega arith in
     let first : left_over text (at + 0) ≡ 0 = rw here (ap one_if begins) in
@@ -155,6 +155,5 @@ short_begun text at used vs begun room fits begins e short are bits =
           let x = get_or text (at + k) 0 in
           let y = get_or text (at + k + 1) 0 in
           let place : at + (k + 1) ≡ at + k + 1 = omega arith in
-          let one : bit_at begun k ≡ none_if (is_behind x) = bits k l ∙ ap (λ b. cond (is_behind x) 0 (cond b 1 0)) (lt-ltb k 16 l) in
-          rw place (lane_of text at k (get_or vs k 0) (bit_at begun k) room l (are k l) one (which x y (is_behind x) (is_behind y) (fits (at + k)).fits (fits (at + k + 1)).fits (short k l) refl refl));
+          rw place (lane_of text at k (get_or vs k 0) (bit_at begun k) room l (are k l) (bits k l) (which x y (is_behind x) (is_behind y) (fits (at + k)).fits (fits (at + k + 1)).fits (short k l) refl refl));
     }

@@ -1,20 +1,21 @@
 -- What begins in each lane of a window of UTF-8, and its number, as vectors compute them.
-use Rattle.std.proofs.Common.{◌≡◌, ℕ, ◌+◌, ◌-◌, ◌*◌, ◌/◌, ◌%◌, ◌^◌, ◌<◌, ◌≤◌, Bool, true, false, not, cond, Fits, List, [], ◌∷◌, length, take, drop, get_or, map, min, refl, sym, ◌∙◌, ap, arith, zero, suc, w8}
+use Rattle.std.proofs.Common.{◌≡◌, ℕ, ◌+◌, ◌-◌, ◌*◌, ◌/◌, ◌%◌, ◌^◌, ◌<◌, ◌≤◌, ◌⊎◌, inl, inr, Bool, true, false, not, cond, Fits, List, [], ◌∷◌, length, take, drop, get_or, map, min, refl, sym, ◌∙◌, ap, arith, zero, suc, w8, w64}
 use Rattle.std.specs.Prelude.{replicate}
-use Rattle.std.specs.Int.{bit_at}
+use Rattle.std.specs.Int.{bit_at, trailing_ones}
 use Rattle.std.specs.Int.Bits.{bit_and}
 use Rattle.std.specs.Simd.Lanes.{mask_l, top, zip2, sel_l}
 use Rattle.std.proofs.Math.Dec.{ltb, eqb}
-use Rattle.std.proofs.lemmas.Bool.{ltb-true, ltb-false}
+use Rattle.std.proofs.lemmas.Bool.{lt-ltb, le-ltb}
 use Rattle.std.proofs.lemmas.List.{get_or-map}
-use Rattle.std.proofs.lemmas.Nat.Bits.{bit_at_and, bit_at_ones, bit_at_ones_above}
+use Rattle.std.proofs.lemmas.Nat.Bits.{bit_at-lt, bit_at_and, bit_at_ones, bit_at_ones_above}
 use Rattle.std.proofs.lemmas.Nat.{one_shl}
 use Rattle.std.proofs.lemmas.Simd.{bit_mask_l, length-chunk, get_or-chunk}
 use lib.Lanes.{Each1}
 use Rattle.cv_utf8.specs.Private.Utf8Short.{is_among, is_behind, short_of}
-use Rattle.cv_utf8.specs.Private.Utf8Windows.{whole_of}
+use Rattle.cv_utf8.specs.Private.Utf8Windows.{AreMarks, IsOneAt, IsTwoAt, IsThreeAt, three_high, whole_of}
 use Rattle.cv_utf8.proofs.Utf8Marks.{one_if}
-use Rattle.cv_utf8.proofs.Utf8Begun.{begins_if}
+use Rattle.cv_utf8.proofs.Utf8Covered.{covered, firsts, firsts_of_marks, lt_or_le}
+use Rattle.cv_utf8.proofs.Utf8Begun.{begins_if, not_read}
 
 -- the lanes that are none behind a first
 not_behind : (x : ℕ) → x < 256 → is_among 0xc0 0xc0 x ≡ not (is_behind x)
@@ -24,20 +25,27 @@ lane_bit : (b : Bool) → one_if (not b) ≡ cond b 0 1
 lane_bit true = refl
 lane_bit false = refl
 
-within : (a k u : ℕ) (b c : Bool) → a ≡ cond b 0 1 → c ≡ ltb k u → min a (bit_at (2 ^ u - 1) k) ≡ begins_if b c
-within a k u true c e f = omega (arith, e)
-within a k u false true e f = omega (arith, e, bit_at_ones u k (ltb-true k u (sym f)))
-within a k u false false e f = omega (arith, e, bit_at_ones_above u k (ltb-false k u (sym f)))
-
 -- which lanes begin a character
-pub beginning_at : (text : List ℕ) (at used m k : ℕ) → at + 16 ≤ length text → ((i : ℕ) → Fits w8 (get_or text i 0)) → m ≡ mask_l (map (is_among 0xc0 0xc0) (take 16 (drop at text))) → k < 16
-    → bit_at (bit_and m (2 ^ used - 1)) k ≡ begins_if (is_behind (get_or text (at + k) 0)) (ltb k used)
-beginning_at text at used m k room fits e h =
+pub beginning_at : (text : List ℕ) (at m k : ℕ) → at + 16 ≤ length text → ((i : ℕ) → Fits w8 (get_or text i 0)) → m ≡ mask_l (map (is_among 0xc0 0xc0) (take 16 (drop at text))) → k < 16 → bit_at m k ≡ cond (is_behind (get_or text (at + k) 0)) 0 1
+beginning_at text at m k room fits e h =
     let xs : List ℕ = take 16 (drop at text) in
     let x : ℕ = get_or text (at + k) 0 in
     let lane : get_or (map (is_among 0xc0 0xc0) xs) k false ≡ is_among 0xc0 0xc0 x = get_or-map (is_among 0xc0 0xc0) xs k 0 false (omega (arith, length-chunk at 16 text room)) ∙ ap (is_among 0xc0 0xc0) (get_or-chunk at 16 text k 0 h) in
-    let bit : bit_at m k ≡ cond (is_behind x) 0 1 = ap (λ n. bit_at n k) e ∙ bit_mask_l (map (is_among 0xc0 0xc0) xs) k ∙ ap one_if (lane ∙ not_behind x (fits (at + k)).fits) ∙ lane_bit (is_behind x) in
-    bit_at_and m (2 ^ used - 1) k ∙ within (bit_at m k) k used (is_behind x) (ltb k used) bit refl
+    ap (λ n. bit_at n k) e ∙ bit_mask_l (map (is_among 0xc0 0xc0) xs) k ∙ ap one_if (lane ∙ not_behind x (fits (at + k)).fits) ∙ lane_bit (is_behind x)
+
+below : (a k u : ℕ) (b : Bool) → a < 2 → (k < u → a ≡ cond b 0 1) → k < u ⊎ u ≤ k → min a (bit_at (2 ^ u - 1) k) ≡ begins_if b (ltb k u)
+below a k u b s e (inl h) =
+    let is : min a (bit_at (2 ^ u - 1) k) ≡ cond b 0 1 = omega (arith, e h, bit_at_ones u k h) in
+    is ∙ sym (ap (begins_if b) (lt-ltb k u h))
+below a k u b s e (inr h) =
+    let is : min a (bit_at (2 ^ u - 1) k) ≡ 0 = omega (arith, bit_at_ones_above u k h) in
+    is ∙ sym (ap (begins_if b) (le-ltb k u h) ∙ not_read b)
+
+-- which lanes begin a character of those that are whole
+pub whole_beginning_at : (text : List ℕ) (at one two three used k : ℕ) → ((i : ℕ) → Fits w8 (get_or text i 0)) → AreMarks (IsOneAt text) at one → AreMarks (IsTwoAt text) at two → AreMarks (IsThreeAt text) at three → used ≡ trailing_ones w64 (covered one two three)
+    → bit_at (bit_and (firsts one two three) (2 ^ used - 1)) k ≡ begins_if (is_behind (get_or text (at + k) 0)) (ltb k used)
+whole_beginning_at text at one two three used k fits p q r e =
+    bit_at_and (firsts one two three) (2 ^ used - 1) k ∙ below (bit_at (firsts one two three) k) k used (is_behind (get_or text (at + k) 0)) (bit_at-lt (firsts one two three) k) (firsts_of_marks text at one two three used k fits p q r e) (lt_or_le k used)
 
 -- so many lowest bits
 pub lowest : (used : ℕ) → used ≤ 18 → (1 * 2 ^ used) % 2 ^ 64 ≡ 2 ^ used
@@ -77,12 +85,18 @@ low_two n xs ys = zip2 sum_of (splat n product_of 64 xs) (splat n rem_of 64 ys)
 abbrev high_two : ℕ → List ℕ → List ℕ
 high_two n xs = splat n part_of 4 (splat n rem_of 32 xs)
 
-abbrev middle_all : ℕ → List ℕ → List ℕ → List ℕ
-middle_all n xs ys = sel_l (are_equal n 13 (splat n rem_of 16 xs)) (splat n rem_of 32 ys) (splat n rem_of 64 ys)
-
--- the high byte of three
+-- the high byte of three, whatever it is
 abbrev high_three : ℕ → List ℕ → List ℕ → List ℕ
-high_three n xs ys = zip2 sum_of (splat n product_of 16 xs) (splat n part_of 4 (middle_all n xs ys))
+high_three n xs ys = zip2 sum_of (splat n product_of 16 xs) (splat n part_of 4 (splat n rem_of 64 ys))
+
+abbrev three_highs : ℕ → List ℕ → List ℕ → List ℕ
+three_highs n xs ys = sel_l (are_equal n 27 (splat n part_of 8 (high_three n xs ys))) (replicate n 0) (high_three n xs ys)
+
+abbrev difference_of : ℕ → ℕ → ℕ
+difference_of a b = (a + (2 ^ 8 - b)) % 2 ^ 8
+
+abbrev are_three : ℕ → List ℕ → List Bool
+are_three n xs = are_below n 0x10 (splat n difference_of 0xe0 xs)
 
 abbrev short_lows : ℕ → List ℕ → List ℕ → List ℕ
 short_lows n xs ys = sel_l (are_below n 0xc0 xs) xs (low_two n xs ys)
@@ -91,10 +105,10 @@ abbrev short_highs : ℕ → List ℕ → List ℕ
 short_highs n xs = sel_l (are_below n 0xc0 xs) (replicate n 0) (high_two n xs)
 
 abbrev lows : ℕ → List ℕ → List ℕ → List ℕ → List ℕ
-lows n xs ys zs = sel_l (are_below n 0xc0 xs) xs (sel_l (are_below n 0xe0 xs) (low_two n xs ys) (low_two n ys zs))
+lows n xs ys zs = sel_l (are_below n 0x80 xs) xs (low_two n (sel_l (are_three n xs) ys xs) (sel_l (are_three n xs) zs ys))
 
 abbrev highs : ℕ → List ℕ → List ℕ → List ℕ
-highs n xs ys = sel_l (are_below n 0xc0 xs) (replicate n 0) (sel_l (are_below n 0xe0 xs) (high_two n xs) (high_three n xs ys))
+highs n xs hs = sel_l (are_below n 0x80 xs) (replicate n 0) (sel_l (are_three n xs) hs (high_two n xs))
 
 -- ---- one lane
 
@@ -105,7 +119,13 @@ abbrev lane_high_two : ℕ → ℕ
 lane_high_two x = x % 32 / 4
 
 abbrev lane_high_three : ℕ → ℕ → ℕ
-lane_high_three x y = sum_of (product_of x 16) (cond (mask (eqb (x % 16) 13)) (y % 32) (y % 64) / 4)
+lane_high_three x y = sum_of (product_of x 16) (y % 64 / 4)
+
+abbrev lane_three_high : ℕ → ℕ → ℕ
+lane_three_high x y = cond (mask (eqb (lane_high_three x y / 8) 27)) 0 (lane_high_three x y)
+
+abbrev is_three : ℕ → Bool
+is_three x = mask (ltb (difference_of x 0xe0) 0x10)
 
 abbrev lane_short_low : ℕ → ℕ → ℕ
 lane_short_low x y = cond (mask (ltb x 0xc0)) x (lane_low_two x y)
@@ -114,10 +134,10 @@ abbrev lane_short_high : ℕ → ℕ
 lane_short_high x = cond (mask (ltb x 0xc0)) 0 (lane_high_two x)
 
 abbrev lane_low : ℕ → ℕ → ℕ → ℕ
-lane_low x y z = cond (mask (ltb x 0xc0)) x (cond (mask (ltb x 0xe0)) (lane_low_two x y) (lane_low_two y z))
+lane_low x y z = cond (mask (ltb x 0x80)) x (lane_low_two (cond (is_three x) y x) (cond (is_three x) z y))
 
 abbrev lane_high : ℕ → ℕ → ℕ
-lane_high x y = cond (mask (ltb x 0xc0)) 0 (cond (mask (ltb x 0xe0)) (lane_high_two x) (lane_high_three x y))
+lane_high x h = cond (mask (ltb x 0x80)) 0 (cond (is_three x) h (lane_high_two x))
 
 short_lows_at : (n : ℕ) (xs ys : List ℕ) (k : ℕ) → length xs ≡ n → length ys ≡ n → k < n → get_or (short_lows n xs ys) k 0 ≡ lane_short_low (get_or xs k 0) (get_or ys k 0)
 short_lows_at zero xs ys k e f h = absurd (omega arith)
@@ -147,6 +167,21 @@ highs_at (suc n) (x ∷ xs) [] k e f h = cc
 highs_at (suc n) (x ∷ xs) (y ∷ ys) zero e f h = refl
 highs_at (suc n) (x ∷ xs) (y ∷ ys) (suc k) e f h = highs_at n xs ys k (omega arith) (omega arith) (omega arith)
 
+three_highs_at : (n : ℕ) (xs ys : List ℕ) (k : ℕ) → length xs ≡ n → length ys ≡ n → k < n → get_or (three_highs n xs ys) k 0 ≡ lane_three_high (get_or xs k 0) (get_or ys k 0)
+three_highs_at zero xs ys k e f h = absurd (omega arith)
+three_highs_at (suc n) [] ys k e f h = cc
+three_highs_at (suc n) (x ∷ xs) [] k e f h = cc
+three_highs_at (suc n) (x ∷ xs) (y ∷ ys) zero e f h = refl
+three_highs_at (suc n) (x ∷ xs) (y ∷ ys) (suc k) e f h = three_highs_at n xs ys k (omega arith) (omega arith) (omega arith)
+
+-- there are as many high bytes as bytes
+pub three_highs_long : (n : ℕ) (xs ys : List ℕ) → length xs ≡ n → length ys ≡ n → length (three_highs n xs ys) ≡ n
+three_highs_long zero [] ys e f = refl
+three_highs_long zero (x ∷ xs) ys e f = absurd (omega (arith, e))
+three_highs_long (suc n) [] ys e f = cc
+three_highs_long (suc n) (x ∷ xs) [] e f = cc
+three_highs_long (suc n) (x ∷ xs) (y ∷ ys) e f = omega (arith, three_highs_long n xs ys (omega arith) (omega arith))
+
 short_low_is : (x y : ℕ) → x < 256 → y < 256 → lane_short_low x y ≡ short_of x y % 256
 short_low_is x y h k = grind arith
 
@@ -156,7 +191,10 @@ short_high_is x h = grind arith
 low_is : (x y z : ℕ) → x < 256 → y < 256 → z < 256 → lane_low x y z ≡ whole_of x y z % 256
 low_is x y z h k l = grind arith
 
-high_is : (x y : ℕ) → x < 256 → y < 256 → lane_high x y ≡ whole_of x y 0 / 256
+three_high_is : (x y : ℕ) → x < 256 → y < 256 → lane_three_high x y ≡ three_high x y
+three_high_is x y h k = grind arith
+
+high_is : (x y : ℕ) → x < 256 → y < 256 → lane_high x (three_high x y) ≡ whole_of x y 0 / 256
 high_is x y h k = grind arith
 
 -- ---- sixteen lanes
@@ -180,9 +218,13 @@ pub low_at : (xs ys zs : List ℕ) (k : ℕ) → length xs ≡ 16 → length ys 
     → get_or (lows 16 xs ys zs) k 0 ≡ whole_of (get_or xs k 0) (get_or ys k 0) (get_or zs k 0) % 256
 low_at xs ys zs k long also too few less least h = lows_at 16 xs ys zs k long also too h ∙ low_is (get_or xs k 0) (get_or ys k 0) (get_or zs k 0) (lane_fits xs k few) (lane_fits ys k less) (lane_fits zs k least)
 
+-- the high bytes of characters of three bytes
+pub three_high_at : (xs ys : List ℕ) (k : ℕ) → length xs ≡ 16 → length ys ≡ 16 → Each1 (Fits w8) xs → Each1 (Fits w8) ys → k < 16 → get_or (three_highs 16 xs ys) k 0 ≡ three_high (get_or xs k 0) (get_or ys k 0)
+three_high_at xs ys k long also few less h = three_highs_at 16 xs ys k long also h ∙ three_high_is (get_or xs k 0) (get_or ys k 0) (lane_fits xs k few) (lane_fits ys k less)
+
 -- the high bytes of characters of up to three bytes
-pub high_at : (xs ys : List ℕ) (k : ℕ) → length xs ≡ 16 → length ys ≡ 16 → Each1 (Fits w8) xs → Each1 (Fits w8) ys → k < 16 → get_or (highs 16 xs ys) k 0 ≡ whole_of (get_or xs k 0) (get_or ys k 0) 0 / 256
-high_at xs ys k long also few less h = highs_at 16 xs ys k long also h ∙ high_is (get_or xs k 0) (get_or ys k 0) (lane_fits xs k few) (lane_fits ys k less)
+pub high_at : (xs ys hs : List ℕ) (k : ℕ) → length xs ≡ 16 → length hs ≡ 16 → Each1 (Fits w8) xs → Each1 (Fits w8) ys → get_or hs k 0 ≡ three_high (get_or xs k 0) (get_or ys k 0) → k < 16 → get_or (highs 16 xs hs) k 0 ≡ whole_of (get_or xs k 0) (get_or ys k 0) 0 / 256
+high_at xs ys hs k long also few less e h = highs_at 16 xs hs k long also h ∙ ap (lane_high (get_or xs k 0)) e ∙ high_is (get_or xs k 0) (get_or ys k 0) (lane_fits xs k few) (lane_fits ys k less)
 
 -- the numbers of both
 

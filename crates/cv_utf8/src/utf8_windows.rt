@@ -5,7 +5,7 @@ ghost use Rattle.std.specs.Simd.Lanes.{mask_l};
 ghost use Rattle.cv_block.specs.Spelled.{IsReadSpelled};
 ghost use Rattle.cv_utf8.specs.Utf8.{utf8_bytes};
 ghost use Rattle.cv_utf8.specs.Private.Utf8Short.{is_among, is_behind, IsShortAt, short_of, short_value};
-ghost use Rattle.cv_utf8.specs.Private.Utf8Windows.{AreWhole, AreMarks, IsOneAt, IsTwoAt, IsThreeAt, whole_of, whole_value};
+ghost use Rattle.cv_utf8.specs.Private.Utf8Windows.{AreWhole, AreMarks, IsOneAt, IsTwoAt, IsThreeAt, three_high, whole_of, whole_value};
 
 use crate::utf8_ascii::{read_ascii, read_last};
 use crate::utf8_begun::put_begun;
@@ -52,8 +52,7 @@ fn short_low(first: u8x16, second: u8x16) -> u8x16
     ensures { (k : ℕ) → k < 16 → get_or result k 0
         ≡ short_of (get_or first k 0) (get_or second k 0) % 256 }
 {
-    let sixty_four = u8x16::splat(64);
-    let two = first * sixty_four + second % sixty_four;
+    let two = first * u8x16::splat(64) + second % u8x16::splat(64);
     first.simd_lt(u8x16::splat(0xc0)).select(first, two)
 }
 
@@ -80,16 +79,15 @@ fn short_values(input: &[u8], at: usize) -> [u16; MANY]
     numbers_of(short_low(first, second), short_high(first))
 }
 
-/// Which of sixteen bytes begin a character, of those in the first `used` bytes, as bits.
+/// Which of sixteen bytes begin a character, as bits.
 #[inline(always)]
-fn beginnings(input: &[u8], at: usize, used: usize) -> u64
-    requires within { at + 16 ≤ length input.now }
-    requires few { used ≤ 18 }
+fn beginnings(input: &[u8], at: usize) -> u64
+    requires { at + 16 ≤ length input.now }
     ensures few { result < 0x10000 }
     ensures bits { (k : ℕ) → k < 16 → bit_at result k
-        ≡ cond (is_behind (get_or input.now (at + k) 0)) 0 (cond (nat_lt k used) 1 0) }
+        ≡ cond (is_behind (get_or input.now (at + k) 0)) 0 1 }
 {
-    among(u8x16::from_slice(&input[at..]), 0xc0, 0xc0) & ((1 << used) - 1)
+    among(u8x16::from_slice(&input[at..]), 0xc0, 0xc0)
 }
 
 /// Whether the byte is one behind a first.
@@ -111,13 +109,8 @@ fn read_short(input: &[u8], at: usize, buffer: &mut [Scalar], n: usize) -> Spell
     ensures read { IsReadSpelled utf8_bytes input.now at buffer.old n result buffer.new }
 {
     let used = MANY + is_behind(input[at + MANY]) as usize;
-    put_begun(
-        &short_values(input, at),
-        beginnings(input, at, MANY),
-        used,
-        buffer,
-        n,
-    )
+    let begun = beginnings(input, at);
+    put_begun(&short_values(input, at), begun, used, buffer, n)
 }
 
 /// Which of sixteen bytes begin a character of two bytes, as bits.
@@ -130,8 +123,20 @@ fn twos(input: &[u8], at: usize) -> u64
     firsts & among(u8x16::from_slice(&input[at + 1..]), 0x80, 0x40)
 }
 
-/// Which of sixteen bytes begin a character of three bytes, as bits. Behind the lowest first byte the second is high,
-/// and behind that which surrogates would have it is low.
+/// The high bytes of the numbers of characters of three bytes, by the first two. In place of a surrogate's it is 0.
+#[inline(always)]
+fn three_high(first: u8x16, second: u8x16) -> u8x16
+    ensures long { length result ≡ 16 }
+    ensures bytes { (k : ℕ) → k < 16 → get_or result k 0
+        ≡ three_high (get_or first k 0) (get_or second k 0) }
+{
+    let high = first * u8x16::splat(16) + second % u8x16::splat(64) / u8x16::splat(4);
+    let are_surrogates = (high / u8x16::splat(8)).simd_eq(u8x16::splat(27));
+    are_surrogates.select(u8x16::splat(0), high)
+}
+
+/// Which of sixteen bytes begin a character of three bytes, as bits. Where it needs as many and is no surrogate, the high byte of its
+/// number is 8 at least.
 #[inline(always)]
 fn threes(input: &[u8], at: usize) -> u64
     requires { at + 18 ≤ length input.now }
@@ -139,23 +144,33 @@ fn threes(input: &[u8], at: usize) -> u64
 {
     let bytes = u8x16::from_slice(&input[at..]);
     let behind = u8x16::from_slice(&input[at + 1..]);
-    let before_high = among(bytes, 0xe0, 0x0d) | among(bytes, 0xee, 0x02);
-    let high = before_high & among(behind, 0xa0, 0x20);
-    let low = among(bytes, 0xe1, 0x0f) & among(behind, 0x80, 0x20);
-    (high | low) & among(u8x16::from_slice(&input[at + 2..]), 0x80, 0x40)
+    let firsts = among(bytes, 0xe0, 0x10) & among(behind, 0x80, 0x40);
+    let high = among(three_high(bytes, behind), 0x08, 0xf8);
+    firsts & high & among(u8x16::from_slice(&input[at + 2..]), 0x80, 0x40)
 }
 
-/// How many bytes at the front are whole characters that begin among sixteen bytes and have up to three.
+/// How many bytes at the front are whole characters that begin among sixteen bytes and have up to three, and which begin one, as bits.
+struct Front {
+    used: usize,
+    begun: u64,
+}
+
+/// The whole characters at the front of sixteen bytes.
 #[inline(always)]
-fn whole(input: &[u8], at: usize) -> usize
+fn whole(input: &[u8], at: usize) -> Front
     requires { at + 18 ≤ length input.now }
-    ensures { AreWhole input.now at result }
+    ensures whole { AreWhole input.now at result.used }
+    ensures few { result.begun < 0x10000 }
+    ensures bits { (k : ℕ) → k < 16 → bit_at result.begun k
+        ≡ cond (is_behind (get_or input.now (at + k) 0)) 0 (cond (nat_lt k result.used) 1 0) }
 {
     let one = among(u8x16::from_slice(&input[at..]), 0, 0x80);
     let two = twos(input, at);
     let three = threes(input, at);
-    let covered = one | two | three | (two | three) << 1 | three << 2;
-    covered.trailing_ones() as usize
+    let firsts = one | two | three;
+    let used = (firsts | (two | three) << 1 | three << 2).trailing_ones() as usize;
+    let begun = firsts & ((1 << used) - 1);
+    Front { used, begun }
 }
 
 /// The low bytes of the numbers of characters that have the bytes, up to three.
@@ -164,11 +179,11 @@ fn low_bytes(first: u8x16, second: u8x16, third: u8x16) -> u8x16
     ensures { (k : ℕ) → k < 16 → get_or result k 0
         ≡ whole_of (get_or first k 0) (get_or second k 0) (get_or third k 0) % 256 }
 {
-    let sixty_four = u8x16::splat(64);
-    let two = first * sixty_four + second % sixty_four;
-    let three = second * sixty_four + third % sixty_four;
-    let many = first.simd_lt(u8x16::splat(0xe0)).select(two, three);
-    first.simd_lt(u8x16::splat(0xc0)).select(first, many)
+    let are_three = (first - u8x16::splat(0xe0)).simd_lt(u8x16::splat(0x10));
+    let last = are_three.select(third, second);
+    let before = are_three.select(second, first);
+    let many = before * u8x16::splat(64) + last % u8x16::splat(64);
+    first.simd_lt(u8x16::splat(0x80)).select(first, many)
 }
 
 /// The high bytes of the numbers of characters that have the bytes, up to three.
@@ -177,16 +192,11 @@ fn high_bytes(first: u8x16, second: u8x16) -> u8x16
     ensures { (k : ℕ) → k < 16 → get_or result k 0
         ≡ whole_of (get_or first k 0) (get_or second k 0) 0 / 256 }
 {
-    let four = u8x16::splat(4);
-    let two = first % u8x16::splat(32) / four;
-    let middle = (first % u8x16::splat(16))
-        .simd_eq(u8x16::splat(13))
-        .select(second % u8x16::splat(32), second % u8x16::splat(64));
-    let three = first * u8x16::splat(16) + middle / four;
-    let many = first.simd_lt(u8x16::splat(0xe0)).select(two, three);
-    first
-        .simd_lt(u8x16::splat(0xc0))
-        .select(u8x16::splat(0), many)
+    let two = first % u8x16::splat(32) / u8x16::splat(4);
+    let are_three = (first - u8x16::splat(0xe0)).simd_lt(u8x16::splat(0x10));
+    let many = are_three.select(three_high(first, second), two);
+    let are_one = first.simd_lt(u8x16::splat(0x80));
+    are_one.select(u8x16::splat(0), many)
 }
 
 /// The numbers of the characters that begin at sixteen places, if they have up to three bytes. All are scalar values, whatever the bytes are.
@@ -210,14 +220,8 @@ fn read_whole(input: &[u8], at: usize, buffer: &mut [Scalar], n: usize) -> Spell
     ensures many { result.n ≤ 16 }
     ensures read { IsReadSpelled utf8_bytes input.now at buffer.old n result buffer.new }
 {
-    let used = whole(input, at);
-    put_begun(
-        &whole_values(input, at),
-        beginnings(input, at, used),
-        used,
-        buffer,
-        n,
-    )
+    let Front { used, begun } = whole(input, at);
+    put_begun(&whole_values(input, at), begun, used, buffer, n)
 }
 
 /// Whether a character of three or of four bytes may begin among sixteen bytes. It decides speed alone, and which way is taken by texts of

@@ -1,10 +1,10 @@
 -- Windows of sixteen bytes of UTF-8 that are read at once.
-use Rattle.std.specs.Prelude.{◌≡◌, ℕ, ◌+◌, ◌*◌, ◌%◌, ◌≤◌, ◌<◌, ◌⊎◌, true, false, cond, nat_lt, nat_eq, List, get_or}
+use Rattle.std.specs.Prelude.{◌≡◌, ℕ, ◌+◌, ◌*◌, ◌/◌, ◌%◌, ◌≤◌, ◌<◌, ◌⊎◌, true, false, cond, nat_lt, nat_eq, List, get_or}
 use Rattle.std.specs.Int.{bit_at}
 use Rattle.cv_block.specs.Spelled.{IsSpelledAt}
 use Rattle.cv_utf8.specs.Utf8.{utf8_bytes}
 use Rattle.cv_utf8.specs.Private.Utf8Bytes.{IsTail}
-use Rattle.cv_utf8.specs.Private.Utf8Short.{is_behind}
+use Rattle.cv_utf8.specs.Private.Utf8Short.{is_among, is_behind}
 
 -- At a lane no character begins and the place that is reached stays, or the character at that place begins, and the next stands behind it.
 abbrev pub IsLane : List ℕ → ℕ → ℕ → ℕ → ℕ → ℕ → Type 0
@@ -50,9 +50,13 @@ pub record AreWhole (text : List ℕ) (at used : ℕ) : Type 0 where
   pub over : (k : ℕ) → 16 ≤ k → k < used → is_behind (get_or text (at + k) 0) ≡ true
   pub behind : (k : ℕ) → k < used → is_behind (get_or text (at + k) 0) ≡ true → IsFollowing text at k
 
--- the number of the character that three bytes begin
+-- the high byte of the number of a character of three bytes that begins with two, and 0 in place of a surrogate's
+abbrev pub three_high : ℕ → ℕ → ℕ
+three_high x y = cond (nat_eq (((x % 16) * 16 + y % 64 / 4) / 8) 27) 0 ((x % 16) * 16 + y % 64 / 4)
+
+-- the number of the character that three bytes begin, and some scalar value where they begin none
 abbrev pub whole_of : ℕ → ℕ → ℕ → ℕ
-whole_of x y z = cond (nat_lt x 0xc0) x (cond (nat_lt x 0xe0) ((x % 32) * 64 + y % 64) ((x % 16) * 4096 + cond (nat_eq (x % 16) 13) (y % 32) (y % 64) * 64 + z % 64))
+whole_of x y z = cond (nat_lt x 0x80) x (cond (is_among 0xe0 0x10 x) (three_high x y * 256 + (y % 4) * 64 + z % 64) ((x % 32) * 64 + y % 64))
 
 -- the number of the character that the bytes at a place begin
 abbrev pub whole_value : List ℕ → ℕ → ℕ

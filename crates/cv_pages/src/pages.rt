@@ -1,5 +1,5 @@
 //! The place of each character's first entry.
-ghost use Rattle.std.specs.Prelude.{◌≡◌, ◌≤◌, ◌<◌, ◌+◌, ◌*◌, ◌/◌, ℕ, length, slice_index, IfOk, IsTrue};
+ghost use Rattle.std.specs.Prelude.{◌≡◌, ◌≤◌, ◌<◌, ◌+◌, ◌-◌, ◌*◌, ◌/◌, ℕ, length, slice_index, IfOk, IsTrue};
 ghost use Rattle.cv_byte_trie.specs.Entries.{AreEntries, character_at};
 ghost use Rattle.cv_pages.specs.Paging.{cell_of, place_of, AreWhole, AreFirst};
 ghost use Rattle.cv_pages.specs.Private.Numbered.{AreNumbered, ArePaged};
@@ -20,12 +20,14 @@ const PAGE: u32 = 64;
 /// Pages of 64 characters each, with a cell for each character. Only those are there that name a place, and an empty one.
 #[derive(Debug, Drop)]
 pub struct Pages {
-    /// For each 64 characters where their page begins, up to the last that have one. The page at 0 is empty.
+    /// For each 64 characters where their page begins, and for all above the last that have one. The page at 0 is empty.
     pub tops: Vec<u32>,
     /// The cells of the pages, one page behind another.
     pub cells: Vec<u32>,
     /// The bytes of each cell's entry, where they are few.
     pub shorts: Shorts,
+    pub ghost some: { 0 < length tops.items },
+    pub ghost last: { slice_index tops.items (length tops.items - 1) ≡ 0 },
     pub ghost whole: { AreWhole tops.items cells.items },
     pub ghost long: { length shorts.bytes.items ≡ length cells.items },
     pub ghost sizes: { length shorts.sizes.items ≡ length cells.items },
@@ -58,8 +60,11 @@ fn number(alloc: Global, entries: &[Entry]) -> Result<Numbers, AllocError>
     ensures numbered { IfOk result (λ n. AreNumbered n.tops.items n.size) }
     ensures paged { IfOk result (λ n. ArePaged n.tops.items (length entries.now) entries.now) }
     ensures few { IfOk result (λ n. n.size ≤ 64 * (length entries.now + 1)) }
+    ensures some { IfOk result (λ n. 0 < length n.tops.items) }
+    ensures last { IfOk result
+        (λ n. slice_index n.tops.items (length n.tops.items - 1) ≡ 0) }
 {
-    let mut tops = vec![in alloc; 0u32; highest(entries) as usize / 64 + 1]?;
+    let mut tops = vec![in alloc; 0u32; highest(entries) as usize / 64 + 2]?;
     let mut size = PAGE;
     for place in 0..entries.len() {
         let top = (entries[place].character().value() / 64) as usize;
@@ -116,13 +121,18 @@ impl Pages {
     pub fn place(&self, character: u32) -> u32
         ensures { result ≡ place_of self.now.tops.items self.now.cells.items character }
     {
+        self.cells[self.cell(character)]
+    }
+
+    /// The cell of a character, with no branch: for all that are above the last page the last number says that theirs is the empty one.
+    #[inline(always)]
+    pub fn cell(&self, character: u32) -> usize
+        ensures is { result ≡ cell_of self.now.tops.items character }
+        ensures low { result < length self.now.cells.items }
+    {
         let top = (character / 64) as usize;
-        let page = if top < self.tops.len() {
-            self.tops[top]
-        } else {
-            0
-        };
-        self.cells[page as usize + (character % 64) as usize]
+        let page = self.tops[top.min(self.tops.len() - 1)];
+        page as usize + (character % 64) as usize
     }
 
     /// The cell of a character that is no higher than the last page.

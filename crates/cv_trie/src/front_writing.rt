@@ -61,9 +61,9 @@ fn put_entry(front: &mut [u8], used: usize, entry: &Entry) -> usize
     entry.len()
 }
 
-/// Writes the characters from the `n`th to the `end`th one by one, behind those before them. It stands apart, so that the loops around it
-/// keep their registers.
-#[inline(never)]
+/// Writes the characters from the `n`th to the `end`th one by one, behind those before them. No branch is taken for any of them. It stands
+/// where it is called, since there the compiler knows that the buffer is apart from the pages, and writes eight with no loop.
+#[inline(always)]
 fn put_few(
     pages: &Pages,
     entries: &[Entry],

@@ -3,7 +3,7 @@ use Rattle.std.proofs.Common.{◌≡◌, ℕ, ◌+◌, ◌-◌, ◌*◌, ◌%◌
 use Rattle.std.specs.Int.{bit_at, trailing_ones}
 use Rattle.std.specs.Int.RustNames.{bit_or}
 use Rattle.std.proofs.lemmas.Nat.{or_lt}
-use Rattle.std.proofs.lemmas.Nat.Bits.{bit_at-lt, bit_at_above, bit_at_cat_high, bit_at-trailing_ones}
+use Rattle.std.proofs.lemmas.Nat.Bits.{bit_at-lt, bit_at_above, bit_at_cat_high, bit_at-trailing_ones, bit_at_ones, bit_at_ones_above}
 use Rattle.std.proofs.lemmas.Bool.{ltb-true, lt-ltb}
 use Rattle.cv_utf8.specs.Private.Utf8Short.{is_behind}
 use Rattle.cv_utf8.specs.Private.Utf8Windows.{IsOneAt, IsTwoAt, IsThreeAt, AreMarks, IsFollowing, AreWhole}
@@ -225,7 +225,8 @@ of_over text at one two three k p q r h (inr (inl e)) = let l = place_lt two k q
 of_over text at one two three k p q r h (inr (inr (inl e))) = let l = place_lt three k r.0 e (lt_or_le k 16) in absurd (omega arith)
 of_over text at one two three k p q r h (inr (inr (inr a))) = after_behind text at two three k q r a
 
-covered_lt : (one two three : ℕ) → one < 2 ^ 16 → two < 2 ^ 16 → three < 2 ^ 16 → covered one two three < 2 ^ 18
+-- what is covered is among eighteen places
+pub covered_lt : (one two three : ℕ) → one < 2 ^ 16 → two < 2 ^ 16 → three < 2 ^ 16 → covered one two three < 2 ^ 18
 covered_lt one two three h k l =
     let low : bit_or (bit_or one two) three < 2 ^ 16 = or_lt 16 (bit_or one two) three (or_lt 16 one two h k) l in
     let middle : bit_or (bit_or (bit_or one two) three) (moved (bit_or two three) 1) < 2 ^ 18 = or_lt 18 (bit_or (bit_or one two) three) (moved (bit_or two three) 1) (omega arith) (moved_lt (bit_or two three) 1 (or_lt 16 two three k l) (lit≤ tt)) in
@@ -250,6 +251,25 @@ whole_of_marks text at one two three used fits p q r e =
       over = λ k l h. of_over text at one two three k p q r l (is k h);
       behind = λ k h b. of_behind text at one two three k p q r (fits (at + k)).fits b (is k h);
     }
+
+ones_end : (used reached : ℕ) → bit_at (2 ^ used - 1) reached ≡ 0 → ((i : ℕ) → i < reached → bit_at (2 ^ used - 1) i ≡ 1) → reached < used ⊎ used ≤ reached → used < reached ⊎ reached ≤ used → reached ≡ used
+ones_end used reached stop set (inl h) l = absurd (omega (arith, stop, bit_at_ones used reached h))
+ones_end used reached stop set (inr h) (inl l) = absurd (omega (arith, set used l, bit_at_ones_above used used (omega arith)))
+ones_end used reached stop set (inr h) (inr l) = omega arith
+
+-- where just so many places from the first on are covered, the first that isn't stands behind them
+pub all_covered : (m used : ℕ) → used ≤ 18 → m < 2 ^ 18 → m ≡ 2 ^ used - 1 → used ≡ trailing_ones w64 m
+all_covered m used most small e =
+    let ones = bit_at-trailing_ones w64 m (omega arith) in
+    let end : ℕ = trailing_ones w64 m in
+    let stop : bit_at (2 ^ used - 1) end ≡ 0 = sym (ap (λ x. bit_at x end) e) ∙ ones.1 in
+    sym (ones_end used end stop (λ i h. sym (ap (λ x. bit_at x i) e) ∙ ones.2 i h) (lt_or_le end used) (lt_or_le used end))
+
+-- the first place that isn't covered is among eighteen, or behind them
+pub reached_most : (m used : ℕ) → m < 2 ^ 18 → used ≡ trailing_ones w64 m → used ≤ 18
+reached_most m used small e =
+    let ones = bit_at-trailing_ones w64 m (omega arith) in
+    at_most m used small (λ i l. ones.2 i (rw e at l)) (lt_or_le 18 used)
 
 -- where they are whole, those that are marked begin them
 pub firsts_of_marks : (text : List ℕ) (at one two three used k : ℕ) → ((i : ℕ) → Fits w8 (get_or text i 0)) → AreMarks (IsOneAt text) at one → AreMarks (IsTwoAt text) at two → AreMarks (IsThreeAt text) at three → used ≡ trailing_ones w64 (covered one two three) → k < used

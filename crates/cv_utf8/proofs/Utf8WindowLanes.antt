@@ -47,6 +47,12 @@ pub whole_beginning_at : (text : List ℕ) (at one two three used k : ℕ) → (
 whole_beginning_at text at one two three used k fits p q r e =
     bit_at_and (firsts one two three) (2 ^ used - 1) k ∙ below (bit_at (firsts one two three) k) k used (is_behind (get_or text (at + k) 0)) (bit_at-lt (firsts one two three) k) (firsts_of_marks text at one two three used k fits p q r e) (lt_or_le k used)
 
+-- which lanes begin a character where all of them are of whole ones
+pub all_beginning_at : (text : List ℕ) (at one two three used k : ℕ) → ((i : ℕ) → Fits w8 (get_or text i 0)) → AreMarks (IsOneAt text) at one → AreMarks (IsTwoAt text) at two → AreMarks (IsThreeAt text) at three → used ≡ trailing_ones w64 (covered one two three) → k < used
+    → bit_at (firsts one two three) k ≡ begins_if (is_behind (get_or text (at + k) 0)) (ltb k used)
+all_beginning_at text at one two three used k fits p q r e h =
+    firsts_of_marks text at one two three used k fits p q r e h ∙ sym (ap (begins_if (is_behind (get_or text (at + k) 0))) (lt-ltb k used h))
+
 -- so many lowest bits
 pub lowest : (used : ℕ) → used ≤ 18 → (1 * 2 ^ used) % 2 ^ 64 ≡ 2 ^ used
 lowest used h = one_shl used 64 (omega arith)

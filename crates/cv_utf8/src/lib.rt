@@ -9,6 +9,7 @@ mod utf8_begun;
 mod utf8_fours;
 mod utf8_front;
 mod utf8_long;
+mod utf8_marks;
 mod utf8_pairs;
 mod utf8_reading;
 mod utf8_spelling;

@@ -1,28 +1,17 @@
 //! Reading UTF-8 by windows of sixteen bytes, with no branch on which characters they are.
-ghost use Rattle.std.specs.Prelude.{◌≡◌, ◌+◌, ◌*◌, ◌/◌, ◌%◌, ◌++◌, ◌≤◌, ◌<◌, ℕ, length, take, drop, get_or, slice_index, cond, nat_lt, IsTrue, map, Bool, false};
-ghost use Rattle.std.specs.Int.{bit_at};
-ghost use Rattle.std.specs.Simd.Lanes.{mask_l};
+ghost use Rattle.std.specs.Prelude.{◌≡◌, ◌+◌, ◌*◌, ◌/◌, ◌%◌, ◌≤◌, ◌<◌, ℕ, length, get_or, IsTrue, false};
 ghost use Rattle.cv_block.specs.Spelled.{IsReadSpelled};
 ghost use Rattle.cv_utf8.specs.Utf8.{utf8_bytes};
-ghost use Rattle.cv_utf8.specs.Private.Utf8Short.{is_among, is_behind, IsShortAt, short_of, short_value};
-ghost use Rattle.cv_utf8.specs.Private.Utf8Windows.{AreWhole, AreMarks, IsOneAt, IsTwoAt, IsThreeAt, three_high, whole_of, whole_value};
+ghost use Rattle.cv_utf8.specs.Private.Utf8Short.{is_behind, IsShortAt, short_of, short_value};
+ghost use Rattle.cv_utf8.specs.Private.Utf8Windows.{whole_of, whole_value};
 
 use crate::utf8_ascii::{read_ascii, read_last};
 use crate::utf8_begun::put_begun;
 use crate::utf8_long::{read_fours, read_threes};
+use crate::utf8_marks::{Front, among, beginnings, is_behind, three_high, whole};
 use cv_base::Scalar;
 use cv_block::{MANY, Spelled, is_ascii_block};
 use std::simd::prelude::*;
-
-/// Which of sixteen bytes are among the `many` from `least` on, as bits.
-#[inline(always)]
-fn among(bytes: u8x16, least: u8, many: u8) -> u64
-    ensures { result ≡ mask_l (map (is_among least many) bytes) }
-{
-    (bytes - u8x16::splat(least))
-        .simd_lt(u8x16::splat(many))
-        .to_bitmask()
-}
 
 /// Whether sixteen bytes are those of characters of one and of two bytes. The last may be the first of two.
 #[inline(always)]
@@ -79,25 +68,6 @@ fn short_values(input: &[u8], at: usize) -> [u16; MANY]
     numbers_of(short_low(first, second), short_high(first))
 }
 
-/// Which of sixteen bytes begin a character, as bits.
-#[inline(always)]
-fn beginnings(input: &[u8], at: usize) -> u64
-    requires { at + 16 ≤ length input.now }
-    ensures few { result < 0x10000 }
-    ensures bits { (k : ℕ) → k < 16 → bit_at result k
-        ≡ cond (is_behind (get_or input.now (at + k) 0)) 0 1 }
-{
-    among(u8x16::from_slice(&input[at..]), 0xc0, 0xc0)
-}
-
-/// Whether the byte is one behind a first.
-#[inline(always)]
-fn is_behind(byte: u8) -> bool
-    ensures { result ≡ is_behind byte }
-{
-    byte / 64 == 2
-}
-
 /// Reads the characters of sixteen bytes, which have one or two bytes.
 #[inline(always)]
 fn read_short(input: &[u8], at: usize, buffer: &mut [Scalar], n: usize) -> Spelled
@@ -111,66 +81,6 @@ fn read_short(input: &[u8], at: usize, buffer: &mut [Scalar], n: usize) -> Spell
     let used = MANY + is_behind(input[at + MANY]) as usize;
     let begun = beginnings(input, at);
     put_begun(&short_values(input, at), begun, used, buffer, n)
-}
-
-/// Which of sixteen bytes begin a character of two bytes, as bits.
-#[inline(always)]
-fn twos(input: &[u8], at: usize) -> u64
-    requires { at + 18 ≤ length input.now }
-    ensures { AreMarks (IsTwoAt input.now) at result }
-{
-    let firsts = among(u8x16::from_slice(&input[at..]), 0xc2, 0x1e);
-    firsts & among(u8x16::from_slice(&input[at + 1..]), 0x80, 0x40)
-}
-
-/// The high bytes of the numbers of characters of three bytes, by the first two. In place of a surrogate's it is 0.
-#[inline(always)]
-fn three_high(first: u8x16, second: u8x16) -> u8x16
-    ensures long { length result ≡ 16 }
-    ensures bytes { (k : ℕ) → k < 16 → get_or result k 0
-        ≡ three_high (get_or first k 0) (get_or second k 0) }
-{
-    let high = first * u8x16::splat(16) + second % u8x16::splat(64) / u8x16::splat(4);
-    let are_surrogates = (high / u8x16::splat(8)).simd_eq(u8x16::splat(27));
-    are_surrogates.select(u8x16::splat(0), high)
-}
-
-/// Which of sixteen bytes begin a character of three bytes, as bits. Where it needs as many and is no surrogate, the high byte of its
-/// number is 8 at least.
-#[inline(always)]
-fn threes(input: &[u8], at: usize) -> u64
-    requires { at + 18 ≤ length input.now }
-    ensures { AreMarks (IsThreeAt input.now) at result }
-{
-    let bytes = u8x16::from_slice(&input[at..]);
-    let behind = u8x16::from_slice(&input[at + 1..]);
-    let firsts = among(bytes, 0xe0, 0x10) & among(behind, 0x80, 0x40);
-    let high = among(three_high(bytes, behind), 0x08, 0xf8);
-    firsts & high & among(u8x16::from_slice(&input[at + 2..]), 0x80, 0x40)
-}
-
-/// How many bytes at the front are whole characters that begin among sixteen bytes and have up to three, and which begin one, as bits.
-struct Front {
-    used: usize,
-    begun: u64,
-}
-
-/// The whole characters at the front of sixteen bytes.
-#[inline(always)]
-fn whole(input: &[u8], at: usize) -> Front
-    requires { at + 18 ≤ length input.now }
-    ensures whole { AreWhole input.now at result.used }
-    ensures few { result.begun < 0x10000 }
-    ensures bits { (k : ℕ) → k < 16 → bit_at result.begun k
-        ≡ cond (is_behind (get_or input.now (at + k) 0)) 0 (cond (nat_lt k result.used) 1 0) }
-{
-    let one = among(u8x16::from_slice(&input[at..]), 0, 0x80);
-    let two = twos(input, at);
-    let three = threes(input, at);
-    let firsts = one | two | three;
-    let used = (firsts | (two | three) << 1 | three << 2).trailing_ones() as usize;
-    let begun = firsts & ((1 << used) - 1);
-    Front { used, begun }
 }
 
 /// The low bytes of the numbers of characters that have the bytes, up to three.

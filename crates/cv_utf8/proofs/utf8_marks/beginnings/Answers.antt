@@ -1,6 +1,6 @@
 use Rattle.cv_utf8.proofs.Utf8Marks.{among_lt}
 use Rattle.cv_utf8.proofs.Utf8WindowLanes.{beginning_at}
-use Rattle.cv_utf8.proofs.utf8_windows.beginnings.Goals as goal
+use Rattle.cv_utf8.proofs.utf8_marks.beginnings.Goals as goal
 
 pub returns-clause-few : goal.returns-clause-few
 returns-clause-few c = among_lt c.args.input.now c.args.at 0xc0 0xc0 c.among.result c.requires c.among.ensures

@@ -1,7 +1,7 @@
 use Rattle.std.proofs.Common.{lit<}
 use Rattle.cv_block.proofs.Lanes.{none_zero}
 use Rattle.cv_utf8.proofs.Utf8WindowLanes.{three_high_at, three_highs_long}
-use Rattle.cv_utf8.proofs.utf8_windows.three_high.Goals as goal
+use Rattle.cv_utf8.proofs.utf8_marks.three_high.Goals as goal
 
 pub nonzero_rem-high : goal.nonzero_rem-high
 nonzero_rem-high c = none_zero 64 (lit< tt) _

@@ -1,0 +1,129 @@
+//! Which of sixteen bytes of UTF-8 are of a kind, as bits, and how many are whole characters.
+ghost use Rattle.std.specs.Prelude.{◌≡◌, ◌+◌, ◌-◌, ◌*◌, ◌/◌, ◌%◌, ◌^◌, ◌≤◌, ◌<◌, ℕ, length, get_or, cond, nat_lt, map, bit_and, false};
+ghost use Rattle.std.specs.Int.{w64, bit_at, trailing_ones};
+ghost use Rattle.std.specs.Simd.Lanes.{mask_l};
+ghost use Rattle.cv_utf8.specs.Private.Utf8Short.{is_among, is_behind};
+ghost use Rattle.cv_utf8.specs.Private.Utf8Windows.{AreWhole, AreMarks, IsTwoAt, IsThreeAt, three_high};
+
+use cv_block::MANY;
+use std::simd::prelude::*;
+
+/// Which of sixteen bytes are among the `many` from `least` on, as bits.
+#[inline(always)]
+pub(crate) fn among(bytes: u8x16, least: u8, many: u8) -> u64
+    ensures { result ≡ mask_l (map (is_among least many) bytes) }
+{
+    (bytes - u8x16::splat(least))
+        .simd_lt(u8x16::splat(many))
+        .to_bitmask()
+}
+
+/// Which of sixteen bytes begin a character, as bits.
+#[inline(always)]
+pub(crate) fn beginnings(input: &[u8], at: usize) -> u64
+    requires { at + 16 ≤ length input.now }
+    ensures few { result < 0x10000 }
+    ensures bits { (k : ℕ) → k < 16 → bit_at result k
+        ≡ cond (is_behind (get_or input.now (at + k) 0)) 0 1 }
+{
+    among(u8x16::from_slice(&input[at..]), 0xc0, 0xc0)
+}
+
+/// Whether the byte is one behind a first.
+#[inline(always)]
+pub(crate) fn is_behind(byte: u8) -> bool
+    ensures { result ≡ is_behind byte }
+{
+    byte / 64 == 2
+}
+
+/// Which of sixteen bytes begin a character of two bytes, as bits.
+#[inline(always)]
+fn twos(input: &[u8], at: usize) -> u64
+    requires { at + 18 ≤ length input.now }
+    ensures { AreMarks (IsTwoAt input.now) at result }
+{
+    let firsts = among(u8x16::from_slice(&input[at..]), 0xc2, 0x1e);
+    firsts & among(u8x16::from_slice(&input[at + 1..]), 0x80, 0x40)
+}
+
+/// The high bytes of the numbers of characters of three bytes, by the first two. In place of a surrogate's it is 0.
+#[inline(always)]
+pub(crate) fn three_high(first: u8x16, second: u8x16) -> u8x16
+    ensures long { length result ≡ 16 }
+    ensures bytes { (k : ℕ) → k < 16 → get_or result k 0
+        ≡ three_high (get_or first k 0) (get_or second k 0) }
+{
+    let high = first * u8x16::splat(16) + second % u8x16::splat(64) / u8x16::splat(4);
+    let are_surrogates = (high / u8x16::splat(8)).simd_eq(u8x16::splat(27));
+    are_surrogates.select(u8x16::splat(0), high)
+}
+
+/// Which of sixteen bytes begin a character of three bytes, as bits. Where it needs as many and is no surrogate, the high byte of its
+/// number is 8 at least.
+#[inline(always)]
+fn threes(input: &[u8], at: usize) -> u64
+    requires { at + 18 ≤ length input.now }
+    ensures { AreMarks (IsThreeAt input.now) at result }
+{
+    let bytes = u8x16::from_slice(&input[at..]);
+    let behind = u8x16::from_slice(&input[at + 1..]);
+    let firsts = among(bytes, 0xe0, 0x10) & among(behind, 0x80, 0x40);
+    let high = among(three_high(bytes, behind), 0x08, 0xf8);
+    firsts & high & among(u8x16::from_slice(&input[at + 2..]), 0x80, 0x40)
+}
+
+/// How many bytes at a place stand behind a first, of two.
+#[inline(always)]
+fn tails(input: &[u8], at: usize) -> usize
+    requires { at + 2 ≤ length input.now }
+    ensures { result ≤ 2 }
+{
+    let one = is_behind(input[at]);
+    one as usize + (one & is_behind(input[at + 1])) as usize
+}
+
+/// How many bytes at the front are whole characters that begin among sixteen bytes and have up to three, and which begin one, as bits.
+pub(crate) struct Front {
+    pub(crate) used: usize,
+    pub(crate) begun: u64,
+}
+
+/// The front up to the first byte that isn't covered, and which bytes of it begin a character. It stands apart, so that the
+/// compiler makes a branch of whether it is asked: a choice of two numbers would have the next window wait for both.
+#[inline(never)]
+fn front_of(firsts: u64, covered: u64) -> Front
+    requires firsts { firsts < 0x10000 }
+    requires covered { covered < 0x40000 }
+    ensures used { result.used ≡ trailing_ones w64 covered }
+    ensures begun { result.begun ≡ bit_and firsts (2 ^ result.used - 1) }
+{
+    let used = covered.trailing_ones() as usize;
+    let begun = firsts & ((1 << used) - 1);
+    Front { used, begun }
+}
+
+/// The whole characters at the front of sixteen bytes. Mostly they are all that begin there: then how many bytes they have is told by the two
+/// that stand behind the sixteen, and which bytes are covered is but compared, so that the next window needs not wait for it.
+#[inline(always)]
+pub(crate) fn whole(input: &[u8], at: usize) -> Front
+    requires { at + 18 ≤ length input.now }
+    ensures whole { AreWhole input.now at result.used }
+    ensures few { result.begun < 0x10000 }
+    ensures bits { (k : ℕ) → k < 16 → bit_at result.begun k
+        ≡ cond (is_behind (get_or input.now (at + k) 0)) 0 (cond (nat_lt k result.used) 1 0) }
+{
+    let one = among(u8x16::from_slice(&input[at..]), 0, 0x80);
+    let two = twos(input, at);
+    let three = threes(input, at);
+    let firsts = one | two | three;
+    let covered = firsts | (two | three) << 1 | three << 2;
+    let used = MANY + tails(input, at + MANY);
+    if covered == (1 << used) - 1 {
+        return Front {
+            used,
+            begun: firsts,
+        };
+    }
+    front_of(firsts, covered)
+}

@@ -1,5 +1,5 @@
 //! Runs of ASCII in which each character is one byte.
-ghost use Rattle.std.specs.Prelude.{◌≡◌, ◌≤◌, ◌<◌, ◌+◌, ◌-◌, ◌++◌, ℕ, length, take, drop, slice_index, IsTrue};
+ghost use Rattle.std.specs.Prelude.{◌≡◌, ◌≤◌, ◌<◌, ◌+◌, ◌-◌, ◌*◌, ◌/◌, ◌++◌, ℕ, length, take, drop, slice_index, IsTrue};
 ghost use Rattle.cv_base.specs.declared.ascii_form.AsciiForm.{AsciiForm};
 ghost use Rattle.cv_block.specs.AsciiRuns.{IsRunBelow};
 
@@ -7,6 +7,9 @@ use std::simd::prelude::*;
 
 /// How many bytes are tested at once.
 const BLOCK: usize = 16;
+
+/// How many bytes are tested and copied at once while so many of a run are left: four blocks with one branch.
+const LONG_BLOCK: usize = 64;
 
 /// Whether sixteen bytes are below 128.
 #[inline(always)]
@@ -18,20 +21,37 @@ pub fn is_ascii_block(bytes: &[u8], at: usize) -> bool
     lanes.simd_ge(u8x16::splat(128)).to_bitmask() == 0
 }
 
-/// Copies a block of bytes.
+/// Whether so many bytes are below 128, a multiple of sixteen that is known when the code is compiled. All are tested, so that one branch
+/// is taken for them.
 #[inline(always)]
-fn copy_block(rest: &[u8], from: usize, out: &mut [u8], at: usize)
-    requires stand { from + 16 ≤ length rest.now }
-    requires fit { at + 16 ≤ length out.old }
-    ensures { out.new ≡ take at out.old ++ take 16 (drop from rest.now) ++ drop (at + 16) out.old }
+fn are_ascii<const BYTES: usize>(bytes: &[u8], at: usize) -> bool
+    requires { at + BYTES ≤ length bytes.now }
+    ensures { IsTrue result → (k : ℕ) → at ≤ k → k < at + BYTES / 16 * 16
+        → slice_index bytes.now k < 128 }
 {
-    let lanes = u8x16::from_slice(&rest[from..]);
-    lanes.copy_to_slice(&mut out[at..]);
+    let mut all = true;
+    for block in 0..BYTES / BLOCK {
+        all &= is_ascii_block(bytes, at + block * BLOCK);
+    }
+    all
 }
 
-/// Copies the blocks of ASCII at the front of a text, and answers how many bytes they are.
+/// Copies bytes whose number is known when the code is compiled.
 #[inline(always)]
-fn copy_blocks(rest: &[u8], most: usize, out: &mut [u8], at: usize) -> usize
+fn copy_block<const BYTES: usize>(rest: &[u8], from: usize, out: &mut [u8], at: usize)
+    requires stand { from + BYTES ≤ length rest.now }
+    requires fit { at + BYTES ≤ length out.old }
+    ensures { out.new
+        ≡ take at out.old ++ take BYTES (drop from rest.now) ++ drop (at + BYTES) out.old }
+{
+    out[at..at + BYTES].copy_from_slice(&rest[from..from + BYTES]);
+}
+
+/// Copies the blocks of ASCII of so many bytes at the front of a text, and answers how many bytes they are.
+#[inline(always)]
+fn copy_blocks<const BYTES: usize>(rest: &[u8], most: usize, out: &mut [u8], at: usize) -> usize
+    requires some { 0 < BYTES }
+    requires whole { BYTES / 16 * 16 ≡ BYTES }
     requires stand { most ≤ length rest.now }
     requires fit { at + most ≤ length out.old }
     ensures within { result ≤ most }
@@ -39,9 +59,9 @@ fn copy_blocks(rest: &[u8], most: usize, out: &mut [u8], at: usize) -> usize
     ensures out { out.new ≡ take at out.old ++ take result rest.now ++ drop (at + result) out.old }
 {
     let mut n = 0;
-    while most - n >= BLOCK && is_ascii_block(rest, n) {
-        copy_block(rest, n, out, at + n);
-        n += BLOCK;
+    while most - n >= BYTES && are_ascii::<BYTES>(rest, n) {
+        copy_block::<BYTES>(rest, n, out, at + n);
+        n += BYTES;
     }
     n
 }
@@ -63,6 +83,19 @@ fn copy_few(rest: &[u8], most: usize, out: &mut [u8], at: usize) -> usize
     n
 }
 
+/// Copies the blocks of ASCII at the front of a text, the long ones first, and answers how many bytes they are.
+#[inline(always)]
+fn copy_all_blocks(rest: &[u8], most: usize, out: &mut [u8], at: usize) -> usize
+    requires stand { most ≤ length rest.now }
+    requires fit { at + most ≤ length out.old }
+    ensures within { result ≤ most }
+    ensures ascii { (k : ℕ) → k < result → slice_index rest.now k < 128 }
+    ensures out { out.new ≡ take at out.old ++ take result rest.now ++ drop (at + result) out.old }
+{
+    let n = copy_blocks::<LONG_BLOCK>(rest, most, out, at);
+    n + copy_blocks::<BLOCK>(&rest[n..], most - n, out, at + n)
+}
+
 /// Copies the bytes of ASCII at the front of a text, if they are a block at least, and answers how many they are.
 #[inline(never)]
 pub(crate) fn copy_run(rest: &[u8], out: &mut [u8], at: usize) -> usize
@@ -74,7 +107,7 @@ pub(crate) fn copy_run(rest: &[u8], out: &mut [u8], at: usize) -> usize
     ensures out { out.new ≡ take at out.old ++ take result rest.now ++ drop (at + result) out.old }
 {
     let most = rest.len().min(out.len() - at);
-    let n = copy_blocks(rest, most, out, at);
+    let n = copy_all_blocks(rest, most, out, at);
     if n == 0 || n == most {
         return n;
     }

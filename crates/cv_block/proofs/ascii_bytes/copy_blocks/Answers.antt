@@ -3,10 +3,11 @@ use Rattle.cv_block.proofs.CopiedBytes.{copy_more, below_more}
 use Rattle.cv_block.proofs.ascii_bytes.copy_blocks.Goals as goal
 
 pub loop-n-preserved : goal.loop-n-preserved
-loop-n-preserved c =
+loop-n-preserved o c =
     let i = c.loop-n.invariant in
+    let size = o.row.BYTES in
     record {
       within = omega arith;
-      ascii = below_more c.args.rest.now c.loop-n.n 16 i.ascii (c.is_ascii_block.ensures c.if-is_ascii_block.true);
-      out = copy_more c.args.rest.now c.args.out.now c.args.at c.loop-n.n 16 _ c.loop-n.out _ refl (omega arith) (omega arith) i.out c.copy_block.ensures;
+      ascii = below_more c.args.rest.now c.loop-n.n size i.ascii (rw c.requires.whole at (c.are_ascii.ensures c.if-are_ascii.true));
+      out = copy_more c.args.rest.now c.args.out.now c.args.at c.loop-n.n size _ c.loop-n.out _ refl (omega arith) (omega arith) i.out c.copy_block.ensures;
     }

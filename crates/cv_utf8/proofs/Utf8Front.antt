@@ -1,9 +1,12 @@
 -- What std calls UTF-8 are the bytes of characters.
-use Rattle.std.proofs.Common.{◌≡◌, ℕ, ◌≤◌, true, List, [], ◌∷◌, length, take, refl, sym, ◌∙◌, ap, subst, arith, inl, inr, length-take}
+use Rattle.std.proofs.Common.{◌≡◌, ℕ, ◌+◌, ◌≤◌, true, List, [], ◌∷◌, length, take, drop, refl, sym, ◌∙◌, ap, subst, arith, inl, inr, length-take}
 use Rattle.std.specs.Prelude.{IsUtf8}
 use Rattle.std.specs.List.{flat_map}
 use Rattle.std.proofs.Math.Utf8.{encode, encodes, scalar, scalars, scalar_cases}
+use Rattle.std.proofs.Math.Seq.{take-add}
 use Rattle.std.proofs.lemmas.Bool.{and_parts}
+use Rattle.std.proofs.lemmas.List.{take-take}
+use Rattle.std.proofs.lemmas.Str.{IsUtf8-append}
 use Rattle.cv_base.specs.Items.{Begins}
 use Rattle.cv_base.specs.Scalars.{IsScalar, AreScalars}
 use Rattle.cv_base.specs.Blocks.{IsUnchanged}
@@ -46,3 +49,13 @@ utf8_unchanged text n h p =
       uses = omega (arith, ap length same, length-take n text);
     } in
     spelled_unchanged utf8_reads utf8_writes read.Start write.Start utf8_bytes utf8_reads_spelled utf8_writes_spelled text n front
+
+-- a part behind well-formed bytes, which is well-formed itself
+pub part_well_formed : (text part : List ℕ) (n : ℕ) → IsUtf8 (take n text) → part ≡ take (length part) (drop n text) → IsUtf8 part → IsUtf8 (take (n + length part) text)
+part_well_formed text part n p e q = subst IsUtf8 (sym (take-add n (length part) text)) (IsUtf8-append (take n text) (take (length part) (drop n text)) p (subst IsUtf8 e q))
+
+-- a part behind well-formed bytes, whose front is well-formed
+pub front_well_formed : (text part : List ℕ) (n k : ℕ) → IsUtf8 (take n text) → part ≡ take (length part) (drop n text) → k ≤ length part → IsUtf8 (take k part) → IsUtf8 (take (n + k) text)
+front_well_formed text part n k p e h q =
+    let same : take k part ≡ take k (drop n text) = ap (take k) e ∙ take-take k (length part) (drop n text) h in
+    subst IsUtf8 (sym (take-add n k text)) (IsUtf8-append (take n text) (take k (drop n text)) p (subst IsUtf8 same q))

@@ -1,10 +1,11 @@
 //! How much of a text is well-formed UTF-8.
-ghost use Rattle.std.specs.Prelude.{◌≤◌, IsUtf8, length, take};
+ghost use Rattle.std.specs.Prelude.{◌≡◌, ◌≤◌, IsUtf8, length, take};
 
 use simdutf8::compat::from_utf8;
 
-/// How many bytes are tested at once. Where not all of them are well-formed they are read once more, one by one, so they are few.
-const PART: usize = 1024;
+/// How many bytes are tested at once at first. Where not all of them are well-formed they are read once more, so they are few; each next part is
+/// twice as long, so that what is read in vain is never much more than what was well-formed.
+const FIRST_PART: usize = 1024;
 
 /// How many of the bytes stand before a character that they cut off, if its front is well-formed. It decides speed alone: a part that ends
 /// within a character isn't well-formed.
@@ -25,16 +26,33 @@ fn uncut(bytes: &[u8]) -> usize
     n
 }
 
-/// How many bytes at the front of a text are well-formed, of its first part.
+/// The front of a text of at most so many bytes, up to its last whole character.
+#[inline(always)]
+fn uncut_part(text: &[u8], most: usize) -> &[u8]
+    ensures within { length result.now ≤ length text.now }
+    ensures front { result.now ≡ take (length result.now) text.now }
+{
+    let part = &text[..text.len().min(most)];
+    &part[..uncut(part)]
+}
+
+/// How many bytes at the front of a text are well-formed.
 #[inline(never)]
 pub(crate) fn well_formed_front(input: &[u8]) -> usize
     ensures within { result ≤ length input.now }
     ensures well_formed { IsUtf8 (take result input.now) }
 {
-    let part = &input[..input.len().min(PART)];
-    let whole = &part[..uncut(part)];
-    match from_utf8(whole) {
-        Ok(_) => whole.len(),
-        Err(fault) => fault.valid_up_to(),
+    let mut n = 0;
+    let mut most = FIRST_PART;
+    loop {
+        let part = uncut_part(&input[n..], most);
+        if part.is_empty() {
+            return n;
+        }
+        match from_utf8(part) {
+            Ok(_) => n += part.len(),
+            Err(fault) => return n + fault.valid_up_to(),
+        }
+        most = most.saturating_mul(2);
     }
 }

@@ -8,4 +8,5 @@ pub mod BlockLaws
 pub mod WrittenEach
 pub mod AllWritten
 pub mod NarrowSteps
+pub mod SubstitutedLanes
 pub mod UnchangedLaws

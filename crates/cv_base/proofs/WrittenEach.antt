@@ -61,15 +61,14 @@ none_written writes t characters before at h = record {
   size = refl;
 }
 
--- one more
-pub one_more_written : (most : ℕ) (writes : Writing) (t : WriteState) (characters before : List ℕ) (at k end count : ℕ) (now : WriteState) (out : List ℕ) → WrittenSoFar writes t characters before at k end count now out
-    → most ≤ 8 → WritesAtMost most writes → k < length characters → (n m : ℕ) (next : WriteState) (after : List ℕ) → (c : ℕ) → c ≡ get_or characters k c → IsOutput (written writes now (Some c)) out end n m next after
-    → WrittenSoFar writes t characters before at (k + 1) (end + n) (count + m) next after
-one_more_written most writes t characters before at k end count now out p small m_most h n m next after c is put =
+-- some more
+pub more_written : (writes : Writing) (t : WriteState) (characters before : List ℕ) (at k end count : ℕ) (now : WriteState) (out : List ℕ) → WrittenSoFar writes t characters before at k end count now out
+    → (more n m : ℕ) (next : WriteState) (after : List ℕ) → IsOutput (output_for writes now (take more (drop k characters))) out end n m next after → n ≤ 8 * more → m ≤ more
+    → WrittenSoFar writes t characters before at (k + more) (end + n) (count + m) next after
+more_written writes t characters before at k end count now out p more n m next after put short few =
     let o = output_for writes t (take k characters) in
-    let w = written writes now (Some c) in
-    let one : take (k + 1) characters ≡ take k characters ++ c ∷ [] = take-add k 1 characters ∙ ap (λ (x : List ℕ). take k characters ++ x) (ap (λ (x : List ℕ). take 1 x) (drop-cons characters k c h) ∙ ap (λ (d : ℕ). d ∷ []) (sym is)) in
-    let all : output_for writes t (take (k + 1) characters) ≡ followed o w = ap (output_for writes t) one ∙ output_for-append writes t (take k characters) (c ∷ []) ∙ ap (followed o) (output_for-one writes o.next c ∙ ap (λ (u : WriteState). written writes u (Some c)) (sym p.next)) in
+    let w = output_for writes now (take more (drop k characters)) in
+    let all : output_for writes t (take (k + more) characters) ≡ followed o w = ap (output_for writes t) (take-add k more characters) ∙ output_for-append writes t (take k characters) (take more (drop k characters)) ∙ ap (followed o) (ap (λ (u : WriteState). output_for writes u (take more (drop k characters))) (sym p.next)) in
     let front : List ℕ = take at before ++ o.bytes in
     let long : end ≡ length front = omega (arith, p.wrote, length-append (take at before) o.bytes, length-take at before, p.fits) in
     let behind : take end out ++ w.bytes ++ drop (end + n) out ≡ (front ++ w.bytes) ++ drop (end + n) before = rw p.holds (rw put.bytes.wrote (out_more front w.bytes before end long)) in
@@ -77,24 +76,36 @@ one_more_written most writes t characters before at k end count now out p small 
     record {
       wrote = rw all (omega (arith, length-append o.bytes w.bytes, p.wrote, put.bytes.wrote));
       counts = rw all (omega (arith, p.counts, put.counts));
-      few = omega (arith, p.few, put.counts, put_or-count now (writes now question) (writes now c));
+      few = omega (arith, p.few, few);
       next = put.next ∙ sym (ap (λ (x : Output). x.next) all);
-      short = omega (arith, p.short, put.bytes.wrote, written-most most writes m_most now c);
+      short = omega (arith, p.short, short);
       fits = omega (arith, put.bytes.fits, p.size);
       holds = rw all (put.bytes.out ∙ behind ∙ same);
       size = ap length put.bytes.out ∙ simp (length-append, length-take, length-drop) (omega (arith, put.bytes.wrote, put.bytes.fits, p.size));
+    }
+
+-- one more
+pub one_more_written : (most : ℕ) (writes : Writing) (t : WriteState) (characters before : List ℕ) (at k end count : ℕ) (now : WriteState) (out : List ℕ) → WrittenSoFar writes t characters before at k end count now out
+    → most ≤ 8 → WritesAtMost most writes → k < length characters → (n m : ℕ) (next : WriteState) (after : List ℕ) → (c : ℕ) → c ≡ get_or characters k c → IsOutput (written writes now (Some c)) out end n m next after
+    → WrittenSoFar writes t characters before at (k + 1) (end + n) (count + m) next after
+one_more_written most writes t characters before at k end count now out p small m_most h n m next after c is put =
+    let one : take 1 (drop k characters) ≡ c ∷ [] = ap (λ (x : List ℕ). take 1 x) (drop-cons characters k c h) ∙ ap (λ (d : ℕ). d ∷ []) (sym is) in
+    let here : output_for writes now (take 1 (drop k characters)) ≡ written writes now (Some c) = ap (output_for writes now) one ∙ output_for-one writes now c in
+    more_written writes t characters before at k end count now out p 1 n m next after (rw here put)
+    (omega (arith, put.bytes.wrote, written-most most writes m_most now c)) (omega (arith, put.counts, written-count writes now c))
+
+-- what was written so far is an output
+pub so_far_written : (writes : Writing) (t : WriteState) (characters before : List ℕ) (at k end count : ℕ) (now : WriteState) (out : List ℕ) → WrittenSoFar writes t characters before at k end count now out
+    → (n : ℕ) → end ≡ at + n → IsOutput (output_for writes t (take k characters)) before at n count now out
+so_far_written writes t characters before at k end count now out p n e =
+    record {
+      bytes = record { wrote = omega (arith, p.wrote, e); fits = omega (arith, p.fits, e); out = rw (sym e) p.holds };
+      counts = p.counts;
+      next = p.next;
     }
 
 -- all are written
 pub all_written : (writes : Writing) (t : WriteState) (characters before : List ℕ) (at k end count : ℕ) (now : WriteState) (out : List ℕ) → WrittenSoFar writes t characters before at k end count now out → length characters ≤ k
     → IsWrittenBlock writes t characters before at (record { wrote = end - at; count = count; next = now }) out
 all_written writes t characters before at k end count now out p h =
-    let all : take k characters ≡ characters = take_all k characters h in
-    let o = output_for writes t characters in
-    let q : end ≡ at + length o.bytes = rw all at p.wrote in
-    let e : at + (end - at) ≡ end = omega (arith, q) in
-    record {
-      bytes = record { wrote = omega (arith, q); fits = omega (arith, p.fits, q); out = rw e (rw all at p.holds) };
-      counts = rw all at p.counts;
-      next = rw all at p.next;
-    }
+    rw (take_all k characters h) at (so_far_written writes t characters before at k end count now out p (end - at) (omega (arith, p.wrote)))

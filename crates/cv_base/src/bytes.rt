@@ -11,6 +11,7 @@ use crate::block::{ReadBlock, WrittenBlock};
 use crate::policy::Policy;
 use crate::scalar::Scalar;
 use crate::state::{ReadState, WriteState};
+use crate::substituting::{MANY, write_blocks};
 
 /// Puts the first bytes of a text into a buffer as the characters of their numbers. No byte is tested, so that the loop is done by blocks.
 #[inline(always)]
@@ -109,8 +110,8 @@ fn narrow(_limit: u32, characters: &[Scalar], out: &mut [u8], at: usize) -> Writ
     }
 }
 
-/// Writes characters below a limit, and `?` for others. Bytes of the slice around them stay. The count has the size of a character,
-/// so that the loop is done by blocks of four.
+/// Writes characters below a limit, and `?` for others. Bytes of the slice around them stay. All but the last few are written by blocks
+/// of sixteen, and those one by one.
 #[inline(always)]
 fn narrow_or_substitute(
     limit: u32,
@@ -125,8 +126,9 @@ fn narrow_or_substitute(
     ensures { IsWrittenBlock (byte_writes limit) WriteState.Start characters.now
         out.old at result out.new }
 {
-    let mut count = 0;
-    for k in 0..characters.len() {
+    let blocks = characters.len() / MANY;
+    let mut count = write_blocks(limit, characters, blocks, out, at);
+    for k in MANY * blocks..characters.len() {
         let (byte, lacking) = byte_of(limit, characters[k]);
         out[at + k] = byte;
         count += lacking;

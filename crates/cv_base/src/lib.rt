@@ -19,6 +19,7 @@ mod placing;
 mod policy;
 mod scalar;
 mod state;
+mod substituting;
 
 pub use ascii::Ascii;
 pub use ascii_form::AsciiForm;

@@ -16,11 +16,11 @@ use Rattle.cv_base.specs.SingleBytes.{byte_writes}
 use Rattle.cv_base.specs.declared.state.WriteState.TheVariants as write
 
 -- the byte of a character, or `?` from the limit on
-abbrev pub byte_for : ℕ → ℕ → ℕ
+abbrev byte_for : ℕ → ℕ → ℕ
 byte_for limit c = cond (leb limit c) question c
 
 -- for how many characters it is `?`
-abbrev pub lacking : ℕ → List ℕ → ℕ
+abbrev lacking : ℕ → List ℕ → ℕ
 lacking limit characters = count_by (leb limit) characters
 
 -- what is written for one character
@@ -31,7 +31,7 @@ one_written limit c q = elim (cases_lt c limit) [
 ]
 
 -- what is written for characters
-pub narrowed : (limit : ℕ) → question < limit → (characters : List ℕ) → output_for (byte_writes limit) write.Start characters ≡ output (map (byte_for limit) characters) (lacking limit characters) write.Start
+narrowed : (limit : ℕ) → question < limit → (characters : List ℕ) → output_for (byte_writes limit) write.Start characters ≡ output (map (byte_for limit) characters) (lacking limit characters) write.Start
 narrowed limit q [] = refl
 narrowed limit q (c ∷ characters) =
     rw (one_written limit c q, narrowed limit q characters) (ap (λ n. output (byte_for limit c ∷ map (byte_for limit) characters) n write.Start) (sym (sum_by-cons (λ x. cond (leb limit x) 1 0) c characters)))
@@ -56,10 +56,11 @@ least_all n other xs = sel_l (map (top 31) (below_all n other xs)) xs (replicate
 abbrev pub bytes_in : ℕ → ℕ → List ℕ → List ℕ
 bytes_in n limit xs = sel_l (marks n limit xs) (map (λ a. a) (least_all n (limit - 1) xs)) (replicate n question)
 
--- the lane of a mask whose lane is this
+-- the lane of a mask that is read again, by whether it is set
 abbrev small : Bool → ℕ
 small b = cond (lt_z (to_z w32 (cond b 0xffffffff 0)) (to_z w32 0)) 0xffffffff 0
 
+-- it fits where it becomes a byte
 small_fits : (b : Bool) → SFits w8 (to_z w32 (small b))
 small_fits true = search rules
 small_fits false = search rules
@@ -71,6 +72,7 @@ all_small zero limit (x ∷ xs) e = absurd (omega (arith, e))
 all_small (suc n) limit [] e = absurd (omega (arith, e))
 all_small (suc n) limit (x ∷ xs) e = (small_fits (ltb x limit), all_small n limit xs (omega (arith, e)))
 
+-- and tells there whether it is set
 small_is : (b : Bool) → top 7 (of_z w8 (to_z w32 (small b))) ≡ b
 small_is true = refl
 small_is false = refl
@@ -86,6 +88,7 @@ marks_are (suc n) limit (x ∷ xs) e = let head = small_is (ltb x limit) in let 
 abbrev least : ℕ → ℕ → ℕ
 least x other = cond (top 31 (cond (ltb x other) 0xffffffff 0)) x other
 
+-- it is no more than the other
 least_le : (x other : ℕ) → least x other ≤ other
 least_le x other = elim (cases_lt x other) [
   | inl l ↦ rw (lt-ltb x other l) (omega arith)
@@ -99,12 +102,14 @@ all_bytes zero limit (x ∷ xs) q h e = absurd (omega (arith, e))
 all_bytes (suc n) limit [] q h e = absurd (omega (arith, e))
 all_bytes (suc n) limit (x ∷ xs) q h e = (record { fits = omega (arith, least_le x (limit - 1)) }, all_bytes n limit xs q h (omega (arith, e)))
 
+-- a number below a limit is no more than the last below it
 least_below : (x limit : ℕ) → x < limit → least x (limit - 1) ≡ x
 least_below x limit h = elim (cases_lt x (limit - 1)) [
   | inl l ↦ rw (lt-ltb x (limit - 1) l) refl
   | inr l ↦ rw (le-ltb x (limit - 1) l) (omega arith)
 ]
 
+-- what is written for a lane is the byte of its character
 byte_is : (x limit : ℕ) → cond (top 7 (of_z w8 (to_z w32 (small (ltb x limit))))) (least x (limit - 1)) question ≡ byte_for limit x
 byte_is x limit = elim (cases_lt x limit) [
   | inl l ↦ rw (lt-ltb x limit l, lt-leb limit x l) (least_below x limit l)
@@ -136,6 +141,7 @@ marks_count limit xs long =
 pub marks_few : (limit : ℕ) (xs : List ℕ) → length xs ≡ 16 → count_ones (mask_l (marks 16 limit xs) % 2 ^ 64) ≤ 16
 marks_few limit xs long = omega (arith, marks_count limit xs long)
 
+-- sixteen lanes that are put at a place are what is written for their characters
 put_lanes : (limit : ℕ) (xs before : List ℕ) (at : ℕ) → question < limit → length xs ≡ 16 → at + 16 ≤ length before
     → IsOutput (output_for (byte_writes limit) write.Start xs) before at 16 (16 - count_ones (mask_l (marks 16 limit xs) % 2 ^ 64)) write.Start (put_chunk at before (bytes_in 16 limit xs))
 put_lanes limit xs before at q long room =
@@ -149,7 +155,7 @@ put_lanes limit xs before at q long room =
       next = refl;
     })
 
--- sixteen characters are written at once
+-- sixteen characters of a text are written at once
 pub block_written : (limit : ℕ) (characters : List ℕ) (n : ℕ) (xs before : List ℕ) (at : ℕ) → question < limit → length xs ≡ 16 → xs ≡ take 16 (drop n characters) → at + 16 ≤ length before
     → IsOutput (output_for (byte_writes limit) write.Start (take 16 (drop n characters))) before at 16 (16 - count_ones (mask_l (marks 16 limit xs) % 2 ^ 64)) write.Start (put_chunk at before (bytes_in 16 limit xs))
 block_written limit characters n xs before at q long e room =

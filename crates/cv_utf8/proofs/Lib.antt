@@ -14,4 +14,5 @@ pub mod Utf8Begun
 pub mod Utf8Long
 pub mod Utf8WindowLanes
 pub mod Utf8Spelled
+pub mod Utf8ShortFront
 pub mod Utf8Front

@@ -50,12 +50,14 @@ utf8_unchanged text n h p =
     } in
     spelled_unchanged utf8_reads utf8_writes read.Start write.Start utf8_bytes utf8_reads_spelled utf8_writes_spelled text n front
 
+-- well-formed bytes behind others
+pub more_well_formed : (text : List ℕ) (n k : ℕ) → IsUtf8 (take n text) → IsUtf8 (take k (drop n text)) → IsUtf8 (take (n + k) text)
+more_well_formed text n k p q = subst IsUtf8 (sym (take-add n k text)) (IsUtf8-append (take n text) (take k (drop n text)) p q)
+
 -- a part behind well-formed bytes, which is well-formed itself
 pub part_well_formed : (text part : List ℕ) (n : ℕ) → IsUtf8 (take n text) → part ≡ take (length part) (drop n text) → IsUtf8 part → IsUtf8 (take (n + length part) text)
-part_well_formed text part n p e q = subst IsUtf8 (sym (take-add n (length part) text)) (IsUtf8-append (take n text) (take (length part) (drop n text)) p (subst IsUtf8 e q))
+part_well_formed text part n p e q = more_well_formed text n (length part) p (subst IsUtf8 e q)
 
 -- a part behind well-formed bytes, whose front is well-formed
 pub front_well_formed : (text part : List ℕ) (n k : ℕ) → IsUtf8 (take n text) → part ≡ take (length part) (drop n text) → k ≤ length part → IsUtf8 (take k part) → IsUtf8 (take (n + k) text)
-front_well_formed text part n k p e h q =
-    let same : take k part ≡ take k (drop n text) = ap (take k) e ∙ take-take k (length part) (drop n text) h in
-    subst IsUtf8 (sym (take-add n k text)) (IsUtf8-append (take n text) (take k (drop n text)) p (subst IsUtf8 same q))
+front_well_formed text part n k p e h q = more_well_formed text n k p (subst IsUtf8 (ap (take k) e ∙ take-take k (length part) (drop n text) h) q)

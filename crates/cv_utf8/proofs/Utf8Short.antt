@@ -133,7 +133,8 @@ lane_of text at k v s room l e f (inr (inr q)) =
     let is = e ∙ two_value (get_or text (at + k) 0) (get_or text (at + k + 1) 0) q.2 in
     inr (f ∙ ap none_if q.0, (2, omega arith, rw place (two_spelled text (at + k) v (omega arith) (q.2, q.3, (q.4, q.5)) is)))
 
-byte_is : (b : Bool) → bool_byte b ≡ one_if b
+-- a test as a number
+pub byte_is : (b : Bool) → bool_byte b ≡ one_if b
 byte_is true = refl
 byte_is false = refl
 

@@ -104,7 +104,8 @@ fn front_of(firsts: u64, covered: u64) -> Front
 }
 
 /// The whole characters at the front of sixteen bytes. Mostly they are all that begin there: then how many bytes they have is told by the two
-/// that stand behind the sixteen, and which bytes are covered is but compared, so that the next window needs not wait for it.
+/// that stand behind the sixteen, and which bytes are covered is but compared, so that the next window needs not wait for it. The two are
+/// loaded first: behind a vector that has them LLVM takes them out of it.
 #[inline(always)]
 pub(crate) fn whole(input: &[u8], at: usize) -> Front
     requires { at + 18 ≤ length input.now }
@@ -113,12 +114,12 @@ pub(crate) fn whole(input: &[u8], at: usize) -> Front
     ensures bits { (k : ℕ) → k < 16 → bit_at result.begun k
         ≡ cond (is_behind (get_or input.now (at + k) 0)) 0 (cond (nat_lt k result.used) 1 0) }
 {
+    let used = MANY + tails(input, at + MANY);
     let one = among(u8x16::from_slice(&input[at..]), 0, 0x80);
     let two = twos(input, at);
     let three = threes(input, at);
     let firsts = one | two | three;
     let covered = firsts | (two | three) << 1 | three << 2;
-    let used = MANY + tails(input, at + MANY);
     if covered == (1 << used) - 1 {
         return Front {
             used,

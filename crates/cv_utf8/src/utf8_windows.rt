@@ -15,7 +15,7 @@ use std::simd::prelude::*;
 
 /// Whether sixteen bytes are those of characters of one and of two bytes. The last may be the first of two.
 #[inline(always)]
-fn are_short(input: &[u8], at: usize) -> bool
+pub(crate) fn are_short(input: &[u8], at: usize) -> bool
     requires { at + 17 ≤ length input.now }
     ensures { IsTrue result → (k : ℕ) → k < 16 → IsShortAt input.now (at + k) }
 {

@@ -1,9 +1,10 @@
 -- Which bytes of a window of UTF-8 are of whole characters.
-use Rattle.std.proofs.Common.{◌≡◌, ℕ, ◌+◌, ◌-◌, ◌*◌, ◌%◌, ◌^◌, ◌<◌, ◌≤◌, ◌⊎◌, inl, inr, Bool, true, false, cond, Fits, List, get_or, refl, sym, ◌∙◌, ap, arith, zero, suc, w8, w64, lit≤}
+use Rattle.std.proofs.Common.{◌≡◌, ℕ, ◌+◌, ◌-◌, ◌*◌, ◌/◌, ◌%◌, ◌^◌, ◌<◌, ◌≤◌, ◌⊎◌, inl, inr, Bool, true, false, cond, Fits, List, get_or, refl, sym, ◌∙◌, ap, arith, zero, suc, w8, w64, lit≤}
 use Rattle.std.specs.Int.{bit_at, trailing_ones}
 use Rattle.std.specs.Int.RustNames.{bit_or}
-use Rattle.std.proofs.lemmas.Nat.{or_lt}
-use Rattle.std.proofs.lemmas.Nat.Bits.{bit_at-lt, bit_at_above, bit_at_cat_high, bit_at-trailing_ones, bit_at_ones, bit_at_ones_above}
+use Rattle.std.proofs.Math.Nat.{mod-lt}
+use Rattle.std.proofs.lemmas.Nat.{div-add-mod', or_lt}
+use Rattle.std.proofs.lemmas.Nat.Bits.{bit_at-lt, bit_at-suc, bit_at-zero, bit_at_above, bit_at_cat_high, bit_at_cat_low, bit_at_lowest, bit_at_ones, bit_at-trailing_ones, same_from_bits_below}
 use Rattle.std.proofs.lemmas.Bool.{ltb-true, lt-ltb}
 use Rattle.cv_utf8.specs.Private.Utf8Short.{is_behind}
 use Rattle.cv_utf8.specs.Private.Utf8Windows.{IsOneAt, IsTwoAt, IsThreeAt, AreMarks, IsFollowing, AreWhole}
@@ -252,24 +253,35 @@ whole_of_marks text at one two three used fits p q r e =
       behind = λ k h b. of_behind text at one two three k p q r (fits (at + k)).fits b (is k h);
     }
 
-ones_end : (used reached : ℕ) → bit_at (2 ^ used - 1) reached ≡ 0 → ((i : ℕ) → i < reached → bit_at (2 ^ used - 1) i ≡ 1) → reached < used ⊎ used ≤ reached → used < reached ⊎ reached ≤ used → reached ≡ used
-ones_end used reached stop set (inl h) l = absurd (omega (arith, stop, bit_at_ones used reached h))
-ones_end used reached stop set (inr h) (inl l) = absurd (omega (arith, set used l, bit_at_ones_above used used (omega arith)))
-ones_end used reached stop set (inr h) (inr l) = omega arith
+-- the bits of a number and of the next: up to the lowest 0 of the number they turn, and above they are the same
+pub record IsNext (m end : ℕ) : Type 0 where
+  pub below : (k : ℕ) → k < end → bit_at (m + 1) k ≡ 0
+  pub at : bit_at (m + 1) end ≡ 1
+  pub above : (k : ℕ) → end < k → bit_at (m + 1) k ≡ bit_at m k
 
--- where just so many places from the first on are covered, the first that isn't stands behind them
-pub all_covered : (m used : ℕ) → used ≤ 18 → m < 2 ^ 18 → m ≡ 2 ^ used - 1 → used ≡ trailing_ones w64 m
-all_covered m used most small e =
-    let ones = bit_at-trailing_ones w64 m (omega arith) in
-    let end : ℕ = trailing_ones w64 m in
-    let stop : bit_at (2 ^ used - 1) end ≡ 0 = sym (ap (λ x. bit_at x end) e) ∙ ones.1 in
-    sym (ones_end used end stop (λ i h. sym (ap (λ x. bit_at x i) e) ∙ ones.2 i h) (lt_or_le end used) (lt_or_le used end))
-
--- the first place that isn't covered is among eighteen, or behind them
-pub reached_most : (m used : ℕ) → m < 2 ^ 18 → used ≡ trailing_ones w64 m → used ≤ 18
-reached_most m used small e =
-    let ones = bit_at-trailing_ones w64 m (omega arith) in
-    at_most m used small (λ i l. ones.2 i (rw e at l)) (lt_or_le 18 used)
+-- the bits of the next number, where those below a place are set and the one at the place is not
+pub next_bits : (m end : ℕ) → bit_at m end ≡ 0 → ((i : ℕ) → i < end → bit_at m i ≡ 1) → IsNext m end
+next_bits m end stop set =
+    let some : 0 < 2 ^ end = pow_positive end in
+    let q : ℕ = m / 2 ^ end in
+    let r : ℕ = m % 2 ^ end in
+    let parts : m ≡ q * 2 ^ end + r = sym (div-add-mod' m (2 ^ end)) in
+    let small : r < 2 ^ end = mod-lt m some in
+    let ones : r ≡ 2 ^ end - 1 = same_from_bits_below end r (2 ^ end - 1) small (omega arith) (λ i l. sym (bit_at_cat_low q end r i l) ∙ sym (ap (λ x. bit_at x i) parts) ∙ set i l ∙ sym (bit_at_ones end i l)) in
+    let here : end - end ≡ 0 = omega arith in
+    let even : bit_at q 0 ≡ 0 = sym (bit_at_cat_high q end r end small (omega arith) ∙ ap (bit_at q) here) ∙ sym (ap (λ x. bit_at x end) parts) ∙ stop in
+    let half : (q + 1) / 2 ≡ q / 2 = omega (arith, even, bit_at_lowest q) in
+    let next : m + 1 ≡ (q + 1) * 2 ^ end + 0 = omega (arith, parts, ones, some) in
+    record {
+      below = λ k l. ap (λ x. bit_at x k) next ∙ bit_at_cat_low (q + 1) end 0 k l ∙ bit_at-zero k;
+      at = ap (λ x. bit_at x end) next ∙ bit_at_cat_high (q + 1) end 0 end some (omega arith) ∙ ap (bit_at (q + 1)) here ∙ bit_at_lowest (q + 1) ∙ (omega (arith, even, bit_at_lowest q));
+      above = λ k l.
+          let j : ℕ = k - end - 1 in
+          let place : k - end ≡ suc j = omega arith in
+          let up : bit_at (m + 1) k ≡ bit_at (q + 1) (suc j) = ap (λ x. bit_at x k) next ∙ bit_at_cat_high (q + 1) end 0 k some (omega arith) ∙ ap (bit_at (q + 1)) place in
+          let same : bit_at m k ≡ bit_at q (suc j) = ap (λ x. bit_at x k) parts ∙ bit_at_cat_high q end r k small (omega arith) ∙ ap (bit_at q) place in
+          up ∙ bit_at-suc (q + 1) j ∙ ap (λ x. bit_at x j) half ∙ sym (bit_at-suc q j) ∙ sym same;
+    }
 
 -- where they are whole, those that are marked begin them
 pub firsts_of_marks : (text : List ℕ) (at one two three used k : ℕ) → ((i : ℕ) → Fits w8 (get_or text i 0)) → AreMarks (IsOneAt text) at one → AreMarks (IsTwoAt text) at two → AreMarks (IsThreeAt text) at three → used ≡ trailing_ones w64 (covered one two three) → k < used
@@ -279,3 +291,8 @@ firsts_of_marks text at one two three used k fits p q r e h =
     let small : m < 2 ^ 18 = covered_lt one two three p.0 q.0 r.0 in
     let set = (bit_at-trailing_ones w64 m (omega arith)).2 k (rw e at h) in
     first_is text at one two three k (is_behind (get_or text (at + k) 0)) p q r (fits (at + k)).fits refl (cover one two three k q.0 r.0 set)
+
+-- a place that is marked is covered
+pub first_covered : (one two three k : ℕ) → bit_at (firsts one two three) k ≡ 1 → bit_at (covered one two three) k ≡ 1
+first_covered one two three k e =
+    left_in (bit_or (firsts one two three) (moved (bit_or two three) 1)) (moved three 2) k (left_in (firsts one two three) (moved (bit_or two three) 1) k e)

@@ -1,6 +1,6 @@
 //! Which of sixteen bytes of UTF-8 are of a kind, as bits, and how many are whole characters.
-ghost use Rattle.std.specs.Prelude.{◌≡◌, ◌+◌, ◌-◌, ◌*◌, ◌/◌, ◌%◌, ◌^◌, ◌≤◌, ◌<◌, ℕ, length, get_or, cond, nat_lt, map, bit_and, false};
-ghost use Rattle.std.specs.Int.{w64, bit_at, trailing_ones};
+ghost use Rattle.std.specs.Prelude.{◌≡◌, ◌+◌, ◌-◌, ◌*◌, ◌/◌, ◌%◌, ◌≤◌, ◌<◌, ℕ, length, get_or, cond, nat_lt, map, false};
+ghost use Rattle.std.specs.Int.{bit_at};
 ghost use Rattle.std.specs.Simd.Lanes.{mask_l};
 ghost use Rattle.cv_utf8.specs.Private.Utf8Short.{is_among, is_behind};
 ghost use Rattle.cv_utf8.specs.Private.Utf8Windows.{AreWhole, AreMarks, IsTwoAt, IsThreeAt, three_high};
@@ -73,39 +73,13 @@ fn threes(input: &[u8], at: usize) -> u64
     firsts & high & among(u8x16::from_slice(&input[at + 2..]), 0x80, 0x40)
 }
 
-/// How many bytes at a place stand behind a first, of two.
-#[inline(always)]
-fn tails(input: &[u8], at: usize) -> usize
-    requires { at + 2 ≤ length input.now }
-    ensures { result ≤ 2 }
-{
-    let one = is_behind(input[at]);
-    one as usize + (one & is_behind(input[at + 1])) as usize
-}
-
 /// How many bytes at the front are whole characters that begin among sixteen bytes and have up to three, and which begin one, as bits.
 pub(crate) struct Front {
     pub(crate) used: usize,
     pub(crate) begun: u64,
 }
 
-/// The front up to the first byte that isn't covered, and which bytes of it begin a character. It stands apart, so that the
-/// compiler makes a branch of whether it is asked: a choice of two numbers would have the next window wait for both.
-#[inline(never)]
-fn front_of(firsts: u64, covered: u64) -> Front
-    requires firsts { firsts < 0x10000 }
-    requires covered { covered < 0x40000 }
-    ensures used { result.used ≡ trailing_ones w64 covered }
-    ensures begun { result.begun ≡ bit_and firsts (2 ^ result.used - 1) }
-{
-    let used = covered.trailing_ones() as usize;
-    let begun = firsts & ((1 << used) - 1);
-    Front { used, begun }
-}
-
-/// The whole characters at the front of sixteen bytes. Mostly they are all that begin there: then how many bytes they have is told by the two
-/// that stand behind the sixteen, and which bytes are covered is but compared, so that the next window needs not wait for it. The two are
-/// loaded first: behind a vector that has them LLVM takes them out of it.
+/// The whole characters at the front of sixteen bytes.
 #[inline(always)]
 pub(crate) fn whole(input: &[u8], at: usize) -> Front
     requires { at + 18 ≤ length input.now }
@@ -114,17 +88,12 @@ pub(crate) fn whole(input: &[u8], at: usize) -> Front
     ensures bits { (k : ℕ) → k < 16 → bit_at result.begun k
         ≡ cond (is_behind (get_or input.now (at + k) 0)) 0 (cond (nat_lt k result.used) 1 0) }
 {
-    let used = MANY + tails(input, at + MANY);
     let one = among(u8x16::from_slice(&input[at..]), 0, 0x80);
     let two = twos(input, at);
     let three = threes(input, at);
     let firsts = one | two | three;
     let covered = firsts | (two | three) << 1 | three << 2;
-    if covered == (1 << used) - 1 {
-        return Front {
-            used,
-            begun: firsts,
-        };
-    }
-    front_of(firsts, covered)
+    let used = covered.trailing_ones() as usize;
+    let begun = firsts & !(covered + 1);
+    Front { used, begun }
 }

@@ -12,6 +12,7 @@ mod utf8_long;
 mod utf8_marks;
 mod utf8_pairs;
 mod utf8_reading;
+mod utf8_short;
 mod utf8_spelling;
 mod utf8_windows;
 

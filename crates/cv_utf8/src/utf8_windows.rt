@@ -9,23 +9,10 @@ use crate::utf8_ascii::{read_ascii, read_last};
 use crate::utf8_begun::put_begun;
 use crate::utf8_long::{read_fours, read_threes};
 use crate::utf8_marks::{Front, among, beginnings, is_behind, three_high, whole};
+use crate::utf8_short::are_short;
 use cv_base::Scalar;
 use cv_block::{MANY, Spelled, is_ascii_block};
 use std::simd::prelude::*;
-
-/// Whether sixteen bytes are those of characters of one and of two bytes. The last may be the first of two.
-#[inline(always)]
-fn are_short(input: &[u8], at: usize) -> bool
-    requires { at + 17 ≤ length input.now }
-    ensures { IsTrue result → (k : ℕ) → k < 16 → IsShortAt input.now (at + k) }
-{
-    let bytes = u8x16::from_slice(&input[at..]);
-    let behind = u8x16::from_slice(&input[at + 1..]);
-    let firsts = among(bytes, 0xc2, 0x1e);
-    let high = among(bytes, 0xc0, 0x40);
-    let seconds = among(behind, 0x80, 0x40);
-    firsts == high && firsts == seconds
-}
 
 /// The numbers whose low and high bytes are given.
 #[inline(always)]

@@ -7,6 +7,7 @@ pub mod Utf8Joined
 pub mod Utf8Pairs
 pub mod Utf8Fours
 pub mod Utf8Short
+pub mod Utf8ShortLanes
 pub mod Utf8PutBegun
 pub mod Utf8Marks
 pub mod Utf8Covered

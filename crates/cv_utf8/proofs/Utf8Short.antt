@@ -1,12 +1,11 @@
 -- Characters of one and of two bytes that are read at once, as vectors compute them.
-use Rattle.std.proofs.Common.{◌≡◌, ℕ, ◌+◌, ◌-◌, ◌*◌, ◌/◌, ◌%◌, ◌^◌, ◌<◌, ◌≤◌, ◌⊎◌, inl, inr, Bool, true, false, cond, Fits, List, [], ◌∷◌, length, take, drop, get_or, map, refl, sym, ◌∙◌, ap, arith, suc, w8, lit≤}
+use Rattle.std.proofs.Common.{◌≡◌, ℕ, ◌+◌, ◌-◌, ◌*◌, ◌%◌, ◌^◌, ◌<◌, ◌≤◌, ◌⊎◌, inl, inr, Bool, true, false, cond, Fits, List, [], ◌∷◌, length, drop, get_or, map, refl, sym, ◌∙◌, ap, arith, suc, w8, lit≤}
 use Rattle.std.specs.Prelude.{replicate}
 use Rattle.std.specs.Simd.Lanes.{mask_l, top, zip2}
 use mir.Val.{bool_byte}
 use Rattle.std.proofs.Math.Dec.{ltb}
 use Rattle.std.proofs.Math.Seq.{drop-cons}
-use Rattle.std.proofs.lemmas.Simd.{bitmask_splat, zip2_splat, bit_mask_l, length-chunk, get_or-chunk, length-zip2, map-map}
-use Rattle.std.proofs.lemmas.List.{get_or-map}
+use Rattle.std.proofs.lemmas.Simd.{bitmask_splat, zip2_splat, length-zip2, map-map}
 use Rattle.std.proofs.lemmas.Bool.{ltb-true, ltb-false, le-ltb}
 use Rattle.std.specs.Int.{bit_at}
 use Rattle.cv_block.specs.Spelled.{IsSpelledAt}
@@ -23,36 +22,6 @@ among_is xs least many long =
     let is : off ≡ map (λ a. (a + (256 - least)) % 256) xs = zip2_splat (λ a b. (a + (256 - b)) % 256) xs 16 least long in
     let size : length off ≡ 16 = length-zip2 (λ a b. (a + (256 - b)) % 256) xs (replicate 16 least) long ∙ long in
     bitmask_splat w8 ltb off 16 many size (lit≤ tt) ∙ ap (λ l. mask_l (map (λ a. ltb a many) l)) is ∙ ap mask_l (map-map (λ a. ltb a many) (λ a. (a + (256 - least)) % 256) xs)
-
-abbrev one_if : Bool → ℕ
-one_if b = cond b 1 0
-
-same_bit : (a b : Bool) → one_if a ≡ one_if b → a ≡ b
-same_bit true true e = refl
-same_bit true false e = cc
-same_bit false true e = cc
-same_bit false false e = refl
-
--- lanes that give the same bits
-same_lane : (p q : ℕ → Bool) (xs ys : List ℕ) → length xs ≡ 16 → length ys ≡ 16 → mask_l (map p xs) ≡ mask_l (map q ys) → (k : ℕ) → k < 16 → p (get_or xs k 0) ≡ q (get_or ys k 0)
-same_lane p q xs ys long also e k h =
-    let bit = same_bit _ _ (sym (bit_mask_l (map p xs) k) ∙ ap (λ m. m / 2 ^ k % 2) e ∙ bit_mask_l (map q ys) k) in
-    sym (get_or-map p xs k 0 false (omega arith)) ∙ bit ∙ get_or-map q ys k 0 false (omega arith)
-
--- the lanes that begin two bytes are those of no other first byte
-pub short_lanes : (text : List ℕ) (at : ℕ) → at + 17 ≤ length text → mask_l (map (is_among 0xc2 0x1e) (take 16 (drop at text))) ≡ mask_l (map (is_among 0xc0 0x40) (take 16 (drop at text)))
-    → mask_l (map (is_among 0xc2 0x1e) (take 16 (drop at text))) ≡ mask_l (map is_behind (take 16 (drop (at + 1) text))) → (k : ℕ) → k < 16 → IsShortAt text (at + k)
-short_lanes text at room high behind k h =
-    let xs : List ℕ = take 16 (drop at text) in
-    let ys : List ℕ = take 16 (drop (at + 1) text) in
-    let long : length xs ≡ 16 = length-chunk at 16 text (omega arith) in
-    let also : length ys ≡ 16 = length-chunk (at + 1) 16 text (omega arith) in
-    let x : get_or xs k 0 ≡ get_or text (at + k) 0 = get_or-chunk at 16 text k 0 h in
-    let place : at + 1 + k ≡ at + k + 1 = omega arith in
-    let y : get_or ys k 0 ≡ get_or text (at + k + 1) 0 = get_or-chunk (at + 1) 16 text k 0 h ∙ ap (λ i. get_or text i 0) place in
-    let a = same_lane (is_among 0xc2 0x1e) (is_among 0xc0 0x40) xs xs long long high k h in
-    let b = same_lane (is_among 0xc2 0x1e) is_behind xs ys long also behind k h in
-    (rw x at a, rw (x, y) at b)
 
 -- ---- a byte and the next
 
@@ -78,6 +47,9 @@ which x y false true h k s e f =
     let second : (y + (256 - 0x80)) % 256 < 0x40 = ltb-true _ _ f in
     inr (inr (e, f, omega arith, omega arith, omega arith, omega arith))
 
+abbrev one_if : Bool → ℕ
+one_if b = cond b 1 0
+
 abbrev none_if : Bool → ℕ
 none_if b = cond b 0 1
 
@@ -95,8 +67,8 @@ one_value x y h = grind arith
 one_bytes : (x : ℕ) → x < 128 → utf8_bytes x ≡ x ∷ []
 one_bytes x h = grind arith
 
-two_value : (x y : ℕ) → 0xc2 ≤ x → short_of x y ≡ (x % 32) * 64 + y % 64
-two_value x y h = grind arith
+two_value : (x y : ℕ) → 0xc2 ≤ x → x ≤ 0xdf → short_of x y ≡ (x % 32) * 64 + y % 64
+two_value x y h k = grind arith
 
 two_bytes : (x y : ℕ) → 0xc2 ≤ x → x ≤ 0xdf → 0x80 ≤ y → y ≤ 0xbf → utf8_bytes ((x % 32) * 64 + y % 64) ≡ x ∷ y ∷ []
 two_bytes x y h k l m = grind arith
@@ -130,7 +102,7 @@ lane_of text at k v s room l e f (inr (inr q)) =
     let now : left_over text (at + k) ≡ 0 = ap one_if q.0 in
     let next : left_over text (at + k + 1) ≡ 1 = ap one_if q.1 in
     let place : at + (k + left_over text (at + k)) ≡ at + k = omega arith in
-    let is = e ∙ two_value (get_or text (at + k) 0) (get_or text (at + k + 1) 0) q.2 in
+    let is = e ∙ two_value (get_or text (at + k) 0) (get_or text (at + k + 1) 0) q.2 q.3 in
     inr (f ∙ ap none_if q.0, (2, omega arith, rw place (two_spelled text (at + k) v (omega arith) (q.2, q.3, (q.4, q.5)) is)))
 
 -- a test as a number

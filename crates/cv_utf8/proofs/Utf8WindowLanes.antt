@@ -13,6 +13,7 @@ use lib.Lanes.{Each1}
 use Rattle.cv_utf8.specs.Private.Utf8Short.{is_among, is_behind, short_of}
 use Rattle.cv_utf8.specs.Private.Utf8Windows.{AreMarks, IsOneAt, IsTwoAt, IsThreeAt, three_high, whole_of}
 use Rattle.cv_utf8.proofs.Utf8Marks.{one_if}
+use Rattle.cv_utf8.proofs.Utf8ShortLanes.{above, above_all}
 use Rattle.cv_utf8.proofs.Utf8Covered.{covered, covered_lt, first_covered, firsts, firsts_of_marks, lt_or_le, next_bits}
 use Rattle.cv_utf8.proofs.Utf8Begun.{begins_if, not_read}
 
@@ -93,10 +94,6 @@ sum_of a b = (a + b) % 2 ^ 8
 abbrev low_two : ℕ → List ℕ → List ℕ → List ℕ
 low_two n xs ys = zip2 sum_of (splat n product_of 64 xs) (splat n rem_of 64 ys)
 
--- the high byte of two
-abbrev high_two : ℕ → List ℕ → List ℕ
-high_two n xs = splat n part_of 4 (splat n rem_of 32 xs)
-
 -- the high byte of three, whatever it is
 abbrev high_three : ℕ → List ℕ → List ℕ → List ℕ
 high_three n xs ys = zip2 sum_of (splat n product_of 16 xs) (splat n part_of 4 (splat n rem_of 64 ys))
@@ -114,21 +111,18 @@ abbrev short_lows : ℕ → List ℕ → List ℕ → List ℕ
 short_lows n xs ys = sel_l (are_below n 0xc0 xs) xs (low_two n xs ys)
 
 abbrev short_highs : ℕ → List ℕ → List ℕ
-short_highs n xs = sel_l (are_below n 0xc0 xs) (replicate n 0) (high_two n xs)
+short_highs n xs = splat n part_of 4 (above_all xs (replicate n 0xc0))
 
 abbrev lows : ℕ → List ℕ → List ℕ → List ℕ → List ℕ
 lows n xs ys zs = sel_l (are_below n 0x80 xs) xs (low_two n (sel_l (are_three n xs) ys xs) (sel_l (are_three n xs) zs ys))
 
-abbrev highs : ℕ → List ℕ → List ℕ → List ℕ
-highs n xs hs = sel_l (are_below n 0x80 xs) (replicate n 0) (sel_l (are_three n xs) hs (high_two n xs))
+abbrev highs : ℕ → List ℕ → List ℕ → List ℕ → List ℕ
+highs n xs hs ts = sel_l (are_three n xs) hs ts
 
 -- ---- one lane
 
 abbrev lane_low_two : ℕ → ℕ → ℕ
 lane_low_two x y = sum_of (product_of x 64) (y % 64)
-
-abbrev lane_high_two : ℕ → ℕ
-lane_high_two x = x % 32 / 4
 
 abbrev lane_high_three : ℕ → ℕ → ℕ
 lane_high_three x y = sum_of (product_of x 16) (y % 64 / 4)
@@ -143,13 +137,13 @@ abbrev lane_short_low : ℕ → ℕ → ℕ
 lane_short_low x y = cond (mask (ltb x 0xc0)) x (lane_low_two x y)
 
 abbrev lane_short_high : ℕ → ℕ
-lane_short_high x = cond (mask (ltb x 0xc0)) 0 (lane_high_two x)
+lane_short_high x = above x 0xc0 / 4
 
 abbrev lane_low : ℕ → ℕ → ℕ → ℕ
 lane_low x y z = cond (mask (ltb x 0x80)) x (lane_low_two (cond (is_three x) y x) (cond (is_three x) z y))
 
-abbrev lane_high : ℕ → ℕ → ℕ
-lane_high x h = cond (mask (ltb x 0x80)) 0 (cond (is_three x) h (lane_high_two x))
+abbrev lane_high : ℕ → ℕ → ℕ → ℕ
+lane_high x h t = cond (is_three x) h t
 
 short_lows_at : (n : ℕ) (xs ys : List ℕ) (k : ℕ) → length xs ≡ n → length ys ≡ n → k < n → get_or (short_lows n xs ys) k 0 ≡ lane_short_low (get_or xs k 0) (get_or ys k 0)
 short_lows_at zero xs ys k e f h = absurd (omega arith)
@@ -172,12 +166,13 @@ lows_at (suc n) (x ∷ xs) (y ∷ ys) [] k e f g h = cc
 lows_at (suc n) (x ∷ xs) (y ∷ ys) (z ∷ zs) zero e f g h = refl
 lows_at (suc n) (x ∷ xs) (y ∷ ys) (z ∷ zs) (suc k) e f g h = lows_at n xs ys zs k (omega arith) (omega arith) (omega arith) (omega arith)
 
-highs_at : (n : ℕ) (xs ys : List ℕ) (k : ℕ) → length xs ≡ n → length ys ≡ n → k < n → get_or (highs n xs ys) k 0 ≡ lane_high (get_or xs k 0) (get_or ys k 0)
-highs_at zero xs ys k e f h = absurd (omega arith)
-highs_at (suc n) [] ys k e f h = cc
-highs_at (suc n) (x ∷ xs) [] k e f h = cc
-highs_at (suc n) (x ∷ xs) (y ∷ ys) zero e f h = refl
-highs_at (suc n) (x ∷ xs) (y ∷ ys) (suc k) e f h = highs_at n xs ys k (omega arith) (omega arith) (omega arith)
+highs_at : (n : ℕ) (xs hs ts : List ℕ) (k : ℕ) → length xs ≡ n → length hs ≡ n → length ts ≡ n → k < n → get_or (highs n xs hs ts) k 0 ≡ lane_high (get_or xs k 0) (get_or hs k 0) (get_or ts k 0)
+highs_at zero xs hs ts k e f g h = absurd (omega arith)
+highs_at (suc n) [] hs ts k e f g h = cc
+highs_at (suc n) (x ∷ xs) [] ts k e f g h = cc
+highs_at (suc n) (x ∷ xs) (y ∷ hs) [] k e f g h = cc
+highs_at (suc n) (x ∷ xs) (y ∷ hs) (z ∷ ts) zero e f g h = refl
+highs_at (suc n) (x ∷ xs) (y ∷ hs) (z ∷ ts) (suc k) e f g h = highs_at n xs hs ts k (omega arith) (omega arith) (omega arith) (omega arith)
 
 three_highs_at : (n : ℕ) (xs ys : List ℕ) (k : ℕ) → length xs ≡ n → length ys ≡ n → k < n → get_or (three_highs n xs ys) k 0 ≡ lane_three_high (get_or xs k 0) (get_or ys k 0)
 three_highs_at zero xs ys k e f h = absurd (omega arith)
@@ -185,6 +180,13 @@ three_highs_at (suc n) [] ys k e f h = cc
 three_highs_at (suc n) (x ∷ xs) [] k e f h = cc
 three_highs_at (suc n) (x ∷ xs) (y ∷ ys) zero e f h = refl
 three_highs_at (suc n) (x ∷ xs) (y ∷ ys) (suc k) e f h = three_highs_at n xs ys k (omega arith) (omega arith) (omega arith)
+
+-- there are as many high bytes of characters of up to two bytes as bytes
+pub short_highs_long : (n : ℕ) (xs : List ℕ) → length xs ≡ n → length (short_highs n xs) ≡ n
+short_highs_long zero [] e = refl
+short_highs_long zero (x ∷ xs) e = absurd (omega (arith, e))
+short_highs_long (suc n) [] e = cc
+short_highs_long (suc n) (x ∷ xs) e = omega (arith, short_highs_long n xs (omega arith))
 
 -- there are as many high bytes as bytes
 pub three_highs_long : (n : ℕ) (xs ys : List ℕ) → length xs ≡ n → length ys ≡ n → length (three_highs n xs ys) ≡ n
@@ -206,7 +208,7 @@ low_is x y z h k l = grind arith
 three_high_is : (x y : ℕ) → x < 256 → y < 256 → lane_three_high x y ≡ three_high x y
 three_high_is x y h k = grind arith
 
-high_is : (x y : ℕ) → x < 256 → y < 256 → lane_high x (three_high x y) ≡ whole_of x y 0 / 256
+high_is : (x y : ℕ) → x < 256 → y < 256 → lane_high x (three_high x y) (short_of x 0 / 256) ≡ whole_of x y 0 / 256
 high_is x y h k = grind arith
 
 -- ---- sixteen lanes
@@ -235,8 +237,10 @@ pub three_high_at : (xs ys : List ℕ) (k : ℕ) → length xs ≡ 16 → length
 three_high_at xs ys k long also few less h = three_highs_at 16 xs ys k long also h ∙ three_high_is (get_or xs k 0) (get_or ys k 0) (lane_fits xs k few) (lane_fits ys k less)
 
 -- the high bytes of characters of up to three bytes
-pub high_at : (xs ys hs : List ℕ) (k : ℕ) → length xs ≡ 16 → length hs ≡ 16 → Each1 (Fits w8) xs → Each1 (Fits w8) ys → get_or hs k 0 ≡ three_high (get_or xs k 0) (get_or ys k 0) → k < 16 → get_or (highs 16 xs hs) k 0 ≡ whole_of (get_or xs k 0) (get_or ys k 0) 0 / 256
-high_at xs ys hs k long also few less e h = highs_at 16 xs hs k long also h ∙ ap (lane_high (get_or xs k 0)) e ∙ high_is (get_or xs k 0) (get_or ys k 0) (lane_fits xs k few) (lane_fits ys k less)
+pub high_at : (xs ys hs ts : List ℕ) (k : ℕ) → length xs ≡ 16 → length hs ≡ 16 → length ts ≡ 16 → Each1 (Fits w8) xs → Each1 (Fits w8) ys → get_or hs k 0 ≡ three_high (get_or xs k 0) (get_or ys k 0) → get_or ts k 0 ≡ short_of (get_or xs k 0) 0 / 256 → k < 16
+    → get_or (highs 16 xs hs ts) k 0 ≡ whole_of (get_or xs k 0) (get_or ys k 0) 0 / 256
+high_at xs ys hs ts k long also too few less e f h =
+    highs_at 16 xs hs ts k long also too h ∙ rw (e, f) (high_is (get_or xs k 0) (get_or ys k 0) (lane_fits xs k few) (lane_fits ys k less))
 
 -- the numbers of both
 

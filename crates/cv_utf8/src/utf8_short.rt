@@ -1,8 +1,34 @@
-//! Whether bytes are of characters of one and of two bytes.
-ghost use Rattle.std.specs.Prelude.{◌≡◌, ◌+◌, ◌≤◌, ◌<◌, ℕ, length, IsTrue};
+//! Whether bytes of UTF-8 are those of characters of one and of two bytes, by vectors that are joined before one is made bits.
+ghost use Rattle.std.specs.Prelude.{◌≡◌, ◌+◌, ◌≤◌, ◌<◌, ℕ, length, get_or, IsTrue};
 ghost use Rattle.cv_utf8.specs.Private.Utf8Short.{IsShortAt};
 
-use crate::utf8_windows::are_short;
+use std::simd::prelude::*;
+
+/// By how much each of sixteen bytes is above the most that may stand there, where each character has one or two bytes. Before a byte behind
+/// a first that is 0xc2 to 0xdf, and before any other 0 to 0xbf. The least is taken off first, so a lesser byte wraps and is above too.
+#[inline(always)]
+fn excess(input: &[u8], at: usize) -> u8x16
+    requires { at + 17 ≤ length input.now }
+    ensures long { length result ≡ 16 }
+    ensures lanes { (k : ℕ) → k < 16 → get_or result k 0 ≡ 0 → IsShortAt input.now (at + k) }
+{
+    let bytes = u8x16::from_slice(&input[at..]);
+    let behind = u8x16::from_slice(&input[at + 1..]);
+    let seconds = (behind - u8x16::splat(0x80)).simd_lt(u8x16::splat(0x40));
+    let least = seconds.select(u8x16::splat(0xc2), u8x16::splat(0));
+    let most = seconds.select(u8x16::splat(0x1d), u8x16::splat(0xbf));
+    (bytes - least).saturating_sub(most)
+}
+
+/// Whether sixteen bytes are those of characters of one and of two bytes. The last may be the first of two.
+#[inline(always)]
+pub(crate) fn are_short(input: &[u8], at: usize) -> bool
+    requires { at + 17 ≤ length input.now }
+    ensures { IsTrue result → (k : ℕ) → k < 16 → IsShortAt input.now (at + k) }
+{
+    let above = excess(input, at);
+    above.simd_ne(u8x16::splat(0)).to_bitmask() == 0
+}
 
 /// Whether sixty-four bytes are those of characters of one and of two bytes. The last may be the first of two.
 #[inline(always)]
@@ -10,9 +36,8 @@ pub(crate) fn are_short_block(input: &[u8], at: usize) -> bool
     requires { at + 65 ≤ length input.now }
     ensures { IsTrue result → (k : ℕ) → k < 64 → IsShortAt input.now (at + k) }
 {
-    let mut all = true;
-    for part in 0..4 {
-        all &= are_short(input, at + 16 * part);
-    }
-    all
+    let front = excess(input, at) | excess(input, at + 16);
+    let rest = excess(input, at + 32) | excess(input, at + 48);
+    let above = front | rest;
+    above.simd_ne(u8x16::splat(0)).to_bitmask() == 0
 }

@@ -9,23 +9,10 @@ use crate::utf8_ascii::{read_ascii, read_last};
 use crate::utf8_begun::put_begun;
 use crate::utf8_long::{read_fours, read_threes};
 use crate::utf8_marks::{Front, among, beginnings, is_behind, three_high, whole};
+use crate::utf8_short::are_short;
 use cv_base::Scalar;
 use cv_block::{MANY, Spelled, is_ascii_block};
 use std::simd::prelude::*;
-
-/// Whether sixteen bytes are those of characters of one and of two bytes. The last may be the first of two.
-#[inline(always)]
-pub(crate) fn are_short(input: &[u8], at: usize) -> bool
-    requires { at + 17 ≤ length input.now }
-    ensures { IsTrue result → (k : ℕ) → k < 16 → IsShortAt input.now (at + k) }
-{
-    let bytes = u8x16::from_slice(&input[at..]);
-    let behind = u8x16::from_slice(&input[at + 1..]);
-    let firsts = among(bytes, 0xc2, 0x1e);
-    let high = among(bytes, 0xc0, 0x40);
-    let seconds = among(behind, 0x80, 0x40);
-    firsts == high && firsts == seconds
-}
 
 /// The numbers whose low and high bytes are given.
 #[inline(always)]
@@ -45,15 +32,13 @@ fn short_low(first: u8x16, second: u8x16) -> u8x16
     first.simd_lt(u8x16::splat(0xc0)).select(first, two)
 }
 
-/// The high bytes of the numbers of characters that begin with the bytes and have one or two.
+/// The high bytes of the numbers of characters that begin with the bytes and have one or two: none where the byte is below 0xc0.
 #[inline(always)]
 fn short_high(first: u8x16) -> u8x16
-    ensures { (k : ℕ) → k < 16 → get_or result k 0 ≡ short_of (get_or first k 0) 0 / 256 }
+    ensures long { length result ≡ 16 }
+    ensures bytes { (k : ℕ) → k < 16 → get_or result k 0 ≡ short_of (get_or first k 0) 0 / 256 }
 {
-    let two = first % u8x16::splat(32) / u8x16::splat(4);
-    first
-        .simd_lt(u8x16::splat(0xc0))
-        .select(u8x16::splat(0), two)
+    first.saturating_sub(u8x16::splat(0xc0)) / u8x16::splat(4)
 }
 
 /// The numbers of the characters that begin at sixteen places, if they have one or two bytes. They are computed by bytes, of which a
@@ -102,11 +87,8 @@ fn high_bytes(first: u8x16, second: u8x16) -> u8x16
     ensures { (k : ℕ) → k < 16 → get_or result k 0
         ≡ whole_of (get_or first k 0) (get_or second k 0) 0 / 256 }
 {
-    let two = first % u8x16::splat(32) / u8x16::splat(4);
     let are_three = (first - u8x16::splat(0xe0)).simd_lt(u8x16::splat(0x10));
-    let many = are_three.select(three_high(first, second), two);
-    let are_one = first.simd_lt(u8x16::splat(0x80));
-    are_one.select(u8x16::splat(0), many)
+    are_three.select(three_high(first, second), short_high(first))
 }
 
 /// The numbers of the characters that begin at sixteen places, if they have up to three bytes. All are scalar values, whatever the bytes are.

@@ -19,7 +19,7 @@ IsShortAt text at = IsShort (get_or text at 0) (get_or text (at + 1) 0)
 
 -- the number of the character that a byte and the next begin
 abbrev pub short_of : ℕ → ℕ → ℕ
-short_of x y = cond (nat_lt x 0xc0) x ((x % 32) * 64 + y % 64)
+short_of x y = cond (nat_lt x 0xc0) x ((x - 0xc0) * 64 + y % 64)
 
 -- the number of the character that the bytes at a place begin
 abbrev pub short_value : List ℕ → ℕ → ℕ

@@ -1,5 +1,5 @@
 -- Windows of sixteen bytes of UTF-8 that are read at once.
-use Rattle.std.specs.Prelude.{◌≡◌, ℕ, ◌+◌, ◌*◌, ◌/◌, ◌%◌, ◌≤◌, ◌<◌, ◌⊎◌, true, false, cond, nat_lt, nat_eq, List, get_or}
+use Rattle.std.specs.Prelude.{◌≡◌, ℕ, ◌+◌, ◌-◌, ◌*◌, ◌/◌, ◌%◌, ◌≤◌, ◌<◌, ◌⊎◌, true, false, cond, nat_lt, nat_eq, List, get_or}
 use Rattle.std.specs.Int.{bit_at}
 use Rattle.cv_block.specs.Spelled.{IsSpelledAt}
 use Rattle.cv_utf8.specs.Utf8.{utf8_bytes}
@@ -56,7 +56,7 @@ three_high x y = cond (nat_eq (((x % 16) * 16 + y % 64 / 4) / 8) 27) 0 ((x % 16)
 
 -- the number of the character that three bytes begin, and some scalar value where they begin none
 abbrev pub whole_of : ℕ → ℕ → ℕ → ℕ
-whole_of x y z = cond (nat_lt x 0x80) x (cond (is_among 0xe0 0x10 x) (three_high x y * 256 + (y % 4) * 64 + z % 64) ((x % 32) * 64 + y % 64))
+whole_of x y z = cond (nat_lt x 0x80) x (cond (is_among 0xe0 0x10 x) (three_high x y * 256 + (y % 4) * 64 + z % 64) ((x - 0xc0) / 4 * 256 + (x % 4) * 64 + y % 64))
 
 -- the number of the character that the bytes at a place begin
 abbrev pub whole_value : List ℕ → ℕ → ℕ

@@ -1,10 +1,9 @@
 -- Which bytes of a window of UTF-8 are of whole characters.
-use Rattle.std.proofs.Common.{◌≡◌, ℕ, ◌+◌, ◌-◌, ◌*◌, ◌/◌, ◌%◌, ◌^◌, ◌<◌, ◌≤◌, ◌⊎◌, inl, inr, Bool, true, false, cond, Fits, List, get_or, refl, sym, ◌∙◌, ap, arith, zero, suc, w8, w64, lit≤}
+use Rattle.std.proofs.Common.{◌≡◌, ℕ, ◌+◌, ◌-◌, ◌*◌, ◌%◌, ◌^◌, ◌<◌, ◌≤◌, ◌⊎◌, inl, inr, Bool, true, false, cond, Fits, List, get_or, refl, sym, ◌∙◌, ap, arith, zero, suc, w8, w64, lit≤}
 use Rattle.std.specs.Int.{bit_at, trailing_ones}
 use Rattle.std.specs.Int.RustNames.{bit_or}
-use Rattle.std.proofs.Math.Nat.{mod-lt}
-use Rattle.std.proofs.lemmas.Nat.{div-add-mod', or_lt}
-use Rattle.std.proofs.lemmas.Nat.Bits.{bit_at-lt, bit_at-suc, bit_at-zero, bit_at_above, bit_at_cat_high, bit_at_cat_low, bit_at_lowest, bit_at_ones, bit_at-trailing_ones, same_from_bits_below}
+use Rattle.std.proofs.lemmas.Nat.{or_lt}
+use Rattle.std.proofs.lemmas.Nat.Bits.{bit_at-lt, bit_at_above, bit_at_cat_high, bit_at-trailing_ones}
 use Rattle.std.proofs.lemmas.Bool.{ltb-true, lt-ltb}
 use Rattle.cv_utf8.specs.Private.Utf8Short.{is_behind}
 use Rattle.cv_utf8.specs.Private.Utf8Windows.{IsOneAt, IsTwoAt, IsThreeAt, AreMarks, IsFollowing, AreWhole}
@@ -226,8 +225,7 @@ of_over text at one two three k p q r h (inr (inl e)) = let l = place_lt two k q
 of_over text at one two three k p q r h (inr (inr (inl e))) = let l = place_lt three k r.0 e (lt_or_le k 16) in absurd (omega arith)
 of_over text at one two three k p q r h (inr (inr (inr a))) = after_behind text at two three k q r a
 
--- what is covered is among eighteen places
-pub covered_lt : (one two three : ℕ) → one < 2 ^ 16 → two < 2 ^ 16 → three < 2 ^ 16 → covered one two three < 2 ^ 18
+covered_lt : (one two three : ℕ) → one < 2 ^ 16 → two < 2 ^ 16 → three < 2 ^ 16 → covered one two three < 2 ^ 18
 covered_lt one two three h k l =
     let low : bit_or (bit_or one two) three < 2 ^ 16 = or_lt 16 (bit_or one two) three (or_lt 16 one two h k) l in
     let middle : bit_or (bit_or (bit_or one two) three) (moved (bit_or two three) 1) < 2 ^ 18 = or_lt 18 (bit_or (bit_or one two) three) (moved (bit_or two three) 1) (omega arith) (moved_lt (bit_or two three) 1 (or_lt 16 two three k l) (lit≤ tt)) in
@@ -253,36 +251,6 @@ whole_of_marks text at one two three used fits p q r e =
       behind = λ k h b. of_behind text at one two three k p q r (fits (at + k)).fits b (is k h);
     }
 
--- the bits of a number and of the next: up to the lowest 0 of the number they turn, and above they are the same
-pub record IsNext (m end : ℕ) : Type 0 where
-  pub below : (k : ℕ) → k < end → bit_at (m + 1) k ≡ 0
-  pub at : bit_at (m + 1) end ≡ 1
-  pub above : (k : ℕ) → end < k → bit_at (m + 1) k ≡ bit_at m k
-
--- the bits of the next number, where those below a place are set and the one at the place is not
-pub next_bits : (m end : ℕ) → bit_at m end ≡ 0 → ((i : ℕ) → i < end → bit_at m i ≡ 1) → IsNext m end
-next_bits m end stop set =
-    let some : 0 < 2 ^ end = pow_positive end in
-    let q : ℕ = m / 2 ^ end in
-    let r : ℕ = m % 2 ^ end in
-    let parts : m ≡ q * 2 ^ end + r = sym (div-add-mod' m (2 ^ end)) in
-    let small : r < 2 ^ end = mod-lt m some in
-    let ones : r ≡ 2 ^ end - 1 = same_from_bits_below end r (2 ^ end - 1) small (omega arith) (λ i l. sym (bit_at_cat_low q end r i l) ∙ sym (ap (λ x. bit_at x i) parts) ∙ set i l ∙ sym (bit_at_ones end i l)) in
-    let here : end - end ≡ 0 = omega arith in
-    let even : bit_at q 0 ≡ 0 = sym (bit_at_cat_high q end r end small (omega arith) ∙ ap (bit_at q) here) ∙ sym (ap (λ x. bit_at x end) parts) ∙ stop in
-    let half : (q + 1) / 2 ≡ q / 2 = omega (arith, even, bit_at_lowest q) in
-    let next : m + 1 ≡ (q + 1) * 2 ^ end + 0 = omega (arith, parts, ones, some) in
-    record {
-      below = λ k l. ap (λ x. bit_at x k) next ∙ bit_at_cat_low (q + 1) end 0 k l ∙ bit_at-zero k;
-      at = ap (λ x. bit_at x end) next ∙ bit_at_cat_high (q + 1) end 0 end some (omega arith) ∙ ap (bit_at (q + 1)) here ∙ bit_at_lowest (q + 1) ∙ (omega (arith, even, bit_at_lowest q));
-      above = λ k l.
-          let j : ℕ = k - end - 1 in
-          let place : k - end ≡ suc j = omega arith in
-          let up : bit_at (m + 1) k ≡ bit_at (q + 1) (suc j) = ap (λ x. bit_at x k) next ∙ bit_at_cat_high (q + 1) end 0 k some (omega arith) ∙ ap (bit_at (q + 1)) place in
-          let same : bit_at m k ≡ bit_at q (suc j) = ap (λ x. bit_at x k) parts ∙ bit_at_cat_high q end r k small (omega arith) ∙ ap (bit_at q) place in
-          up ∙ bit_at-suc (q + 1) j ∙ ap (λ x. bit_at x j) half ∙ sym (bit_at-suc q j) ∙ sym same;
-    }
-
 -- where they are whole, those that are marked begin them
 pub firsts_of_marks : (text : List ℕ) (at one two three used k : ℕ) → ((i : ℕ) → Fits w8 (get_or text i 0)) → AreMarks (IsOneAt text) at one → AreMarks (IsTwoAt text) at two → AreMarks (IsThreeAt text) at three → used ≡ trailing_ones w64 (covered one two three) → k < used
     → bit_at (firsts one two three) k ≡ cond (is_behind (get_or text (at + k) 0)) 0 1
@@ -291,8 +259,3 @@ firsts_of_marks text at one two three used k fits p q r e h =
     let small : m < 2 ^ 18 = covered_lt one two three p.0 q.0 r.0 in
     let set = (bit_at-trailing_ones w64 m (omega arith)).2 k (rw e at h) in
     first_is text at one two three k (is_behind (get_or text (at + k) 0)) p q r (fits (at + k)).fits refl (cover one two three k q.0 r.0 set)
-
--- a place that is marked is covered
-pub first_covered : (one two three k : ℕ) → bit_at (firsts one two three) k ≡ 1 → bit_at (covered one two three) k ≡ 1
-first_covered one two three k e =
-    left_in (bit_or (firsts one two three) (moved (bit_or two three) 1)) (moved three 2) k (left_in (firsts one two three) (moved (bit_or two three) 1) k e)

@@ -1,20 +1,21 @@
 -- What begins in each lane of a window of UTF-8, and its number, as vectors compute them.
 use Rattle.std.proofs.Common.{◌≡◌, ℕ, ◌+◌, ◌-◌, ◌*◌, ◌/◌, ◌%◌, ◌^◌, ◌<◌, ◌≤◌, ◌⊎◌, inl, inr, Bool, true, false, not, cond, Fits, List, [], ◌∷◌, length, take, drop, get_or, map, min, refl, sym, ◌∙◌, ap, arith, zero, suc, w8, w64}
 use Rattle.std.specs.Prelude.{replicate}
-use Rattle.std.specs.Int.{bit_at, bit_not, trailing_ones}
+use Rattle.std.specs.Int.{bit_at, trailing_ones}
 use Rattle.std.specs.Int.Bits.{bit_and}
 use Rattle.std.specs.Simd.Lanes.{mask_l, top, zip2, sel_l}
 use Rattle.std.proofs.Math.Dec.{ltb, eqb}
 use Rattle.std.proofs.lemmas.Bool.{lt-ltb, le-ltb}
 use Rattle.std.proofs.lemmas.List.{get_or-map}
-use Rattle.std.proofs.lemmas.Nat.Bits.{bit_at-lt, bit_at_and, bit_at_not, bit_at-trailing_ones}
+use Rattle.std.proofs.lemmas.Nat.Bits.{bit_at-lt, bit_at_and, bit_at_ones, bit_at_ones_above}
+use Rattle.std.proofs.lemmas.Nat.{one_shl}
 use Rattle.std.proofs.lemmas.Simd.{bit_mask_l, length-chunk, get_or-chunk}
 use lib.Lanes.{Each1}
 use Rattle.cv_utf8.specs.Private.Utf8Short.{is_among, is_behind, short_of}
 use Rattle.cv_utf8.specs.Private.Utf8Windows.{AreMarks, IsOneAt, IsTwoAt, IsThreeAt, three_high, whole_of}
 use Rattle.cv_utf8.proofs.Utf8Marks.{one_if}
 use Rattle.cv_utf8.proofs.Utf8ShortLanes.{above, above_all}
-use Rattle.cv_utf8.proofs.Utf8Covered.{covered, covered_lt, first_covered, firsts, firsts_of_marks, lt_or_le, next_bits}
+use Rattle.cv_utf8.proofs.Utf8Covered.{covered, firsts, firsts_of_marks, lt_or_le}
 use Rattle.cv_utf8.proofs.Utf8Begun.{begins_if, not_read}
 
 -- the lanes that are none behind a first
@@ -33,36 +34,23 @@ beginning_at text at m k room fits e h =
     let lane : get_or (map (is_among 0xc0 0xc0) xs) k false ≡ is_among 0xc0 0xc0 x = get_or-map (is_among 0xc0 0xc0) xs k 0 false (omega (arith, length-chunk at 16 text room)) ∙ ap (is_among 0xc0 0xc0) (get_or-chunk at 16 text k 0 h) in
     ap (λ n. bit_at n k) e ∙ bit_mask_l (map (is_among 0xc0 0xc0) xs) k ∙ ap one_if (lane ∙ not_behind x (fits (at + k)).fits) ∙ lane_bit (is_behind x)
 
-no_bit : (f m : ℕ) → f < 2 → m < 2 → (f ≡ 1 → m ≡ 1) → min f (1 - m) ≡ 0
-no_bit zero m h l p = omega arith
-no_bit (suc zero) m h l p = omega (arith, p refl)
-no_bit (suc (suc f)) m h l p = absurd (omega arith)
-
--- a lane below the lowest that isn't covered, at it, or above it
-kept_lane : (f m now k u : ℕ) (b : Bool) → f < 2 → m < 2 → (f ≡ 1 → m ≡ 1) → (k < u → f ≡ cond b 0 1) → (k < u → now ≡ 0) → (k ≡ u → now ≡ 1) → (u < k → now ≡ m) → k < u ⊎ u ≤ k → u < k ⊎ k ≤ u → min f (1 - now) ≡ begins_if b (ltb k u)
-kept_lane f m now k u b small few p s low here high (inl h) e =
-    let is : min f (1 - now) ≡ cond b 0 1 = omega (arith, low h, s h, small) in
+below : (a k u : ℕ) (b : Bool) → a < 2 → (k < u → a ≡ cond b 0 1) → k < u ⊎ u ≤ k → min a (bit_at (2 ^ u - 1) k) ≡ begins_if b (ltb k u)
+below a k u b s e (inl h) =
+    let is : min a (bit_at (2 ^ u - 1) k) ≡ cond b 0 1 = omega (arith, e h, bit_at_ones u k h) in
     is ∙ sym (ap (begins_if b) (lt-ltb k u h))
-kept_lane f m now k u b small few p s low here high (inr h) (inl l) =
-    let is : min f (1 - now) ≡ 0 = rw (high l) (no_bit f m small few p) in
-    is ∙ sym (ap (begins_if b) (le-ltb k u h) ∙ not_read b)
-kept_lane f m now k u b small few p s low here high (inr h) (inr l) =
-    let is : min f (1 - now) ≡ 0 = omega (arith, here (omega arith)) in
+below a k u b s e (inr h) =
+    let is : min a (bit_at (2 ^ u - 1) k) ≡ 0 = omega (arith, bit_at_ones_above u k h) in
     is ∙ sym (ap (begins_if b) (le-ltb k u h) ∙ not_read b)
 
 -- which lanes begin a character of those that are whole
-pub whole_beginning_at : (text : List ℕ) (at one two three used k : ℕ) → ((i : ℕ) → Fits w8 (get_or text i 0)) → AreMarks (IsOneAt text) at one → AreMarks (IsTwoAt text) at two → AreMarks (IsThreeAt text) at three → used ≡ trailing_ones w64 (covered one two three) → k < 16
-    → bit_at (bit_and (firsts one two three) (bit_not w64 (covered one two three + 1))) k ≡ begins_if (is_behind (get_or text (at + k) 0)) (ltb k used)
-whole_beginning_at text at one two three used k fits p q r e h =
-    let m : ℕ = covered one two three in
-    let f : ℕ = firsts one two three in
-    let small : m < 2 ^ 18 = covered_lt one two three p.0 q.0 r.0 in
-    let ones = bit_at-trailing_ones w64 m (omega arith) in
-    let next = next_bits m used (rw e ones.1) (λ i l. ones.2 i (rw e at l)) in
-    let lane : min (bit_at f k) (1 - bit_at (m + 1) k) ≡ begins_if (is_behind (get_or text (at + k) 0)) (ltb k used) =
-    kept_lane (bit_at f k) (bit_at m k) (bit_at (m + 1) k) k used (is_behind (get_or text (at + k) 0)) (bit_at-lt f k) (bit_at-lt m k) (first_covered one two three k)
-    (firsts_of_marks text at one two three used k fits p q r e) (next.below k) (λ l. ap (bit_at (m + 1)) l ∙ next.at) (next.above k) (lt_or_le k used) (lt_or_le used k) in
-    bit_at_and f (bit_not w64 (m + 1)) k ∙ ap (min (bit_at f k)) (bit_at_not w64 (m + 1) k (omega arith) (omega arith)) ∙ lane
+pub whole_beginning_at : (text : List ℕ) (at one two three used k : ℕ) → ((i : ℕ) → Fits w8 (get_or text i 0)) → AreMarks (IsOneAt text) at one → AreMarks (IsTwoAt text) at two → AreMarks (IsThreeAt text) at three → used ≡ trailing_ones w64 (covered one two three)
+    → bit_at (bit_and (firsts one two three) (2 ^ used - 1)) k ≡ begins_if (is_behind (get_or text (at + k) 0)) (ltb k used)
+whole_beginning_at text at one two three used k fits p q r e =
+    bit_at_and (firsts one two three) (2 ^ used - 1) k ∙ below (bit_at (firsts one two three) k) k used (is_behind (get_or text (at + k) 0)) (bit_at-lt (firsts one two three) k) (firsts_of_marks text at one two three used k fits p q r e) (lt_or_le k used)
+
+-- so many lowest bits
+pub lowest : (used : ℕ) → used ≤ 18 → (1 * 2 ^ used) % 2 ^ 64 ≡ 2 ^ used
+lowest used h = one_shl used 64 (omega arith)
 
 -- ---- bytes
 

@@ -94,6 +94,6 @@ pub(crate) fn whole(input: &[u8], at: usize) -> Front
     let firsts = one | two | three;
     let covered = firsts | (two | three) << 1 | three << 2;
     let used = covered.trailing_ones() as usize;
-    let begun = firsts & !(covered + 1);
+    let begun = firsts & ((1 << used) - 1);
     Front { used, begun }
 }

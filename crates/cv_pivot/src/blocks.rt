@@ -12,6 +12,9 @@ const SHORT_BLOCK: usize = 64;
 /// How many characters a long block has at most.
 const LONG_BLOCK: usize = 256;
 
+/// How many long blocks are taken one behind the other, before a run of small characters is tried again.
+const MOST_BLOCKS: usize = 4;
+
 /// How many bytes a character has at most in any encoding.
 const MOST_BYTES: usize = 8;
 
@@ -24,7 +27,7 @@ const LEAST_BYTES: usize = 4;
 pub(crate) enum BlockSize {
     /// The first block, and the next behind a run of small characters or an item by itself.
     Short,
-    /// The next behind a block, where so many bytes are left.
+    /// The next ones behind a block, where so many bytes are left.
     Long,
 }
 
@@ -39,12 +42,12 @@ impl BlockSize {
     }
 }
 
-/// Takes a block of at most so many characters, if the source reads one, and the target writes it under the policy. The buffer has a
-/// size of its own: a function clears all of its buffers when it is entered.
+/// Takes a block of as many characters as the buffer has at most, if the source reads one, and the target writes it under the policy.
 #[inline(always)]
-fn block<F: BlockCodec, T: BlockCodec, const MOST: usize>(
+fn block<F: BlockCodec, T: BlockCodec>(
     from: &F,
     to: &T,
+    buffer: &mut [Scalar],
     policy: Policy,
     states: &mut States,
     rest: &[u8],
@@ -52,13 +55,12 @@ fn block<F: BlockCodec, T: BlockCodec, const MOST: usize>(
     at: usize,
 ) -> Option<Step>
     requires room { at ≤ length out.old }
-    requires few { MOST ≤ 256 }
+    requires few { length buffer.old ≤ 256 }
     ensures { MatchOption result ((states.new ≡ states.old) × (out.new ≡ out.old)) (λ step.
         StridesOrStops (F.reads from.now) (T.writes to.now) policy states.old rest.now
         out.old at step states.new out.new) }
 {
-    let limit = MOST.min((out.len() - at) / MOST_BYTES);
-    let mut buffer = [Scalar::substitute(); MOST];
+    let limit = buffer.len().min((out.len() - at) / MOST_BYTES);
     let read = from.read_block(states.reading, rest, &mut buffer[..limit]);
     if read.used == 0 {
         return None;
@@ -76,7 +78,81 @@ fn block<F: BlockCodec, T: BlockCodec, const MOST: usize>(
     })
 }
 
-/// Takes a block of the size that is due, if there is one. None is sought in fewer than four bytes.
+/// Takes a short block, if there is one, by a buffer of its own size: a function clears all of its buffers when it is entered.
+#[inline(always)]
+fn short_block<F: BlockCodec, T: BlockCodec>(
+    from: &F,
+    to: &T,
+    policy: Policy,
+    states: &mut States,
+    rest: &[u8],
+    out: &mut [u8],
+    at: usize,
+) -> Option<Step>
+    requires room { at ≤ length out.old }
+    ensures { MatchOption result ((states.new ≡ states.old) × (out.new ≡ out.old)) (λ step.
+        StridesOrStops (F.reads from.now) (T.writes to.now) policy states.old rest.now
+        out.old at step states.new out.new) }
+{
+    let mut buffer = [Scalar::substitute(); SHORT_BLOCK];
+    block(from, to, &mut buffer, policy, states, rest, out, at)
+}
+
+/// Takes a few long blocks one behind the other, if there is one, by one buffer, which is cleared once for all of them.
+#[inline(always)]
+fn long_blocks<F: BlockCodec, T: BlockCodec>(
+    from: &F,
+    to: &T,
+    policy: Policy,
+    states: &mut States,
+    rest: &[u8],
+    out: &mut [u8],
+    at: usize,
+) -> Option<Step>
+    requires room { at ≤ length out.old }
+    ensures { MatchOption result ((states.new ≡ states.old) × (out.new ≡ out.old)) (λ step.
+        StridesOrStops (F.reads from.now) (T.writes to.now) policy states.old rest.now
+        out.old at step states.new out.new) }
+{
+    from.assert_valid();
+    let mut buffer = [Scalar::substitute(); LONG_BLOCK];
+    let mut blocks = 0;
+    let mut used = 0;
+    let mut wrote = 0;
+    let mut count = 0;
+    while blocks < MOST_BLOCKS && rest.len() - used >= LONG_BLOCK {
+        let end = at + wrote;
+        let Some(
+            Step::Took {
+                used: more,
+                wrote: bytes,
+                count: lacking,
+            },
+        ) = block(
+            from,
+            to,
+            &mut buffer,
+            policy,
+            states,
+            &rest[used..],
+            out,
+            end,
+        )
+        else {
+            break;
+        };
+        blocks += 1;
+        used += more;
+        wrote += bytes;
+        count += lacking;
+    }
+    if used == 0 {
+        return None;
+    }
+    Some(Step::Took { used, wrote, count })
+}
+
+/// Takes a block of the size that is due, or some of them, if there is one. None is sought in fewer than four bytes.
 #[inline(always)]
 pub(crate) fn sized_block<F: BlockCodec, T: BlockCodec>(
     from: &F,
@@ -98,9 +174,9 @@ pub(crate) fn sized_block<F: BlockCodec, T: BlockCodec>(
     }
     let took = match *size {
         BlockSize::Long if rest.len() >= LONG_BLOCK => {
-            block::<F, T, LONG_BLOCK>(from, to, policy, states, rest, out, at)
+            long_blocks(from, to, policy, states, rest, out, at)
         }
-        _ => block::<F, T, SHORT_BLOCK>(from, to, policy, states, rest, out, at),
+        _ => short_block(from, to, policy, states, rest, out, at),
     };
     *size = BlockSize::behind(&took);
     took

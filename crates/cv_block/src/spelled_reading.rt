@@ -38,9 +38,13 @@ fn read_few<S: Spelling>(
 #[inline(always)]
 fn read_some<S: Spelling>(input: &[u8], at: usize, buffer: &mut [Scalar], n: usize) -> Spelled
     requires within { at ≤ length input.now }
-    requires room { n + 16 ≤ length buffer.old }
+    requires room { n ≤ length buffer.old }
     ensures { IsReadSpelled S.bytes_of input.now at buffer.old n result buffer.new }
 {
+    let room = buffer.len() - n;
+    if room < MANY {
+        return read_few::<S>(input, at, buffer, n, room);
+    }
     let many = S::read_many(input, at, buffer, n);
     if many.n > 0 {
         return many;
@@ -54,13 +58,9 @@ fn read_some<S: Spelling>(input: &[u8], at: usize, buffer: &mut [Scalar], n: usi
 fn read_front<S: Spelling>(input: &[u8], buffer: &mut [Scalar]) -> Spelled
     ensures { IsReadSpelled S.bytes_of input.now 0 buffer.old 0 result buffer.new }
 {
-    let room = buffer.len();
-    if room < MANY {
-        return read_few::<S>(input, 0, buffer, 0, room);
-    }
     let mut n = 0;
     let mut used = 0;
-    while room - n >= MANY {
+    while n == 0 || buffer.len() - n >= MANY {
         let some = read_some::<S>(input, used, buffer, n);
         if some.n == 0 {
             break;

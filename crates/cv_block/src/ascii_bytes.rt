@@ -110,7 +110,8 @@ fn copy_all_blocks(rest: &[u8], most: usize, out: &mut [u8], at: usize) -> usize
     n + copy_blocks::<BLOCK>(&rest[n..], most - n, out, at + n)
 }
 
-/// Copies the bytes of ASCII at the front of a text, if they are a block at least, and answers how many they are.
+/// Copies the bytes of ASCII at the front of a text, and answers how many they are. They may be none where they are fewer than a block and
+/// bytes for a block are there.
 #[inline(never)]
 pub(crate) fn copy_run(rest: &[u8], out: &mut [u8], at: usize) -> usize
     requires { at ≤ length out.old }
@@ -122,7 +123,7 @@ pub(crate) fn copy_run(rest: &[u8], out: &mut [u8], at: usize) -> usize
 {
     let most = rest.len().min(out.len() - at);
     let n = copy_all_blocks(rest, most, out, at);
-    if n == 0 || n == most {
+    if n == most || n == 0 && most >= BLOCK {
         return n;
     }
     n + copy_few(&rest[n..], most - n, out, at + n)

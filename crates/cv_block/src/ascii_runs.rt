@@ -110,7 +110,7 @@ pub fn unit_bytes(form: AsciiForm) -> usize
 }
 
 /// Writes the run of units that stands at the front in another form, as far as there is room, and answers how many they are. It may be
-/// none where the run is shorter than a block.
+/// none where the run is shorter than a block and units for a block are there.
 #[inline(always)]
 fn take_in<R: Repertoire, From: Unit, To: Unit>(rest: &[u8], out: &mut [u8], at: usize) -> usize
     requires { at ≤ length out.old }
@@ -124,7 +124,7 @@ fn take_in<R: Repertoire, From: Unit, To: Unit>(rest: &[u8], out: &mut [u8], at:
 {
     let most = (rest.len() / From::size()).min((out.len() - at) / To::size());
     let n = take_blocks::<R, From, To>(rest, most, out, at);
-    if n == 0 || n == most {
+    if n == most || n == 0 && most >= BLOCK {
         return n;
     }
     let behind = &rest[From::size() * n..];
@@ -189,7 +189,7 @@ fn take_form<R: Repertoire>(
 }
 
 /// Writes the run that stands at the front in a form in another, as far as there is room, and answers how many units it has.
-/// It may be none where the run is shorter than a block.
+/// It may be none where the run is shorter than a block and units for a block are there.
 #[inline(always)]
 pub(crate) fn take_run<R: Repertoire>(
     form: AsciiForm,

@@ -69,11 +69,15 @@ pub(crate) fn are_below<R: Repertoire, U: Unit>(bytes: &[u8], at: usize) -> bool
     }
 }
 
-/// Whether a block of units of the run stands at the front. It decides speed alone: a test of fewer would often send for a run where
-/// there is none.
+/// Whether a run may stand at the front: a block of its units, or in a text that is shorter than a block its first unit. It decides speed
+/// alone: in longer texts a test of fewer would often send for a run where there is none.
 #[inline(always)]
 fn begins<R: Repertoire, U: Unit>(rest: &[u8]) -> bool {
-    rest.len() >= U::size() * BLOCK && are_below::<R, U>(rest, 0)
+    if rest.len() >= U::size() * BLOCK {
+        are_below::<R, U>(rest, 0)
+    } else {
+        rest.len() >= U::size() && is_below::<R, U>(rest, 0)
+    }
 }
 
 /// Whether it is worth while to look for a run of units of a form. It decides speed alone.

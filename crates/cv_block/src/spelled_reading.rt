@@ -5,7 +5,7 @@ ghost use Rattle.cv_block.specs.Spelled.{IsReadSpelled, IsSpelledRead};
 use crate::spelling::{MANY, Spelled, Spelling};
 use cv_base::{ReadBlock, ReadState, Scalar};
 
-/// Reads up to `most` characters one by one into a buffer, behind its first `n`, up to one behind which many may stand.
+/// Reads up to `most` characters one by one into a buffer, behind its first `n`, up to one of `last` bytes.
 #[inline(always)]
 fn read_few<S: Spelling>(
     input: &[u8],
@@ -13,6 +13,7 @@ fn read_few<S: Spelling>(
     buffer: &mut [Scalar],
     n: usize,
     most: usize,
+    last: usize,
 ) -> Spelled
     requires within { at ≤ length input.now }
     requires room { n + most ≤ length buffer.old }
@@ -27,14 +28,15 @@ fn read_few<S: Spelling>(
         buffer[n + more] = c;
         more += 1;
         used += size;
-        if size == S::MANY_SIZE {
+        if size == last {
             break;
         }
     }
     Spelled { n: more, used }
 }
 
-/// Reads some characters into a buffer, behind its first `n`: many at once, or else a few one by one.
+/// Reads some characters into a buffer, behind its first `n`: many at once, or else a few one by one, up to one behind which many may stand.
+/// Where there is not the room for many, no character has that size.
 #[inline(always)]
 fn read_some<S: Spelling>(input: &[u8], at: usize, buffer: &mut [Scalar], n: usize) -> Spelled
     requires within { at ≤ length input.now }
@@ -43,18 +45,18 @@ fn read_some<S: Spelling>(input: &[u8], at: usize, buffer: &mut [Scalar], n: usi
 {
     let room = buffer.len() - n;
     if room < MANY {
-        return read_few::<S>(input, at, buffer, n, room);
+        return read_few::<S>(input, at, buffer, n, room, 0);
     }
     let many = S::read_many(input, at, buffer, n);
     if many.n > 0 {
         return many;
     }
-    read_few::<S>(input, at, buffer, n, MANY)
+    read_few::<S>(input, at, buffer, n, MANY, S::MANY_SIZE)
 }
 
 /// Reads the characters at the front of a text into the front of a buffer. Behind some it reads no more where there is not the room for
 /// many: few at once are left to the next buffer, which takes them with many others.
-#[inline(always)]
+#[inline(never)]
 fn read_front<S: Spelling>(input: &[u8], buffer: &mut [Scalar]) -> Spelled
     ensures { IsReadSpelled S.bytes_of input.now 0 buffer.old 0 result buffer.new }
 {
@@ -72,7 +74,7 @@ fn read_front<S: Spelling>(input: &[u8], buffer: &mut [Scalar]) -> Spelled
 }
 
 /// Reads a block of characters in a spelling that the state keeps.
-#[inline(never)]
+#[inline(always)]
 pub fn read_spelled<S: Spelling>(state: ReadState, input: &[u8], buffer: &mut [Scalar]) -> ReadBlock
     ensures block { IsSpelledRead S.bytes_of state input.now buffer.old result buffer.new }
     ensures size { length buffer.new ≡ length buffer.old }

@@ -18,8 +18,8 @@ const MOST_BLOCKS: usize = 4;
 /// How many bytes a character has at most in any encoding.
 const MOST_BYTES: usize = 8;
 
-/// How many bytes a block is sought in at the least: fewer are mostly the front of a character at the end of a text.
-const LEAST_BYTES: usize = 4;
+/// How many bytes a block is sought in at the least: fewer are converted sooner one by one.
+const LEAST_BYTES: usize = 8;
 
 /// How long the next block is at most. It decides speed alone: what a block costs besides its characters is spread over more of
 /// them where it is long, but a short one costs less to clear, and behind it a run of ASCII may stand.
@@ -152,7 +152,7 @@ fn long_blocks<F: BlockCodec, T: BlockCodec>(
     Some(Step::Took { used, wrote, count })
 }
 
-/// Takes a block of the size that is due, or some of them, if there is one. None is sought in fewer than four bytes.
+/// Takes a block of the size that is due, or some of them, if there is one. None is sought in fewer than eight bytes.
 #[inline(always)]
 pub(crate) fn sized_block<F: BlockCodec, T: BlockCodec>(
     from: &F,

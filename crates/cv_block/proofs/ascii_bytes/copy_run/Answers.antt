@@ -10,8 +10,8 @@ returns-clause-ascii c =
     let few = rw (take_rest c.args.rest.now n) at c.copy_few.ensures.ascii in
     bytes_run 128 c.args.rest.now _ (omega (arith, c.copy_few.ensures.within, c.copy_all_blocks-n.ensures.within)) (below_more c.args.rest.now n c.copy_few.result c.copy_all_blocks-n.ensures.ascii (below_behind c.args.rest.now n c.copy_few.result few))
 
-pub returns-then-n-eq0-clause-ascii : goal.returns-then-n-eq0-clause-ascii
-returns-then-n-eq0-clause-ascii c = bytes_run 128 c.args.rest.now _ (omega (arith, c.copy_all_blocks-n.ensures.within)) c.copy_all_blocks-n.ensures.ascii
+pub returns-then-n-most-clause-ascii : goal.returns-then-n-most-clause-ascii
+returns-then-n-most-clause-ascii c = bytes_run 128 c.args.rest.now _ (omega (arith, c.copy_all_blocks-n.ensures.within)) c.copy_all_blocks-n.ensures.ascii
 
 pub returns-clause-out : goal.returns-clause-out
 returns-clause-out c =

@@ -19,5 +19,5 @@ loop-more-preserved g c = record {
   read = read_one_more _ _ c.args.at _ c.args.n _ _ _ _ _ c.loop-more.invariant.read (omega arith) c.in-Some.ensures;
 }
 
-pub returns-then-size-MANY_SIZE : goal.returns-then-size-MANY_SIZE
-returns-then-size-MANY_SIZE g c = read_one_more _ _ c.args.at _ c.args.n _ _ _ _ _ c.loop-more.invariant.read (omega arith) c.in-Some.ensures
+pub returns-then-size-last : goal.returns-then-size-last
+returns-then-size-last g c = read_one_more _ _ c.args.at _ c.args.n _ _ _ _ _ c.loop-more.invariant.read (omega arith) c.in-Some.ensures

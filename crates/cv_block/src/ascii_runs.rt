@@ -6,7 +6,7 @@ ghost use Rattle.cv_block.specs.AsciiRuns.{IsBelowAt, IsRunBelow, characters_in,
 
 use crate::byte_order::{BigEndian, LittleEndian};
 use crate::repertoire::Repertoire;
-use crate::small_units::{BLOCK, are_below, form_may_run, unit_run};
+use crate::small_units::{BLOCK, are_below, form_may_run, is_below};
 use crate::unit::{Byte, Four, Two, Unit};
 use cv_base::{AsciiForm, Endian};
 
@@ -97,6 +97,34 @@ fn take_blocks<R: Repertoire, From: Unit, To: Unit>(
     n
 }
 
+/// Writes the units of a run at the front of a text in another form one by one, `most` at most, and answers how many they are.
+#[inline(always)]
+fn take_few<R: Repertoire, From: Unit, To: Unit>(
+    rest: &[u8],
+    most: usize,
+    out: &mut [u8],
+    at: usize,
+) -> usize
+    requires stand { unit_size From.form * most ≤ length rest.now }
+    requires fit { at + unit_size To.form * most ≤ length out.old }
+    ensures within { result ≤ most }
+    ensures small { IsRunBelow R.limit From.form rest.now result }
+    ensures out { out.new
+        ≡ take at out.old ++ units_of To.form (characters_in From.form rest.now result)
+        ++ drop (at + unit_size To.form * result) out.old }
+{
+    let mut n = 0;
+    let mut used = 0;
+    let mut end = at;
+    while n < most && is_below::<R, From>(rest, used) {
+        To::write(out, end, character::<From>(rest, used));
+        n += 1;
+        used += From::size();
+        end += To::size();
+    }
+    n
+}
+
 /// How many bytes a unit of a form has.
 #[inline(always)]
 pub fn unit_bytes(form: AsciiForm) -> usize
@@ -128,9 +156,7 @@ fn take_in<R: Repertoire, From: Unit, To: Unit>(rest: &[u8], out: &mut [u8], at:
         return n;
     }
     let behind = &rest[From::size() * n..];
-    let few = unit_run::<R, From>(behind, most - n);
-    write_units::<From, To>(behind, few, out, at + To::size() * n);
-    n + few
+    n + take_few::<R, From, To>(behind, most - n, out, at + To::size() * n)
 }
 
 /// Writes the run of units that stands at the front in a form, as `take_in`.

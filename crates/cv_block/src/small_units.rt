@@ -14,7 +14,7 @@ pub(crate) const BLOCK: usize = 16;
 /// Whether the unit of a character of the run stands here.
 #[inline(always)]
 #[tactic(auto, using(crate::proofs::UnitBytes::below_at))]
-fn is_below<R: Repertoire, U: Unit>(bytes: &[u8], at: usize) -> bool
+pub(crate) fn is_below<R: Repertoire, U: Unit>(bytes: &[u8], at: usize) -> bool
     requires { at + unit_size U.form ≤ length bytes.now }
     ensures { IsTrue result → IsBelowAt R.limit U.form bytes.now at }
 {
@@ -90,20 +90,4 @@ pub(crate) fn form_may_run<R: Repertoire>(form: AsciiForm, rest: &[u8]) -> bool 
         AsciiForm::Four(Endian::Big) => begins::<R, Four<BigEndian>>(rest),
         AsciiForm::Four(Endian::Little) => begins::<R, Four<LittleEndian>>(rest),
     }
-}
-
-/// How many units of a run stand at the front, `most` at most.
-#[inline(always)]
-pub(crate) fn unit_run<R: Repertoire, U: Unit>(rest: &[u8], most: usize) -> usize
-    requires { unit_size U.form * most ≤ length rest.now }
-    ensures within { result ≤ most }
-    ensures small { IsRunBelow R.limit U.form rest.now result }
-{
-    let mut n = 0;
-    let mut at = 0;
-    while n < most && is_below::<R, U>(rest, at) {
-        n += 1;
-        at += U::size();
-    }
-    n
 }

@@ -6,7 +6,8 @@ use Rattle.cv_base.specs.declared.policy.Policy.{Policy}
 use Rattle.cv_base.specs.Chains.{IsChain, used_bytes, read_state, Output, followed, output_of}
 use Rattle.cv_base.specs.Policies.{Allows}
 use Rattle.cv_pivot.specs.declared.outcome.States.{States}
-use Rattle.cv_pivot.specs.Private.Steps.{TakesSome}
+use Rattle.cv_pivot.specs.declared.outcome.Stop.{Stop}
+use Rattle.cv_pivot.specs.Private.Steps.{TakesSome, StepStops}
 use Rattle.cv_base.proofs.WrittenEach.{out_more}
 use Rattle.cv_base.proofs.ChainLaws.{used_bytes-append, read_state-append, output_of-append, IsChain-append}
 use Rattle.cv_pivot.proofs.Allowed.{followed_allowed}
@@ -49,16 +50,30 @@ abbrev pub TakenSoFar : ItemRelation → Writing → Policy → States → List 
 TakenSoFar reads writes policy from rest before at used wrote count now out =
     ((used ≡ 0) × (wrote ≡ 0) × (count ≡ 0) × (now ≡ from) × (out ≡ before)) ⊎ TakesSome reads writes policy from rest before at used wrote count now out
 
--- some items more
-pub so_far_more : (reads : ItemRelation) (writes : Writing) (policy : Policy) (from : States) (rest before : List ℕ) (at used wrote count : ℕ) (now : States) (out : List ℕ) → TakenSoFar reads writes policy from rest before at used wrote count now out
-    → (u w c : ℕ) (to : States) (after : List ℕ) → TakesSome reads writes policy now (drop used rest) out (at + wrote) u w c to after → TakenSoFar reads writes policy from rest before at (used + u) (wrote + w) (count + c) to after
-so_far_more reads writes policy from rest before at used wrote count now out (inr p) u w c to after q = inr (some_more reads writes policy from rest before at used wrote count now out p u w c to after q)
-so_far_more reads writes policy from rest before at used wrote count now out (inl p) u w c to after q =
+-- what was taken so far, and some items more, are some items
+pub so_far_some : (reads : ItemRelation) (writes : Writing) (policy : Policy) (from : States) (rest before : List ℕ) (at used wrote count : ℕ) (now : States) (out : List ℕ) → TakenSoFar reads writes policy from rest before at used wrote count now out
+    → (u w c : ℕ) (to : States) (after : List ℕ) → TakesSome reads writes policy now (drop used rest) out (at + wrote) u w c to after → TakesSome reads writes policy from rest before at (used + u) (wrote + w) (count + c) to after
+so_far_some reads writes policy from rest before at used wrote count now out (inr p) u w c to after q = some_more reads writes policy from rest before at used wrote count now out p u w c to after q
+so_far_some reads writes policy from rest before at used wrote count now out (inl p) u w c to after q =
     let here : at + wrote ≡ at = omega (arith, p.1) in
     let a : used + u ≡ u = omega (arith, p.0) in
     let b : wrote + w ≡ w = omega (arith, p.1) in
     let d : count + c ≡ c = omega (arith, p.2) in
-    inr (rw (a, b, d) (rw (here, p.0, p.3, p.4) at q))
+    rw (a, b, d) (rw (here, p.0, p.3, p.4) at q)
+
+-- some items more
+pub so_far_more : (reads : ItemRelation) (writes : Writing) (policy : Policy) (from : States) (rest before : List ℕ) (at used wrote count : ℕ) (now : States) (out : List ℕ) → TakenSoFar reads writes policy from rest before at used wrote count now out
+    → (u w c : ℕ) (to : States) (after : List ℕ) → TakesSome reads writes policy now (drop used rest) out (at + wrote) u w c to after → TakenSoFar reads writes policy from rest before at (used + u) (wrote + w) (count + c) to after
+so_far_more reads writes policy from rest before at used wrote count now out p u w c to after q = inr (so_far_some reads writes policy from rest before at used wrote count now out p u w c to after q)
+
+-- a step that stops where nothing was taken stops at the front
+pub stops_first : (reads : ItemRelation) (writes : Writing) (policy : Policy) (from : States) (rest before : List ℕ) (at used wrote count : ℕ) (now : States) (out : List ℕ) → TakenSoFar reads writes policy from rest before at used wrote count now out
+    → used ≡ 0 → (stop : Stop) (to : States) (after : List ℕ) → StepStops reads writes policy now (drop used rest) out (at + wrote) stop × (to ≡ now) × (after ≡ out)
+    → StepStops reads writes policy from rest before at stop × (to ≡ from) × (after ≡ before)
+stops_first reads writes policy from rest before at used wrote count now out (inr p) e stop to after q = absurd (omega (arith, p.some, e))
+stops_first reads writes policy from rest before at used wrote count now out (inl p) e stop to after q =
+    let here : at + wrote ≡ at = omega (arith, p.1) in
+    rw (here, p.0, p.3, p.4) at q
 
 -- what was taken is within the text and the room, and stands for no more characters than there are bytes
 pub so_far_within : (reads : ItemRelation) (writes : Writing) (policy : Policy) → IsReadable reads → (from : States) (rest before : List ℕ) (at used wrote count : ℕ) (now : States) (out : List ℕ) → at ≤ length before

@@ -18,9 +18,6 @@ const MOST_BLOCKS: usize = 4;
 /// How many bytes a character has at most in any encoding.
 const MOST_BYTES: usize = 8;
 
-/// How many bytes a block is sought in at the least: fewer are converted sooner one by one.
-const LEAST_BYTES: usize = 8;
-
 /// How long the next block is at most. It decides speed alone: what a block costs besides its characters is spread over more of
 /// them where it is long, but a short one costs less to clear, and behind it a run of ASCII may stand.
 #[derive(Clone, Copy, Debug)]
@@ -152,7 +149,7 @@ fn long_blocks<F: BlockCodec, T: BlockCodec>(
     Some(Step::Took { used, wrote, count })
 }
 
-/// Takes a block of the size that is due, or some of them, if there is one. None is sought in fewer than eight bytes.
+/// Takes a block of the size that is due, or some of them, if there is one.
 #[inline(always)]
 pub(crate) fn sized_block<F: BlockCodec, T: BlockCodec>(
     from: &F,
@@ -169,9 +166,6 @@ pub(crate) fn sized_block<F: BlockCodec, T: BlockCodec>(
         StridesOrStops (F.reads from.now) (T.writes to.now) policy states.old rest.now
         out.old at step states.new out.new) }
 {
-    if rest.len() < LEAST_BYTES {
-        return None;
-    }
     let took = match *size {
         BlockSize::Long if rest.len() >= LONG_BLOCK => {
             long_blocks(from, to, policy, states, rest, out, at)

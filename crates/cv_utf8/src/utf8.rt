@@ -93,7 +93,7 @@ impl Codec for Utf8 {
     #[tactic(auto, using(crate::proofs::Utf8Laws::utf8_readable))]
     fn assert_valid(&self) {}
 
-    #[inline]
+    #[inline(always)]
     #[tactic(auto, using(crate::proofs::Utf8Items::steps))]
     fn item(&self, _state: ReadState, input: &[u8]) -> Item {
         if input.is_empty() {

@@ -39,6 +39,9 @@ const BOUNDS: [usize; 4] = [16, 32, 64, 128];
 /// The longest run: two blocks, and one more character.
 const LONGEST: usize = 129;
 
+/// Runs that are interrupted: one shorter than the smallest block, one of two such blocks, and one of two blocks of a conversion.
+const INTERRUPTED: [usize; 3] = [12, 32, 128];
+
 /// So many bytes of UTF-8 are tested at once.
 const PART: usize = 1024;
 
@@ -211,7 +214,7 @@ pub fn interrupted(script: Script, length: usize, place: usize, middle: Middle) 
 /// and no more.
 fn interruptions(trials: &mut Vec<Trial>, middle: Middle) -> Result<(), AllocError> {
     for script in PLAIN {
-        for length in [32, 128] {
+        for length in INTERRUPTED {
             for place in (0..=length).filter(|place| is_tried(*place, length)) {
                 for room in [Part::All, Part::AllBut(0)] {
                     trials.push(Trial {

@@ -8,11 +8,7 @@ use cv_base::{BlockCodec, Policy, ReadBlock, ReadState, Scalar, WriteState, Writ
 
 impl BlockCodec for Utf7 {
     fn read_block(&self, state: ReadState, input: &[u8], buffer: &mut [Scalar]) -> ReadBlock {
-        let mut block = ReadBlock {
-            n: 0,
-            used: 0,
-            next: state,
-        };
+        let mut block = ReadBlock::nothing(state);
         loop {
             let run = read_on(input, buffer, block);
             match read_one(input, buffer, run) {

@@ -1,5 +1,5 @@
 //! Bits cut into digits.
-ghost use Rattle.std.specs.Prelude.{◌≡◌, [], ◌∷◌, ◌⊎◌, ◌++◌, ◌*◌, ◌/◌, ◌%◌, ◌^◌, ◌<◌, ◌≤◌};
+ghost use Rattle.std.specs.Prelude.{◌≡◌, [], ◌∷◌, ◌⊎◌, ◌++◌, ◌+◌, ◌*◌, ◌/◌, ◌%◌, ◌^◌, ◌<◌, ◌≤◌};
 
 use crate::items::NONE;
 use crate::sets::digit_for;
@@ -30,64 +30,44 @@ impl Cut {
     {
         let value = c.value();
         if value < 0x1_0000 {
-            Cut::behind_none(NONE, value)
+            Cut::of_unit(NONE, value, 2, 4)
         } else {
             Cut::of_pair(NONE, value)
         }
     }
 
-    /// The two digits of a code unit behind no bits.
+    /// The digits of a number, as many as these, and the bits over.
     #[inline(always)]
-    pub(crate) fn behind_none(pending: Bits, unit: u32) -> Cut
-        requires none { pending.count ≡ 0 }
-        requires unit { unit < 0x10000 }
-        ensures same { written_bits (bits_of pending ++ character_bits unit)
-            ≡ (digits (bits (6 * result.n) result.value), write.Shifted result.next) }
-        ensures count { result.n ≡ 2 }
+    fn of(n: usize, all: u64, over: u8) -> Cut
+        requires few { over ≤ 4 }
+        requires even { over % 2 ≡ 0 }
+        ensures n { result.n ≡ n }
+        ensures value { result.value ≡ all / 2 ^ over }
+        ensures count { result.next.count ≡ over }
+        ensures over { result.next.value ≡ all % 2 ^ over }
     {
         Cut {
-            n: 2,
-            value: unit as u64 / 16,
+            n,
+            value: all >> over,
             next: Bits {
-                count: 4,
-                value: (unit % 16) as u8,
+                count: over,
+                value: (all % (1 << over)) as u8,
             },
         }
     }
 
-    /// The three digits of a code unit behind two bits, which leave none.
+    /// The digits of a code unit behind pending bits, as many as these, and the bits over.
     #[inline(always)]
-    pub(crate) fn behind_two(pending: Bits, unit: u32) -> Cut
-        requires two { pending.count ≡ 2 }
+    #[tactic(auto, using(crate::proofs::Cuts::cut_unit))]
+    pub(crate) fn of_unit(pending: Bits, unit: u32, n: usize, over: u8) -> Cut
         requires unit { unit < 0x10000 }
+        requires few { over ≤ 4 }
+        requires all { pending.count + 16 ≡ 6 * n + over }
         ensures same { written_bits (bits_of pending ++ character_bits unit)
             ≡ (digits (bits (6 * result.n) result.value), write.Shifted result.next) }
-        ensures count { result.n ≡ 3 }
+        ensures count { result.n ≡ n }
     {
-        Cut {
-            n: 3,
-            value: pending.value as u64 * 0x1_0000 + unit as u64,
-            next: Bits { count: 0, value: 0 },
-        }
-    }
-
-    /// The three digits of a code unit behind four bits.
-    #[inline(always)]
-    pub(crate) fn behind_four(pending: Bits, unit: u32) -> Cut
-        requires four { pending.count ≡ 4 }
-        requires unit { unit < 0x10000 }
-        ensures same { written_bits (bits_of pending ++ character_bits unit)
-            ≡ (digits (bits (6 * result.n) result.value), write.Shifted result.next) }
-        ensures count { result.n ≡ 3 }
-    {
-        Cut {
-            n: 3,
-            value: (pending.value as u64 * 0x1_0000 + unit as u64) / 4,
-            next: Bits {
-                count: 2,
-                value: (unit % 4) as u8,
-            },
-        }
+        Cut::of(n, pending.value as u64 * 0x1_0000 + unit as u64, over)
     }
 
     /// The digits of a character that is two code units.
@@ -103,30 +83,10 @@ impl Cut {
     {
         let units = first_of(value) as u64 * 0x1_0000 + second_of(value) as u64;
         let all = pending.value as u64 * 0x1_0000_0000 + units;
-        if pending.count == 0 {
-            return Cut {
-                n: 5,
-                value: all / 4,
-                next: Bits {
-                    count: 2,
-                    value: (all % 4) as u8,
-                },
-            };
-        }
-        if pending.count == 2 {
-            return Cut {
-                n: 5,
-                value: all / 16,
-                next: Bits {
-                    count: 4,
-                    value: (all % 16) as u8,
-                },
-            };
-        }
-        Cut {
-            n: 6,
-            value: all,
-            next: Bits { count: 0, value: 0 },
+        match pending.count {
+            0 => Cut::of(5, all, 2),
+            2 => Cut::of(5, all, 4),
+            _ => Cut::of(6, all, 0),
         }
     }
 

@@ -7,6 +7,7 @@ ghost use Rattle.cv_utf7.specs.BitLists.{bits, bits_of, character_bits, digits};
 ghost use Rattle.cv_utf7.specs.Utf7.{plus, last_digit, written_bits, utf7_closes};
 
 use crate::cut::Cut;
+use crate::items::NONE;
 use crate::sets::digit_for;
 use cv_base::place::write_slice;
 use cv_base::{Bits, Piece, Put, Scalar, WriteState};
@@ -77,13 +78,12 @@ fn put_unit(pending: Bits, unit: u32, out: &mut [u8], at: usize) -> Put
     ensures { PutsAt (Some (written_bits (bits_of pending ++ character_bits unit)))
         out.old at result out.new }
 {
-    if pending.count == 0 {
-        return put_digits(Cut::behind_none(pending, unit), out, at);
+    match pending.count {
+        // `NONE` is the same as `pending` here, and the compiler knows that it adds nothing.
+        0 => put_digits(Cut::of_unit(NONE, unit, 2, 4), out, at),
+        2 => put_digits(Cut::of_unit(pending, unit, 3, 0), out, at),
+        _ => put_digits(Cut::of_unit(pending, unit, 3, 2), out, at),
     }
-    if pending.count == 2 {
-        return put_digits(Cut::behind_two(pending, unit), out, at);
-    }
-    put_digits(Cut::behind_four(pending, unit), out, at)
 }
 
 /// Writes the digits of a character in a shifted sequence.

@@ -114,9 +114,5 @@ pub(crate) fn write_run(
         return (few, few == left);
     }
     copy(bytes, place, MANY_WRITTEN, out, at);
-    if run >= MANY_WRITTEN {
-        (MANY_WRITTEN, true)
-    } else {
-        (run, false)
-    }
+    (run.min(MANY_WRITTEN), run >= MANY_WRITTEN)
 }

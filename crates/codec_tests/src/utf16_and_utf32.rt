@@ -55,7 +55,7 @@ fn utf16_items(rt: HostRuntime) {
         (Order::Le, start, &[0x00, 0xdc], Some(Item::Ill)),
     ];
     for (order, state, input, want) in rows {
-        assert_eq!(rt; Some(next_of(&Utf16(order), state, input)), want);
+        assert_eq!(rt; Some(next_of(&Utf16::new(order), state, input)), want);
     }
 }
 
@@ -85,7 +85,7 @@ fn utf32_items(rt: HostRuntime) {
         ),
     ];
     for (order, input, want) in rows {
-        assert_eq!(rt; Some(next_of(&Utf32(order), start, input)), want);
+        assert_eq!(rt; Some(next_of(&Utf32::new(order), start, input)), want);
     }
 }
 
@@ -117,17 +117,17 @@ fn writes_as<C: Codec>(
 #[test]
 fn writes(rt: HostRuntime) {
     let (start, marked) = (WriteState::Start, WriteState::Marked);
-    let utf16 = Utf16(Order::Marked);
+    let utf16 = Utf16::new(Order::Marked);
     let first = [0xfe, 0xff, 0xd8, 0x3d, 0xde, 0x00];
     assert!(rt; writes_as(&utf16, start, 0x1_f600, &first, marked));
     assert!(rt; writes_as(&utf16, marked, 0xfeff, &[0xfe, 0xff], marked));
-    assert!(rt; writes_as(&Utf16(Order::Le), start, 0xe9, &[0xe9, 0x00], start));
-    let utf32 = Utf32(Order::Marked);
+    assert!(rt; writes_as(&Utf16::new(Order::Le), start, 0xe9, &[0xe9, 0x00], start));
+    let utf32 = Utf32::new(Order::Marked);
     let first = [0x00, 0x00, 0xfe, 0xff, 0x00, 0x00, 0x00, 0xe9];
     assert!(rt; writes_as(&utf32, start, 0xe9, &first, marked));
     assert!(rt;
         writes_as(
-            &Utf32(Order::Be),
+            &Utf32::new(Order::Be),
             start,
             0xfeff,
             &[0x00, 0x00, 0xfe, 0xff],
@@ -140,19 +140,19 @@ fn writes(rt: HostRuntime) {
 fn ascii_forms(rt: HostRuntime) {
     let (reads, writes) = (ReadState::Start, WriteState::Start);
     assert_eq!(rt;
-        Utf16(Order::Be).reads_ascii(reads),
+        Utf16::new(Order::Be).reads_ascii(reads),
         Some(AsciiForm::Two(Endian::Big))
     );
     assert_eq!(rt;
-        Utf16(Order::Le).writes_ascii(writes),
+        Utf16::new(Order::Le).writes_ascii(writes),
         Some(AsciiForm::Two(Endian::Little))
     );
     assert_eq!(rt;
-        Utf32(Order::Marked).reads_ascii(ReadState::Little),
+        Utf32::new(Order::Marked).reads_ascii(ReadState::Little),
         Some(AsciiForm::Four(Endian::Little))
     );
     assert_eq!(rt;
-        Utf32(Order::Marked).writes_ascii(WriteState::Marked),
+        Utf32::new(Order::Marked).writes_ascii(WriteState::Marked),
         Some(AsciiForm::Four(Endian::Big))
     );
 }

@@ -4,6 +4,7 @@ pub mod FormsInOrder
 pub mod ItemsInOrder
 pub mod StartOfText
 pub mod AsciiInOrder
+pub mod SpelledInOrder
 pub mod FormReadBack
 pub mod Utf16Units
 pub mod Utf16Form

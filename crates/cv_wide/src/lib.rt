@@ -2,6 +2,7 @@
 #![tactic(auto)]
 
 mod blocks;
+mod encoding_scheme;
 mod in_order;
 pub mod laws;
 mod order;
@@ -12,6 +13,7 @@ mod utf32;
 mod utf32_spelling;
 mod wide_form;
 
+pub use encoding_scheme::EncodingScheme;
 pub use order::Order;
 pub use utf16::Utf16;
 pub use utf32::Utf32;

@@ -1,21 +1,22 @@
 //! UTF-16.
-ghost use Rattle.std.specs.Prelude.{◌↔◌, [], IsTrue};
-ghost use Rattle.cv_wide.specs.Orders.{reads_in, writes_in};
+ghost use Rattle.std.specs.Prelude.{◌↔◌, IsTrue};
 ghost use Rattle.cv_wide.specs.Private.Parts.{CanBeLow, CanBeOther};
 ghost use Rattle.cv_wide.specs.Utf16.{utf16};
 
-use crate::in_order::{item_in, most_bytes_in, put_in};
-use crate::order::Order;
+use crate::encoding_scheme::EncodingScheme;
+use crate::utf16_spelling::Utf16In;
 use crate::wide_form::WideForm;
-use cv_base::{
-    AsciiForm, Codec, Endian, Item, Piece, Put, ReadState, Scalar, WriteState, character,
+use cv_base::{AsciiForm, Endian, Item, Piece, ReadState, Scalar, character};
+use cv_block::{
+    BigEndian, ByteOrder, LittleEndian, Two, first_of, is_high, is_low, joined, second_of,
 };
-use cv_block::{ByteOrder, first_of, is_high, is_low, joined, second_of};
 
-/// UTF-16 (Unicode 3.9, D91; 3.10, D96 to D98) in an order of bytes: two or four bytes for each character. By `Marked`
-/// the first is written in one piece with a mark of two bytes. A state that the order does not use is taken for `Start`.
-#[derive(Clone, Copy, Debug, PartialEq, Eq)]
-pub struct Utf16(pub Order);
+/// The encoding form UTF-16 (Unicode 3.9, D91): two or four bytes for each character.
+#[derive(Clone, Copy)]
+pub struct Utf16Form;
+
+/// UTF-16 in an order of bytes. Its mark has two bytes.
+pub type Utf16 = EncodingScheme<Utf16Form>;
 
 /// Whether a low surrogate can begin with this byte.
 #[inline]
@@ -39,10 +40,19 @@ fn can_be_other(endian: Endian, first: u8) -> bool
     }
 }
 
-impl WideForm for Utf16 {
+impl WideForm for Utf16Form {
     ghost form = { utf16 };
 
-    #[tactic(auto, using(crate::proofs::Utf16Form::utf16_is_form))]
+    type Be = Utf16In<BigEndian>;
+
+    type Le = Utf16In<LittleEndian>;
+
+    type BeUnit = Two<BigEndian>;
+
+    type LeUnit = Two<LittleEndian>;
+
+    #[inline(always)]
+    #[tactic(auto, using(crate::proofs::Utf16Form::utf16_is_form, crate::proofs::Utf16Units::one_unit))]
     fn assert_form() {}
 
     #[inline]
@@ -101,47 +111,10 @@ impl WideForm for Utf16 {
             Endian::Little => Piece::of(&[0xff, 0xfe]),
         }
     }
-}
 
-impl Codec for Utf16 {
-    ghost reads = { λ codec. reads_in utf16 codec.0 };
-
-    ghost writes = { λ codec. writes_in utf16 codec.0 };
-
-    ghost closes = { λ _ _. [] };
-
-    #[tactic(auto, using(crate::proofs::FormsInOrder::in_readable, crate::proofs::FormsInOrder::in_substitutable, crate::proofs::Utf16Form::utf16_is_form))]
-    fn assert_valid(&self) {}
-
-    #[inline]
-    fn item(&self, state: ReadState, input: &[u8]) -> Item {
-        item_in::<Utf16>(self.0, state, input)
-    }
-
-    #[inline]
-    fn put_at(&self, state: WriteState, c: Scalar, out: &mut [u8], at: usize) -> Put {
-        put_in::<Utf16>(self.0, state, c, out, at)
-    }
-
-    fn close(&self, _state: WriteState) -> Piece {
-        Piece::new()
-    }
-
-    fn most_bytes(&self) -> usize {
-        most_bytes_in::<Utf16>(self.0)
-    }
-
-    #[inline]
-    #[tactic(auto, using(crate::proofs::AsciiInOrder::utf16_reads_ascii))]
-    fn reads_ascii(&self, state: ReadState) -> Option<AsciiForm> {
-        let endian = self.0.kept_reading(state)?;
-        Some(AsciiForm::Two(endian))
-    }
-
-    #[inline]
-    #[tactic(auto, using(crate::proofs::AsciiInOrder::utf16_writes_ascii))]
-    fn writes_ascii(&self, state: WriteState) -> Option<AsciiForm> {
-        let endian = self.0.kept_writing(state)?;
-        Some(AsciiForm::Two(endian))
+    #[inline(always)]
+    #[tactic(auto, using(crate::proofs::Utf16Units::one_unit))]
+    fn unit_form(endian: Endian) -> AsciiForm {
+        AsciiForm::Two(endian)
     }
 }

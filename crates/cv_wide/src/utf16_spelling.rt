@@ -69,7 +69,7 @@ fn sizes(values: u32x16) -> u32x16
 }
 
 /// UTF-16 in an order of bytes.
-pub(crate) struct Utf16In<O> {
+pub struct Utf16In<O> {
     order: PhantomData<O>,
 }
 

@@ -1,19 +1,20 @@
 //! UTF-32.
-ghost use Rattle.std.specs.Prelude.{◌<◌, ◌↔◌, [], IsTrue, length};
-ghost use Rattle.cv_wide.specs.Orders.{reads_in, writes_in};
+ghost use Rattle.std.specs.Prelude.{◌<◌, ◌↔◌, IsTrue, length};
 ghost use Rattle.cv_wide.specs.Private.Parts.{CanBeScalar, IsThird};
 ghost use Rattle.cv_wide.specs.Utf32.{utf32};
 
-use crate::in_order::{item_in, most_bytes_in, put_in};
-use crate::order::Order;
+use crate::encoding_scheme::EncodingScheme;
+use crate::utf32_spelling::Utf32In;
 use crate::wide_form::WideForm;
-use cv_base::{AsciiForm, Codec, Endian, Item, Piece, Put, ReadState, Scalar, WriteState};
-use cv_block::ByteOrder;
+use cv_base::{AsciiForm, Endian, Item, Piece, ReadState, Scalar};
+use cv_block::{BigEndian, ByteOrder, Four, LittleEndian};
 
-/// UTF-32 (Unicode 3.9, D90; 3.10, D99 to D101) in an order of bytes: four bytes for each character. By `Marked` the
-/// first is written in one piece with a mark of four bytes. A state that the order does not use is taken for `Start`.
-#[derive(Clone, Copy, Debug, PartialEq, Eq)]
-pub struct Utf32(pub Order);
+/// The encoding form UTF-32 (Unicode 3.9, D90): four bytes for each character.
+#[derive(Clone, Copy)]
+pub struct Utf32Form;
+
+/// UTF-32 in an order of bytes. Its mark has four bytes.
+pub type Utf32 = EncodingScheme<Utf32Form>;
 
 /// Whether the third highest byte fits the second: the two are of no surrogate.
 #[inline]
@@ -40,9 +41,18 @@ fn can_be_scalar(endian: Endian, part: &[u8]) -> bool
     }
 }
 
-impl WideForm for Utf32 {
+impl WideForm for Utf32Form {
     ghost form = { utf32 };
 
+    type Be = Utf32In<BigEndian>;
+
+    type Le = Utf32In<LittleEndian>;
+
+    type BeUnit = Four<BigEndian>;
+
+    type LeUnit = Four<LittleEndian>;
+
+    #[inline(always)]
     #[tactic(auto, using(crate::proofs::Utf32Form::utf32_is_form))]
     fn assert_form() {}
 
@@ -81,47 +91,9 @@ impl WideForm for Utf32 {
             Endian::Little => Piece::of(&[0xff, 0xfe, 0x00, 0x00]),
         }
     }
-}
 
-impl Codec for Utf32 {
-    ghost reads = { λ codec. reads_in utf32 codec.0 };
-
-    ghost writes = { λ codec. writes_in utf32 codec.0 };
-
-    ghost closes = { λ _ _. [] };
-
-    #[tactic(auto, using(crate::proofs::FormsInOrder::in_readable, crate::proofs::FormsInOrder::in_substitutable, crate::proofs::Utf32Form::utf32_is_form))]
-    fn assert_valid(&self) {}
-
-    #[inline]
-    fn item(&self, state: ReadState, input: &[u8]) -> Item {
-        item_in::<Utf32>(self.0, state, input)
-    }
-
-    #[inline]
-    fn put_at(&self, state: WriteState, c: Scalar, out: &mut [u8], at: usize) -> Put {
-        put_in::<Utf32>(self.0, state, c, out, at)
-    }
-
-    fn close(&self, _state: WriteState) -> Piece {
-        Piece::new()
-    }
-
-    fn most_bytes(&self) -> usize {
-        most_bytes_in::<Utf32>(self.0)
-    }
-
-    #[inline]
-    #[tactic(auto, using(crate::proofs::AsciiInOrder::utf32_reads_ascii))]
-    fn reads_ascii(&self, state: ReadState) -> Option<AsciiForm> {
-        let endian = self.0.kept_reading(state)?;
-        Some(AsciiForm::Four(endian))
-    }
-
-    #[inline]
-    #[tactic(auto, using(crate::proofs::AsciiInOrder::utf32_writes_ascii))]
-    fn writes_ascii(&self, state: WriteState) -> Option<AsciiForm> {
-        let endian = self.0.kept_writing(state)?;
-        Some(AsciiForm::Four(endian))
+    #[inline(always)]
+    fn unit_form(endian: Endian) -> AsciiForm {
+        AsciiForm::Four(endian)
     }
 }

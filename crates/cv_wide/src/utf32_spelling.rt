@@ -6,7 +6,7 @@ use cv_block::{ByteOrder, Four, Spelled, Spelling, read_units, write_units};
 use std::marker::PhantomData;
 
 /// UTF-32 in an order of bytes.
-pub(crate) struct Utf32In<O> {
+pub struct Utf32In<O> {
     order: PhantomData<O>,
 }
 

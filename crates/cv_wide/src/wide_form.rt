@@ -3,20 +3,38 @@ ghost use Rattle.std.specs.Prelude.{◌≡◌, ◌≤◌, ◌+◌, length};
 ghost use Rattle.cv_base.specs.Items.{IsNext};
 ghost use Rattle.cv_base.specs.Places.{IsPut};
 ghost use Rattle.cv_base.specs.declared.endian.Endian.{Endian};
+ghost use Rattle.cv_base.specs.declared.endian.Endian.TheVariants.{Big, Little};
+ghost use Rattle.cv_block.specs.Units.{SpellsUnits};
 ghost use Rattle.cv_wide.specs.Orders.{Form, mark};
 ghost use Rattle.cv_wide.specs.Private.AnyState.{always_gives};
 ghost use Rattle.cv_wide.specs.Private.Forms.{IsForm};
 
-use cv_base::{Endian, Item, Piece, ReadState, Scalar};
-use cv_block::ByteOrder;
+use cv_base::{AsciiForm, Endian, Item, Piece, ReadState, Scalar};
+use cv_block::{ByteOrder, Spelling, Unit};
 
 /// An encoding form whose units have an order of bytes.
 pub(crate) trait WideForm {
     ghost form: { Form };
 
+    /// Its characters with the high byte first.
+    type Be: Spelling;
+
+    /// Its characters with the low byte first.
+    type Le: Spelling;
+
+    /// Its units with the high byte first.
+    type BeUnit: Unit;
+
+    /// Its units with the low byte first.
+    type LeUnit: Unit;
+
     /// States what holds of the bytes of its characters. It does nothing.
     fn assert_form()
-        ensures { IsForm form };
+        ensures form { IsForm form }
+        ensures be { Self.Be.bytes_of ≡ form Big }
+        ensures le { Self.Le.bytes_of ≡ form Little }
+        ensures be_unit { SpellsUnits Self.BeUnit.form (form Big) }
+        ensures le_unit { SpellsUnits Self.LeUnit.form (form Little) };
 
     /// What stands next in a text of one order.
     fn item<O: ByteOrder>(input: &[u8], next: ReadState) -> Item
@@ -35,4 +53,8 @@ pub(crate) trait WideForm {
     /// The mark of an order.
     fn mark(endian: Endian) -> Piece
         ensures { result ≡ form endian mark };
+
+    /// The form of its units: a character that is one unit has its bytes.
+    fn unit_form(endian: Endian) -> AsciiForm
+        ensures { SpellsUnits result (form endian) };
 }

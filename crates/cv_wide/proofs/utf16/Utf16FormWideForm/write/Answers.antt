@@ -1,7 +1,7 @@
 use Rattle.std.proofs.Common.{◌≡◌, ◌∙◌, ap}
 use Rattle.cv_base.specs.Units.{high_unit, low_unit}
 use Rattle.cv_wide.proofs.PutTwice.{units_put}
-use Rattle.cv_wide.proofs.utf16.Utf16WideForm.write.Goals as goal
+use Rattle.cv_wide.proofs.utf16.Utf16FormWideForm.write.Goals as goal
 
 pub returns-then-value-ge65536 : goal.returns-then-value-ge65536
 returns-then-value-ge65536 g c =

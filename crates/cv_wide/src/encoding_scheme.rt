@@ -42,7 +42,7 @@ impl<F: WideForm> Codec for EncodingScheme<F> {
         F::assert_form();
     }
 
-    #[inline]
+    #[inline(always)]
     fn item(&self, state: ReadState, input: &[u8]) -> Item {
         item_in::<F>(self.order, state, input)
     }

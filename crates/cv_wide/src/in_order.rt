@@ -52,7 +52,7 @@ fn first_item<F: WideForm>(input: &[u8]) -> Item
 }
 
 /// What stands next in a state.
-#[inline]
+#[inline(always)]
 pub(crate) fn item_in<F: WideForm>(order: Order, state: ReadState, input: &[u8]) -> Item
     ensures { IsNext (reads_in F.form order) state input.now result }
 {

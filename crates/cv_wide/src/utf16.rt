@@ -55,7 +55,7 @@ impl WideForm for Utf16Form {
     #[tactic(auto, using(crate::proofs::Utf16Form::utf16_is_form, crate::proofs::Utf16Units::one_unit))]
     fn assert_form() {}
 
-    #[inline]
+    #[inline(always)]
     #[tactic(auto, using(crate::proofs::Utf16Items::steps))]
     fn item<O: ByteOrder>(input: &[u8], next: ReadState) -> Item {
         if input.is_empty() {

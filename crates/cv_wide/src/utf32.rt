@@ -56,7 +56,7 @@ impl WideForm for Utf32Form {
     #[tactic(auto, using(crate::proofs::Utf32Form::utf32_is_form))]
     fn assert_form() {}
 
-    #[inline]
+    #[inline(always)]
     #[tactic(auto, using(crate::proofs::Utf32Items::steps))]
     fn item<O: ByteOrder>(input: &[u8], next: ReadState) -> Item {
         if input.is_empty() {

@@ -13,7 +13,7 @@ use cv_utf8::Utf8;
 use cv_wide::{Utf16, Utf32};
 
 /// Fewer bytes than these are converted sooner item by item than by blocks, whose buffers are cleared and copied. It decides speed alone.
-pub(crate) const FEW_BYTES: usize = 16;
+pub(crate) const FEW_BYTES: usize = 12;
 
 /// Takes the item that stands next, if there is one, the policy allows it and its bytes fit behind the first `at` bytes of the
 /// output.

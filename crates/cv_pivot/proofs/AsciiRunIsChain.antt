@@ -14,7 +14,7 @@ use Rattle.cv_base.proofs.Front.{Begins-front, Begins-back}
 use Rattle.cv_pivot.specs.declared.outcome.States.{States}
 use Rattle.cv_base.specs.Chains.{IsChain, used_bytes, read_state, Output, output, output_of}
 use Rattle.cv_block.specs.AsciiRuns.{AreBelow, units_of, IsRunBelow, characters_in}
-use Rattle.cv_pivot.specs.Private.Steps.{TakesSome, StridesOrStops, took_units}
+use Rattle.cv_pivot.specs.Private.Steps.{TakesSome, took_units}
 use Rattle.cv_base.proofs.AllWritten.{none_allowed}
 use Rattle.cv_block.proofs.UnitBytes.{length-unit_of, some_bytes}
 use Rattle.cv_block.proofs.AsciiRuns.{length-run, run_is_below, run_begins}
@@ -50,7 +50,7 @@ run_output limit writes s t form target w (c ∷ characters) p = rw (w c p.0) (r
 pub run_takes : (limit : ℕ) (reads : ItemRelation) (writes : Writing) (policy : Policy) (from : States) (rest before : List ℕ) (at : ℕ) (form target : AsciiForm) (characters : List ℕ) (after : List ℕ) → ReadsBelow limit reads from.reading form → WritesBelow limit writes from.writing target → AreBelow limit characters
     → Begins (units_of form characters) rest → 0 < length (units_of form characters) → at + length (units_of target characters) ≤ length before
     → after ≡ take at before ++ units_of target characters ++ drop (at + length (units_of target characters)) before
-    → TakesSome reads writes policy from rest before at (length (units_of form characters)) (length (units_of target characters)) 0 from after
+    → TakesSome reads writes policy from rest before at (record { used = length (units_of form characters); wrote = length (units_of target characters); count = 0 }) from after
 run_takes limit reads writes policy from rest before at form target characters after r w small front some fits put =
     let items = run_items from.reading form characters in
     let o : output_of writes from.writing items ≡ output (units_of target characters) 0 from.writing = run_output limit writes from.reading from.writing form target w characters small in
@@ -72,7 +72,7 @@ run_takes limit reads writes policy from rest before at form target characters a
 pub units_take : (limit : ℕ) → limit ≤ 0x100 → (reads : ItemRelation) (writes : Writing) (policy : Policy) (from : States) (rest before : List ℕ) (at n : ℕ) (form target : AsciiForm) (after : List ℕ) → ReadsBelow limit reads from.reading form → WritesBelow limit writes from.writing target
     → 0 < n → unit_size form * n ≤ length rest → at + unit_size target * n ≤ length before → IsRunBelow limit form rest n
     → after ≡ take at before ++ units_of target (characters_in form rest n) ++ drop (at + unit_size target * n) before
-    → TakesSome reads writes policy from rest before at (unit_size form * n) (unit_size target * n) 0 from after
+    → TakesSome reads writes policy from rest before at (record { used = unit_size form * n; wrote = unit_size target * n; count = 0 }) from after
 units_take limit few reads writes policy from rest before at n form target after r w some within fits small put =
     let characters = characters_in form rest n in
     let a : length (units_of form characters) ≡ unit_size form * n = length-run form form rest n in
@@ -80,11 +80,11 @@ units_take limit few reads writes policy from rest before at n form target after
     let more : 1 * 1 ≤ unit_size form * n = mul-le 1 1 (unit_size form) n (some_bytes form) some in
     rw (a, b) at (run_takes limit reads writes policy from rest before at form target characters after r w (run_is_below limit few form rest n small) (run_begins limit few form rest n within small) (omega arith) (omega arith) (put ∙ rw b refl))
 
--- the step of a run, if it is one
-pub units_step : (limit : ℕ) → limit ≤ 0x100 → (reads : ItemRelation) (writes : Writing) (from : States) (rest before : List ℕ) (at : ℕ) (form target : AsciiForm) (after : List ℕ) (n : ℕ) → ReadsBelow limit reads from.reading form → WritesBelow limit writes from.writing target
+-- what a run comes to, if it is one
+pub units_taken : (limit : ℕ) → limit ≤ 0x100 → (reads : ItemRelation) (writes : Writing) (from : States) (rest before : List ℕ) (at : ℕ) (form target : AsciiForm) (after : List ℕ) (n : ℕ) → ReadsBelow limit reads from.reading form → WritesBelow limit writes from.writing target
     → unit_size form * n ≤ length rest → at + unit_size target * n ≤ length before → IsRunBelow limit form rest n → (n ≡ 0 → after ≡ before)
     → after ≡ take at before ++ units_of target (characters_in form rest n) ++ drop (at + unit_size target * n) before
-    → MatchOption (took_units form target n) (after ≡ before) (λ step. (policy : Policy) → StridesOrStops reads writes policy from rest before at step from after)
-units_step limit few reads writes from rest before at form target after zero r w within fits small none put = none refl
-units_step limit few reads writes from rest before at form target after (suc n) r w within fits small none put =
+    → MatchOption (took_units form target n) (after ≡ before) (λ took. (policy : Policy) → TakesSome reads writes policy from rest before at took from after)
+units_taken limit few reads writes from rest before at form target after zero r w within fits small none put = none refl
+units_taken limit few reads writes from rest before at form target after (suc n) r w within fits small none put =
     λ policy. units_take limit few reads writes policy from rest before at (suc n) form target after r w (omega arith) within fits small put

@@ -1,5 +1,5 @@
 -- Several steps one behind the other.
-use Rattle.std.proofs.Common.{◌≡◌, ℕ, ◌+◌, ◌≤◌, ◌⊎◌, inl, inr, List, ◌++◌, length, take, drop, sym, ◌∙◌, ap, subst, arith, length-append, length-drop, length-take, append_assoc}
+use Rattle.std.proofs.Common.{◌≡◌, ℕ, ◌+◌, ◌≤◌, inl, inr, List, ◌++◌, length, take, drop, add-zero, sym, ◌∙◌, ap, subst, arith, length-append, length-drop, length-take, append_assoc}
 use Rattle.cv_base.specs.Items.{ItemRelation}
 use Rattle.cv_base.specs.Codecs.{Writing, IsReadable}
 use Rattle.cv_base.specs.declared.policy.Policy.{Policy}
@@ -7,16 +7,28 @@ use Rattle.cv_base.specs.Chains.{IsChain, used_bytes, read_state, Output, follow
 use Rattle.cv_base.specs.Policies.{Allows}
 use Rattle.cv_pivot.specs.declared.outcome.States.{States}
 use Rattle.cv_pivot.specs.declared.outcome.Stop.{Stop}
-use Rattle.cv_pivot.specs.Private.Steps.{TakesSome, StepStops}
+use Rattle.cv_pivot.specs.declared.step.Took.{Took}
+use Rattle.cv_pivot.specs.declared.step.Step.{Step}
+use Rattle.cv_pivot.specs.declared.step.Step.TheVariants as step
+use Rattle.cv_pivot.specs.Private.Steps.{TakesSome, TakesNone, TakesAny, TakesOrEnds, StridesOrEnds, StepStops}
 use Rattle.cv_base.proofs.WrittenEach.{out_more}
 use Rattle.cv_base.proofs.ChainLaws.{used_bytes-append, read_state-append, output_of-append, IsChain-append}
 use Rattle.cv_pivot.proofs.Allowed.{followed_allowed}
-use Rattle.cv_pivot.proofs.Progress.{output_of-count, used_bytes-within}
+use Rattle.cv_pivot.proofs.Progress.{output_of-count, used_bytes-within, some_of_one}
+
+-- what was taken, and more
+abbrev pub both : Took → Took → Took
+both taken took = record { used = taken.used + took.used; wrote = taken.wrote + took.wrote; count = taken.count + took.count }
+
+-- a step that stops where nothing was taken stops at the front
+stops_behind_none : (reads : ItemRelation) (writes : Writing) (policy : Policy) (from : States) (rest before : List ℕ) (at : ℕ) (took : Took) (to : States) (after : List ℕ) → TakesNone from before took to after → (stop : Stop)
+    → StepStops reads writes policy from rest before at stop → StepStops reads writes policy to (drop took.used rest) after (at + took.wrote) stop
+stops_behind_none reads writes policy from rest before at took to after p stop q = rw (p.0, p.1, p.3, p.4, add-zero) q
 
 -- items were taken, and behind them others
-some_more : (reads : ItemRelation) (writes : Writing) (policy : Policy) (from : States) (rest before : List ℕ) (at used wrote count : ℕ) (now : States) (out : List ℕ) → TakesSome reads writes policy from rest before at used wrote count now out
-    → (u w c : ℕ) (to : States) (after : List ℕ) → TakesSome reads writes policy now (drop used rest) out (at + wrote) u w c to after → TakesSome reads writes policy from rest before at (used + u) (wrote + w) (count + c) to after
-some_more reads writes policy from rest before at used wrote count now out p u w c to after q =
+some_more : (reads : ItemRelation) (writes : Writing) (policy : Policy) (from : States) (rest before : List ℕ) (at : ℕ) (taken : Took) (now : States) (out : List ℕ) → TakesSome reads writes policy from rest before at taken now out
+    → (took : Took) (to : States) (after : List ℕ) → TakesSome reads writes policy now (drop taken.used rest) out (at + taken.wrote) took to after → TakesSome reads writes policy from rest before at (both taken took) to after
+some_more reads writes policy from rest before at taken now out p took to after q =
     let o = output_of writes from.writing p.chain in
     let v = output_of writes o.next q.chain in
     let new = p.chain ++ q.chain in
@@ -24,13 +36,13 @@ some_more reads writes policy from rest before at used wrote count now out p u w
     let e : output_of writes from.writing new ≡ followed o v = output_of-append writes from.writing p.chain q.chain in
     let wv : output_of writes now.writing q.chain ≡ v = ap (λ t. output_of writes t q.chain) p.writing in
     let ub : used_bytes new ≡ used_bytes p.chain + used_bytes q.chain = used_bytes-append p.chain q.chain in
-    let wrote_is : w ≡ length v.bytes = q.writes_bytes ∙ ap (λ x. length x.bytes) wv in
+    let wrote_is : took.wrote ≡ length v.bytes = q.writes_bytes ∙ ap (λ x. length x.bytes) wv in
     let front : List ℕ = take at before ++ o.bytes in
-    let place : at + wrote ≡ length front = omega (arith, p.writes_bytes, p.fits, length-append (take at before) o.bytes, length-take at before) in
-    let now_is : out ≡ front ++ drop (at + wrote) before = p.out in
+    let place : at + taken.wrote ≡ length front = omega (arith, p.writes_bytes, p.fits, length-append (take at before) o.bytes, length-take at before) in
+    let now_is : out ≡ front ++ drop (at + taken.wrote) before = p.out in
     let long : length out ≡ length before = ap length p.out ∙ simp (length-append, length-take, length-drop) (omega (arith, p.writes_bytes, p.fits)) in
-    let put : after ≡ (front ++ v.bytes) ++ drop (at + wrote + w) before = q.out ∙ rw (now_is, wv, wrote_is) (out_more front v.bytes before (at + wrote) place) in
-    let there : at + wrote + w ≡ at + (wrote + w) = omega arith in
+    let put : after ≡ (front ++ v.bytes) ++ drop (at + taken.wrote + took.wrote) before = q.out ∙ rw (now_is, wv, wrote_is) (out_more front v.bytes before (at + taken.wrote) place) in
+    let there : at + taken.wrote + took.wrote ≡ at + (taken.wrote + took.wrote) = omega arith in
     record {
       chain = new;
       is_chain = IsChain-append reads from.reading rest p.chain q.chain p.is_chain more;
@@ -42,44 +54,31 @@ some_more reads writes policy from rest before at used wrote count now out p u w
       writing = q.writing ∙ ap (λ x. x.next) wv ∙ sym (ap (λ x. x.next) e);
       writes_bytes = rw e (omega (arith, length-append o.bytes v.bytes, p.writes_bytes, wrote_is));
       fits = omega (arith, q.fits, long);
-      out = rw e (put ∙ rw there (ap (λ (x : List ℕ). x ++ drop (at + (wrote + w)) before) (append_assoc (take at before) o.bytes v.bytes)));
+      out = rw e (put ∙ rw there (ap (λ (x : List ℕ). x ++ drop (at + (taken.wrote + took.wrote)) before) (append_assoc (take at before) o.bytes v.bytes)));
     }
 
--- Nothing was taken yet, or some items were.
-abbrev pub TakenSoFar : ItemRelation → Writing → Policy → States → List ℕ → List ℕ → ℕ → ℕ → ℕ → ℕ → States → List ℕ → Type 0
-TakenSoFar reads writes policy from rest before at used wrote count now out =
-    ((used ≡ 0) × (wrote ≡ 0) × (count ≡ 0) × (now ≡ from) × (out ≡ before)) ⊎ TakesSome reads writes policy from rest before at used wrote count now out
-
--- what was taken so far, and some items more, are some items
-pub so_far_some : (reads : ItemRelation) (writes : Writing) (policy : Policy) (from : States) (rest before : List ℕ) (at used wrote count : ℕ) (now : States) (out : List ℕ) → TakenSoFar reads writes policy from rest before at used wrote count now out
-    → (u w c : ℕ) (to : States) (after : List ℕ) → TakesSome reads writes policy now (drop used rest) out (at + wrote) u w c to after → TakesSome reads writes policy from rest before at (used + u) (wrote + w) (count + c) to after
-so_far_some reads writes policy from rest before at used wrote count now out (inr p) u w c to after q = some_more reads writes policy from rest before at used wrote count now out p u w c to after q
-so_far_some reads writes policy from rest before at used wrote count now out (inl p) u w c to after q =
-    let here : at + wrote ≡ at = omega (arith, p.1) in
-    let a : used + u ≡ u = omega (arith, p.0) in
-    let b : wrote + w ≡ w = omega (arith, p.1) in
-    let d : count + c ≡ c = omega (arith, p.2) in
+-- what was taken, and some items more, are some items
+pub any_then_some : (reads : ItemRelation) (writes : Writing) (policy : Policy) (from : States) (rest before : List ℕ) (at : ℕ) (taken : Took) (now : States) (out : List ℕ) → TakesAny reads writes policy from rest before at taken now out
+    → (took : Took) (to : States) (after : List ℕ) → TakesSome reads writes policy now (drop taken.used rest) out (at + taken.wrote) took to after → TakesSome reads writes policy from rest before at (both taken took) to after
+any_then_some reads writes policy from rest before at taken now out (inr p) took to after q = some_more reads writes policy from rest before at taken now out p took to after q
+any_then_some reads writes policy from rest before at taken now out (inl p) took to after q =
+    let here : at + taken.wrote ≡ at = omega (arith, p.1) in
+    let a : taken.used + took.used ≡ took.used = omega (arith, p.0) in
+    let b : taken.wrote + took.wrote ≡ took.wrote = omega (arith, p.1) in
+    let d : taken.count + took.count ≡ took.count = omega (arith, p.2) in
     rw (a, b, d) (rw (here, p.0, p.3, p.4) at q)
 
--- some items more
-pub so_far_more : (reads : ItemRelation) (writes : Writing) (policy : Policy) (from : States) (rest before : List ℕ) (at used wrote count : ℕ) (now : States) (out : List ℕ) → TakenSoFar reads writes policy from rest before at used wrote count now out
-    → (u w c : ℕ) (to : States) (after : List ℕ) → TakesSome reads writes policy now (drop used rest) out (at + wrote) u w c to after → TakenSoFar reads writes policy from rest before at (used + u) (wrote + w) (count + c) to after
-so_far_more reads writes policy from rest before at used wrote count now out p u w c to after q = inr (so_far_some reads writes policy from rest before at used wrote count now out p u w c to after q)
-
--- a step that stops where nothing was taken stops at the front
-pub stops_first : (reads : ItemRelation) (writes : Writing) (policy : Policy) (from : States) (rest before : List ℕ) (at used wrote count : ℕ) (now : States) (out : List ℕ) → TakenSoFar reads writes policy from rest before at used wrote count now out
-    → used ≡ 0 → (stop : Stop) (to : States) (after : List ℕ) → StepStops reads writes policy now (drop used rest) out (at + wrote) stop × (to ≡ now) × (after ≡ out)
-    → StepStops reads writes policy from rest before at stop × (to ≡ from) × (after ≡ before)
-stops_first reads writes policy from rest before at used wrote count now out (inr p) e stop to after q = absurd (omega (arith, p.some, e))
-stops_first reads writes policy from rest before at used wrote count now out (inl p) e stop to after q =
-    let here : at + wrote ≡ at = omega (arith, p.1) in
-    rw (here, p.0, p.3, p.4) at q
-
 -- what was taken is within the text and the room, and stands for no more characters than there are bytes
-pub so_far_within : (reads : ItemRelation) (writes : Writing) (policy : Policy) → IsReadable reads → (from : States) (rest before : List ℕ) (at used wrote count : ℕ) (now : States) (out : List ℕ) → at ≤ length before
-    → TakenSoFar reads writes policy from rest before at used wrote count now out → (used ≤ length rest) × (at + wrote ≤ length before) × (count ≤ used) × (length out ≡ length before)
-so_far_within reads writes policy r from rest before at used wrote count now out room (inl p) = (omega (arith, p.0), omega (arith, p.1), omega (arith, p.0, p.2), ap length p.4)
-so_far_within reads writes policy r from rest before at used wrote count now out room (inr p) =
+pub any_within : (reads : ItemRelation) (writes : Writing) (policy : Policy) → IsReadable reads → (from : States) (rest before : List ℕ) (at : ℕ) (taken : Took) (now : States) (out : List ℕ) → at ≤ length before
+    → TakesAny reads writes policy from rest before at taken now out → (taken.used ≤ length rest) × (at + taken.wrote ≤ length before) × (taken.count ≤ taken.used) × (length out ≡ length before)
+any_within reads writes policy r from rest before at taken now out room (inl p) = (omega (arith, p.0), omega (arith, p.1), omega (arith, p.0, p.2), ap length p.4)
+any_within reads writes policy r from rest before at taken now out room (inr p) =
     let in_text = used_bytes-within reads r from.reading rest p.chain p.is_chain in
     let few = output_of-count reads writes r from.reading from.writing rest p.chain p.is_chain in
     (omega (arith, in_text, p.uses), p.fits, omega (arith, few, p.counts, p.uses), ap length p.out ∙ simp (length-append, length-take, length-drop) (omega (arith, p.writes_bytes, p.fits)))
+
+-- one item, or none, is a stride
+pub item_strides : (reads : ItemRelation) (writes : Writing) (policy : Policy) → IsReadable reads → (from : States) (rest before : List ℕ) (at : ℕ) (step : Step) (to : States) (after : List ℕ) → TakesOrEnds reads writes policy from rest before at step to after
+    → StridesOrEnds reads writes policy from rest before at step to after
+item_strides reads writes policy r from rest before at (step.Took took) to after q = some_of_one reads writes policy r from rest before at took to after q
+item_strides reads writes policy r from rest before at (step.Ended took stop) to after q = (inl q.0, stops_behind_none reads writes policy from rest before at took to after q.0 stop q.1)

@@ -14,7 +14,7 @@ use Rattle.cv_pivot.proofs.CutLaws.{IsChain-more}
 
 -- bytes at the front of a part of the rest that were copied
 pub unchanged_takes : (reads : ItemRelation) (writes : Writing) (policy : Policy) (from : States) (rest before : List ℕ) (at most n : ℕ) (after : List ℕ) → IsUnchanged reads writes from.reading from.writing (take most rest) n → 0 < n → at + n ≤ length before
-    → after ≡ take at before ++ take n rest ++ drop (at + n) before → TakesSome reads writes policy from rest before at n n 0 from after
+    → after ≡ take at before ++ take n rest ++ drop (at + n) before → TakesSome reads writes policy from rest before at (record { used = n; wrote = n; count = 0 }) from after
 unchanged_takes reads writes policy from rest before at most n after p some fits put =
     let few : n ≤ most = omega (arith, p.within, length-take most rest) in
     let within : n ≤ length rest = omega (arith, p.within, length-take most rest) in

@@ -1,9 +1,9 @@
 //! Taking a block of characters.
 ghost use Rattle.std.specs.Prelude.{◌≡◌, ◌≤◌, length, MatchOption};
-ghost use Rattle.cv_pivot.specs.Private.Steps.{StridesOrStops};
+ghost use Rattle.cv_pivot.specs.Private.Steps.{TakesSome};
 
 use crate::outcome::States;
-use crate::step::Step;
+use crate::step::Took;
 use cv_base::{BlockCodec, Policy, Scalar};
 
 /// How many characters a short block has at most.
@@ -31,7 +31,7 @@ pub(crate) enum BlockSize {
 impl BlockSize {
     /// The size behind a block, or behind none.
     #[inline(always)]
-    fn behind(took: &Option<Step>) -> BlockSize {
+    fn behind(took: &Option<Took>) -> BlockSize {
         match took {
             Some(_) => BlockSize::Long,
             None => BlockSize::Short,
@@ -50,12 +50,12 @@ fn block<F: BlockCodec, T: BlockCodec>(
     rest: &[u8],
     out: &mut [u8],
     at: usize,
-) -> Option<Step>
+) -> Option<Took>
     requires room { at ≤ length out.old }
     requires few { length buffer.old ≤ 256 }
-    ensures { MatchOption result ((states.new ≡ states.old) × (out.new ≡ out.old)) (λ step.
-        StridesOrStops (F.reads from.now) (T.writes to.now) policy states.old rest.now
-        out.old at step states.new out.new) }
+    ensures { MatchOption result ((states.new ≡ states.old) × (out.new ≡ out.old)) (λ took.
+        TakesSome (F.reads from.now) (T.writes to.now) policy states.old rest.now
+        out.old at took states.new out.new) }
 {
     let limit = buffer.len().min((out.len() - at) / MOST_BYTES);
     let read = from.read_block(states.reading, rest, &mut buffer[..limit]);
@@ -68,7 +68,7 @@ fn block<F: BlockCodec, T: BlockCodec>(
         reading: read.next,
         writing: written.next,
     };
-    Some(Step::Took {
+    Some(Took {
         used: read.used,
         wrote: written.wrote,
         count: written.count,
@@ -85,11 +85,11 @@ fn short_block<F: BlockCodec, T: BlockCodec>(
     rest: &[u8],
     out: &mut [u8],
     at: usize,
-) -> Option<Step>
+) -> Option<Took>
     requires room { at ≤ length out.old }
-    ensures { MatchOption result ((states.new ≡ states.old) × (out.new ≡ out.old)) (λ step.
-        StridesOrStops (F.reads from.now) (T.writes to.now) policy states.old rest.now
-        out.old at step states.new out.new) }
+    ensures { MatchOption result ((states.new ≡ states.old) × (out.new ≡ out.old)) (λ took.
+        TakesSome (F.reads from.now) (T.writes to.now) policy states.old rest.now
+        out.old at took states.new out.new) }
 {
     let mut buffer = [Scalar::substitute(); SHORT_BLOCK];
     block(from, to, &mut buffer, policy, states, rest, out, at)
@@ -105,48 +105,31 @@ fn long_blocks<F: BlockCodec, T: BlockCodec>(
     rest: &[u8],
     out: &mut [u8],
     at: usize,
-) -> Option<Step>
+) -> Option<Took>
     requires room { at ≤ length out.old }
-    ensures { MatchOption result ((states.new ≡ states.old) × (out.new ≡ out.old)) (λ step.
-        StridesOrStops (F.reads from.now) (T.writes to.now) policy states.old rest.now
-        out.old at step states.new out.new) }
+    ensures { MatchOption result ((states.new ≡ states.old) × (out.new ≡ out.old)) (λ took.
+        TakesSome (F.reads from.now) (T.writes to.now) policy states.old rest.now
+        out.old at took states.new out.new) }
 {
     from.assert_valid();
     let mut buffer = [Scalar::substitute(); LONG_BLOCK];
     let mut blocks = 0;
-    let mut used = 0;
-    let mut wrote = 0;
-    let mut count = 0;
-    while blocks < MOST_BLOCKS && rest.len() - used >= LONG_BLOCK {
-        let end = at + wrote;
-        let Some(
-            Step::Took {
-                used: more,
-                wrote: bytes,
-                count: lacking,
-            },
-        ) = block(
-            from,
-            to,
-            &mut buffer,
-            policy,
-            states,
-            &rest[used..],
-            out,
-            end,
-        )
-        else {
+    let mut taken = Took::nothing();
+    while blocks < MOST_BLOCKS && rest.len() - taken.used >= LONG_BLOCK {
+        let behind = &rest[taken.used..];
+        let end = at + taken.wrote;
+        let Some(took) = block(from, to, &mut buffer, policy, states, behind, out, end) else {
             break;
         };
         blocks += 1;
-        used += more;
-        wrote += bytes;
-        count += lacking;
+        taken.used += took.used;
+        taken.wrote += took.wrote;
+        taken.count += took.count;
     }
-    if used == 0 {
+    if taken.used == 0 {
         return None;
     }
-    Some(Step::Took { used, wrote, count })
+    Some(taken)
 }
 
 /// Takes a block of the size that is due, or some of them, if there is one.
@@ -160,11 +143,11 @@ pub(crate) fn sized_block<F: BlockCodec, T: BlockCodec>(
     rest: &[u8],
     out: &mut [u8],
     at: usize,
-) -> Option<Step>
+) -> Option<Took>
     requires { at ≤ length out.old }
-    ensures { MatchOption result ((states.new ≡ states.old) × (out.new ≡ out.old)) (λ step.
-        StridesOrStops (F.reads from.now) (T.writes to.now) policy states.old rest.now
-        out.old at step states.new out.new) }
+    ensures { MatchOption result ((states.new ≡ states.old) × (out.new ≡ out.old)) (λ took.
+        TakesSome (F.reads from.now) (T.writes to.now) policy states.old rest.now
+        out.old at took states.new out.new) }
 {
     let took = match *size {
         BlockSize::Long if rest.len() >= LONG_BLOCK => {

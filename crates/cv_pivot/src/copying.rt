@@ -1,11 +1,11 @@
 //! Copying the text that stays as it is where both encodings are the same.
 ghost use Rattle.std.specs.Prelude.{◌≡◌, ◌≤◌, ◌+◌, ◌++◌, length, take, drop, IsTrue, MatchOption};
 ghost use Rattle.cv_base.specs.declared.policy.Policy.{Policy};
-ghost use Rattle.cv_pivot.specs.Private.Steps.{StridesOrStops};
+ghost use Rattle.cv_pivot.specs.Private.Steps.{TakesSome};
 
 use crate::encoding::Encoding;
 use crate::outcome::States;
-use crate::step::Step;
+use crate::step::Took;
 use cv_base::BlockCodec;
 
 /// Whether both are one encoding of which text is copied. It may say no where they are: then it goes by blocks, or one by one.
@@ -40,11 +40,11 @@ pub(crate) fn copy_unchanged<C: BlockCodec>(
     rest: &[u8],
     out: &mut [u8],
     at: usize,
-) -> Option<Step>
+) -> Option<Took>
     requires { at ≤ length out.old }
-    ensures { MatchOption result (out.new ≡ out.old) (λ step. (policy : Policy)
-        → StridesOrStops (C.reads codec.now) (C.writes codec.now) policy states rest.now
-        out.old at step states out.new) }
+    ensures { MatchOption result (out.new ≡ out.old) (λ took. (policy : Policy)
+        → TakesSome (C.reads codec.now) (C.writes codec.now) policy states rest.now
+        out.old at took states out.new) }
 {
     let most = rest.len().min(out.len() - at);
     let n = codec.unchanged(states.reading, states.writing, &rest[..most]);
@@ -52,7 +52,7 @@ pub(crate) fn copy_unchanged<C: BlockCodec>(
         return None;
     }
     copy_front(rest, n, out, at);
-    Some(Step::Took {
+    Some(Took {
         used: n,
         wrote: n,
         count: 0,

@@ -2,11 +2,11 @@
 ghost use Rattle.std.specs.Prelude.{◌≤◌, length};
 ghost use Rattle.cv_base.specs.declared.policy.Policy.{Policy};
 ghost use Rattle.cv_pivot.specs.Encodings.{form_of, form_reads, form_writes};
-ghost use Rattle.cv_pivot.specs.Private.Steps.{TakesOrStops, StridesOrStops};
+ghost use Rattle.cv_pivot.specs.Private.Steps.{TakesOrEnds, StridesOrEnds};
 
 use crate::encoding::Encoding;
 use crate::outcome::{States, Stop};
-use crate::step::Step;
+use crate::step::{Step, Took};
 use cv_base::{Ascii, Codec, Item, Latin1, Placed, Policy, place_character};
 use cv_utf7::Utf7;
 use cv_utf8::Utf8;
@@ -29,7 +29,7 @@ pub(crate) fn one_step<F: Codec, T: Codec>(
     at: usize,
 ) -> Step
     requires { at ≤ length out.old }
-    ensures { TakesOrStops (F.reads from.now) (T.writes to.now) policy states.old rest.now
+    ensures { TakesOrEnds (F.reads from.now) (T.writes to.now) policy states.old rest.now
         out.old at result states.new out.new }
 {
     match from.item(states.reading, rest) {
@@ -41,33 +41,32 @@ pub(crate) fn one_step<F: Codec, T: Codec>(
             } => {
                 states.reading = next;
                 states.writing = then;
-                Step::Took {
+                Step::Took(Took {
                     used: n,
                     wrote,
                     count,
-                }
+                })
             }
-            Placed::NoRoom => Step::Stopped(Stop::TooBig),
-            Placed::Lacks => Step::Stopped(Stop::Lacking),
+            Placed::NoRoom => Step::Ended(Took::nothing(), Stop::TooBig),
+            Placed::Lacks => Step::Ended(Took::nothing(), Stop::Lacking),
         },
         Item::Shift { n, next } => {
             states.reading = next;
-            Step::Took {
+            Step::Took(Took {
                 used: n,
                 wrote: 0,
                 count: 0,
-            }
+            })
         }
-        Item::Incomplete => Step::Stopped(Stop::Incomplete),
-        Item::Ill => Step::Stopped(Stop::Ill),
-        Item::End => Step::Stopped(Stop::Done),
+        Item::Incomplete => Step::Ended(Took::nothing(), Stop::Incomplete),
+        Item::Ill => Step::Ended(Took::nothing(), Stop::Ill),
+        Item::End => Step::Ended(Took::nothing(), Stop::Done),
     }
 }
 
 /// Takes the items at the front of a text one behind the other, as far as they go, by a loop of its own for each two encodings: so the
 /// encodings are not told apart for each item, and the states stay in registers.
 #[inline(always)]
-#[tactic(auto, using(crate::proofs::Progress::some_of_one))]
 fn each_item<F: Codec, T: Codec>(
     from: &F,
     to: &T,
@@ -78,36 +77,28 @@ fn each_item<F: Codec, T: Codec>(
     at: usize,
 ) -> Step
     requires { at ≤ length out.old }
-    ensures { StridesOrStops (F.reads from.now) (T.writes to.now) policy states.old rest.now
+    ensures { StridesOrEnds (F.reads from.now) (T.writes to.now) policy states.old rest.now
         out.old at result states.new out.new }
 {
     from.assert_valid();
     let mut now = *states;
-    let mut used = 0;
-    let mut wrote = 0;
-    let mut count = 0;
+    let mut taken = Took::nothing();
     loop {
-        let end = at + wrote;
-        match one_step(from, to, policy, &mut now, &rest[used..], out, end) {
-            Step::Took {
-                used: more,
-                wrote: bytes,
-                count: lacking,
-            } => {
-                used += more;
-                wrote += bytes;
-                count += lacking;
-                if used == rest.len() {
+        let behind = &rest[taken.used..];
+        let end = at + taken.wrote;
+        match one_step(from, to, policy, &mut now, behind, out, end) {
+            Step::Took(took) => {
+                taken.used += took.used;
+                taken.wrote += took.wrote;
+                taken.count += took.count;
+                if taken.used == rest.len() {
                     *states = now;
-                    return Step::Took { used, wrote, count };
+                    return Step::Ended(taken, Stop::Done);
                 }
             }
-            Step::Stopped(stop) => {
+            Step::Ended(_, stop) => {
                 *states = now;
-                if used == 0 {
-                    return Step::Stopped(stop);
-                }
-                return Step::Took { used, wrote, count };
+                return Step::Ended(taken, stop);
             }
         }
     }
@@ -125,7 +116,7 @@ fn each_item_to<F: Codec>(
     at: usize,
 ) -> Step
     requires { at ≤ length out.old }
-    ensures { StridesOrStops (F.reads from.now) (form_writes (form_of to.now)) policy states.old rest.now
+    ensures { StridesOrEnds (F.reads from.now) (form_writes (form_of to.now)) policy states.old rest.now
         out.old at result states.new out.new }
 {
     match to {
@@ -168,7 +159,7 @@ pub(crate) fn few_items(
     at: usize,
 ) -> Step
     requires { at ≤ length out.old }
-    ensures { StridesOrStops (form_reads (form_of from.now)) (form_writes (form_of to.now)) policy
+    ensures { StridesOrEnds (form_reads (form_of from.now)) (form_writes (form_of to.now)) policy
         states.old rest.now out.old at result states.new out.new }
 {
     match from {

@@ -1,16 +1,15 @@
 -- Several steps one behind the other.
-use Rattle.std.proofs.Common.{◌≡◌, ℕ, ◌+◌, ◌≤◌, inl, inr, List, ◌++◌, length, take, drop, add-zero, sym, ◌∙◌, ap, subst, arith, length-append, length-drop, length-take, append_assoc}
+use Rattle.std.proofs.Common.{◌≡◌, ℕ, ◌+◌, ◌≤◌, inl, inr, List, ◌++◌, length, take, drop, sym, ◌∙◌, ap, subst, arith, length-append, length-drop, length-take, append_assoc}
 use Rattle.cv_base.specs.Items.{ItemRelation}
 use Rattle.cv_base.specs.Codecs.{Writing, IsReadable}
 use Rattle.cv_base.specs.declared.policy.Policy.{Policy}
 use Rattle.cv_base.specs.Chains.{IsChain, used_bytes, read_state, Output, followed, output_of}
 use Rattle.cv_base.specs.Policies.{Allows}
 use Rattle.cv_pivot.specs.declared.outcome.States.{States}
-use Rattle.cv_pivot.specs.declared.outcome.Stop.{Stop}
 use Rattle.cv_pivot.specs.declared.step.Took.{Took}
 use Rattle.cv_pivot.specs.declared.step.Step.{Step}
 use Rattle.cv_pivot.specs.declared.step.Step.TheVariants as step
-use Rattle.cv_pivot.specs.Private.Steps.{TakesSome, TakesNone, TakesAny, TakesOrEnds, StridesOrEnds, StepStops}
+use Rattle.cv_pivot.specs.Private.Steps.{TakesSome, TakesAny, TakesOrStops, StridesOrStops}
 use Rattle.cv_base.proofs.WrittenEach.{out_more}
 use Rattle.cv_base.proofs.ChainLaws.{used_bytes-append, read_state-append, output_of-append, IsChain-append}
 use Rattle.cv_pivot.proofs.Allowed.{followed_allowed}
@@ -19,11 +18,6 @@ use Rattle.cv_pivot.proofs.Progress.{output_of-count, used_bytes-within, some_of
 -- what was taken, and more
 abbrev pub both : Took → Took → Took
 both taken took = record { used = taken.used + took.used; wrote = taken.wrote + took.wrote; count = taken.count + took.count }
-
--- a step that stops where nothing was taken stops at the front
-stops_behind_none : (reads : ItemRelation) (writes : Writing) (policy : Policy) (from : States) (rest before : List ℕ) (at : ℕ) (took : Took) (to : States) (after : List ℕ) → TakesNone from before took to after → (stop : Stop)
-    → StepStops reads writes policy from rest before at stop → StepStops reads writes policy to (drop took.used rest) after (at + took.wrote) stop
-stops_behind_none reads writes policy from rest before at took to after p stop q = rw (p.0, p.1, p.3, p.4, add-zero) q
 
 -- items were taken, and behind them others
 some_more : (reads : ItemRelation) (writes : Writing) (policy : Policy) (from : States) (rest before : List ℕ) (at : ℕ) (taken : Took) (now : States) (out : List ℕ) → TakesSome reads writes policy from rest before at taken now out
@@ -78,7 +72,7 @@ any_within reads writes policy r from rest before at taken now out room (inr p) 
     (omega (arith, in_text, p.uses), p.fits, omega (arith, few, p.counts, p.uses), ap length p.out ∙ simp (length-append, length-take, length-drop) (omega (arith, p.writes_bytes, p.fits)))
 
 -- one item, or none, is a stride
-pub item_strides : (reads : ItemRelation) (writes : Writing) (policy : Policy) → IsReadable reads → (from : States) (rest before : List ℕ) (at : ℕ) (step : Step) (to : States) (after : List ℕ) → TakesOrEnds reads writes policy from rest before at step to after
-    → StridesOrEnds reads writes policy from rest before at step to after
+pub item_strides : (reads : ItemRelation) (writes : Writing) (policy : Policy) → IsReadable reads → (from : States) (rest before : List ℕ) (at : ℕ) (step : Step) (to : States) (after : List ℕ) → TakesOrStops reads writes policy from rest before at step to after
+    → StridesOrStops reads writes policy from rest before at step to after
 item_strides reads writes policy r from rest before at (step.Took took) to after q = some_of_one reads writes policy r from rest before at took to after q
-item_strides reads writes policy r from rest before at (step.Ended took stop) to after q = (inl q.0, stops_behind_none reads writes policy from rest before at took to after q.0 stop q.1)
+item_strides reads writes policy r from rest before at (step.Stopped stop) to after q = q

@@ -1,11 +1,11 @@
 //! Items one by one.
-ghost use Rattle.std.specs.Prelude.{◌≤◌, length};
+ghost use Rattle.std.specs.Prelude.{◌≡◌, ◌≤◌, ◌<◌, ◌+◌, ◌^◌, length};
 ghost use Rattle.cv_base.specs.declared.policy.Policy.{Policy};
 ghost use Rattle.cv_pivot.specs.Encodings.{form_of, form_reads, form_writes};
-ghost use Rattle.cv_pivot.specs.Private.Steps.{TakesOrEnds, StridesOrEnds};
+ghost use Rattle.cv_pivot.specs.Private.Steps.{TakesOrStops, Finishes};
 
 use crate::encoding::Encoding;
-use crate::outcome::{States, Stop};
+use crate::outcome::{Outcome, States, Stop};
 use crate::step::{Step, Took};
 use cv_base::{Ascii, Codec, Item, Latin1, Placed, Policy, place_character};
 use cv_utf7::Utf7;
@@ -29,7 +29,7 @@ pub(crate) fn one_step<F: Codec, T: Codec>(
     at: usize,
 ) -> Step
     requires { at ≤ length out.old }
-    ensures { TakesOrEnds (F.reads from.now) (T.writes to.now) policy states.old rest.now
+    ensures { TakesOrStops (F.reads from.now) (T.writes to.now) policy states.old rest.now
         out.old at result states.new out.new }
 {
     match from.item(states.reading, rest) {
@@ -47,8 +47,8 @@ pub(crate) fn one_step<F: Codec, T: Codec>(
                     count,
                 })
             }
-            Placed::NoRoom => Step::Ended(Took::nothing(), Stop::TooBig),
-            Placed::Lacks => Step::Ended(Took::nothing(), Stop::Lacking),
+            Placed::NoRoom => Step::Stopped(Stop::TooBig),
+            Placed::Lacks => Step::Stopped(Stop::Lacking),
         },
         Item::Shift { n, next } => {
             states.reading = next;
@@ -58,14 +58,33 @@ pub(crate) fn one_step<F: Codec, T: Codec>(
                 count: 0,
             })
         }
-        Item::Incomplete => Step::Ended(Took::nothing(), Stop::Incomplete),
-        Item::Ill => Step::Ended(Took::nothing(), Stop::Ill),
-        Item::End => Step::Ended(Took::nothing(), Stop::Done),
+        Item::Incomplete => Step::Stopped(Stop::Incomplete),
+        Item::Ill => Step::Stopped(Stop::Ill),
+        Item::End => Step::Stopped(Stop::Done),
     }
 }
 
-/// Takes the items at the front of a text one behind the other, as far as they go, by a loop of its own for each two encodings: so the
-/// encodings are not told apart for each item, and the states stay in registers.
+/// What a conversion comes to whose last items these are, behind `at` bytes of the output and `count` characters for which `?` was written.
+#[inline(always)]
+fn finished(rest: &[u8], out: &[u8], at: usize, count: usize, taken: Took, stop: Stop) -> Outcome
+    requires within { taken.used ≤ length rest.now }
+    requires room { at + taken.wrote ≤ length out.now }
+    requires few { count + taken.count < 2 ^ 64 }
+    ensures left { result.left + taken.used ≡ length rest.now }
+    ensures room_left { result.room_left + (at + taken.wrote) ≡ length out.now }
+    ensures counts { result.count ≡ count + taken.count }
+    ensures stop { result.stop ≡ stop }
+{
+    Outcome {
+        left: rest.len() - taken.used,
+        room_left: out.len() - at - taken.wrote,
+        count: count + taken.count,
+        stop,
+    }
+}
+
+/// Converts what is left of a text item by item, behind `count` characters for which `?` was written, by a loop of its own for each two
+/// encodings: so they are not told apart for each item, and the states stay in registers.
 #[inline(always)]
 fn each_item<F: Codec, T: Codec>(
     from: &F,
@@ -75,10 +94,12 @@ fn each_item<F: Codec, T: Codec>(
     rest: &[u8],
     out: &mut [u8],
     at: usize,
-) -> Step
-    requires { at ≤ length out.old }
-    ensures { StridesOrEnds (F.reads from.now) (T.writes to.now) policy states.old rest.now
-        out.old at result states.new out.new }
+    count: usize,
+) -> Outcome
+    requires room { at ≤ length out.old }
+    requires few { count + length rest.now < 2 ^ 64 }
+    ensures { Finishes (F.reads from.now) (T.writes to.now) policy states.old rest.now
+        out.old at count result states.new out.new }
 {
     from.assert_valid();
     let mut now = *states;
@@ -93,18 +114,18 @@ fn each_item<F: Codec, T: Codec>(
                 taken.count += took.count;
                 if taken.used == rest.len() {
                     *states = now;
-                    return Step::Ended(taken, Stop::Done);
+                    return finished(rest, out, at, count, taken, Stop::Done);
                 }
             }
-            Step::Ended(_, stop) => {
+            Step::Stopped(stop) => {
                 *states = now;
-                return Step::Ended(taken, stop);
+                return finished(rest, out, at, count, taken, stop);
             }
         }
     }
 }
 
-/// Takes items that are written in an encoding, as `each_item`.
+/// Converts what is left to an encoding that is told apart here, as `each_item`.
 #[inline(always)]
 fn each_item_to<F: Codec>(
     from: &F,
@@ -114,15 +135,17 @@ fn each_item_to<F: Codec>(
     rest: &[u8],
     out: &mut [u8],
     at: usize,
-) -> Step
-    requires { at ≤ length out.old }
-    ensures { StridesOrEnds (F.reads from.now) (form_writes (form_of to.now)) policy states.old rest.now
-        out.old at result states.new out.new }
+    count: usize,
+) -> Outcome
+    requires room { at ≤ length out.old }
+    requires few { count + length rest.now < 2 ^ 64 }
+    ensures { Finishes (F.reads from.now) (form_writes (form_of to.now)) policy states.old rest.now
+        out.old at count result states.new out.new }
 {
     match to {
-        Encoding::Ascii => each_item(from, &Ascii, policy, states, rest, out, at),
-        Encoding::Latin1 => each_item(from, &Latin1, policy, states, rest, out, at),
-        Encoding::Utf8 => each_item(from, &Utf8, policy, states, rest, out, at),
+        Encoding::Ascii => each_item(from, &Ascii, policy, states, rest, out, at, count),
+        Encoding::Latin1 => each_item(from, &Latin1, policy, states, rest, out, at, count),
+        Encoding::Utf8 => each_item(from, &Utf8, policy, states, rest, out, at, count),
         Encoding::Utf16(order) => each_item(
             from,
             &Utf16::new(*order),
@@ -131,6 +154,7 @@ fn each_item_to<F: Codec>(
             rest,
             out,
             at,
+            count,
         ),
         Encoding::Utf32(order) => each_item(
             from,
@@ -140,14 +164,14 @@ fn each_item_to<F: Codec>(
             rest,
             out,
             at,
+            count,
         ),
-        Encoding::Utf7 => each_item(from, &Utf7, policy, states, rest, out, at),
-        Encoding::Charmap(map) => each_item(from, &**map, policy, states, rest, out, at),
+        Encoding::Utf7 => each_item(from, &Utf7, policy, states, rest, out, at, count),
+        Encoding::Charmap(map) => each_item(from, &**map, policy, states, rest, out, at, count),
     }
 }
 
-/// Takes the items at the front of a short text, as far as they go. It stands apart, so that the step that calls it stays small enough to
-/// be compiled into its loop.
+/// Converts what is left of a text where that is little. It stands apart, so that the loop that ends by it stays small.
 #[inline(never)]
 pub(crate) fn few_items(
     from: &Encoding,
@@ -157,15 +181,17 @@ pub(crate) fn few_items(
     rest: &[u8],
     out: &mut [u8],
     at: usize,
-) -> Step
-    requires { at ≤ length out.old }
-    ensures { StridesOrEnds (form_reads (form_of from.now)) (form_writes (form_of to.now)) policy
-        states.old rest.now out.old at result states.new out.new }
+    count: usize,
+) -> Outcome
+    requires room { at ≤ length out.old }
+    requires few { count + length rest.now < 2 ^ 64 }
+    ensures { Finishes (form_reads (form_of from.now)) (form_writes (form_of to.now)) policy
+        states.old rest.now out.old at count result states.new out.new }
 {
     match from {
-        Encoding::Ascii => each_item_to(&Ascii, to, policy, states, rest, out, at),
-        Encoding::Latin1 => each_item_to(&Latin1, to, policy, states, rest, out, at),
-        Encoding::Utf8 => each_item_to(&Utf8, to, policy, states, rest, out, at),
+        Encoding::Ascii => each_item_to(&Ascii, to, policy, states, rest, out, at, count),
+        Encoding::Latin1 => each_item_to(&Latin1, to, policy, states, rest, out, at, count),
+        Encoding::Utf8 => each_item_to(&Utf8, to, policy, states, rest, out, at, count),
         Encoding::Utf16(order) => each_item_to(
             &Utf16::new(*order),
             to,
@@ -174,6 +200,7 @@ pub(crate) fn few_items(
             rest,
             out,
             at,
+            count,
         ),
         Encoding::Utf32(order) => each_item_to(
             &Utf32::new(*order),
@@ -183,8 +210,9 @@ pub(crate) fn few_items(
             rest,
             out,
             at,
+            count,
         ),
-        Encoding::Utf7 => each_item_to(&Utf7, to, policy, states, rest, out, at),
-        Encoding::Charmap(map) => each_item_to(&**map, to, policy, states, rest, out, at),
+        Encoding::Utf7 => each_item_to(&Utf7, to, policy, states, rest, out, at, count),
+        Encoding::Charmap(map) => each_item_to(&**map, to, policy, states, rest, out, at, count),
     }
 }

@@ -1,15 +1,16 @@
 -- Several steps one behind the other.
-use Rattle.std.proofs.Common.{◌≡◌, ℕ, ◌+◌, ◌≤◌, inl, inr, List, ◌++◌, length, take, drop, sym, ◌∙◌, ap, subst, arith, length-append, length-drop, length-take, append_assoc}
+use Rattle.std.proofs.Common.{◌≡◌, ℕ, ◌+◌, ◌≤◌, inl, inr, List, ◌++◌, length, take, drop, refl, sym, ◌∙◌, ap, subst, arith, length-append, length-drop, length-take, append_assoc}
 use Rattle.cv_base.specs.Items.{ItemRelation}
 use Rattle.cv_base.specs.Codecs.{Writing, IsReadable}
 use Rattle.cv_base.specs.declared.policy.Policy.{Policy}
 use Rattle.cv_base.specs.Chains.{IsChain, used_bytes, read_state, Output, followed, output_of}
 use Rattle.cv_base.specs.Policies.{Allows}
 use Rattle.cv_pivot.specs.declared.outcome.States.{States}
+use Rattle.cv_pivot.specs.declared.outcome.Stop.{Stop}
 use Rattle.cv_pivot.specs.declared.step.Took.{Took}
 use Rattle.cv_pivot.specs.declared.step.Step.{Step}
 use Rattle.cv_pivot.specs.declared.step.Step.TheVariants as step
-use Rattle.cv_pivot.specs.Private.Steps.{TakesSome, TakesAny, TakesOrStops, StridesOrStops}
+use Rattle.cv_pivot.specs.Private.Steps.{TakesOne, TakesSome, TakesAny, TakesOrStops, StridesOrStops, StepStops, Finishes}
 use Rattle.cv_base.proofs.WrittenEach.{out_more}
 use Rattle.cv_base.proofs.ChainLaws.{used_bytes-append, read_state-append, output_of-append, IsChain-append}
 use Rattle.cv_pivot.proofs.Allowed.{followed_allowed}
@@ -70,6 +71,58 @@ any_within reads writes policy r from rest before at taken now out room (inr p) 
     let in_text = used_bytes-within reads r from.reading rest p.chain p.is_chain in
     let few = output_of-count reads writes r from.reading from.writing rest p.chain p.is_chain in
     (omega (arith, in_text, p.uses), p.fits, omega (arith, few, p.counts, p.uses), ap length p.out ∙ simp (length-append, length-take, length-drop) (omega (arith, p.writes_bytes, p.fits)))
+
+-- Items were taken one by one, or none: how many bytes they use, where their output ends, and for how many characters `?` was written by then.
+pub record ItemsSoFar (reads : ItemRelation) (writes : Writing) (policy : Policy) (from : States) (rest before : List ℕ) (at count used end lacking : ℕ) (now : States) (out : List ℕ) : Type 0 where
+  pub took : Took
+  pub takes : TakesAny reads writes policy from rest before at took now out
+  pub uses : used ≡ took.used
+  pub ends : end ≡ at + took.wrote
+  pub counts : lacking ≡ count + took.count
+
+-- at first no item was taken
+pub no_items : (reads : ItemRelation) (writes : Writing) (policy : Policy) (from : States) (rest before : List ℕ) (at count : ℕ) → ItemsSoFar reads writes policy from rest before at count 0 at count from before
+no_items reads writes policy from rest before at count = record {
+  took = record { used = 0; wrote = 0; count = 0 };
+  takes = inl (refl, refl, refl, refl, refl);
+  uses = refl;
+  ends = omega arith;
+  counts = omega arith;
+}
+
+-- they are within the text and the room
+pub items_within : (reads : ItemRelation) (writes : Writing) (policy : Policy) → IsReadable reads → (from : States) (rest before : List ℕ) (at count used end lacking : ℕ) (now : States) (out : List ℕ) → at ≤ length before
+    → ItemsSoFar reads writes policy from rest before at count used end lacking now out → (used ≤ length rest) × (end ≤ length out) × (lacking ≤ count + used)
+items_within reads writes policy r from rest before at count used end lacking now out room p =
+    let s = any_within reads writes policy r from rest before at p.took now out room p.takes in
+    (omega (arith, s.0, p.uses), omega (arith, s.1, s.3, p.ends), omega (arith, s.2, p.uses, p.counts))
+
+-- one item more
+pub items_more : (reads : ItemRelation) (writes : Writing) (policy : Policy) → IsReadable reads → (from : States) (rest before : List ℕ) (at count used end lacking : ℕ) (now : States) (out : List ℕ) → ItemsSoFar reads writes policy from rest before at count used end lacking now out
+    → (took : Took) (to : States) (after : List ℕ) → TakesOne reads writes policy now (drop used rest) out end took to after → ItemsSoFar reads writes policy from rest before at count (used + took.used) (end + took.wrote) (lacking + took.count) to after
+items_more reads writes policy r from rest before at count used end lacking now out p took to after q =
+    let one = some_of_one reads writes policy r now (drop used rest) out end took to after q in
+    let behind : TakesSome reads writes policy now (drop p.took.used rest) out (at + p.took.wrote) took to after = rw (p.uses, p.ends) at one in
+    record {
+      took = both p.took took;
+      takes = inr (any_then_some reads writes policy from rest before at p.took now out p.takes took to after behind);
+      uses = omega (arith, p.uses);
+      ends = omega (arith, p.ends);
+      counts = omega (arith, p.counts);
+    }
+
+-- where the next item stops the conversion, it finishes
+pub items_finish : (reads : ItemRelation) (writes : Writing) (policy : Policy) (from : States) (rest before : List ℕ) (at count used end lacking : ℕ) (now : States) (out : List ℕ) → ItemsSoFar reads writes policy from rest before at count used end lacking now out
+    → (stop : Stop) → StepStops reads writes policy now (drop used rest) out end stop → (left room_left : ℕ) → left + used ≡ length rest → room_left + end ≡ length out
+    → Finishes reads writes policy from rest before at count (record { left = left; room_left = room_left; count = lacking; stop = stop }) now out
+items_finish reads writes policy from rest before at count used end lacking now out p stop q left room_left l room = record {
+  took = p.took;
+  takes = p.takes;
+  stops = rw (p.uses, p.ends) at q;
+  left = omega (arith, l, p.uses);
+  room_left = omega (arith, room, p.ends);
+  counts = p.counts;
+}
 
 -- one item, or none, is a stride
 pub item_strides : (reads : ItemRelation) (writes : Writing) (policy : Policy) → IsReadable reads → (from : States) (rest before : List ℕ) (at : ℕ) (step : Step) (to : States) (after : List ℕ) → TakesOrStops reads writes policy from rest before at step to after

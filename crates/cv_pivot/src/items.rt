@@ -1,5 +1,5 @@
 //! Items one by one.
-ghost use Rattle.std.specs.Prelude.{◌≡◌, ◌≤◌, ◌<◌, ◌+◌, ◌^◌, length};
+ghost use Rattle.std.specs.Prelude.{◌≤◌, ◌<◌, ◌+◌, ◌^◌, length};
 ghost use Rattle.cv_base.specs.declared.policy.Policy.{Policy};
 ghost use Rattle.cv_pivot.specs.Encodings.{form_of, form_reads, form_writes};
 ghost use Rattle.cv_pivot.specs.Private.Steps.{TakesOrStops, Finishes};
@@ -64,27 +64,8 @@ pub(crate) fn one_step<F: Codec, T: Codec>(
     }
 }
 
-/// What a conversion comes to whose last items these are, behind `at` bytes of the output and `count` characters for which `?` was written.
-#[inline(always)]
-fn finished(rest: &[u8], out: &[u8], at: usize, count: usize, taken: Took, stop: Stop) -> Outcome
-    requires within { taken.used ≤ length rest.now }
-    requires room { at + taken.wrote ≤ length out.now }
-    requires few { count + taken.count < 2 ^ 64 }
-    ensures left { result.left + taken.used ≡ length rest.now }
-    ensures room_left { result.room_left + (at + taken.wrote) ≡ length out.now }
-    ensures counts { result.count ≡ count + taken.count }
-    ensures stop { result.stop ≡ stop }
-{
-    Outcome {
-        left: rest.len() - taken.used,
-        room_left: out.len() - at - taken.wrote,
-        count: count + taken.count,
-        stop,
-    }
-}
-
-/// Converts what is left of a text item by item, behind `count` characters for which `?` was written, by a loop of its own for each two
-/// encodings: so they are not told apart for each item, and the states stay in registers.
+/// Converts what is left of a text item by item, behind the first `at` bytes of the output and `count` characters for which `?` was
+/// written, by a loop of its own for each two encodings: so they are not told apart for each item, and the states stay in registers.
 #[inline(always)]
 fn each_item<F: Codec, T: Codec>(
     from: &F,
@@ -103,23 +84,33 @@ fn each_item<F: Codec, T: Codec>(
 {
     from.assert_valid();
     let mut now = *states;
-    let mut taken = Took::nothing();
+    let mut used = 0;
+    let mut end = at;
+    let mut lacking = count;
     loop {
-        let behind = &rest[taken.used..];
-        let end = at + taken.wrote;
-        match one_step(from, to, policy, &mut now, behind, out, end) {
+        match one_step(from, to, policy, &mut now, &rest[used..], out, end) {
             Step::Took(took) => {
-                taken.used += took.used;
-                taken.wrote += took.wrote;
-                taken.count += took.count;
-                if taken.used == rest.len() {
+                used += took.used;
+                end += took.wrote;
+                lacking += took.count;
+                if used == rest.len() {
                     *states = now;
-                    return finished(rest, out, at, count, taken, Stop::Done);
+                    return Outcome {
+                        left: 0,
+                        room_left: out.len() - end,
+                        count: lacking,
+                        stop: Stop::Done,
+                    };
                 }
             }
             Step::Stopped(stop) => {
                 *states = now;
-                return finished(rest, out, at, count, taken, stop);
+                return Outcome {
+                    left: rest.len() - used,
+                    room_left: out.len() - end,
+                    count: lacking,
+                    stop,
+                };
             }
         }
     }

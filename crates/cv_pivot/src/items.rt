@@ -65,7 +65,7 @@ pub(crate) fn one_step<F: Codec, T: Codec>(
 }
 
 /// Converts what is left of a text item by item, behind the first `at` bytes of the output and `count` characters for which `?` was
-/// written, by a loop of its own for each two encodings: so they are not told apart for each item, and the states stay in registers.
+/// written, by a loop of its own for each two encodings: so they are not told apart for each item.
 #[inline(always)]
 fn each_item<F: Codec, T: Codec>(
     from: &F,
@@ -83,18 +83,16 @@ fn each_item<F: Codec, T: Codec>(
         out.old at count result states.new out.new }
 {
     from.assert_valid();
-    let mut now = *states;
     let mut used = 0;
     let mut end = at;
     let mut lacking = count;
     loop {
-        match one_step(from, to, policy, &mut now, &rest[used..], out, end) {
+        match one_step(from, to, policy, states, &rest[used..], out, end) {
             Step::Took(took) => {
                 used += took.used;
                 end += took.wrote;
                 lacking += took.count;
                 if used == rest.len() {
-                    *states = now;
                     return Outcome {
                         left: 0,
                         room_left: out.len() - end,
@@ -104,7 +102,6 @@ fn each_item<F: Codec, T: Codec>(
                 }
             }
             Step::Stopped(stop) => {
-                *states = now;
                 return Outcome {
                     left: rest.len() - used,
                     room_left: out.len() - end,

@@ -1,30 +1,30 @@
 //! A byte trie whose nodes have one edge, a few and many, against what was added to it.
+use crate::words::{bytes_of, sides};
 use cv_base::Scalar;
 use cv_byte_trie::{Added, ByteTrie, Found, NONE};
-use std::alloc::Global;
+use std::alloc::{AllocError, Global};
 use std::test::Fail;
 
-/// Strings of two and three bytes: one behind 0, a few behind 1, and 256 behind each of 2 and 3.
-fn strings(alloc: Global) -> Result<Vec<Vec<u8>>, Fail> {
-    let mut strings = Vec::new(alloc);
-    strings.push(vec![in alloc; 0u8, 7, 9]?)?;
-    for byte in 0..8u8 {
-        strings.push(vec![in alloc; 1u8, byte]?)?;
+/// Adds a string, of which the trie takes one to eight bytes.
+fn add(trie: &mut ByteTrie, bytes: &[u8]) -> Result<Added, Fail> {
+    if bytes.is_empty() || bytes.len() > 8 || trie.len() >= 1000 {
+        return Err("a string that can't be added".into());
     }
-    for byte in 0..=255u8 {
-        strings.push(vec![in alloc; 2u8, 200, byte]?)?;
-        strings.push(vec![in alloc; 3u8, byte, 200]?)?;
-    }
-    Ok(strings)
+    Ok(trie.add(bytes, Scalar::substitute())?)
 }
 
-/// The place that single steps from the root lead to.
-fn walked(trie: &ByteTrie, text: &[u8]) -> Option<usize> {
+/// What a text is to the trie.
+fn find(trie: &ByteTrie, text: &[u8]) -> Result<Found, Fail> {
+    if text.is_empty() {
+        return Err("an empty text".into());
+    }
+    Ok(trie.find(text))
+}
+
+/// The place that a single step from the root leads to.
+fn walked(trie: &ByteTrie, byte: u8) -> Option<usize> {
     trie.assert_leads();
-    let [first, ..] = text else {
-        return None;
-    };
-    let code = trie.step(0, *first);
+    let code = trie.step(0, byte);
     if code < NONE {
         Some(code as usize)
     } else {
@@ -32,63 +32,91 @@ fn walked(trie: &ByteTrie, text: &[u8]) -> Option<usize> {
     }
 }
 
+/// Strings of two and three bytes: one behind 0, a few behind 1, and 256 behind each of 2 and 3.
+fn strings(alloc: Global) -> Result<Vec<Vec<u8>>, AllocError> {
+    let mut strings = Vec::new(alloc);
+    push(&mut strings, alloc, &[0, 7, 9])?;
+    for byte in 0..8 {
+        push(&mut strings, alloc, &[1, byte])?;
+    }
+    for byte in 0..=255 {
+        push(&mut strings, alloc, &[2, 200, byte])?;
+        push(&mut strings, alloc, &[3, byte, 200])?;
+    }
+    Ok(strings)
+}
+
+fn push(strings: &mut Vec<Vec<u8>>, alloc: Global, bytes: &[u8]) -> Result<(), AllocError> {
+    strings.push(bytes.to_vec(alloc)?)?;
+    Ok(())
+}
+
+/// Whether a trie has a string at a place.
+fn has(trie: &ByteTrie, place: usize, string: &[u8]) -> Result<bool, Fail> {
+    let bytes = trie.get(place).map(|entry| entry.bytes());
+    Ok(find(trie, string)? == Found::Entry(place) && bytes == Some(string))
+}
+
 #[test]
 fn strings_are_found_at_their_places(rt: HostRuntime) -> Result<(), Fail> {
-    let alloc = rt.alloc();
-    let strings = strings(alloc)?;
-    let mut trie = ByteTrie::new(alloc)?;
+    let strings = strings(rt.alloc())?;
+    let mut trie = ByteTrie::new(rt.alloc())?;
     for string in &strings {
-        if string.is_empty() || string.len() > 8 || trie.len() >= 1000 {
-            return Err("a string that can't be added".into());
-        }
-        let added = trie.add(string, Scalar::substitute())?;
-        assert_eq!(rt; added, Added::Entered, "{string:?}");
+        assert_eq!(rt; add(&mut trie, string)?, Added::Entered, "{string:?}");
     }
     assert_eq!(rt; trie.len(), strings.len());
     for (place, string) in strings.iter().enumerate() {
-        if string.is_empty() {
-            return Err("an empty string".into());
-        }
-        assert_eq!(rt; trie.find(string), Found::Entry(place), "{string:?}");
-        let bytes = trie.get(place).map(|entry| entry.bytes());
-        assert!(rt; bytes == Some(string.as_slice()), "{string:?}");
+        assert!(rt; has(&trie, place, string)?, "{string:?}");
     }
-    assert_eq!(rt; walked(&trie, &[4]), None);
+    assert_eq!(rt; walked(&trie, 4), None);
     Ok(())
+}
+
+/// What is done with a string, and what comes of it.
+const MEETING: &str = r#"
+add "abc": Entered
+add "abd": Entered
+add "abc": Held(0)
+add "ab": Begins
+add "abde": Continues(1)
+add "b": Entered
+find "abdx": Entry(1)
+find "a": Inside
+find "ax": Nothing
+find "bb": Entry(2)
+"#;
+
+/// What comes of adding or finding a string, in the words of a line.
+fn told(alloc: Global, trie: &mut ByteTrie, line: &str) -> Result<String, Fail> {
+    let (done, string) = sides(line, " ")?;
+    let bytes = bytes_of(alloc, string)?;
+    if done == "add" {
+        told_added(alloc, trie, &bytes)
+    } else {
+        told_found(alloc, trie, &bytes)
+    }
+}
+
+fn told_added(alloc: Global, trie: &mut ByteTrie, bytes: &[u8]) -> Result<String, Fail> {
+    let added = add(trie, bytes)?;
+    Ok(format!(in alloc; "{added:?}")?)
+}
+
+fn told_found(alloc: Global, trie: &ByteTrie, text: &[u8]) -> Result<String, Fail> {
+    let found = find(trie, text)?;
+    Ok(format!(in alloc; "{found:?}")?)
 }
 
 #[test]
 fn what_meets_others_is_not_added(rt: HostRuntime) -> Result<(), Fail> {
-    let alloc = rt.alloc();
-    let mut trie = ByteTrie::new(alloc)?;
-    let cases: [(&[u8], Added); 6] = [
-        (b"abc", Added::Entered),
-        (b"abd", Added::Entered),
-        (b"abc", Added::Held(0)),
-        (b"ab", Added::Begins),
-        (b"abde", Added::Continues(1)),
-        (b"b", Added::Entered),
-    ];
-    for (bytes, want) in cases {
-        if bytes.is_empty() || bytes.len() > 8 || trie.len() >= 1000 {
-            return Err("a string that can't be added".into());
-        }
-        assert_eq!(rt; trie.add(bytes, Scalar::substitute())?, want, "{bytes:?}");
+    let mut trie = ByteTrie::new(rt.alloc())?;
+    for line in MEETING.trim().lines() {
+        let (done, wanted) = sides(line, ": ")?;
+        let told = told(rt.alloc(), &mut trie, done)?;
+        assert_eq!(rt; told.as_str(), wanted, "{line}");
     }
     assert_eq!(rt; trie.entries().len(), 3);
-    let found: [(&[u8], Found); 4] = [
-        (b"abdx", Found::Entry(1)),
-        (b"a", Found::Inside),
-        (b"ax", Found::Nothing),
-        (b"bb", Found::Entry(2)),
-    ];
-    for (text, want) in found {
-        if text.is_empty() {
-            return Err("an empty text".into());
-        }
-        assert_eq!(rt; trie.find(text), want, "{text:?}");
-    }
-    assert_eq!(rt; walked(&trie, b"b"), Some(2));
+    assert_eq!(rt; walked(&trie, b'b'), Some(2));
     let question = trie.get(0).map(|entry| entry.character());
     assert_eq!(rt; question, Some(Scalar::substitute()));
     Ok(())

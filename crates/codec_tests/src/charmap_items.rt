@@ -1,102 +1,88 @@
-//! Small charmaps, read and written item by item and by blocks.
-use cv_base::{BlockCodec, Codec, Item, Policy, ReadState, Scalar, WriteState};
-use cv_charmap::read;
-use cv_trie::Charmap;
-use std::alloc::Global;
+//! Small charmaps, read and written item by item and by blocks. Their texts are in `charmap_texts`.
+use crate::blocks::{read_blocks, write_blocks};
+use crate::charmap_texts::charmap;
+use crate::items::read_items;
+use crate::words::sides;
+use crate::writing::write_lines;
+use cv_base::{Codec, Policy, ReadState, WriteState};
+use std::process::Abort;
 use std::test::Fail;
 
-/// Two-byte letters whose numbers are carried into the first byte.
-const TOY: &[u8] = b"<code_set_name> TOY\n\
-    <mb_cur_max> 2\n\
-    CHARMAP\n\
-    <question-mark> \\x3F\n\
-    <U0100>...<U0103> \\d129\\d254\n\
-    END CHARMAP\n";
+const TOY: &str = r#"
+81fe81: char 100 2, in Start
+8201: char 103 2, in Start
+"?": char 3f 1, in Start
+81: incomplete
+8202: ill
+"": end
+"#;
 
-/// Byte strings of one, two and three bytes, a character with three of them, and a question mark that isn't 3f.
-const MIXED: &[u8] = b"<code_set_name> MIXED\n\
-    <mb_cur_max> 3\n\
-    CHARMAP\n\
-    <question-mark> \\x6F\n\
-    <U4E00> \\x81\\x40\n\
-    <U4E00> \\x40\n\
-    <U4E00> \\x00\\xFF\\x00\n\
-    <U0001FFFE> \\x00\\xFF\\xFE\n\
-    END CHARMAP\n";
+const MIXED: &str = r#"
+4081: char 4e00 1, in Start
+00ff00: char 4e00 3, in Start
+00fffe: char 1fffe 3, in Start
+00ff: incomplete
+00ffff: ill
+"?": ill
+"#;
 
-fn compiled(alloc: Global, text: &[u8]) -> Result<Charmap, Fail> {
-    Ok(Charmap::build(alloc, read(alloc, text)?)?)
-}
-
-fn scalar(value: u32) -> Result<Scalar, Fail> {
-    Ok(Scalar::new(value).ok_or("no scalar")?)
+/// Reads the items of lines as those of a charmap. A charmap takes each state for the start.
+fn read_as<R: Abort + AllocGlobal>(rt: &R, name: &str, table: &str) -> Result<(), Fail> {
+    let map = charmap(rt.alloc(), name)?;
+    for state in [ReadState::Start, ReadState::Big] {
+        read_items(rt, &map, state, table)?;
+    }
+    Ok(())
 }
 
 #[test]
 fn what_stands_next(rt: HostRuntime) -> Result<(), Fail> {
-    let alloc = rt.alloc();
-    let cases: [(&[u8], &[u8], Option<(u32, usize)>, Item); 12] = [
-        (TOY, b"\x81\xFE\x81", Some((0x100, 2)), Item::End),
-        (TOY, b"\x82\x01", Some((0x103, 2)), Item::End),
-        (TOY, b"?", Some((0x3F, 1)), Item::End),
-        (TOY, b"\x81", None, Item::Incomplete),
-        (TOY, b"\x82\x02", None, Item::Ill),
-        (TOY, b"", None, Item::End),
-        (MIXED, b"\x40\x81", Some((0x4E00, 1)), Item::End),
-        (MIXED, b"\x00\xFF\x00", Some((0x4E00, 3)), Item::End),
-        (MIXED, b"\x00\xFF\xFE", Some((0x1_FFFE, 3)), Item::End),
-        (MIXED, b"\x00\xFF", None, Item::Incomplete),
-        (MIXED, b"\x00\xFF\xFF", None, Item::Ill),
-        (MIXED, b"?", None, Item::Ill),
-    ];
-    for (text, input, character, other) in cases {
-        let map = compiled(alloc, text)?;
-        let want = match character {
-            Some((value, n)) => Item::Char {
-                c: scalar(value)?,
-                n,
-                next: ReadState::Start,
-            },
-            None => other,
-        };
-        assert_eq!(rt; map.item(ReadState::Start, input), want, "{input:?}");
-        assert_eq!(rt; map.item(ReadState::Big, input), want, "{input:?}");
-    }
-    Ok(())
+    read_as(&rt, "TOY", TOY)?;
+    read_as(&rt, "MIXED", MIXED)
+}
+
+const TOY_WRITTEN: &str = r#"
+102: 8200 Start ""
+3f: "?" Start ""
+104: lacking
+"#;
+
+const MIXED_WRITTEN: &str = r#"
+4e00: 8140 Start ""
+3f: 6f Start ""
+10ffff: lacking
+"#;
+
+/// Writes the characters of lines as those of a charmap.
+fn write_as<R: Abort + AllocGlobal>(rt: &R, name: &str, table: &str) -> Result<(), Fail> {
+    let map = charmap(rt.alloc(), name)?;
+    write_lines(rt, &map, WriteState::Start, table)
 }
 
 #[test]
 fn the_first_pair_of_a_character_is_written(rt: HostRuntime) -> Result<(), Fail> {
-    let alloc = rt.alloc();
-    let cases: [(&[u8], u32, Option<&[u8]>); 6] = [
-        (TOY, 0x102, Some(b"\x82\x00")),
-        (TOY, 0x3F, Some(b"?")),
-        (TOY, 0x104, None),
-        (MIXED, 0x4E00, Some(b"\x81\x40")),
-        (MIXED, 0x3F, Some(b"\x6F")),
-        (MIXED, 0x10_FFFF, None),
-    ];
-    for (text, value, want) in cases {
-        let map = compiled(alloc, text)?;
-        let put = map.put(WriteState::Start, scalar(value)?);
-        let bytes = put.as_ref().map(|written| written.0.as_slice());
-        assert!(rt; bytes == want, "{value:x}");
-    }
-    Ok(())
+    write_as(&rt, "TOY", TOY_WRITTEN)?;
+    write_as(&rt, "MIXED", MIXED_WRITTEN)
 }
+
+/// Charmaps, how many pairs they have and how many bytes their strings have at most.
+const SIZES: &str = r#"
+TOY: 5 2
+MIXED: 5 3
+"#;
 
 #[test]
 fn a_charmap_tells_its_name_and_sizes(rt: HostRuntime) -> Result<(), Fail> {
     let alloc = rt.alloc();
-    let cases: [(&[u8], &[u8], usize, usize); 2] = [(TOY, b"TOY", 5, 2), (MIXED, b"MIXED", 5, 3)];
-    for (text, name, len, most) in cases {
-        let map = compiled(alloc, text)?;
-        assert!(rt; map.name() == name, "{name:?}");
-        assert_eq!(rt; map.len(), len, "{name:?}");
-        assert_eq!(rt; map.most_bytes(), most, "{name:?}");
+    for line in SIZES.trim().lines() {
+        let (name, sizes) = sides(line, ": ")?;
+        let map = charmap(alloc, name)?;
+        let told = format!(in alloc; "{} {}", map.len(), map.most_bytes())?;
+        assert_eq!(rt; told.as_str(), sizes, "{line}");
+        assert!(rt; map.name() == name.as_bytes(), "{line}");
         assert!(rt;
             map.close(WriteState::Marked).as_slice().is_empty(),
-            "{name:?}"
+            "{line}"
         );
     }
     Ok(())
@@ -104,53 +90,31 @@ fn a_charmap_tells_its_name_and_sizes(rt: HostRuntime) -> Result<(), Fail> {
 
 #[test]
 fn blocks_are_read(rt: HostRuntime) -> Result<(), Fail> {
-    let map = compiled(rt.alloc(), MIXED)?;
-    let input = b"\x6F\x40\x81\x40\x00\xFF\xFE\x40\x00\xFF\xFF";
-    let mut buffer = [Scalar::substitute(); 8];
-    let block = map.read_block(ReadState::Start, input, &mut buffer);
-    assert_eq!(rt; (block.n, block.used, block.next), (5, 8, ReadState::Start));
-    let want = [0x3F, 0x4E00, 0x4E00, 0x1_FFFE, 0x4E00];
-    for (character, value) in buffer.iter().zip(want) {
-        assert_eq!(rt; character.value(), value);
-    }
-    let none = map.read_block(ReadState::Big, input, &mut buffer);
-    assert_eq!(rt; (none.n, none.used), (0, 0));
-    Ok(())
+    let mixed = charmap(rt.alloc(), "MIXED")?;
+    let whole = "6f40814000fffe4000ffff 8: 3f 4e00 4e00 1fffe 4e00";
+    read_blocks(&rt, &mixed, ReadState::Start, whole)?;
+    read_blocks(&rt, &mixed, ReadState::Big, "6f40814000fffe4000ffff 0:")
+}
+
+/// Writes the characters of a line as a block of the charmap MIXED.
+fn write_mixed<R: Abort + AllocGlobal>(
+    rt: &R,
+    policy: Policy,
+    state: WriteState,
+    at: usize,
+    line: &str,
+) -> Result<(), Fail> {
+    let mixed = charmap(rt.alloc(), "MIXED")?;
+    write_blocks(rt, &mixed, policy, state, at, line)
 }
 
 #[test]
 fn blocks_are_written(rt: HostRuntime) -> Result<(), Fail> {
-    let map = compiled(rt.alloc(), MIXED)?;
-    let characters = [scalar(0x4E00)?, scalar(0x41)?, scalar(0x1_FFFE)?];
-    let mut out = [0x2D; 32];
-    let strict = map.write_block(Policy::Strict, WriteState::Start, &characters, &mut out, 1);
-    assert_eq!(rt; strict, None);
-    assert!(rt; out == [0x2D; 32]);
-    let block = map.write_block(
-        Policy::Substitute,
-        WriteState::Start,
-        &characters,
-        &mut out,
-        1,
-    );
-    let block = block.ok_or("no block")?;
-    assert_eq!(rt;
-        (block.wrote, block.count, block.next),
-        (6, 1, WriteState::Start)
-    );
-    assert!(rt; out.get(..8) == Some(b"-\x81\x40\x6F\x00\xFF\xFE-".as_slice()));
-    let again = map.write_block(
-        Policy::Substitute,
-        WriteState::Marked,
-        &characters,
-        &mut out,
-        2,
-    );
-    let again = again.ok_or("no block")?;
-    assert_eq!(rt; (again.wrote, again.count), (6, 1));
-    let had = [characters[0], characters[2]];
-    let whole = map.write_block(Policy::Strict, WriteState::Start, &had, &mut out, 3);
-    let whole = whole.ok_or("no block")?;
-    assert_eq!(rt; (whole.wrote, whole.count), (5, 0));
-    Ok(())
+    let (strict, substitute) = (Policy::Strict, Policy::Substitute);
+    let (start, marked) = (WriteState::Start, WriteState::Marked);
+    let lacks = "4e00 41 1fffe: 1 81406f00fffe Start";
+    write_mixed(&rt, strict, start, 1, "4e00 41 1fffe: none")?;
+    write_mixed(&rt, substitute, start, 1, lacks)?;
+    write_mixed(&rt, substitute, marked, 2, lacks)?;
+    write_mixed(&rt, strict, start, 3, "4e00 1fffe: 0 814000fffe Start")
 }

@@ -1,179 +1,65 @@
-//! Worked conversions, against bytes from outside.
+//! Worked conversions, against bytes from outside. `converting` says how a line is read.
+use crate::converting::convert;
 use cv_base::Policy;
-use cv_pivot::{Conversion, Outcome, Stop, builtin};
+use cv_pivot::{Conversion, builtin};
 use std::alloc::{AllocError, Global};
 use std::test::Fail;
 
 mod charmaps;
 mod strict;
 
-/// The input of a call and its room, and what it answers: why it stopped, what is left, the count and the output.
-type Call<'a> = (&'a [u8], usize, Stop, usize, usize, &'a [u8]);
-
-/// Whether a call answers what it is to answer.
-fn answers(conversion: &mut Conversion, call: Call<'_>) -> bool {
-    let (input, room, stop, left, count, output) = call;
-    let mut out = [0; 16];
-    let n = output.len();
-    if room > 16 || n > room {
-        return false;
-    }
-    let want = Outcome {
-        left,
-        room_left: room - n,
-        count,
-        stop,
-    };
-    conversion.convert(input, &mut out[..room]) == want && &out[..n] == output
-}
-
-/// Whether the calls of one conversion, one after the other, answer what they are to answer.
-fn all_answer(to: &[u8], from: &[u8], policy: Policy, calls: &[Call<'_>]) -> bool {
-    let (Some(to), Some(from)) = (builtin(to), builtin(from)) else {
-        return false;
-    };
-    each_answers(&mut Conversion::new(to, from, policy), calls)
-}
-
-/// Whether calls, one after the other, answer what they are to answer.
-fn each_answers(conversion: &mut Conversion, calls: &[Call<'_>]) -> bool {
-    for call in calls {
-        if !answers(conversion, *call) {
-            return false;
-        }
-    }
-    true
-}
+const FROM_UTF8: &str = r#"
+UTF-8 UTF-16BE: f09f9880 3 = TooBig 4 0 ""
+UTF-8 UTF-16BE: f09f9880 4 = Done 0 0 d83dde00
+UTF-8 ISO-8859-1: 41e282 9 = Incomplete 2 0 41; e282ac 9 = Done 0 1 3f
+UTF-8 UTF-16BE: 41c080 9 = Ill 2 0 0041
+UTF-8 UTF-16BE: eda0 9 = Ill 2 0 ""
+UTF-8 UTF-16BE: c0 9 = Ill 1 0 ""
+UTF-8 UTF-16BE: ed 9 = Incomplete 1 0 ""
+UTF-8 UTF-16: 41 9 = Done 0 0 feff0041; 42 9 = Done 0 0 0042
+UTF-8 UTF-16: 41 3 = TooBig 1 0 ""; 41 4 = Done 0 0 feff0041
+UTF-8 UTF-32: 41 7 = TooBig 1 0 ""; 41 8 = Done 0 0 0000feff00000041
+"#;
 
 #[test]
-fn from_utf8(rt: HostRuntime) {
-    let face: &[u8] = &[0xf0, 0x9f, 0x98, 0x80];
-    let rows: [(&[u8], &[Call<'_>]); 10] = [
-        (b"UTF-16BE", &[(face, 3, Stop::TooBig, 4, 0, &[])]),
-        (
-            b"UTF-16BE",
-            &[(face, 4, Stop::Done, 0, 0, &[0xd8, 0x3d, 0xde, 0x00])],
-        ),
-        (
-            b"ISO-8859-1",
-            &[
-                (&[0x41, 0xe2, 0x82], 9, Stop::Incomplete, 2, 0, &[0x41]),
-                (&[0xe2, 0x82, 0xac], 9, Stop::Done, 0, 1, &[0x3f]),
-            ],
-        ),
-        (
-            b"UTF-16BE",
-            &[(&[0x41, 0xc0, 0x80], 9, Stop::Ill, 2, 0, &[0x00, 0x41])],
-        ),
-        (b"UTF-16BE", &[(&[0xed, 0xa0], 9, Stop::Ill, 2, 0, &[])]),
-        (b"UTF-16BE", &[(&[0xc0], 9, Stop::Ill, 1, 0, &[])]),
-        (b"UTF-16BE", &[(&[0xed], 9, Stop::Incomplete, 1, 0, &[])]),
-        (
-            b"UTF-16",
-            &[
-                (&[0x41], 9, Stop::Done, 0, 0, &[0xfe, 0xff, 0x00, 0x41]),
-                (&[0x42], 9, Stop::Done, 0, 0, &[0x00, 0x42]),
-            ],
-        ),
-        (
-            b"UTF-16",
-            &[
-                (&[0x41], 3, Stop::TooBig, 1, 0, &[]),
-                (&[0x41], 4, Stop::Done, 0, 0, &[0xfe, 0xff, 0x00, 0x41]),
-            ],
-        ),
-        (
-            b"UTF-32",
-            &[
-                (&[0x41], 7, Stop::TooBig, 1, 0, &[]),
-                (
-                    &[0x41],
-                    8,
-                    Stop::Done,
-                    0,
-                    0,
-                    &[0x00, 0x00, 0xfe, 0xff, 0x00, 0x00, 0x00, 0x41],
-                ),
-            ],
-        ),
-    ];
-    for (to, calls) in rows {
-        let answer = all_answer(to, b"UTF-8", Policy::Substitute, calls);
-        assert!(rt; answer, "{to:?} {calls:?}");
-    }
+fn from_utf8(rt: HostRuntime) -> Result<(), Fail> {
+    convert(&rt, Policy::Substitute, FROM_UTF8)
 }
 
-#[test]
-fn to_utf8(rt: HostRuntime) {
-    let rows: [(&[u8], Call<'_>); 10] = [
-        (
-            b"UTF-32",
-            (
-                &[0xff, 0xfe, 0x00, 0x00, 0x41, 0x00, 0x00, 0x00],
-                9,
-                Stop::Done,
-                0,
-                0,
-                &[0x41],
-            ),
-        ),
-        (b"UTF-32", (&[0xff], 9, Stop::Incomplete, 1, 0, &[])),
-        (b"UTF-32", (&[0x01], 9, Stop::Ill, 1, 0, &[])),
-        (
-            b"UTF-32BE",
-            (
-                &[0x00, 0x00, 0xfe, 0xff],
-                9,
-                Stop::Done,
-                0,
-                0,
-                &[0xef, 0xbb, 0xbf],
-            ),
-        ),
-        (b"UTF-32LE", (&[0x00, 0xd8, 0x00], 9, Stop::Ill, 3, 0, &[])),
-        (b"UTF-32LE", (&[0x00, 0xd8], 9, Stop::Incomplete, 2, 0, &[])),
-        (b"UTF-16BE", (&[0xd8, 0x3d], 9, Stop::Incomplete, 2, 0, &[])),
-        (
-            b"UTF-16BE",
-            (&[0xd8, 0x3d, 0x00, 0x41], 9, Stop::Ill, 4, 0, &[]),
-        ),
-        (b"UTF-16BE", (&[0xdc], 9, Stop::Ill, 1, 0, &[])),
-        (
-            b"UTF-16BE",
-            (&[0xd8, 0x3d, 0xde, 0x00], 3, Stop::TooBig, 4, 0, &[]),
-        ),
-    ];
-    for (from, call) in rows {
-        let answer = all_answer(b"UTF-8", from, Policy::Substitute, &[call]);
-        assert!(rt; answer, "{from:?} {call:?}");
-    }
-}
+const TO_UTF8: &str = r#"
+UTF-32 UTF-8: fffe000041000000 9 = Done 0 0 41
+UTF-32 UTF-8: ff 9 = Incomplete 1 0 ""
+UTF-32 UTF-8: 01 9 = Ill 1 0 ""
+UTF-32BE UTF-8: 0000feff 9 = Done 0 0 efbbbf
+UTF-32LE UTF-8: 00d800 9 = Ill 3 0 ""
+UTF-32LE UTF-8: 00d8 9 = Incomplete 2 0 ""
+UTF-16BE UTF-8: d83d 9 = Incomplete 2 0 ""
+UTF-16BE UTF-8: d83d0041 9 = Ill 4 0 ""
+UTF-16BE UTF-8: dc 9 = Ill 1 0 ""
+UTF-16BE UTF-8: d83dde00 3 = TooBig 4 0 ""
+"#;
 
 #[test]
-fn reset_forgets_the_order(rt: HostRuntime) {
-    let (Some(to), Some(from)) = (builtin(b"UTF-8"), builtin(b"UTF-16")) else {
-        panic!(rt; "the encodings are not built in");
-    };
-    let mut conversion = Conversion::new(to, from, Policy::Substitute);
-    assert!(rt;
-        answers(
-            &mut conversion,
-            (&[0xff, 0xfe, 0x41, 0x00], 9, Stop::Done, 0, 0, &[0x41])
-        )
-    );
-    assert!(rt;
-        answers(
-            &mut conversion,
-            (&[0x42, 0x00], 9, Stop::Done, 0, 0, &[0x42])
-        )
-    );
-    assert!(rt; conversion.reset(0).is_ok());
-    assert!(rt;
-        answers(
-            &mut conversion,
-            (&[0x00, 0x43], 9, Stop::Done, 0, 0, &[0x43])
-        )
-    );
+fn to_utf8(rt: HostRuntime) -> Result<(), Fail> {
+    convert(&rt, Policy::Substitute, TO_UTF8)
+}
+
+const ORDERS: &str = r#"
+UTF-16 UTF-8: fffe4100 9 = Done 0 0 41; 4200 9 = Done 0 0 42; reset 0 = ""; 0043 9 = Done 0 0 43
+"#;
+
+#[test]
+fn reset_forgets_the_order(rt: HostRuntime) -> Result<(), Fail> {
+    convert(&rt, Policy::Substitute, ORDERS)
+}
+
+const SHIFTS: &str = r#"
+ISO-8859-1 UTF-7: e9 9 = Done 0 0 "+AO"; reset 1 = TooBig; reset 2 = "k-"; e9 9 = Done 0 0 "+AO"; reset 0 = ""; e9 9 = Done 0 0 "+AO"
+"#;
+
+#[test]
+fn a_shift_is_closed_by_reset(rt: HostRuntime) -> Result<(), Fail> {
+    convert(&rt, Policy::Substitute, SHIFTS)
 }
 
 /// What UTF-7 is written as for UTF-8 that is cut behind the bytes that `cuts` has a bit for, each call with so much room.
@@ -218,22 +104,5 @@ fn utf7_does_not_depend_on_cuts(rt: HostRuntime) -> Result<(), Fail> {
             );
         }
     }
-    Ok(())
-}
-
-#[test]
-fn a_shift_is_closed_by_reset(rt: HostRuntime) -> Result<(), Fail> {
-    let to = builtin(b"UTF-7").ok_or("no UTF-7")?;
-    let from = builtin(b"ISO-8859-1").ok_or("no ISO-8859-1")?;
-    let first: Call<'_> = (&[0xe9], 9, Stop::Done, 0, 0, b"+AO");
-    let mut conversion = Conversion::new(to, from, Policy::Substitute);
-    assert!(rt; answers(&mut conversion, first));
-    assert!(rt; conversion.reset(1).is_err());
-    let closing = conversion.reset(2).map_err(|_| "too big")?;
-    assert!(rt; closing.as_slice() == b"k-".as_slice());
-    assert!(rt; answers(&mut conversion, first));
-    let nothing = conversion.reset(0).map_err(|_| "too big")?;
-    assert!(rt; nothing.as_slice().is_empty());
-    assert!(rt; answers(&mut conversion, first));
     Ok(())
 }

@@ -1,7 +1,10 @@
 //! Tests of the encodings, of charmaps and of conversions. A crate with tests is proved twice, so those of the crates that many others
-//! stand on are here, and say what a client of these crates could.
+//! stand on are here, and say what a client of these crates could. What is proved of a nested array costs much, so a table is a text:
+//! `words` reads its words, and `items`, `writing`, `blocks` and `converting` make the calls of its lines.
 #![tactic(auto)]
 
+#[cfg(test)]
+mod blocks;
 #[cfg(test)]
 mod byte_strings;
 #[cfg(test)]
@@ -9,7 +12,13 @@ mod charmap_items;
 #[cfg(test)]
 mod charmap_pairs;
 #[cfg(test)]
+mod charmap_texts;
+#[cfg(test)]
 mod conversions;
+#[cfg(test)]
+mod converting;
+#[cfg(test)]
+mod items;
 #[cfg(test)]
 mod names_and_blocks;
 #[cfg(test)]
@@ -18,3 +27,7 @@ mod utf16_and_utf32;
 mod utf7;
 #[cfg(test)]
 mod utf8;
+#[cfg(test)]
+mod words;
+#[cfg(test)]
+mod writing;

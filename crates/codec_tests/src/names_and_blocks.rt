@@ -1,25 +1,28 @@
 //! Names, scalar values and blocks, against values from outside.
-use cv_base::{Ascii, BlockCodec, Codec, Latin1, Policy, ReadState, Scalar, WriteState, same_name};
+use crate::blocks::{read_blocks, write_blocks};
+use crate::words::{bytes_of, sides};
+use crate::writing::write_lines;
+use cv_base::{Ascii, Latin1, Policy, ReadState, Scalar, WriteState, same_name};
 use std::test::Fail;
+
+const NAMES: &str = r#"
+"" "": same
+"iso-8859-1" "ISO-8859-1": same
+c4ff c4ff: same
+"UTF8" "UTF-8": other
+"UTF-8" "UTF-8"20: other
+"@" "`": other
+c4 e4: other
+"#;
 
 #[test]
 fn names_differ_by_more_than_case(rt: HostRuntime) -> Result<(), Fail> {
-    let same: [(&[u8], &[u8]); 3] = [
-        (b"", b""),
-        (b"iso-8859-1", b"ISO-8859-1"),
-        (b"\xc4\xff", b"\xc4\xff"),
-    ];
-    for (a, b) in same {
-        assert!(rt; same_name(a, b), "{a:?} {b:?}");
-    }
-    let other: [(&[u8], &[u8]); 4] = [
-        (b"UTF8", b"UTF-8"),
-        (b"UTF-8", b"UTF-8 "),
-        (b"@", b"`"),
-        (b"\xc4", b"\xe4"),
-    ];
-    for (a, b) in other {
-        assert!(rt; !same_name(a, b), "{a:?} {b:?}");
+    for line in NAMES.trim().lines() {
+        let (names, wanted) = sides(line, ": ")?;
+        let (one, other) = sides(names, " ")?;
+        let one = bytes_of(rt.alloc(), one)?;
+        let other = bytes_of(rt.alloc(), other)?;
+        assert_eq!(rt; same_name(&one, &other), wanted == "same", "{line}");
     }
     Ok(())
 }
@@ -35,42 +38,54 @@ fn scalar_values_are_no_surrogates(rt: HostRuntime) -> Result<(), Fail> {
     Ok(())
 }
 
+/// How much at the front of texts of ISO-8859-1 is US-ASCII.
+const FRONTS: &str = r#"
+"" 0:
+"A"007f 3: 41 0 7f
+"caf"e92080ff 3: 63 61 66
+"#;
+
+const LATIN1_TEXTS: &str = r#"
+"" 0:
+"A"007f 3: 41 0 7f
+"caf"e92080ff 7: 63 61 66 e9 20 80 ff
+"#;
+
+/// What US-ASCII has for their characters, one by one and as blocks.
+const ONE_BY_ONE: &str = r#"
+41 0 7f: "A"007f Start ""
+63 61 66: "caf" Start ""
+e9: lacking
+20: 20 Start ""
+80: lacking
+ff: lacking
+"#;
+
+const SUBSTITUTED: &str = r#"
+: 0 "" Start
+41 0 7f: 0 "A"007f Start
+63 61 66 e9 20 80 ff: 3 "caf?"20"??" Start
+"#;
+
+const STRICT: &str = r#"
+: 0 "" Start
+41 0 7f: 0 "A"007f Start
+63 61 66 e9 20 80 ff: none
+"#;
+
+const LATIN1: &str = r#"
+: 0 "" Start
+41 0 7f: 0 "A"007f Start
+63 61 66 e9 20 80 ff: 0 "caf"e92080ff Start
+"#;
+
 #[test]
 fn blocks_are_read_and_written(rt: HostRuntime) -> Result<(), Fail> {
-    // A text of ISO-8859-1, how much at its front is US-ASCII, and what US-ASCII has for it, with `?` for so many characters.
-    let rows: [(&[u8], usize, &[u8], usize); 3] = [
-        (b"", 0, b"", 0),
-        (b"A\x00\x7f", 3, b"A\x00\x7f", 0),
-        (b"caf\xe9 \x80\xff", 3, b"caf? ??", 3),
-    ];
-    for (text, ascii, spelled, lacking) in rows {
-        let mut buffer = [Scalar::substitute(); 8];
-        let front = Ascii.read_block(ReadState::Start, text, &mut buffer);
-        assert_eq!(rt; (front.n, front.used), (ascii, ascii), "{text:?}");
-        let all = Latin1.read_block(ReadState::Start, text, &mut buffer);
-        assert_eq!(rt; (all.n, all.used), (text.len(), text.len()), "{text:?}");
-        let characters = &buffer[..all.n];
-        for c in characters {
-            let put = Ascii.put(WriteState::Start, *c);
-            assert_eq!(rt; put.is_some(), c.value() < 128, "{text:?}");
-        }
-        let mut out = [0; 65];
-        let wrote = Ascii.write_block(
-            Policy::Substitute,
-            WriteState::Start,
-            characters,
-            &mut out,
-            1,
-        );
-        let wrote = wrote.ok_or("no block")?;
-        assert_eq!(rt; wrote.count, lacking, "{text:?}");
-        assert_eq!(rt; &out[1..1 + wrote.wrote], spelled);
-        let strict = Ascii.write_block(Policy::Strict, WriteState::Start, characters, &mut out, 1);
-        assert_eq!(rt; strict.is_some(), lacking == 0, "{text:?}");
-        let wrote = Latin1.write_block(Policy::Strict, WriteState::Start, characters, &mut out, 1);
-        let wrote = wrote.ok_or("no block")?;
-        assert_eq!(rt; wrote.count, 0, "{text:?}");
-        assert_eq!(rt; &out[1..1 + wrote.wrote], text);
-    }
-    Ok(())
+    read_blocks(&rt, &Ascii, ReadState::Start, FRONTS)?;
+    read_blocks(&rt, &Latin1, ReadState::Start, LATIN1_TEXTS)?;
+    let start = WriteState::Start;
+    write_lines(&rt, &Ascii, start, ONE_BY_ONE)?;
+    write_blocks(&rt, &Ascii, Policy::Substitute, start, 1, SUBSTITUTED)?;
+    write_blocks(&rt, &Ascii, Policy::Strict, start, 1, STRICT)?;
+    write_blocks(&rt, &Latin1, Policy::Strict, start, 1, LATIN1)
 }

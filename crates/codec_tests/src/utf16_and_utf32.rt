@@ -1,139 +1,78 @@
-use cv_base::{AsciiForm, Codec, Endian, Item, Put, ReadState, Scalar, WriteState};
+//! Items and writing of UTF-16 and UTF-32 in their orders of bytes, and their forms of ASCII.
+use crate::items::read_items;
+use crate::writing::write_lines;
+use cv_base::{AsciiForm, Codec, Endian, ReadState, WriteState};
 use cv_wide::{Order, Utf16, Utf32};
+use std::test::Fail;
 
-fn next_of<C: Codec>(codec: &C, state: ReadState, input: &[u8]) -> Item {
-    codec.item(state, input)
-}
+const UTF16: &str = r#"
+feff: shift 2, in Big
+fffe4100: shift 2, in Little
+fe: incomplete
+0041: char 41 2, in Big
+"#;
 
-fn item_of(value: u32, n: usize, next: ReadState) -> Option<Item> {
-    let c = Scalar::new(value)?;
-    Some(Item::Char { c, n, next })
-}
+const UTF16BE: &str = r#"
+feff: char feff 2, in Start
+d80000: ill
+d83dde00: char 1f600 4, in Start
+"#;
 
-fn mark(n: usize, next: ReadState) -> Option<Item> {
-    Some(Item::Shift { n, next })
-}
+const UTF16LE: &str = r#"
+3dd800: incomplete
+00dc: ill
+"#;
 
 #[test]
-fn utf16_items(rt: HostRuntime) {
+fn utf16_items(rt: HostRuntime) -> Result<(), Fail> {
+    let marked = Utf16::new(Order::Marked);
+    read_items(&rt, &marked, ReadState::Start, UTF16)?;
+    read_items(
+        &rt,
+        &marked,
+        ReadState::Little,
+        "fffe: char feff 2, in Little",
+    )?;
+    read_items(&rt, &Utf16::new(Order::Be), ReadState::Start, UTF16BE)?;
+    read_items(&rt, &Utf16::new(Order::Le), ReadState::Start, UTF16LE)
+}
+
+const UTF32: &str = r#"
+0000feff: shift 4, in Big
+fffe0000: shift 4, in Little
+fffe: incomplete
+0011: ill
+01: ill
+"#;
+
+const UTF32LE: &str = r#"
+00d8: incomplete
+00f60100: char 1f600 4, in Start
+"#;
+
+#[test]
+fn utf32_items(rt: HostRuntime) -> Result<(), Fail> {
     let start = ReadState::Start;
-    let rows: [(Order, ReadState, &[u8], Option<Item>); 10] = [
-        (Order::Marked, start, &[0xfe, 0xff], mark(2, ReadState::Big)),
-        (
-            Order::Marked,
-            start,
-            &[0xff, 0xfe, 0x41, 0x00],
-            mark(2, ReadState::Little),
-        ),
-        (Order::Marked, start, &[0xfe], Some(Item::Incomplete)),
-        (
-            Order::Marked,
-            start,
-            &[0x00, 0x41],
-            item_of(0x41, 2, ReadState::Big),
-        ),
-        (
-            Order::Marked,
-            ReadState::Little,
-            &[0xff, 0xfe],
-            item_of(0xfeff, 2, ReadState::Little),
-        ),
-        (Order::Be, start, &[0xfe, 0xff], item_of(0xfeff, 2, start)),
-        (Order::Be, start, &[0xd8, 0x00, 0x00], Some(Item::Ill)),
-        (
-            Order::Be,
-            start,
-            &[0xd8, 0x3d, 0xde, 0x00],
-            item_of(0x1_f600, 4, start),
-        ),
-        (
-            Order::Le,
-            start,
-            &[0x3d, 0xd8, 0x00],
-            Some(Item::Incomplete),
-        ),
-        (Order::Le, start, &[0x00, 0xdc], Some(Item::Ill)),
-    ];
-    for (order, state, input, want) in rows {
-        assert_eq!(rt; Some(next_of(&Utf16::new(order), state, input)), want);
-    }
+    read_items(&rt, &Utf32::new(Order::Marked), start, UTF32)?;
+    read_items(&rt, &Utf32::new(Order::Be), start, "0000d8: ill")?;
+    read_items(&rt, &Utf32::new(Order::Le), start, UTF32LE)
 }
 
 #[test]
-fn utf32_items(rt: HostRuntime) {
-    let start = ReadState::Start;
-    let rows: [(Order, &[u8], Option<Item>); 8] = [
-        (
-            Order::Marked,
-            &[0x00, 0x00, 0xfe, 0xff],
-            mark(4, ReadState::Big),
-        ),
-        (
-            Order::Marked,
-            &[0xff, 0xfe, 0x00, 0x00],
-            mark(4, ReadState::Little),
-        ),
-        (Order::Marked, &[0xff, 0xfe], Some(Item::Incomplete)),
-        (Order::Marked, &[0x00, 0x11], Some(Item::Ill)),
-        (Order::Marked, &[0x01], Some(Item::Ill)),
-        (Order::Be, &[0x00, 0x00, 0xd8], Some(Item::Ill)),
-        (Order::Le, &[0x00, 0xd8], Some(Item::Incomplete)),
-        (
-            Order::Le,
-            &[0x00, 0xf6, 0x01, 0x00],
-            item_of(0x1_f600, 4, start),
-        ),
-    ];
-    for (order, input, want) in rows {
-        assert_eq!(rt; Some(next_of(&Utf32::new(order), start, input)), want);
-    }
-}
-
-/// Whether both forms of writing put these bytes and answer this state.
-fn writes_as<C: Codec>(
-    codec: &C,
-    state: WriteState,
-    value: u32,
-    want: &[u8],
-    then: WriteState,
-) -> bool {
-    let Some(c) = Scalar::new(value) else {
-        return false;
-    };
-    let Some((piece, next)) = codec.put(state, c) else {
-        return false;
-    };
-    let mut out = [0; 8];
-    let n = want.len();
-    n <= 8
-        && n <= codec.most_bytes()
-        && piece.as_slice() == want
-        && next == then
-        && codec.put_at(state, c, &mut out, 0) == Put::Wrote { n, next }
-        && &out[..n] == want
-        && codec.close(next).as_slice().is_empty()
-}
-
-#[test]
-fn writes(rt: HostRuntime) {
+fn writes(rt: HostRuntime) -> Result<(), Fail> {
     let (start, marked) = (WriteState::Start, WriteState::Marked);
     let utf16 = Utf16::new(Order::Marked);
-    let first = [0xfe, 0xff, 0xd8, 0x3d, 0xde, 0x00];
-    assert!(rt; writes_as(&utf16, start, 0x1_f600, &first, marked));
-    assert!(rt; writes_as(&utf16, marked, 0xfeff, &[0xfe, 0xff], marked));
-    assert!(rt; writes_as(&Utf16::new(Order::Le), start, 0xe9, &[0xe9, 0x00], start));
+    write_lines(&rt, &utf16, start, r#"1f600: feffd83dde00 Marked """#)?;
+    write_lines(&rt, &utf16, marked, r#"feff: feff Marked """#)?;
+    write_lines(&rt, &Utf16::new(Order::Le), start, r#"e9: e900 Start """#)?;
     let utf32 = Utf32::new(Order::Marked);
-    let first = [0x00, 0x00, 0xfe, 0xff, 0x00, 0x00, 0x00, 0xe9];
-    assert!(rt; writes_as(&utf32, start, 0xe9, &first, marked));
-    assert!(rt;
-        writes_as(
-            &Utf32::new(Order::Be),
-            start,
-            0xfeff,
-            &[0x00, 0x00, 0xfe, 0xff],
-            start
-        )
-    );
+    write_lines(&rt, &utf32, start, r#"e9: 0000feff000000e9 Marked """#)?;
+    write_lines(
+        &rt,
+        &Utf32::new(Order::Be),
+        start,
+        r#"feff: 0000feff Start """#,
+    )
 }
 
 #[test]

@@ -1,155 +1,49 @@
-//! Conversions from and to charmaps, against bytes from outside.
-use super::{Call, each_answers};
-use cv_base::{Memory, Policy};
-use cv_charmap::read;
-use cv_pivot::{Conversion, Encoding, Outcome, Stop, builtin};
-use cv_trie::Charmap;
+//! Conversions from and to charmaps, against bytes from outside. Their texts are in `charmap_texts`.
+use crate::converting::{convert, encoding};
+use cv_base::Policy;
+use cv_pivot::{Conversion, Encoding, Outcome, Stop};
 use std::alloc::Global;
-use std::sync::Arc;
 use std::test::Fail;
 
-/// Two-byte letters whose numbers are carried into the first byte.
-const TOY: &[u8] = b"<code_set_name> TOY\n\
-    <mb_cur_max> 2\n\
-    CHARMAP\n\
-    <question-mark> \\x3F\n\
-    <U0100>...<U0103> \\d129\\d254\n\
-    END CHARMAP\n";
-
-/// A question mark that isn't 3f, and another character that is.
-const MOVED: &[u8] = b"<code_set_name> MOVED\n\
-    CHARMAP\n\
-    <question-mark> \\x6F\n\
-    <o> \\x3F\n\
-    <U0102> \\x40\n\
-    END CHARMAP\n";
-
-/// 65,535 byte strings of three bytes.
-const WIDE: &[u8] = b"<code_set_name> WIDE\n\
-    <mb_cur_max> 3\n\
-    CHARMAP\n\
-    <question-mark> \\x81\\x00\\x00\n\
-    <U00010000>..<U0001FFFD> \\x80\\x00\\x00\n\
-    END CHARMAP\n";
-
-/// A charmap as an encoding, or else the built-in encoding of this name.
-fn encoding(alloc: Global, text: &[u8]) -> Result<Encoding, Fail> {
-    if let Some(encoding) = builtin(text) {
-        return Ok(encoding);
-    }
-    let map = Charmap::build(alloc, read(alloc, text)?)?;
-    let shared = Arc::new(alloc, map).map_err(|_| Memory)?;
-    Ok(Encoding::Charmap(shared))
-}
+const ROWS: &str = r#"
+TOY UTF-16BE: 81fe81ff82008201 16 = Done 0 0 0100010101020103
+TOY UTF-16BE: 81fe81ff82008201 7 = TooBig 2 0 010001010102
+TOY UTF-16BE: 81 9 = Incomplete 1 0 ""
+TOY UTF-16BE: 8202 9 = Ill 2 0 ""
+UTF-16BE TOY: 0100010101020103 16 = Done 0 0 81fe81ff82008201
+UTF-16BE TOY: 01020104 9 = Done 0 1 8200"?"; 0102 1 = TooBig 2 0 ""
+UTF-8 MOVED: e282ac"?o" 9 = Done 0 1 "oo?"
+MOVED US-ASCII: "o?@a" 9 = Ill 1 1 "?o?"
+TOY MOVED: "?"82008201 9 = Done 0 1 "o@o"
+"#;
 
 #[test]
 fn charmaps_are_read_and_written(rt: HostRuntime) -> Result<(), Fail> {
-    let toy: &[u8] = &[0x81, 0xfe, 0x81, 0xff, 0x82, 0, 0x82, 1];
-    let wide: &[u8] = &[1, 0, 1, 1, 1, 2, 1, 3];
-    let rows: [(&[u8], &[u8], &[Call<'_>]); 9] = [
-        (b"UTF-16BE", TOY, &[(toy, 16, Stop::Done, 0, 0, wide)]),
-        (
-            b"UTF-16BE",
-            TOY,
-            &[(toy, 7, Stop::TooBig, 2, 0, &[1, 0, 1, 1, 1, 2])],
-        ),
-        (
-            b"UTF-16BE",
-            TOY,
-            &[(b"\x81", 9, Stop::Incomplete, 1, 0, b"")],
-        ),
-        (b"UTF-16BE", TOY, &[(b"\x82\x02", 9, Stop::Ill, 2, 0, b"")]),
-        (TOY, b"UTF-16BE", &[(wide, 16, Stop::Done, 0, 0, toy)]),
-        (
-            TOY,
-            b"UTF-16BE",
-            &[
-                (b"\x01\x02\x01\x04", 9, Stop::Done, 0, 1, b"\x82\x00?"),
-                (b"\x01\x02", 1, Stop::TooBig, 2, 0, b""),
-            ],
-        ),
-        (
-            MOVED,
-            b"UTF-8",
-            &[(b"\xe2\x82\xac?o", 9, Stop::Done, 0, 1, b"oo?")],
-        ),
-        (b"US-ASCII", MOVED, &[(b"o?@a", 9, Stop::Ill, 1, 1, b"?o?")]),
-        (
-            MOVED,
-            TOY,
-            &[(b"?\x82\x00\x82\x01", 9, Stop::Done, 0, 1, b"o@o")],
-        ),
-    ];
-    for (to, from, calls) in rows {
-        let to = encoding(rt.alloc(), to)?;
-        let from = encoding(rt.alloc(), from)?;
-        let mut conversion = Conversion::new(to, from, Policy::Substitute);
-        assert!(rt; each_answers(&mut conversion, calls), "{calls:?}");
-    }
-    Ok(())
+    convert(&rt, Policy::Substitute, ROWS)
 }
+
+const STRICT: &str = r#"
+UTF-16BE TOY: 0102010400"?" 9 = Lacking 4 0 8200; 010400"?" 0 = Lacking 4 0 ""; 00"?" 9 = Done 0 0 "?"
+UTF-8 MOVED: "o"e282ac 9 = Lacking 3 0 "?"
+TOY MOVED: "?"82008201 9 = Lacking 2 0 "o@"
+"#;
 
 #[test]
 fn a_strict_conversion_stops_before_what_a_charmap_lacks(rt: HostRuntime) -> Result<(), Fail> {
-    let rows: [(&[u8], &[u8], &[Call<'_>]); 3] = [
-        (
-            TOY,
-            b"UTF-16BE",
-            &[
-                (
-                    b"\x01\x02\x01\x04\x00?",
-                    9,
-                    Stop::Lacking,
-                    4,
-                    0,
-                    b"\x82\x00",
-                ),
-                (b"\x01\x04\x00?", 0, Stop::Lacking, 4, 0, b""),
-                (b"\x00?", 9, Stop::Done, 0, 0, b"?"),
-            ],
-        ),
-        (
-            MOVED,
-            b"UTF-8",
-            &[(b"o\xe2\x82\xac", 9, Stop::Lacking, 3, 0, b"?")],
-        ),
-        (
-            MOVED,
-            TOY,
-            &[(b"?\x82\x00\x82\x01", 9, Stop::Lacking, 2, 0, b"o@")],
-        ),
-    ];
-    for (to, from, calls) in rows {
-        let to = encoding(rt.alloc(), to)?;
-        let from = encoding(rt.alloc(), from)?;
-        let mut conversion = Conversion::new(to, from, Policy::Strict);
-        assert!(rt; each_answers(&mut conversion, calls), "{calls:?}");
-    }
-    Ok(())
+    convert(&rt, Policy::Strict, STRICT)
 }
+
+const CLOSING: &str = r#"
+UTF-7 TOY: "+AQI" 9 = Done 0 0 8200; reset 1 = ""; "AQI" 9 = Done 0 3 "???"
+"#;
 
 #[test]
 fn a_charmap_has_nothing_to_close(rt: HostRuntime) -> Result<(), Fail> {
-    let to = encoding(rt.alloc(), TOY)?;
-    let from = encoding(rt.alloc(), b"UTF-7")?;
-    let mut conversion = Conversion::new(to, from, Policy::Substitute);
-    assert!(rt;
-        each_answers(
-            &mut conversion,
-            &[(b"+AQI", 9, Stop::Done, 0, 0, b"\x82\x00")]
-        )
-    );
-    let closing = conversion.reset(1).map_err(|_| "no room")?;
-    assert!(rt; closing.as_slice().is_empty());
-    assert!(rt; each_answers(&mut conversion, &[(b"AQI", 9, Stop::Done, 0, 3, b"???")]));
-    Ok(())
+    convert(&rt, Policy::Substitute, CLOSING)
 }
 
-#[test]
-fn all_of_a_large_charmap_is_converted(rt: HostRuntime) -> Result<(), Fail> {
-    let alloc = rt.alloc();
-    let map = encoding(alloc, WIDE)?;
-    let wide = encoding(alloc, b"UTF-32BE")?;
+/// The characters of the charmap WIDE as UTF-32BE, and its strings.
+fn all_of_wide(alloc: Global) -> Result<(Vec<u8>, Vec<u8>), Fail> {
     let mut scalars = Vec::new(alloc);
     let mut strings = Vec::new(alloc);
     for k in 0..65_534u32 {
@@ -159,23 +53,40 @@ fn all_of_a_large_charmap_is_converted(rt: HostRuntime) -> Result<(), Fail> {
     }
     scalars.extend_from_slice(&[0, 0, 0, 0x3f])?;
     strings.extend_from_slice(&[0x81, 0, 0])?;
+    Ok((scalars, strings))
+}
+
+/// Whether all of the input is converted, without `?` in any place, and fills as much room as the output has.
+fn is_converted(
+    alloc: Global,
+    encodings: (&Encoding, &Encoding),
+    policy: Policy,
+    input: &[u8],
+    output: &[u8],
+) -> Result<bool, Fail> {
+    let (from, to) = encodings;
+    let mut conversion = Conversion::new(to.clone()?, from.clone()?, policy);
+    let mut out = vec![in alloc; 0u8; output.len()]?;
+    let outcome = conversion.convert(input, &mut out);
     let whole = Outcome {
         left: 0,
         room_left: 0,
         count: 0,
         stop: Stop::Done,
     };
+    Ok(outcome == whole && out.as_slice() == output)
+}
+
+#[test]
+fn all_of_a_large_charmap_is_converted(rt: HostRuntime) -> Result<(), Fail> {
+    let alloc = rt.alloc();
+    let map = encoding(alloc, "WIDE")?;
+    let plain = encoding(alloc, "UTF-32BE")?;
+    let (scalars, strings) = all_of_wide(alloc)?;
     for policy in [Policy::Substitute, Policy::Strict] {
-        let mut there = Conversion::new(map.clone()?, wide.clone()?, policy);
-        let mut out = vec![in alloc; 0u8; strings.len()]?;
-        let outcome = there.convert(&scalars, &mut out);
-        assert_eq!(rt; outcome, whole, "{policy:?}");
-        assert!(rt; out.as_slice() == strings.as_slice(), "{policy:?}");
-        let mut back = Conversion::new(wide.clone()?, map.clone()?, policy);
-        let mut out = vec![in alloc; 0u8; scalars.len()]?;
-        let outcome = back.convert(&strings, &mut out);
-        assert_eq!(rt; outcome, whole, "{policy:?}");
-        assert!(rt; out.as_slice() == scalars.as_slice(), "{policy:?}");
+        let there = is_converted(alloc, (&plain, &map), policy, &scalars, &strings)?;
+        let back = is_converted(alloc, (&map, &plain), policy, &strings, &scalars)?;
+        assert!(rt; there && back, "{policy:?}");
     }
     Ok(())
 }

@@ -1,0 +1,79 @@
+//! Writing by tables. A line is `CHARACTERS: BYTES STATE CLOSING`: the numbers of characters, what they are written as, where the
+//! writer is then, and what closes the text. `CHARACTERS: lacking` is a line of which the encoding lacks a character.
+use crate::words::{bytes_of, scalar_of, sides};
+use cv_base::{Codec, Put, Scalar, WriteState};
+use std::alloc::Global;
+use std::process::Abort;
+use std::test::Fail;
+
+/// Writes the characters of each line, the first of them in this state.
+pub fn write_lines<R: Abort + AllocGlobal, C: Codec>(
+    rt: &R,
+    codec: &C,
+    state: WriteState,
+    table: &str,
+) -> Result<(), Fail> {
+    for line in table.trim().lines() {
+        let (characters, wanted) = sides(line, ": ")?;
+        let written = is_written(rt.alloc(), codec, state, characters, wanted)?;
+        assert!(rt; written, "{line}");
+    }
+    Ok(())
+}
+
+/// Whether characters are written as they are to be written.
+fn is_written<C: Codec>(
+    alloc: Global,
+    codec: &C,
+    mut state: WriteState,
+    characters: &str,
+    wanted: &str,
+) -> Result<bool, Fail> {
+    let mut written = Vec::new(alloc);
+    for character in characters.split_whitespace() {
+        let c = scalar_of(character)?;
+        let Some(next) = written_both_ways(codec, state, c, &mut written)? else {
+            return Ok(wanted == "lacking");
+        };
+        state = next;
+    }
+    let (bytes, ending) = sides(wanted, " ")?;
+    let (name, closing) = sides(ending, " ")?;
+    let bytes = bytes_of(alloc, bytes)?;
+    let closing = bytes_of(alloc, closing)?;
+    Ok(
+        written.as_slice() == bytes.as_slice()
+            && name == state_name(state)
+            && codec.close(state).as_slice() == closing.as_slice(),
+    )
+}
+
+/// Adds the bytes of a character, and answers the state behind it, if both forms of writing agree on it.
+fn written_both_ways<C: Codec>(
+    codec: &C,
+    state: WriteState,
+    c: Scalar,
+    written: &mut Vec<u8>,
+) -> Result<Option<WriteState>, Fail> {
+    let mut out = [0; 8];
+    let put = codec.put_at(state, c, &mut out, 0);
+    let Some((piece, next)) = codec.put(state, c) else {
+        return Ok(None);
+    };
+    let bytes = piece.as_slice();
+    let n = bytes.len();
+    if put != (Put::Wrote { n, next }) || !out.starts_with(bytes) || n > codec.most_bytes() {
+        return Err("the two forms of writing differ".into());
+    }
+    written.extend_from_slice(bytes)?;
+    Ok(Some(next))
+}
+
+/// A state in the words of a line.
+pub fn state_name(state: WriteState) -> &'static str {
+    match state {
+        WriteState::Start => "Start",
+        WriteState::Marked => "Marked",
+        WriteState::Shifted(_) => "Shifted",
+    }
+}

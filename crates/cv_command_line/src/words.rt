@@ -1,6 +1,6 @@
 //! The words that the program was started with.
 
-use crate::options::not_utf8;
+use crate::usage::not_utf8;
 use clap::Error;
 use std::alloc::{AllocError, Global};
 use std::env::FillError;

@@ -1,44 +1,26 @@
 //! `call_over` where the peer gives its replies in pieces, closes or fails, and where it takes no more.
-use cv_commands::{RunFault, call_over};
-use cv_loop::{FromReader, ServeFault, ToWriter};
+use crate::tables::{Call, check_lines};
+use crate::words::sides;
+use cv_commands::call_over;
+use cv_loop::{FromReader, ToWriter};
 use std::alloc::Global;
-use std::io::{self, ErrorKind, Read, Write};
+use std::io::{self, Cursor, ErrorKind, Read};
 use std::test::Fail;
 
 const SCRIPT: &[u8] = b"7 1 open US-ASCII ISO-8859-1\n7 2 conv 0 8 41e942\n7 3 close 0\n";
 
+/// The requests of the script, which end at 33, 57 and 74 bytes.
 const REQUESTS: &[u8] = b"\0\0\0\x1d\0\0\0\x07\0\0\0\x01\x03\x08US-ASCII\x0aISO-8859-1\
     \0\0\0\x14\0\0\0\x07\0\0\0\x02\x04\0\0\0\0\0\0\0\x08\x41\xe9\x42\
     \0\0\0\x0d\0\0\0\x07\0\0\0\x03\x06\0\0\0\0";
 
-// How long the first request is, and the first two.
-const FIRST_REQUEST: usize = 33;
-
-const TWO_REQUESTS: usize = 57;
-
+/// Their replies, which end at 17, 41 and 54 bytes.
 const REPLIES: &[u8] = b"\0\0\0\x0d\0\0\0\x07\0\0\0\x01\0\0\0\0\0\
     \0\0\0\x14\0\0\0\x07\0\0\0\x02\0\0\0\0\0\0\0\0\x01\x41\x3f\x42\
     \0\0\0\x09\0\0\0\x07\0\0\0\x03\0";
 
-// How long the first reply is, and the first two.
-const FIRST_REPLY: usize = 17;
-
-const TWO_REPLIES: usize = 41;
-
-// What stands there before the call, and the lines of the replies behind it.
+/// What stands there before the call, and the lines of the replies behind it, which end at 7, 23, 53 and 62 bytes.
 const LINES: &[u8] = b"before\n7 1 OK 00000000\n7 2 OK 0000000000000001413f42\n7 3 OK -\n";
-
-// How long that is with no line, with the first one, and with the first two.
-const NO_LINE: usize = 7;
-
-const FIRST_LINE: usize = 23;
-
-const TWO_LINES: usize = 53;
-
-/// The first n bytes, or all where there are fewer.
-fn front(bytes: &[u8], n: usize) -> &[u8] {
-    &bytes[..n.min(bytes.len())]
-}
 
 /// The front of the replies, so many bytes a read, and then the end or a failure.
 #[derive(Drop)]
@@ -61,171 +43,81 @@ impl Read for Peer {
     }
 }
 
-/// Takes so many bytes, and then none.
-#[derive(Drop)]
-struct Narrow {
-    taken: Vec<u8>,
-    room: usize,
-}
+/// A line is `NAME: REPLIES STEP ENDING ROOM => SENT SHOWN RESULT`. The peer gives so many bytes of the replies, or a length that is `bad`,
+/// with STEP bytes at most in a read, then it closes or fails, and it takes ROOM bytes. So many bytes of the requests are sent, so many
+/// stand in the lines, and this is the result.
+const CALLS: &str = "
+a reply a read: 54 24 closes 100 => 74 62 Ok(())
+all replies in one read: 54 100 closes 100 => 74 62 Ok(())
+one byte a read: 54 1 closes 100 => 74 62 Ok(())
+no byte: 0 24 closes 100 => 33 7 Err(TruncatedReply)
+three bytes: 3 24 closes 100 => 33 7 Err(TruncatedReply)
+one reply: 17 24 closes 100 => 57 23 Err(TruncatedReply)
+a reset: 41 24 fails 100 => 74 53 Err(Serve(Read))
+a bad length: bad 24 closes 100 => 33 7 Err(BadReplyLength(8))
+takes no byte: 54 24 closes 0 => 0 7 Err(Serve(Write { written: 0 }))
+takes a part: 54 24 closes 40 => 40 23 Err(Serve(Write { written: 40 }))
+takes two: 54 24 closes 57 => 57 53 Err(Serve(Write { written: 57 }))
+";
 
-impl Write for Narrow {
-    fn write(&mut self, buf: &[u8]) -> io::Result<usize> {
-        let n = self.room.min(buf.len());
-        self.taken.extend_from_slice(&buf[..n])?;
-        self.room -= n;
-        Ok(n)
+/// The front of the replies that a word names, or a bad length.
+fn replies_of(word: &str) -> Result<&'static [u8], Fail> {
+    if word == "bad" {
+        return Ok(b"\0\0\0\x08");
     }
-
-    fn flush(&mut self) -> io::Result<()> {
-        Ok(())
-    }
+    let size = word.parse::<usize>()?;
+    Ok(REPLIES.get(..size).ok_or("more than there are")?)
 }
 
-/// A peer, and what has to come of calling it: how many bytes of the requests were sent, and how many stand in the lines.
-#[derive(Clone, Copy)]
-struct Case {
-    name: &'static str,
-    replies: &'static [u8],
-    step: usize,
-    fails: bool,
-    room: usize,
-    result: Result<(), RunFault>,
-    sent: usize,
-    shown: usize,
+/// A peer in the words of a line, and how many bytes it takes.
+fn peer_of(words: &str) -> Result<(Peer, usize), Fail> {
+    let (replies, words) = sides(words, " ")?;
+    let (step, words) = sides(words, " ")?;
+    let (ending, room) = sides(words, " ")?;
+    let replies = replies_of(replies)?;
+    let step = step.parse::<usize>()?;
+    let room = room.parse::<usize>()?;
+    let fails = ending == "fails";
+    Ok((
+        Peer {
+            replies,
+            step,
+            fails,
+        },
+        room,
+    ))
 }
 
-const WHOLE: Case = Case {
-    name: "a reply a read",
-    replies: REPLIES,
-    step: 24,
-    fails: false,
-    room: 100,
-    result: Ok(()),
-    sent: 74,
-    shown: 62,
-};
-
-fn cases() -> [Case; 11] {
-    let cut = Err(RunFault::TruncatedReply);
-    let failed = Err(RunFault::Serve(ServeFault::Read));
-    let (first, two) = (front(REPLIES, FIRST_REPLY), front(REPLIES, TWO_REPLIES));
-    [
-        WHOLE,
-        Case {
-            name: "all replies in one read",
-            step: 100,
-            ..WHOLE
-        },
-        Case {
-            name: "one byte a read",
-            step: 1,
-            ..WHOLE
-        },
-        Case {
-            name: "no byte",
-            replies: b"",
-            result: cut,
-            sent: FIRST_REQUEST,
-            shown: NO_LINE,
-            ..WHOLE
-        },
-        Case {
-            name: "three bytes",
-            replies: b"\0\0\0",
-            result: cut,
-            sent: FIRST_REQUEST,
-            shown: NO_LINE,
-            ..WHOLE
-        },
-        Case {
-            name: "one reply",
-            replies: first,
-            result: cut,
-            sent: TWO_REQUESTS,
-            shown: FIRST_LINE,
-            ..WHOLE
-        },
-        Case {
-            name: "a reset",
-            replies: two,
-            fails: true,
-            result: failed,
-            sent: 74,
-            shown: TWO_LINES,
-            ..WHOLE
-        },
-        Case {
-            name: "a bad length",
-            replies: b"\0\0\0\x08",
-            result: Err(RunFault::BadReplyLength(8)),
-            sent: FIRST_REQUEST,
-            shown: NO_LINE,
-            ..WHOLE
-        },
-        Case {
-            name: "takes no byte",
-            room: 0,
-            result: Err(RunFault::Serve(ServeFault::Write { written: 0 })),
-            sent: 0,
-            shown: NO_LINE,
-            ..WHOLE
-        },
-        Case {
-            name: "takes a part",
-            room: 40,
-            result: Err(RunFault::Serve(ServeFault::Write { written: 40 })),
-            sent: 40,
-            shown: FIRST_LINE,
-            ..WHOLE
-        },
-        Case {
-            name: "takes two",
-            room: TWO_REQUESTS,
-            result: Err(RunFault::Serve(ServeFault::Write { written: 57 })),
-            sent: TWO_REQUESTS,
-            shown: TWO_LINES,
-            ..WHOLE
-        },
-    ]
-}
-
-/// What a script comes to with this peer: the result, what was sent, and the lines.
-fn called(
-    alloc: Global,
-    script: &[u8],
-    case: Case,
-) -> Result<(Result<(), RunFault>, Vec<u8>, Vec<u8>), Fail> {
-    let mut source = FromReader::new(Peer {
-        replies: case.replies,
-        step: case.step,
-        fails: case.fails,
-    });
-    let mut sink = ToWriter::new(Narrow {
-        taken: Vec::new(alloc),
-        room: case.room,
-    });
-    let mut lines = Vec::from_slice(alloc, front(LINES, NO_LINE))?;
+/// Whether a call of a peer comes to these words.
+fn ends_so(alloc: Global, script: &[u8], peer: &str, words: &str) -> Result<bool, Fail> {
+    let (peer, room) = peer_of(peer)?;
+    let room = vec![in alloc; 0u8; room]?;
+    let mut lines = Vec::from_slice(alloc, b"before\n")?;
+    let mut source = FromReader::new(peer);
+    let mut sink = ToWriter::new(Cursor::new(room.into_boxed_slice()));
     let result = call_over(alloc, script, &mut source, &mut sink, &mut lines);
-    Ok((result, sink.into_inner().taken, lines))
+    let taken = sink.into_inner();
+    let sent = taken.position() as usize;
+    let told = format!(in alloc; "{sent} {} {result:?}", lines.len())?;
+    let requests = taken.get_ref().get(..sent);
+    Ok(told.as_str() == words && requests == REQUESTS.get(..sent) && LINES.starts_with(&lines))
+}
+
+/// Whether a call of a peer with a name comes to these words.
+pub fn is_called(alloc: Global, call: &str, words: &str) -> Result<bool, Fail> {
+    let (_, peer) = sides(call, ": ")?;
+    ends_so(alloc, SCRIPT, peer, words)
 }
 
 #[test]
 fn calls_end_as_they_should(rt: HostRuntime) -> Result<(), Fail> {
-    for case in cases() {
-        let name = case.name;
-        let (result, sent, lines) = called(rt.alloc(), SCRIPT, case)?;
-        assert_eq!(rt; result, case.result, "{name}");
-        assert_eq!(rt; sent.as_slice(), front(REQUESTS, case.sent), "{name}");
-        assert_eq!(rt; lines.as_slice(), front(LINES, case.shown), "{name}");
-    }
-    Ok(())
+    check_lines(&rt, Call::Peer, CALLS)
 }
 
 #[test]
 fn a_script_at_fault_touches_nothing(rt: HostRuntime) -> Result<(), Fail> {
-    let (result, sent, lines) = called(rt.alloc(), b"7 1 close 0\n7 2 shut 0\n", WHOLE)?;
-    assert_eq!(rt; result, Err(RunFault::Line(2)));
-    assert!(rt; sent.is_empty());
-    assert_eq!(rt; lines.as_slice(), front(LINES, NO_LINE));
+    let script = b"7 1 close 0\n7 2 shut 0\n";
+    let ends = ends_so(rt.alloc(), script, "54 24 closes 100", "0 7 Err(Line(2))")?;
+    assert!(rt; ends);
     Ok(())
 }

@@ -102,13 +102,13 @@ pub fn chain<R: AllocGlobal + Threads + Wait + Sync>(
     requires { (1 ≤ workers) × (workers ≤ 16) }
 {
     let asked = Console::new(rt, script);
-    ask(&asked).map_err(|_| "not asked")?;
+    ask(&asked)?;
     let requests = asked.into_output();
     let (replies, fault) = piped(rt, &requests, workers);
     if fault.is_some() {
         return Err("not served".into());
     }
     let shown = Console::new(rt, &replies);
-    show(&shown).map_err(|_| "not shown")?;
+    show(&shown)?;
     Ok(shown.into_output())
 }

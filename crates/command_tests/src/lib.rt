@@ -1,5 +1,6 @@
-//! Tests of scripts, reply lines, charmap files and the commands. A crate with tests is proved twice, so they are not in the crate itself, and
-//! say what a user of the commands could.
+//! Tests of scripts, reply lines, charmap files and the commands. A crate with tests is proved twice, so they are not in the crate itself,
+//! and say what a user of the commands could. What is proved of a nested array costs much, so a table is a text: `words` reads its words,
+//! and `tables` and `exchanging` make the calls of its lines.
 #![tactic(auto)]
 
 #[cfg(test)]
@@ -7,7 +8,11 @@ mod calls;
 #[cfg(test)]
 mod charmaps;
 #[cfg(test)]
+mod checking;
+#[cfg(test)]
 mod console;
+#[cfg(test)]
+mod exchanging;
 #[cfg(test)]
 mod interleavings;
 #[cfg(test)]
@@ -24,3 +29,7 @@ mod scripts;
 mod standard;
 #[cfg(test)]
 mod streams;
+#[cfg(test)]
+mod tables;
+#[cfg(test)]
+mod words;

@@ -1,144 +1,205 @@
 //! Streams of frames that are cut off, or have a length that no frame has: `pipe` answers what stands before, and `show` prints nothing.
+//! What comes of a stream is told by the number of bytes that are written, the fault, and the exit status.
 use crate::console::{Console, piped};
+use crate::tables::{Call, check_lines};
+use crate::words::{bytes_of, sides};
 use cv_commands::{RunFault, show, status};
-use cv_loop::ServeFault;
+use std::alloc::{AllocError, Global};
 use std::sync::Wait;
 use std::test::Fail;
+use std::thread::Threads;
 
-// Caller 7 opens UTF-8 from ISO-8859-1, and it is number 0; then it converts `41 e9 42`.
-const REQUESTS: [u8; 54] = *b"\0\0\0\x1a\0\0\0\x07\0\0\0\x01\x03\x05UTF-8\x0aISO-8859-1\
+/// Caller 7 opens UTF-8 from ISO-8859-1, and it is number 0; then it converts `41 e9 42`. The first request has 30 bytes, and both 54.
+const REQUESTS: &[u8] = b"\0\0\0\x1a\0\0\0\x07\0\0\0\x01\x03\x05UTF-8\x0aISO-8859-1\
     \0\0\0\x14\0\0\0\x07\0\0\0\x02\x04\0\0\0\0\0\0\0\x08\x41\xe9\x42";
 
-// How long the first request is.
-const FIRST_REQUEST: usize = 30;
-
-const REPLIES: [u8; 42] = *b"\0\0\0\x0d\0\0\0\x07\0\0\0\x01\0\0\0\0\0\
+/// The first reply has 17 bytes, and both 42.
+const REPLIES: &[u8] = b"\0\0\0\x0d\0\0\0\x07\0\0\0\x01\0\0\0\0\0\
     \0\0\0\x15\0\0\0\x07\0\0\0\x02\0\0\0\0\0\0\0\0\0\x41\xc3\xa9\x42";
-
-// How long the first reply is.
-const FIRST_REPLY: usize = 17;
-
-// Lengths that no frame has, and their bytes.
-const BAD_LENGTHS: [(u32, [u8; 4]); 5] = [
-    (0, *b"\0\0\0\0"),
-    (1, *b"\0\0\0\x01"),
-    (8, *b"\0\0\0\x08"),
-    (1_048_577, *b"\0\x10\0\x01"),
-    (4_294_967_295, *b"\xff\xff\xff\xff"),
-];
 
 /// The first n bytes, or all where there are fewer.
 fn front(bytes: &[u8], n: usize) -> &[u8] {
     &bytes[..n.min(bytes.len())]
 }
 
+/// A command that works from standard input to standard output.
+#[derive(Clone, Copy)]
+pub enum Command {
+    Pipe,
+    Show,
+}
+
+/// The stream that a command is given whole or in part.
+fn stream_of(command: Command) -> &'static [u8] {
+    match command {
+        Command::Pipe => REQUESTS,
+        Command::Show => REPLIES,
+    }
+}
+
+/// What a command writes, given a stream, and its fault.
+fn run<R: AllocGlobal + Threads + Wait + Sync>(
+    rt: &R,
+    command: Command,
+    stream: &[u8],
+) -> (Vec<u8>, Option<RunFault>) {
+    match command {
+        Command::Pipe => piped(rt, stream, 2),
+        Command::Show => {
+            let console = Console::new(rt, stream);
+            let fault = show(&console).err();
+            (console.into_output(), fault)
+        }
+    }
+}
+
+/// Whether a command comes to these words, given a stream. What it writes has to be a front of the replies.
+fn comes_to<R: AllocGlobal + Threads + Wait + Sync>(
+    rt: &R,
+    command: Command,
+    stream: &[u8],
+    replies: &[u8],
+    words: &str,
+) -> Result<bool, Fail> {
+    let (written, fault) = run(rt, command, stream);
+    let exit = match &fault {
+        Some(fault) => status(fault),
+        None => 0,
+    };
+    let told = format!(in rt.alloc(); "{} {fault:?} {exit}", written.len())?;
+    Ok(told.as_str() == words && replies.starts_with(&written))
+}
+
+/// Whether a command comes to these words, given so many bytes of its stream, or more, up to so many.
+pub fn cut_comes_to<R: AllocGlobal + Threads + Wait + Sync>(
+    rt: &R,
+    command: Command,
+    sizes: &str,
+    words: &str,
+) -> Result<bool, Fail> {
+    let (first, last) = sides(sizes, " ")?;
+    for size in first.parse::<usize>()?..=last.parse::<usize>()? {
+        let stream = front(stream_of(command), size);
+        if !comes_to(rt, command, stream, REPLIES, words)? {
+            return Ok(false);
+        }
+    }
+    Ok(true)
+}
+
+/// From so many bytes of the requests to so many, and what `pipe` makes of them.
+const CUT_REQUESTS: &str = "
+0 0 => 0 None 0
+1 29 => 0 Some(Serve(TruncatedFrame)) 1
+30 30 => 17 None 0
+31 53 => 17 Some(Serve(TruncatedFrame)) 1
+54 54 => 42 None 0
+";
+
 #[test]
 fn pipe_answers_what_stands_before_a_cut(rt: HostRuntime) -> Result<(), Fail> {
-    for size in 0..=REQUESTS.len() {
-        let written = if size < FIRST_REQUEST {
-            0
-        } else if size < REQUESTS.len() {
-            FIRST_REPLY
-        } else {
-            REPLIES.len()
-        };
-        let want = match size {
-            0 | FIRST_REQUEST | 54 => None,
-            _ => Some(RunFault::Serve(ServeFault::TruncatedFrame)),
-        };
-        let (replies, fault) = piped(&rt, front(&REQUESTS, size), 2);
-        assert_eq!(rt; fault, want, "{size} bytes");
-        assert!(rt;
-            replies.as_slice() == front(&REPLIES, written),
-            "{size} bytes"
-        );
-    }
-    Ok(())
+    check_lines(&rt, Call::Cut(Command::Pipe), CUT_REQUESTS)
 }
+
+/// From so many bytes of the replies to so many, and what `show` makes of them.
+const CUT_REPLIES: &str = "
+0 0 => 0 None 0
+1 16 => 0 Some(TruncatedReply) 1
+18 41 => 0 Some(TruncatedReply) 1
+";
+
+#[test]
+fn show_prints_no_part_of_a_stream_that_is_cut(rt: HostRuntime) -> Result<(), Fail> {
+    check_lines(&rt, Call::Cut(Command::Show), CUT_REPLIES)
+}
+
+/// So many bytes of a stream, the bytes of a length, and the stream once more.
+fn with_length(alloc: Global, stream: &[u8], start: &str) -> Result<Vec<u8>, Fail> {
+    let (size, length) = sides(start, " ")?;
+    let size = size.parse::<usize>()?;
+    let length = bytes_of(alloc, length)?;
+    let mut bytes = Vec::from_slice(alloc, front(stream, size))?;
+    bytes.extend_from_slice(&length)?;
+    bytes.extend_from_slice(stream)?;
+    Ok(bytes)
+}
+
+/// Whether a command comes to these words, given so many bytes of its stream, the bytes of a length, and the stream once more.
+pub fn spoilt_comes_to<R: AllocGlobal + Threads + Wait + Sync>(
+    rt: &R,
+    command: Command,
+    start: &str,
+    words: &str,
+) -> Result<bool, Fail> {
+    let stream = with_length(rt.alloc(), stream_of(command), start)?;
+    comes_to(rt, command, &stream, REPLIES, words)
+}
+
+/// So many bytes of the requests, a length that no frame has, and what `pipe` makes of them.
+const BAD_REQUESTS: &str = "
+0 00000000 => 0 Some(Serve(BadLength { length: 0 })) 1
+30 00000000 => 17 Some(Serve(BadLength { length: 0 })) 1
+54 00000000 => 42 Some(Serve(BadLength { length: 0 })) 1
+0 00000001 => 0 Some(Serve(BadLength { length: 1 })) 1
+30 00000001 => 17 Some(Serve(BadLength { length: 1 })) 1
+54 00000001 => 42 Some(Serve(BadLength { length: 1 })) 1
+0 00000008 => 0 Some(Serve(BadLength { length: 8 })) 1
+30 00000008 => 17 Some(Serve(BadLength { length: 8 })) 1
+54 00000008 => 42 Some(Serve(BadLength { length: 8 })) 1
+0 00100001 => 0 Some(Serve(BadLength { length: 1048577 })) 1
+30 00100001 => 17 Some(Serve(BadLength { length: 1048577 })) 1
+54 00100001 => 42 Some(Serve(BadLength { length: 1048577 })) 1
+0 ffffffff => 0 Some(Serve(BadLength { length: 4294967295 })) 1
+30 ffffffff => 17 Some(Serve(BadLength { length: 4294967295 })) 1
+54 ffffffff => 42 Some(Serve(BadLength { length: 4294967295 })) 1
+";
 
 #[test]
 fn pipe_answers_what_stands_before_a_bad_length(rt: HostRuntime) -> Result<(), Fail> {
-    let alloc = rt.alloc();
-    for (length, bytes) in BAD_LENGTHS {
-        for (requests, replies) in [(0, 0), (FIRST_REQUEST, FIRST_REPLY), (54, 42)] {
-            let mut stream = Vec::from_slice(alloc, front(&REQUESTS, requests))?;
-            stream.extend_from_slice(&bytes)?;
-            stream.extend_from_slice(&REQUESTS)?;
-            let (written, fault) = piped(&rt, &stream, 2);
-            let want = RunFault::Serve(ServeFault::BadLength { length });
-            assert_eq!(rt; fault, Some(want), "behind {requests} bytes");
-            assert!(rt; written.as_slice() == front(&REPLIES, replies), "{length}");
-            assert_eq!(rt; status(&want), 1);
-        }
-    }
-    Ok(())
+    check_lines(&rt, Call::Spoilt(Command::Pipe), BAD_REQUESTS)
+}
+
+/// The same of the replies and `show`.
+const BAD_REPLIES: &str = "
+0 00000000 => 0 Some(BadReplyLength(0)) 1
+17 00000000 => 0 Some(BadReplyLength(0)) 1
+42 00000000 => 0 Some(BadReplyLength(0)) 1
+0 00000001 => 0 Some(BadReplyLength(1)) 1
+17 00000001 => 0 Some(BadReplyLength(1)) 1
+42 00000001 => 0 Some(BadReplyLength(1)) 1
+0 00000008 => 0 Some(BadReplyLength(8)) 1
+17 00000008 => 0 Some(BadReplyLength(8)) 1
+42 00000008 => 0 Some(BadReplyLength(8)) 1
+0 00100001 => 0 Some(BadReplyLength(1048577)) 1
+17 00100001 => 0 Some(BadReplyLength(1048577)) 1
+42 00100001 => 0 Some(BadReplyLength(1048577)) 1
+0 ffffffff => 0 Some(BadReplyLength(4294967295)) 1
+17 ffffffff => 0 Some(BadReplyLength(4294967295)) 1
+42 ffffffff => 0 Some(BadReplyLength(4294967295)) 1
+";
+
+#[test]
+fn show_prints_no_part_of_a_stream_with_a_bad_length(rt: HostRuntime) -> Result<(), Fail> {
+    check_lines(&rt, Call::Spoilt(Command::Show), BAD_REPLIES)
+}
+
+/// A raw request of so many bytes.
+fn raw_request(alloc: Global, size: usize) -> Result<Vec<u8>, AllocError> {
+    let mut request = Vec::from_slice(alloc, b"\0\x10\0\0\0\0\0\x07\0\0\0\x01\x09")?;
+    request.resize(size, b'x')?;
+    Ok(request)
 }
 
 #[test]
 fn the_longest_frame_has_to_come_whole(rt: HostRuntime) -> Result<(), Fail> {
-    let alloc = rt.alloc();
-    let mut stream = Vec::from_slice(alloc, b"\0\x10\0\0\0\0\0\x07\0\0\0\x01\x09")?;
-    stream.resize(1_048_579, b'x')?;
-    let (written, fault) = piped(&rt, &stream, 2);
-    assert_eq!(rt; fault, Some(RunFault::Serve(ServeFault::TruncatedFrame)));
-    assert!(rt; written.is_empty());
-    stream.push(b'x')?;
-    let (written, fault) = piped(&rt, &stream, 2);
-    assert_eq!(rt; fault, None);
-    assert!(rt; written.as_slice() == b"\0\0\0\x09\0\0\0\x07\0\0\0\x01\x08".as_slice());
-    Ok(())
-}
-
-/// Why `show` ended, which is a fault, and that it printed nothing.
-fn not_shown<R: AllocGlobal + Wait>(rt: &R, replies: &[u8]) -> Result<RunFault, Fail> {
-    let console = Console::new(rt, replies);
-    let fault = show(&console).err().ok_or("shown")?;
-    if console.into_output().is_empty() {
-        Ok(fault)
-    } else {
-        Err("printed".into())
+    let reply = b"\0\0\0\x09\0\0\0\x07\0\0\0\x01\x08";
+    for (size, wanted) in [
+        (1_048_579, "0 Some(Serve(TruncatedFrame)) 1"),
+        (1_048_580, "13 None 0"),
+    ] {
+        let request = raw_request(rt.alloc(), size)?;
+        let comes = comes_to(&rt, Command::Pipe, &request, reply, wanted)?;
+        assert!(rt; comes, "{size} bytes");
     }
-}
-
-#[test]
-fn show_prints_no_part_of_a_stream_that_is_cut(rt: HostRuntime) -> Result<(), Fail> {
-    for size in 1..REPLIES.len() {
-        if size == FIRST_REPLY {
-            continue;
-        }
-        let fault = not_shown(&rt, front(&REPLIES, size))?;
-        assert_eq!(rt; fault, RunFault::TruncatedReply, "{size} bytes");
-        assert_eq!(rt; status(&fault), 1);
-    }
-    Ok(())
-}
-
-#[test]
-fn show_prints_no_part_of_a_stream_with_a_bad_length(rt: HostRuntime) -> Result<(), Fail> {
-    let alloc = rt.alloc();
-    for (length, bytes) in BAD_LENGTHS {
-        for size in [0, FIRST_REPLY, 42] {
-            let mut stream = Vec::from_slice(alloc, front(&REPLIES, size))?;
-            stream.extend_from_slice(&bytes)?;
-            stream.extend_from_slice(&REPLIES)?;
-            let fault = not_shown(&rt, &stream)?;
-            assert_eq!(rt;
-                fault,
-                RunFault::BadReplyLength(length),
-                "behind {size} bytes"
-            );
-        }
-    }
-    Ok(())
-}
-
-#[test]
-fn no_frames_are_served_and_shown(rt: HostRuntime) -> Result<(), Fail> {
-    let (written, fault) = piped(&rt, b"", 2);
-    assert_eq!(rt; fault, None);
-    assert!(rt; written.is_empty());
-    let nothing = Console::new(&rt, b"");
-    assert_eq!(rt; show(&nothing).err(), None);
-    assert!(rt; nothing.into_output().is_empty());
     Ok(())
 }

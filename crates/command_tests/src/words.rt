@@ -1,0 +1,58 @@
+//! The words of tables. A table is a text in which each line is a case.
+use std::alloc::Global;
+use std::test::Fail;
+
+/// The two sides of what stands on either side of a mark.
+pub fn sides<'a>(text: &'a str, mark: &str) -> Result<(&'a str, &'a str), Fail> {
+    Ok(
+        text.split_once(mark)
+            .ok_or("a line of a table without its mark")?,
+    )
+}
+
+/// The text of a word in which `x{N}` stands for so many letters.
+pub fn written_out(alloc: Global, word: &str) -> Result<String, Fail> {
+    let Some((front, rest)) = word.split_once("x{") else {
+        return Ok(String::from_str(alloc, word)?);
+    };
+    let (count, back) = sides(rest, "}")?;
+    let letters = "x".repeat(alloc, count.parse::<usize>()?)?;
+    Ok(format!(in alloc; "{front}{letters}{back}")?)
+}
+
+/// The bytes of a word: hexadecimal digits, with blanks where they serve, and characters between quotation marks. So `""` is no bytes.
+pub fn bytes_of(alloc: Global, word: &str) -> Result<Vec<u8>, Fail> {
+    let mut bytes = Vec::new(alloc);
+    let mut quoted = false;
+    for part in word.split('"') {
+        if quoted {
+            bytes.extend_from_slice(part.as_bytes())?;
+        } else {
+            push_digits(&mut bytes, part)?;
+        }
+        quoted = !quoted;
+    }
+    Ok(bytes)
+}
+
+/// Adds the bytes that hexadecimal digits spell.
+fn push_digits(bytes: &mut Vec<u8>, digits: &str) -> Result<(), Fail> {
+    for number in digits.split_whitespace() {
+        for pair in number.as_bytes().chunks(2) {
+            let [high, low] = pair else {
+                return Err("half a byte".into());
+            };
+            bytes.push(digit(*high)? << 4 | digit(*low)?)?;
+        }
+    }
+    Ok(())
+}
+
+/// The number of a hexadecimal digit.
+fn digit(byte: u8) -> Result<u8, Fail> {
+    match byte {
+        b'0'..=b'9' => Ok(byte - b'0'),
+        b'a'..=b'f' => Ok(byte - b'a' + 10),
+        _ => Err("no hexadecimal digit".into()),
+    }
+}

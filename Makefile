@@ -9,7 +9,7 @@ UNITS = $(DESTDIR)$(PREFIX)/lib/systemd/system
 COMPLETIONS = $(DESTDIR)$(PREFIX)/share/bash-completion/completions
 
 SOURCES := crates.txt $(shell find crates -name out -prune -o \( -name '*.rt' -o -name '*.antt' \) -print)
-VERSION := $(shell sed -n 's/^pub const VERSION: &str = "\(.*\)";$$/\1/p' crates/iconvd/src/version.rt)
+VERSION := $(shell sed -n 's/^pub const VERSION: &str = "\(.*\)";$$/\1/p' crates/cv_command_line/src/version.rt)
 
 .PHONY: run check refuse install bench clean
 

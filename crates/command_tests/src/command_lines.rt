@@ -1,26 +1,21 @@
-//! Command lines. In a table each line is one, and behind the arrow stands what it comes to.
-mod streams;
-
-use crate::options::{options, usage_status};
-use crate::version::VERSION;
+//! Command lines.
+use crate::tables::{Call, check_lines};
+use crate::words::sides;
+use cv_command_line::{VERSION, options, usage_status};
 use std::alloc::{AllocError, Global};
 use std::test::Fail;
-
-/// The two sides of an arrow.
-fn sides(line: &str) -> Result<(&str, &str), Fail> {
-    Ok(line.split_once(" => ").ok_or("a line without an arrow")?)
-}
 
 /// The words of a command line, of which the first is the program's name.
 fn words_of(alloc: Global, line: &str) -> Result<Vec<&str>, AllocError> {
     line.split_whitespace().collect(alloc)
 }
 
-/// What a command line says: the job, how many workers there are, and how many streams.
-fn read(alloc: Global, line: &str) -> Result<String, Fail> {
+/// Whether a command line says this: the job, how many workers there are, and how many streams.
+pub fn says(alloc: Global, line: &str, wanted: &str) -> Result<bool, Fail> {
     let words = words_of(alloc, line)?;
     let said = options(alloc, &words).map_err(|_| "refused")?;
-    Ok(format!(in alloc; "{:?} {} {}", said.job, said.workers, said.streams)?)
+    let told = format!(in alloc; "{:?} {} {}", said.job, said.workers, said.streams)?;
+    Ok(told.as_str() == wanted)
 }
 
 /// What is said of a command line that gives no job. It is a fault of usage, or asks for help or the version.
@@ -32,6 +27,12 @@ fn answer(alloc: Global, line: &str) -> Result<String, Fail> {
     } else {
         Err("not of usage".into())
     }
+}
+
+/// Whether a command line is refused by a text that names what is wrong with it.
+pub fn is_named(alloc: Global, line: &str, named: &str) -> Result<bool, Fail> {
+    let said = answer(alloc, line)?;
+    Ok(said.contains(named))
 }
 
 const TAKEN: &str = r#"
@@ -53,15 +54,10 @@ iconvd call 127.0.0.1:0 => Call("127.0.0.1:0") 1 1
 
 #[test]
 fn command_lines_are_read(rt: HostRuntime) -> Result<(), Fail> {
-    for line in TAKEN.trim().lines() {
-        let (words, wanted) = sides(line)?;
-        let said = read(rt.alloc(), words)?;
-        assert!(rt; said.as_str() == wanted, "{line}");
-    }
-    Ok(())
+    check_lines(&rt, Call::Options, TAKEN)
 }
 
-/// Behind the arrow stands what is named.
+/// Command lines that are refused, and what is named then.
 const REFUSED: &str = r#"
 iconvd => subcommand
 iconvd walk => 'walk'
@@ -84,12 +80,7 @@ iconvd call 127.0.0.1:0 --streams 2 => '--streams'
 
 #[test]
 fn what_is_wrong_is_named(rt: HostRuntime) -> Result<(), Fail> {
-    for line in REFUSED.trim().lines() {
-        let (words, named) = sides(line)?;
-        let said = answer(rt.alloc(), words)?;
-        assert!(rt; said.contains(named), "{line}: {said}");
-    }
-    Ok(())
+    check_lines(&rt, Call::Usage, REFUSED)
 }
 
 const HELP: &str = "
@@ -103,17 +94,15 @@ iconvd help run
 fn help_is_shown(rt: HostRuntime) -> Result<(), Fail> {
     for line in HELP.trim().lines() {
         let text = answer(rt.alloc(), line)?;
-        let parts = [
-            "\n  conv DESCRIPTOR ROOM HEX\n",
-            "\n  put TEXT  ",
-            "\nSee iconvd(1) and iconvd-protocol(5).\n",
-        ];
-        assert!(rt; parts.iter().all(|part| text.contains(part)), "{text}");
+        let told = text.contains("\n  conv DESCRIPTOR ROOM HEX\n")
+            && text.contains("\n  put TEXT  ")
+            && text.contains("\nSee iconvd(1) and iconvd-protocol(5).\n");
+        assert!(rt; told, "{text}");
     }
     Ok(())
 }
 
-/// Behind the arrow stands what it is the version of.
+/// Command lines, and what they show the version of.
 const VERSIONS: &str = "
 iconvd --version => iconvd
 iconvd -V => iconvd
@@ -123,7 +112,7 @@ iconvd run --version => iconvd-run
 #[test]
 fn the_version_is_shown(rt: HostRuntime) -> Result<(), Fail> {
     for line in VERSIONS.trim().lines() {
-        let (words, name) = sides(line)?;
+        let (words, name) = sides(line, " => ")?;
         let text = answer(rt.alloc(), words)?;
         let want = format!(in rt.alloc(); "{name} {VERSION}\n")?;
         assert!(rt; text == want, "{text}");

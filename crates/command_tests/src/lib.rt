@@ -1,6 +1,6 @@
-//! Tests of scripts, reply lines, charmap files and the commands. A crate with tests is proved twice, so they are not in the crate itself,
-//! and say what a user of the commands could. What is proved of a nested array costs much, so a table is a text: `words` reads its words,
-//! and `tables` and `exchanging` make the calls of its lines.
+//! Tests of scripts, reply lines, charmap files, the commands and the command line. A crate with tests is proved twice, so they are not in
+//! the crates themselves, and say what a user of the program could. What is proved of a nested array costs much, so a table is a text:
+//! `words` reads its words, and `tables` and `exchanging` make the calls of its lines.
 #![tactic(auto)]
 
 #[cfg(test)]
@@ -9,6 +9,8 @@ mod calls;
 mod charmaps;
 #[cfg(test)]
 mod checking;
+#[cfg(test)]
+mod command_lines;
 #[cfg(test)]
 mod console;
 #[cfg(test)]
@@ -19,6 +21,8 @@ mod interleavings;
 mod large_uploads;
 #[cfg(test)]
 mod longest_names;
+#[cfg(test)]
+mod program_streams;
 #[cfg(test)]
 mod refused_charmaps;
 #[cfg(test)]

@@ -1,7 +1,5 @@
 //! What the program does where its words are no text, or its streams take nothing.
-use crate::arguments::arguments;
-use crate::commands::explain;
-use crate::options::{options, usage_status};
+use cv_command_line::{arguments, explain, options, usage_status};
 use std::alloc::Global;
 use std::cell::Cell;
 use std::env::FillError;

@@ -2,6 +2,7 @@
 //! they read both. Lines that begin with `//` say what others show.
 use crate::calls::is_called;
 use crate::checking::is_said;
+use crate::command_lines::{is_named, says};
 use crate::refused_uploads::is_answered;
 use crate::scripts::{gives, is_refused_at};
 use crate::streams::{Command, cut_comes_to, spoilt_comes_to};
@@ -22,6 +23,10 @@ pub enum Call {
     Ask,
     /// It is taken for a script that may be refused.
     Refuse,
+    /// It is taken for a command line that gives a job.
+    Options,
+    /// It is taken for a command line that is refused.
+    Usage,
     /// A peer of this kind is called.
     Peer,
     /// A command is given a part of a stream.
@@ -59,6 +64,8 @@ fn comes_to<R: Abort + AllocGlobal + Threads + Wait + Sync>(
         Call::Upload => is_answered(rt, given, wanted),
         Call::Ask => gives(rt.alloc(), given, wanted),
         Call::Refuse => is_refused_at(rt.alloc(), given, wanted),
+        Call::Options => says(rt.alloc(), given, wanted),
+        Call::Usage => is_named(rt.alloc(), given, wanted),
         Call::Peer => is_called(rt.alloc(), given, wanted),
         Call::Cut(command) => cut_comes_to(rt, command, given, wanted),
         Call::Spoilt(command) => spoilt_comes_to(rt, command, given, wanted),

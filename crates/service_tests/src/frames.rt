@@ -1,6 +1,6 @@
 //! Frames of requests and replies, and the bodies of requests.
-use crate::words::{bytes_of, first_word, sides};
-use cv_base::{Piece, Policy};
+use crate::words::{bytes_of, first_word, policy_of, sides};
+use cv_base::Piece;
 use cv_frame::{
     Ask, Bytes, Frame, OpenBody, Reply, ReplyFrame, Status, next_reply, next_request, read_conv,
     read_name, read_number, read_open, write_reply, write_request,
@@ -61,10 +61,7 @@ fn write_open(out: &mut Vec<u8>, caller: u32, tag: u32, rest: &str) -> Result<()
     if to.len() > 255 || from.len() > 255 {
         return Err("a name that is too long".into());
     }
-    let policy = match policy {
-        "strict" => Policy::Strict,
-        _ => Policy::Substitute,
-    };
+    let policy = policy_of(policy);
     write_request(out, caller, tag, &Ask::Open { to, from, policy })?;
     Ok(())
 }

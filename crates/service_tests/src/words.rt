@@ -1,5 +1,6 @@
 //! The words of tables. A table is a text in which each line is a case.
-use std::alloc::{AllocError, Global};
+use cv_base::Policy;
+use std::alloc::Global;
 use std::test::Fail;
 
 /// The two sides of what stands on either side of a mark.
@@ -18,12 +19,22 @@ pub fn first_word(text: &str) -> (&str, &str) {
     }
 }
 
+/// The policy of an `open`, by the word that stands behind its names.
+pub fn policy_of(word: &str) -> Policy {
+    if word == "strict" {
+        Policy::Strict
+    } else {
+        Policy::Substitute
+    }
+}
+
 /// A text that stands in a line, with the line feeds for which `|` stands.
-pub fn text_of(alloc: Global, line: &str) -> Result<Vec<u8>, AllocError> {
-    line.as_bytes()
-        .iter()
-        .map(|byte| if *byte == b'|' { b'\n' } else { *byte })
-        .collect(alloc)
+pub fn text_of(alloc: Global, line: &str) -> Result<Vec<u8>, Fail> {
+    let mut text = Vec::new(alloc);
+    for byte in line.bytes() {
+        text.push(if byte == b'|' { b'\n' } else { byte })?;
+    }
+    Ok(text)
 }
 
 /// The bytes of words, one word behind the other: hexadecimal digits, and characters between quotation marks. So `""` is no bytes.

@@ -84,8 +84,12 @@ fn is_done<R: Threads + Wait + Sync>(
     pool: &mut Pool<Lent<'_>, Open>,
     requests: &[Request],
 ) -> Result<bool, Fail> {
-    let replies = pool.batch(rt, alloc, requests)?;
-    Ok(replies.iter().all(|reply| reply.status == Status::Ok))
+    for reply in &pool.batch(rt, alloc, requests)? {
+        if reply.status != Status::Ok {
+            return Ok(false);
+        }
+    }
+    Ok(true)
 }
 
 /// Whether a caller's bytes 3f and 80 of TOY are `?` and U+0100 in UTF-8.

@@ -33,7 +33,8 @@ fn a_text_is_put_together_just_before_its_step(rt: HostRuntime) -> Result<(), Fa
     let requests = requests(rt.alloc())?;
     let mut engine = WorldWith::new(rt.alloc(), Plain);
     let replies = engine.batch(&rt, rt.alloc(), &requests)?;
-    compare(&rt, &replies)
+    compare(&rt, &replies);
+    Ok(())
 }
 
 /// The requests of all lines.
@@ -51,20 +52,35 @@ fn request_of(line: &str) -> Result<Request<'_>, Fail> {
     let (caller, asked) = sides(asked, " ")?;
     let caller = caller.parse::<u32>()?;
     let (command, text) = first_word(asked);
+    let op = op_of(command)?;
+    let body = if op == PUT { REST } else { text.as_bytes() };
+    Ok(request(caller, 0, op, body))
+}
+
+/// The op of a command.
+fn op_of(command: &str) -> Result<u8, Fail> {
     match command {
-        "part" => Ok(request(caller, 0, PART, text.as_bytes())),
-        "put" => Ok(request(caller, 0, PUT, REST)),
-        "bye" => Ok(request(caller, 0, BYE, b"")),
+        "part" => Ok(PART),
+        "put" => Ok(PUT),
+        "bye" => Ok(BYE),
         _ => Err("no such request".into()),
     }
 }
 
 /// Compares the statuses of replies with those of the lines.
-fn compare<R: Abort>(rt: &R, replies: &[Reply]) -> Result<(), Fail> {
-    assert_eq!(rt; replies.len(), UPLOADS.trim().lines().count());
-    for (reply, line) in replies.iter().zip(UPLOADS.trim().lines()) {
-        let (_, status) = sides(line, " = ")?;
-        assert_eq!(rt; reply.status.name(), status, "{line}");
+fn compare<R: Abort>(rt: &R, replies: &[Reply]) {
+    assert_eq!(rt; replies.len(), 11);
+    let mut lines = UPLOADS.trim().lines();
+    for reply in replies {
+        let line = lines.next().unwrap_or("");
+        assert!(rt; has_status(reply, line), "{line}");
     }
-    Ok(())
+}
+
+/// Whether a reply has the status of a line.
+fn has_status(reply: &Reply, line: &str) -> bool {
+    match line.rsplit_once(' ') {
+        Some((_, status)) => status == reply.status.name(),
+        None => false,
+    }
 }

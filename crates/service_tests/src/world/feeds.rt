@@ -1,6 +1,5 @@
 //! One text, cut in each way and converted into rooms of several sizes, while another caller converts.
 use super::scripts::is_answered;
-use cv_frame::MOST_BODY;
 use cv_pivot::Stop;
 use cv_world::{Answer, Op, World};
 use std::alloc::Global;
@@ -55,8 +54,8 @@ fn is_written(alloc: Global, opening: &str, ends: &str, room: u32) -> Result<boo
     Ok(opened && fed && closed && written.as_slice() == b"+2D3eA".as_slice())
 }
 
-/// Feeds the text in these pieces, each behind what the call before it left, and adds what is written. Whether the last call used all of its
-/// input, and the other caller was answered behind each.
+/// Feeds the text in these pieces, each behind what the call before it left, and adds what is written. Whether the other caller was
+/// answered behind each.
 fn feed(
     alloc: Global,
     world: &mut World,
@@ -64,34 +63,31 @@ fn feed(
     room: u32,
     written: &mut Vec<u8>,
 ) -> Result<bool, Fail> {
-    let mut last = None;
+    let mut others = OTHERS.trim().lines();
     let mut from = 0;
-    for (end, other) in ends.split(' ').zip(OTHERS.trim().lines()) {
-        let end = end.parse::<usize>()?;
-        let front = &TEXT[..TEXT.len().min(end)];
-        let input = &front[front.len().min(from)..];
-        let (stop, left) = convert(alloc, world, room, input, written)?;
-        from = front.len().saturating_sub(left as usize);
-        last = Some(stop);
-        if !is_answered(alloc, world, other)? {
+    for end in ends.split(' ') {
+        from = feed_piece(alloc, world, room, from, end.parse::<usize>()?, written)?;
+        if !is_answered(alloc, world, others.next().unwrap_or(""))? {
             return Ok(false);
         }
     }
-    Ok(last == Some(Stop::Done))
+    Ok(true)
 }
 
-/// Converts a piece, and adds what is written. Gives why it stopped, and how many bytes are left.
-fn convert(
+/// Converts a piece, and adds what is written. Gives where the bytes begin that are left, of which the end of the text leaves none.
+fn feed_piece(
     alloc: Global,
     world: &mut World,
     room: u32,
-    input: &[u8],
+    from: usize,
+    end: usize,
     written: &mut Vec<u8>,
-) -> Result<(Stop, u32), Fail> {
+) -> Result<usize, Fail> {
+    let front = &TEXT[..TEXT.len().min(end)];
     let op = Op::Conv {
         number: 0,
         room,
-        input: &input[..input.len().min(MOST_BODY)],
+        input: &front[front.len().min(from)..],
     };
     let Answer::Converted {
         stop,
@@ -102,6 +98,9 @@ fn convert(
     else {
         return Err("not converted".into());
     };
+    if end == TEXT.len() && stop != Stop::Done {
+        return Err("not all of the text was converted".into());
+    }
     written.extend_from_slice(bytes.as_slice())?;
-    Ok((stop, left))
+    Ok(front.len().saturating_sub(left as usize))
 }

@@ -1,8 +1,7 @@
 //! Scripts that a world is asked. A line is `CALLER REQUEST = ANSWER`, and the request is as in scripts: in its text `|` stands for a line
 //! feed. An answer is `empty`, `number NUMBER`, `count COUNT`, `STOP LEFT COUNT OUTPUT`, `written CLOSING`, `BADMAP LINE`, or the
 //! name of another status.
-use crate::words::{bytes_of, first_word, sides, text_of};
-use cv_base::Policy;
+use crate::words::{bytes_of, first_word, policy_of, sides, text_of};
 use cv_cache::{Compiler, Plain};
 use cv_frame::MOST_BODY;
 use cv_world::{Answer, Op, World};
@@ -66,14 +65,10 @@ fn part(alloc: Global, world: &mut World, caller: u32, text: &str) -> Result<Ans
 fn open(alloc: Global, world: &mut World, caller: u32, rest: &str) -> Result<Answer, Fail> {
     let (to, rest) = sides(rest, " ")?;
     let (from, policy) = first_word(rest);
-    let policy = match policy {
-        "strict" => Policy::Strict,
-        _ => Policy::Substitute,
-    };
     let op = Op::Open {
         to: to.as_bytes(),
         from: from.as_bytes(),
-        policy,
+        policy: policy_of(policy),
     };
     Ok(world.step(alloc, caller, op))
 }

@@ -1,117 +1,173 @@
 //! Charmaps compiled, and texts that are held.
+use crate::charmap_texts::{charmap_text, text_of_size};
+use crate::words::{sides, text_of};
 use cv_cache::{Cached, Compiler, LONGEST_TEXT, Maps, Plain};
 use cv_charmap::CompileFault;
+use cv_trie::Charmap;
 use std::alloc::{AllocError, Global};
-use std::sync::Arc;
+use std::sync::{Arc, Wait};
 use std::test::Fail;
 
-/// A text of a charmap of this name, with five mappings.
-fn text_of(alloc: Global, name: &str) -> Result<String, AllocError> {
-    format!(in alloc;
-        "<code_set_name> {name}\nCHARMAP\n<question-mark> \\x3F\n<U0100>...<U0103> \\x80\nEND CHARMAP\n"
-    )
-}
-
-/// A text of so many bytes, which ends in a comment.
-fn text_of_size(alloc: Global, size: usize) -> Result<Vec<u8>, AllocError> {
-    let mut text = Vec::new(alloc);
-    text.extend_from_slice(b"<code_set_name> TOY\nCHARMAP\n<question-mark> \\x3F\nEND CHARMAP\n")?;
-    text.resize(size, b'#')?;
-    Ok(text)
+/// A text of the charmap TOY, with five mappings.
+fn toy_text(alloc: Global) -> Result<String, AllocError> {
+    charmap_text(alloc, "TOY", "<U0100>...<U0103> \\x80")
 }
 
 #[test]
 fn a_text_is_compiled_to_what_it_means(rt: HostRuntime) -> Result<(), Fail> {
-    let text = text_of(rt.alloc(), "TOY")?;
+    let text = toy_text(rt.alloc())?;
     let charmap = Plain.compile(&rt, rt.alloc(), text.as_bytes())?;
     assert_eq!(rt; charmap.name(), b"TOY".as_slice());
     assert_eq!(rt; charmap.len(), 5);
     Ok(())
 }
 
+/// Texts, in which `|` stands for a line feed, and the first fault of each.
+const FAULTS: &str = r#"
+"CHARMAP|<U0041> \x41|<U0042> \x41|END CHARMAP|<" = line 3: Clash
+"<mb_cur_max> 9|CHARMAP|" = line 1: Declaration
+"" = line 0: NoMap
+"#;
+
 #[test]
 fn the_first_fault_is_told(rt: HostRuntime) -> Result<(), Fail> {
-    let alloc = rt.alloc();
-    let cached = Cached::new(alloc)?;
-    let cases: [(&[u8], &str); 3] = [
-        (
-            b"CHARMAP\n<U0041> \\x41\n<U0042> \\x41\nEND CHARMAP\n<",
-            "line 3: Clash",
-        ),
-        (b"<mb_cur_max> 9\nCHARMAP\n", "line 1: Declaration"),
-        (b"", "line 0: NoMap"),
-    ];
-    for (text, want) in cases {
-        let faults = [
-            Plain.compile(&rt, alloc, text).err(),
-            cached.compile(&rt, alloc, text).err(),
-            cached.compile(&rt, alloc, text).err(),
-        ];
-        for fault in faults {
-            let Some(fault) = fault else {
-                return Err("no fault".into());
-            };
-            let told = format!(in alloc; "{fault}")?;
-            assert_eq!(rt; told.as_str(), want);
-        }
+    let cached = Cached::new(rt.alloc())?;
+    for line in FAULTS.trim().lines() {
+        let told = is_told(&rt, rt.alloc(), &cached, line)?;
+        assert!(rt; told, "{line}");
     }
     assert_eq!(rt; cached.found(&rt), 0);
     Ok(())
 }
 
-/// How many other texts come between two compilations of one text, how many texts were found compiled then, and how many share the
-/// charmap of the second: the cache, and the first where it is the same.
-const ROWS: [(u32, u64, usize); 5] = [(0, 1, 3), (1, 1, 3), (31, 1, 3), (32, 0, 2), (33, 0, 2)];
+/// Whether the fault of a line is told without the cache, and twice with it.
+fn is_told<R: Wait>(rt: &R, alloc: Global, cached: &Cached, line: &str) -> Result<bool, Fail> {
+    let (text, fault) = sides(line, " = ")?;
+    let text = text_of(alloc, text.trim_matches('"'))?;
+    let plain = has_fault(alloc, Plain.compile(rt, alloc, &text), fault)?;
+    let first = has_fault(alloc, cached.compile(rt, alloc, &text), fault)?;
+    let again = has_fault(alloc, cached.compile(rt, alloc, &text), fault)?;
+    Ok(plain && first && again)
+}
+
+/// Whether a text was refused for a fault that is told so.
+fn has_fault(
+    alloc: Global,
+    compiled: Result<Arc<Charmap>, CompileFault>,
+    wanted: &str,
+) -> Result<bool, AllocError> {
+    let Err(fault) = compiled else {
+        return Ok(false);
+    };
+    let told = format!(in alloc; "{fault}")?;
+    Ok(told.as_str() == wanted)
+}
+
+/// How many other texts come between two compilations of one text, how many texts were found compiled then, how many share the charmap
+/// of the second (the cache, and the first where it is the same), and how many were found after a third.
+const OTHERS: &str = "
+0 others: 1 found, 3 owners, then 2 found
+1 others: 1 found, 3 owners, then 2 found
+31 others: 1 found, 3 owners, then 2 found
+32 others: 0 found, 2 owners, then 1 found
+33 others: 0 found, 2 owners, then 1 found
+";
 
 #[test]
 fn a_text_is_held_until_32_others_came(rt: HostRuntime) -> Result<(), Fail> {
-    let alloc = rt.alloc();
-    let text = text_of(alloc, "TOY")?;
-    for (others, found, owners) in ROWS {
-        let cached = Cached::new(alloc)?;
-        let first = cached.compile(&rt, alloc, text.as_bytes())?;
-        for i in 0..others {
-            let name = format!(in alloc; "OTHER{i}")?;
-            let other = text_of(alloc, name.as_str())?;
-            let charmap = cached.compile(&rt, alloc, other.as_bytes())?;
-            assert_eq!(rt; charmap.name(), name.as_bytes());
-        }
-        let again = cached.compile(&rt, alloc, text.as_bytes())?;
-        assert_eq!(rt; again.name(), b"TOY".as_slice());
-        assert_eq!(rt; again.len(), 5);
-        assert_eq!(rt; cached.found(&rt), found, "{others}");
-        assert_eq!(rt; Arc::strong_count(&again), owners, "{others}");
-        assert_eq!(rt; first.name(), again.name(), "{others}");
-        let _ = cached.compile(&rt, alloc, text.as_bytes())?;
-        assert_eq!(rt; cached.found(&rt), found + 1, "{others}");
+    for line in OTHERS.trim().lines() {
+        let (others, wanted) = sides(line, " others: ")?;
+        let told = told_behind(&rt, rt.alloc(), others.parse::<u32>()?)?;
+        assert_eq!(rt; told.as_str(), wanted, "{line}");
+    }
+    Ok(())
+}
+
+/// What comes of a text that is compiled before and behind so many others, in the words of a line.
+fn told_behind<R: Wait>(rt: &R, alloc: Global, others: u32) -> Result<String, Fail> {
+    let cached = Cached::new(alloc)?;
+    let first = toy(rt, alloc, &cached)?;
+    compile_others(rt, alloc, &cached, others)?;
+    let again = toy(rt, alloc, &cached)?;
+    let found = cached.found(rt);
+    let owners = Arc::strong_count(&again);
+    if first.name() != again.name() {
+        return Err("another name".into());
+    }
+    let _ = toy(rt, alloc, &cached)?;
+    let then = cached.found(rt);
+    Ok(format!(in alloc; "{found} found, {owners} owners, then {then} found")?)
+}
+
+/// The charmap TOY with its five mappings.
+fn toy<R: Wait>(rt: &R, alloc: Global, cached: &Cached) -> Result<Arc<Charmap>, Fail> {
+    let text = toy_text(alloc)?;
+    let charmap = cached.compile(rt, alloc, text.as_bytes())?;
+    if charmap.name() != b"TOY".as_slice() || charmap.len() != 5 {
+        return Err("another charmap".into());
+    }
+    Ok(charmap)
+}
+
+/// Compiles so many other texts.
+fn compile_others<R: Wait>(
+    rt: &R,
+    alloc: Global,
+    cached: &Cached,
+    others: u32,
+) -> Result<(), Fail> {
+    for other in 0..others {
+        compile_other(rt, alloc, cached, other)?;
+    }
+    Ok(())
+}
+
+fn compile_other<R: Wait>(rt: &R, alloc: Global, cached: &Cached, other: u32) -> Result<(), Fail> {
+    let name = format!(in alloc; "OTHER{other}")?;
+    let text = charmap_text(alloc, name.as_str(), "<U0100>...<U0103> \\x80")?;
+    let charmap = cached.compile(rt, alloc, text.as_bytes())?;
+    if charmap.name() != name.as_bytes() {
+        return Err("another name".into());
     }
     Ok(())
 }
 
 #[test]
 fn long_texts_are_not_held(rt: HostRuntime) -> Result<(), Fail> {
-    let alloc = rt.alloc();
-    let cached = Cached::new(alloc)?;
-    for (size, found) in [(LONGEST_TEXT + 1, 0), (LONGEST_TEXT, 1)] {
-        let text = text_of_size(alloc, size)?;
-        for _ in 0..2 {
-            let charmap = cached.compile(&rt, alloc, &text)?;
-            assert_eq!(rt; charmap.len(), 1);
-        }
-        assert_eq!(rt; cached.found(&rt), found, "{size}");
-    }
+    let cached = Cached::new(rt.alloc())?;
+    let found = found_of_size(&rt, rt.alloc(), &cached, LONGEST_TEXT + 1)?;
+    assert_eq!(rt; found, 0);
+    let found = found_of_size(&rt, rt.alloc(), &cached, LONGEST_TEXT)?;
+    assert_eq!(rt; found, 1);
     Ok(())
 }
 
+/// Compiles a text of so many bytes twice, and gives how many texts were found.
+fn found_of_size<R: Wait>(
+    rt: &R,
+    alloc: Global,
+    cached: &Cached,
+    size: usize,
+) -> Result<u64, Fail> {
+    let text = text_of_size(alloc, size)?;
+    for _ in 0..2 {
+        if cached.compile(rt, alloc, &text)?.len() != 1 {
+            return Err("another charmap".into());
+        }
+    }
+    Ok(cached.found(rt))
+}
+
+/// A text of the charmap A, with one mapping.
+const SMALL: &[u8] = b"<code_set_name> A\nCHARMAP\n<question-mark> \\x6F\nEND CHARMAP\n";
+
 #[test]
 fn what_is_kept_is_found(rt: HostRuntime) -> Result<(), Fail> {
-    let alloc = rt.alloc();
-    let mut maps = Maps::new(alloc)?;
-    let text = b"<code_set_name> A\nCHARMAP\n<question-mark> \\x6F\nEND CHARMAP\n";
-    assert!(rt; maps.look(text)?.is_none());
-    let charmap = Plain.compile(&rt, alloc, text)?;
-    maps.keep(alloc, text, charmap)?;
-    let Some(held) = maps.look(text)? else {
+    let mut maps = Maps::new(rt.alloc())?;
+    assert!(rt; maps.look(SMALL)?.is_none());
+    let charmap = Plain.compile(&rt, rt.alloc(), SMALL)?;
+    maps.keep(rt.alloc(), SMALL, charmap)?;
+    let Some(held) = maps.look(SMALL)? else {
         return Err("nothing held".into());
     };
     assert_eq!(rt; held.name(), b"A".as_slice());
@@ -122,13 +178,11 @@ fn what_is_kept_is_found(rt: HostRuntime) -> Result<(), Fail> {
 /// Whatever growth is refused, the answer is want of memory, or the one with ample memory; and so the next time.
 #[test]
 fn memory_lacks_or_it_is_compiled(rt: HostRuntime) -> Result<(), Fail> {
-    let alloc = rt.alloc();
-    let text = b"<code_set_name> A\nCHARMAP\n<question-mark> \\x6F\nEND CHARMAP\n";
-    let Ok(cached) = Cached::new(alloc) else {
+    let Ok(cached) = Cached::new(rt.alloc()) else {
         return Ok(());
     };
     for _ in 0..2 {
-        match cached.compile(&rt, alloc, text) {
+        match cached.compile(&rt, rt.alloc(), SMALL) {
             Ok(charmap) => assert_eq!(rt; charmap.len(), 1),
             Err(CompileFault::Memory) => {}
             Err(CompileFault::Map(_)) => return Err("a fault".into()),

@@ -1,79 +1,208 @@
-use cv_base::{Piece, Policy};
+//! Frames of requests and replies, and the bodies of requests.
+use crate::words::{bytes_of, first_word, policy_of, sides};
+use cv_base::Piece;
 use cv_frame::{
-    Ask, Bytes, Frame, Reply, ReplyFrame, Status, next_reply, next_request, read_conv, read_name,
-    read_number, read_open, write_reply, write_request,
+    Ask, Bytes, Frame, OpenBody, Reply, ReplyFrame, Status, next_reply, next_request, read_conv,
+    read_name, read_number, read_open, write_reply, write_request,
 };
-use std::test::*;
+use std::alloc::{AllocError, Global};
+use std::test::Fail;
 
-// Caller 7 opens a descriptor to US-ASCII from ISO-8859-1, and it is number 0.
-const OPEN: &[u8] = b"\0\0\0\x1d\0\0\0\x07\0\0\0\x01\x03\x08US-ASCII\x0aISO-8859-1";
-
-const OPENED: &[u8] = b"\0\0\0\x0d\0\0\0\x07\0\0\0\x01\0\0\0\0\0";
-
-// Then it converts three bytes into a room of eight.
-const CONV: &[u8] = b"\0\0\0\x14\0\0\0\x07\0\0\0\x02\x04\0\0\0\0\0\0\0\x08\x41\xe9\x42";
+/// Requests as scripts have them, and their frames: the length, the caller, the tag, the op and the body.
+const REQUESTS: &str = r#"
+7 1 open US-ASCII ISO-8859-1 = 0000001d 00000007 00000001 03 08"US-ASCII" 0a"ISO-8859-1"
+1 1 open US-ASCII UTF-8 strict = 00000019 00000001 00000001 03 08"US-ASCII" 05"UTF-8" 01
+7 2 conv 0 8 "A"e9"B" = 00000014 00000007 00000002 04 00000000 00000008 "A"e9"B"
+7 2 put CHARMAP = 00000010 00000007 00000002 01 "CHARMAP"
+7 2 put = 00000009 00000007 00000002 01
+7 2 drop TOY = 0000000d 00000007 00000002 02 03"TOY"
+7 2 drop = 0000000a 00000007 00000002 02 00
+7 2 bye = 00000009 00000007 00000002 07
+7 2 part q = 0000000a 00000007 00000002 08 "q"
+7 2 part = 00000009 00000007 00000002 08
+"#;
 
 #[test]
-fn open_request(rt: HostRuntime) -> Result<(), Fail> {
-    let mut out = Vec::new(rt.alloc());
-    let ask = Ask::Open {
-        to: b"US-ASCII",
-        from: b"ISO-8859-1",
-        policy: Policy::Substitute,
+fn requests_are_written(rt: HostRuntime) -> Result<(), Fail> {
+    for line in REQUESTS.trim().lines() {
+        assert!(rt; is_written(rt.alloc(), line)?, "{line}");
+    }
+    Ok(())
+}
+
+/// Whether the request of a line is written as its frame.
+fn is_written(alloc: Global, line: &str) -> Result<bool, Fail> {
+    let (request, frame) = sides(line, " = ")?;
+    let frame = bytes_of(alloc, frame)?;
+    let mut out = Vec::new(alloc);
+    write(alloc, &mut out, request)?;
+    Ok(out.as_slice() == frame.as_slice())
+}
+
+/// Writes the frame of a request.
+fn write(alloc: Global, out: &mut Vec<u8>, request: &str) -> Result<(), Fail> {
+    let (caller, rest) = sides(request, " ")?;
+    let (tag, rest) = sides(rest, " ")?;
+    let caller = caller.parse::<u32>()?;
+    let tag = tag.parse::<u32>()?;
+    let (command, rest) = first_word(rest);
+    match command {
+        "open" => write_open(out, caller, tag, rest),
+        "conv" => write_conv(alloc, out, caller, tag, rest),
+        _ => write_text(out, caller, tag, command, rest),
+    }
+}
+
+/// `open TARGET SOURCE [strict]`
+fn write_open(out: &mut Vec<u8>, caller: u32, tag: u32, rest: &str) -> Result<(), Fail> {
+    let (to, rest) = sides(rest, " ")?;
+    let (from, policy) = first_word(rest);
+    let (to, from) = (to.as_bytes(), from.as_bytes());
+    if to.len() > 255 || from.len() > 255 {
+        return Err("a name that is too long".into());
+    }
+    let policy = policy_of(policy);
+    write_request(out, caller, tag, &Ask::Open { to, from, policy })?;
+    Ok(())
+}
+
+/// `conv DESCRIPTOR ROOM BYTES`
+fn write_conv(
+    alloc: Global,
+    out: &mut Vec<u8>,
+    caller: u32,
+    tag: u32,
+    rest: &str,
+) -> Result<(), Fail> {
+    let (number, rest) = sides(rest, " ")?;
+    let (room, input) = sides(rest, " ")?;
+    let number = number.parse::<u32>()?;
+    let room = room.parse::<u32>()?;
+    let input = bytes_of(alloc, input)?;
+    let input = input.as_slice();
+    if input.len() > 255 {
+        return Err("an input that is too long".into());
+    }
+    let ask = Ask::Conv {
+        number,
+        room,
+        input,
     };
-    write_request(&mut out, 7, 1, &ask)?;
-    assert_eq!(rt; out.as_slice(), OPEN);
+    write_request(out, caller, tag, &ask)?;
+    Ok(())
+}
+
+/// `put TEXT`, `part TEXT`, `drop NAME` or `bye`
+fn write_text(
+    out: &mut Vec<u8>,
+    caller: u32,
+    tag: u32,
+    command: &str,
+    text: &str,
+) -> Result<(), Fail> {
+    let text = text.as_bytes();
+    if text.len() > 255 {
+        return Err("a text that is too long".into());
+    }
+    match command {
+        "put" => write_request(out, caller, tag, &Ask::Put(text))?,
+        "part" => write_request(out, caller, tag, &Ask::Part(text))?,
+        "drop" => write_request(out, caller, tag, &Ask::DropMap(text))?,
+        "bye" => write_request(out, caller, tag, &Ask::Bye)?,
+        _ => return Err("no such request".into()),
+    }
+    Ok(())
+}
+
+/// Bodies of requests, and what they read as: the words of a script, with names and inputs as Rust escapes them, or `none`.
+const BODIES: &str = r#"
+open 01"a" 01"b" = a b Substitute
+open 01"a" 01"b" 00 = a b Substitute
+open 01"a" 01"b" 01 = a b Strict
+open 01"a" 01"b" 02 = none
+open 01"a" 01"b" ff = none
+open 01"a" 01"b" 0000 = none
+open 01"a" 01"b" 0100 = none
+conv 00000000 00000008 "A"e9"B" = 0 8 A\xe9B
+drop 03"TOY" = "TOY"
+drop 00 = ""
+drop "" = none
+drop 04"TOY" = none
+drop 02"TOY" = none
+drop 0000 = none
+"#;
+
+#[test]
+fn bodies_are_read(rt: HostRuntime) -> Result<(), Fail> {
+    for line in BODIES.trim().lines() {
+        assert!(rt; is_read(rt.alloc(), line)?, "{line}");
+    }
+    Ok(())
+}
+
+/// Whether the body of a line reads as it is to be read.
+fn is_read(alloc: Global, line: &str) -> Result<bool, Fail> {
+    let (given, wanted) = sides(line, " = ")?;
+    let (op, body) = sides(given, " ")?;
+    let body = bytes_of(alloc, body)?;
+    let read = told(alloc, op, &body)?;
+    Ok(read.as_str() == wanted)
+}
+
+/// What a body reads as, in the words of a line.
+fn told(alloc: Global, op: &str, body: &[u8]) -> Result<String, AllocError> {
+    match op {
+        "open" => {
+            if let Some(OpenBody { to, from, policy }) = read_open(body) {
+                let (to, from) = (to.escape_ascii(), from.escape_ascii());
+                return format!(in alloc; "{to} {from} {policy:?}");
+            }
+        }
+        "conv" => {
+            if let Some((number, room, input)) = read_conv(body) {
+                let input = input.escape_ascii();
+                return format!(in alloc; "{number} {room} {input}");
+            }
+        }
+        _ => {
+            if let Some(name) = read_name(body) {
+                let name = name.escape_ascii();
+                return format!(in alloc; "\"{name}\"");
+            }
+        }
+    }
+    String::from_str(alloc, "none")
+}
+
+/// Caller 7 opens a descriptor to US-ASCII from ISO-8859-1.
+const OPEN: &[u8] = b"\0\0\0\x1d\0\0\0\x07\0\0\0\x01\x03\x08US-ASCII\x0aISO-8859-1";
+
+#[test]
+fn a_request_is_read(rt: HostRuntime) -> Result<(), Fail> {
     let Frame::Whole { request, n } = next_request(OPEN) else {
         return Err("the frame is whole".into());
     };
     assert_eq!(rt; (request.caller, request.tag, request.op, n), (7, 1, 3, 33));
-    let open = read_open(request.body).ok_or("the body is an OPEN's")?;
-    assert_eq!(rt; open.to, b"US-ASCII".as_slice());
-    assert_eq!(rt; open.from, b"ISO-8859-1".as_slice());
-    assert_eq!(rt; open.policy, Policy::Substitute);
+    let read = told(rt.alloc(), "open", request.body)?;
+    assert_eq!(rt; read.as_str(), "US-ASCII ISO-8859-1 Substitute");
     Ok(())
 }
 
-// Caller 1 opens a strict descriptor to US-ASCII from UTF-8.
-const STRICT: &[u8] = b"\0\0\0\x19\0\0\0\x01\0\0\0\x01\x03\x08US-ASCII\x05UTF-8\x01";
+/// The descriptor has the number 0.
+const OPENED: &[u8] = b"\0\0\0\x0d\0\0\0\x07\0\0\0\x01\0\0\0\0\0";
 
 #[test]
-fn strict_open_request(rt: HostRuntime) -> Result<(), Fail> {
-    let mut out = Vec::new(rt.alloc());
-    let ask = Ask::Open {
-        to: b"US-ASCII",
-        from: b"UTF-8",
-        policy: Policy::Strict,
-    };
-    write_request(&mut out, 1, 1, &ask)?;
-    assert_eq!(rt; out.as_slice(), STRICT);
-    Ok(())
-}
-
-#[test]
-fn policies(rt: HostRuntime) {
-    let bodies = [
-        (b"\x01a\x01b".as_slice(), Some(Policy::Substitute)),
-        (b"\x01a\x01b\0", Some(Policy::Substitute)),
-        (b"\x01a\x01b\x01", Some(Policy::Strict)),
-        (b"\x01a\x01b\x02", None),
-        (b"\x01a\x01b\xff", None),
-        (b"\x01a\x01b\0\0", None),
-        (b"\x01a\x01b\x01\0", None),
-    ];
-    for (body, policy) in bodies {
-        let found = read_open(body).map(|open| open.policy);
-        assert_eq!(rt; found, policy, "{body:?}");
-    }
-}
-
-#[test]
-fn open_reply(rt: HostRuntime) -> Result<(), Fail> {
+fn a_reply_is_written(rt: HostRuntime) -> Result<(), Fail> {
     let mut out = Vec::new(rt.alloc());
     let head = Piece::of(&[0; 4]);
     let reply = Reply::new(7, 1, Status::Ok, head, Bytes::new(rt.alloc()));
     write_reply(&mut out, &reply)?;
     assert_eq!(rt; out.as_slice(), OPENED);
+    Ok(())
+}
+
+#[test]
+fn a_reply_is_read(rt: HostRuntime) -> Result<(), Fail> {
     let ReplyFrame::Whole {
         caller,
         tag,
@@ -87,62 +216,6 @@ fn open_reply(rt: HostRuntime) -> Result<(), Fail> {
     assert_eq!(rt; (caller, tag, status, n), (7, 1, 0, 17));
     assert_eq!(rt; read_number(body), Some(0));
     Ok(())
-}
-
-#[test]
-fn conv_request(rt: HostRuntime) -> Result<(), Fail> {
-    let mut out = Vec::new(rt.alloc());
-    let ask = Ask::Conv {
-        number: 0,
-        room: 8,
-        input: b"\x41\xe9\x42",
-    };
-    write_request(&mut out, 7, 2, &ask)?;
-    assert_eq!(rt; out.as_slice(), CONV);
-    let (number, room, input) = read_conv(&CONV[13..]).ok_or("the body is a CONV's")?;
-    assert_eq!(rt; (number, room), (0, 8));
-    assert_eq!(rt; input, b"\x41\xe9\x42".as_slice());
-    Ok(())
-}
-
-#[test]
-fn charmap_requests(rt: HostRuntime) -> Result<(), Fail> {
-    let asks = [
-        (
-            Ask::Put(b"CHARMAP"),
-            b"\0\0\0\x10\0\0\0\x07\0\0\0\x02\x01CHARMAP".as_slice(),
-        ),
-        (Ask::Put(b""), b"\0\0\0\x09\0\0\0\x07\0\0\0\x02\x01"),
-        (
-            Ask::DropMap(b"TOY"),
-            b"\0\0\0\x0d\0\0\0\x07\0\0\0\x02\x02\x03TOY",
-        ),
-        (Ask::DropMap(b""), b"\0\0\0\x0a\0\0\0\x07\0\0\0\x02\x02\0"),
-        (Ask::Bye, b"\0\0\0\x09\0\0\0\x07\0\0\0\x02\x07"),
-        (Ask::Part(b"q"), b"\0\0\0\x0a\0\0\0\x07\0\0\0\x02\x08q"),
-        (Ask::Part(b""), b"\0\0\0\x09\0\0\0\x07\0\0\0\x02\x08"),
-    ];
-    for (ask, frame) in asks {
-        let mut out = Vec::new(rt.alloc());
-        write_request(&mut out, 7, 2, &ask)?;
-        assert_eq!(rt; out.as_slice(), frame, "{ask:?}");
-    }
-    Ok(())
-}
-
-#[test]
-fn names(rt: HostRuntime) {
-    let bodies = [
-        (b"\x03TOY".as_slice(), Some(b"TOY".as_slice())),
-        (b"\0", Some(b"")),
-        (b"", None),
-        (b"\x04TOY", None),
-        (b"\x02TOY", None),
-        (b"\0\0", None),
-    ];
-    for (body, name) in bodies {
-        assert_eq!(rt; read_name(body), name, "{body:?}");
-    }
 }
 
 #[test]
@@ -162,33 +235,16 @@ fn lengths(rt: HostRuntime) {
     }
 }
 
+/// The names of the statuses from 0 on. No others have one.
+const NAMES: &str =
+    "OK E2BIG EILSEQ EINVAL EBADF EMFILE ENOMEM UNSUPPORTED BADREQ BADMAP EXISTS NONAME BUSY QUOTA ROOM ENOCHAR";
+
 #[test]
 fn statuses(rt: HostRuntime) -> Result<(), Fail> {
-    let names = [
-        "OK",
-        "E2BIG",
-        "EILSEQ",
-        "EINVAL",
-        "EBADF",
-        "EMFILE",
-        "ENOMEM",
-        "UNSUPPORTED",
-        "BADREQ",
-        "BADMAP",
-        "EXISTS",
-        "NONAME",
-        "BUSY",
-        "QUOTA",
-        "ROOM",
-        "ENOCHAR",
-    ];
+    let mut names = NAMES.split_whitespace();
     for number in 0..=255u8 {
         let status = Status::from_number(number);
-        assert_eq!(rt;
-            status.map(|s| s.name()),
-            names.get(number as usize).copied(),
-            "{number}"
-        );
+        assert_eq!(rt; status.map(Status::name), names.next(), "{number}");
         if let Some(status) = status {
             assert_eq!(rt; status.number(), number);
         }

@@ -3,14 +3,16 @@ mod at_once;
 mod in_order;
 mod uploads;
 
-use cv_frame::Request;
+use cv_cache::Cached;
+use cv_pool::{MOST_WORKERS, Open, Pool};
+use std::alloc::Global;
+use std::test::Fail;
 
-/// A request with this body, or as much of it as a frame holds.
-fn request(caller: u32, tag: u32, op: u8, body: &[u8]) -> Request<'_> {
-    Request {
-        caller,
-        tag,
-        op,
-        body: &body[..body.len().min(cv_frame::MOST_BODY)],
+/// A pool of so many workers, with a cache of its own.
+fn pool_of(alloc: Global, workers: u32) -> Result<Pool<Cached, Open>, Fail> {
+    if workers == 0 || workers as usize > MOST_WORKERS {
+        return Err("no pool has so many workers".into());
     }
+    let cached = Cached::new(alloc)?;
+    Ok(Pool::new(alloc, workers, cached, Open)?)
 }

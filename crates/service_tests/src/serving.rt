@@ -2,11 +2,12 @@
 mod cut_readers;
 mod uploads;
 
+use crate::streams::{Narrow, Slow};
+use crate::words::sides;
 use cv_frame::Request;
 use cv_loop::{Engine, FromReader, ServeFault, Served, ToWriter, serve};
 use cv_world::World;
 use std::alloc::Global;
-use std::io::{self, ErrorKind, Read, Write};
 use std::test::Fail;
 
 /// Caller 7 opens a conversion to US-ASCII from ISO-8859-1.
@@ -16,167 +17,96 @@ const FRAME: &[u8] =
 /// What a new world replies.
 const REPLY: &[u8] = b"\x00\x00\x00\x0d\x00\x00\x00\x07\x00\x00\x00\x01\x00\x00\x00\x00\x00";
 
-/// Gives its bytes a few at a time, and then ends or fails.
-#[derive(Drop)]
-struct Slow {
-    bytes: &'static [u8],
-    more: &'static [u8],
-    step: usize,
-    fails: bool,
-}
-
-impl Read for Slow {
-    fn read(&mut self, buf: &mut [u8]) -> io::Result<usize> {
-        if self.bytes.is_empty() {
-            self.bytes = self.more;
-            self.more = b"";
-        }
-        let n = self.step.min(self.bytes.len()).min(buf.len());
-        if n == 0 && self.fails {
-            return Err(ErrorKind::BrokenPipe.into());
-        }
-        let (front, rest) = self.bytes.split_at(n);
-        buf[..n].copy_from_slice(front);
-        self.bytes = rest;
-        Ok(n)
-    }
-}
-
-/// Takes so many bytes, and then fails or takes none.
-#[derive(Drop)]
-struct Narrow {
-    taken: Vec<u8>,
-    room: usize,
-    fails: bool,
-}
-
-impl Write for Narrow {
-    fn write(&mut self, buf: &[u8]) -> io::Result<usize> {
-        let n = self.room.min(buf.len());
-        if n == 0 && self.fails {
-            return Err(ErrorKind::BrokenPipe.into());
-        }
-        self.taken.extend_from_slice(&buf[..n])?;
-        self.room -= n;
-        Ok(n)
-    }
-
-    fn flush(&mut self) -> io::Result<()> {
-        Ok(())
-    }
-}
-
-/// A stream, how it is read and written, and what has to come of it.
+/// How a stream is given, and how its replies are taken.
 #[derive(Clone, Copy)]
 struct Case {
-    name: &'static str,
     /// How many bytes of the frame are given.
     given: usize,
-    /// What is given after them.
-    more: &'static [u8],
+    /// A length that is given behind them.
+    length: Option<u32>,
     step: usize,
     reader_fails: bool,
+    reads: u64,
     room: usize,
     writer_fails: bool,
-    max_reads: u64,
-    result: Result<Served, ServeFault>,
-    /// How many bytes of the reply are written.
-    written: usize,
 }
 
-/// A whole stream of one frame.
-const PLAIN: Case = Case {
-    name: "one frame",
+/// A stream of the whole frame.
+const WHOLE: Case = Case {
     given: FRAME.len(),
-    more: b"",
+    length: None,
     step: 65_536,
     reader_fails: false,
+    reads: 1_000,
     room: 1_000,
     writer_fails: false,
-    max_reads: 1_000,
-    result: Ok(Served { requests: 1 }),
-    written: REPLY.len(),
 };
 
-/// The frame has 33 bytes.
-const CASES: [Case; 11] = [
-    PLAIN,
-    Case {
-        name: "a length below all frames",
-        more: b"\x00\x00\x00\x08",
-        result: Err(ServeFault::BadLength { length: 8 }),
-        ..PLAIN
-    },
-    Case {
-        name: "a length above all frames",
-        more: b"\x00\x10\x00\x01",
-        result: Err(ServeFault::BadLength { length: 1_048_577 }),
-        ..PLAIN
-    },
-    Case {
-        name: "a frame without its last byte",
-        given: 32,
-        result: Err(ServeFault::TruncatedFrame),
-        written: 0,
-        ..PLAIN
-    },
-    Case {
-        name: "no bytes",
-        given: 0,
-        max_reads: 1,
-        result: Ok(Served { requests: 0 }),
-        written: 0,
-        ..PLAIN
-    },
-    Case {
-        name: "no bytes and no reads",
-        given: 0,
-        max_reads: 0,
-        result: Err(ServeFault::TooManyReads),
-        written: 0,
-        ..PLAIN
-    },
-    Case {
-        name: "a read for each byte",
-        step: 1,
-        max_reads: 33,
-        result: Err(ServeFault::TooManyReads),
-        ..PLAIN
-    },
-    Case {
-        name: "a read for each byte and one for the end",
-        step: 1,
-        max_reads: 34,
-        ..PLAIN
-    },
-    Case {
-        name: "a writer that takes 5 bytes and fails",
-        room: 5,
-        writer_fails: true,
-        result: Err(ServeFault::Write { written: 5 }),
-        written: 5,
-        ..PLAIN
-    },
-    Case {
-        name: "a writer that takes none",
-        room: 0,
-        result: Err(ServeFault::Write { written: 0 }),
-        written: 0,
-        ..PLAIN
-    },
-    Case {
-        name: "a reader that fails",
-        reader_fails: true,
-        result: Err(ServeFault::Read),
-        ..PLAIN
-    },
-];
+/// `NAME: WAYS = RESULT WRITTEN`: in which ways the case is another than the whole frame, which has 33 bytes, how serving it ends, and how
+/// many bytes of the reply are written.
+const CASES: &str = "
+one frame: given 33 = Ok(Served { requests: 1 }) 17
+a length below all frames: length 8 = Err(BadLength { length: 8 }) 17
+a length above all frames: length 1048577 = Err(BadLength { length: 1048577 }) 17
+a frame without its last byte: given 32 = Err(TruncatedFrame) 0
+no bytes: given 0, reads 1 = Ok(Served { requests: 0 }) 0
+no bytes and no reads: given 0, reads 0 = Err(TooManyReads) 0
+a read for each byte: step 1, reads 33 = Err(TooManyReads) 17
+a read for each byte and one for the end: step 1, reads 34 = Ok(Served { requests: 1 }) 17
+a writer that takes 5 bytes and fails: room 5, writer fails = Err(Write { written: 5 }) 5
+a writer that takes none: room 0 = Err(Write { written: 0 }) 0
+a reader that fails: reader fails = Err(Read) 17
+";
+
+#[test]
+fn ends_as_it_should(rt: HostRuntime) -> Result<(), Fail> {
+    for line in CASES.trim().lines() {
+        let (given, wanted) = sides(line, " = ")?;
+        let (result, written) = run(rt.alloc(), &case_of(given)?);
+        let written = written.ok_or("another reply")?;
+        let told = format!(in rt.alloc(); "{result:?} {written}")?;
+        assert_eq!(rt; told.as_str(), wanted, "{line}");
+    }
+    Ok(())
+}
+
+/// The case that a line gives.
+fn case_of(given: &str) -> Result<Case, Fail> {
+    let (_, ways) = sides(given, ": ")?;
+    let mut case = WHOLE;
+    for way in ways.split(", ") {
+        set(&mut case, way)?;
+    }
+    Ok(case)
+}
+
+/// Sets one way in which a case is another.
+fn set(case: &mut Case, way: &str) -> Result<(), Fail> {
+    let (name, value) = sides(way, " ")?;
+    match name {
+        "given" => case.given = value.parse::<usize>()?,
+        "length" => case.length = Some(value.parse::<u32>()?),
+        "step" => case.step = value.parse::<usize>()?,
+        "reads" => case.reads = value.parse::<u64>()?,
+        "room" => case.room = value.parse::<usize>()?,
+        "reader" => case.reader_fails = value == "fails",
+        "writer" => case.writer_fails = value == "fails",
+        _ => return Err("no such way".into()),
+    }
+    Ok(())
+}
 
 /// What serving a case by a new world gives, and how many bytes of the reply it wrote.
 fn run(alloc: Global, case: &Case) -> (Result<Served, ServeFault>, Option<usize>) {
+    let length = case.length.unwrap_or(0).to_be_bytes();
+    let more = if case.length.is_some() {
+        length.as_slice()
+    } else {
+        b"".as_slice()
+    };
     let mut reader = FromReader::new(Slow {
         bytes: &FRAME[..case.given.min(FRAME.len())],
-        more: case.more,
+        more,
         step: case.step,
         fails: case.reader_fails,
     });
@@ -186,27 +116,10 @@ fn run(alloc: Global, case: &Case) -> (Result<Served, ServeFault>, Option<usize>
         fails: case.writer_fails,
     });
     let mut world = World::new(alloc);
-    let result = serve(
-        &mut world,
-        &(),
-        alloc,
-        &mut reader,
-        &mut writer,
-        case.max_reads,
-    );
+    let result = serve(&mut world, &(), alloc, &mut reader, &mut writer, case.reads);
     let narrow = writer.into_inner();
     let is_front = REPLY.starts_with(narrow.taken.as_slice());
     (result, is_front.then_some(narrow.taken.len()))
-}
-
-#[test]
-fn ends_as_it_should(rt: HostRuntime) {
-    for case in CASES {
-        let (result, written) = run(rt.alloc(), &case);
-        let name = case.name;
-        assert_eq!(rt; result, case.result, "{name}");
-        assert_eq!(rt; written, Some(case.written), "{name}");
-    }
 }
 
 #[test]
@@ -228,21 +141,29 @@ fn world_is_an_engine(rt: HostRuntime) -> Result<(), Fail> {
     Ok(())
 }
 
+/// Why serving ends, and the text of it.
+const TEXTS: &str = "
+TruncatedFrame: truncated frame
+BadLength { length: 8 }: bad length 8
+Read: read failed
+Write { written: 5 }: write failed after 5 bytes
+TooManyReads: too many reads
+Memory: out of memory
+";
+
 #[test]
 fn faults_have_texts(rt: HostRuntime) -> Result<(), Fail> {
-    let texts = [
-        (ServeFault::TruncatedFrame, "truncated frame"),
-        (ServeFault::BadLength { length: 8 }, "bad length 8"),
-        (ServeFault::Read, "read failed"),
-        (
-            ServeFault::Write { written: 5 },
-            "write failed after 5 bytes",
-        ),
-        (ServeFault::TooManyReads, "too many reads"),
-        (ServeFault::Memory, "out of memory"),
+    let faults = [
+        ServeFault::TruncatedFrame,
+        ServeFault::BadLength { length: 8 },
+        ServeFault::Read,
+        ServeFault::Write { written: 5 },
+        ServeFault::TooManyReads,
+        ServeFault::Memory,
     ];
-    for (fault, text) in texts {
-        assert_eq!(rt; format!(in rt.alloc(); "{fault}")?.as_str(), text);
+    for (fault, line) in faults.iter().zip(TEXTS.trim().lines()) {
+        let told = format!(in rt.alloc(); "{fault:?}: {fault}")?;
+        assert_eq!(rt; told.as_str(), line);
     }
     Ok(())
 }

@@ -1,233 +1,127 @@
-//! One world and its callers, with ample memory.
+//! One world and its callers, with ample memory. `scripts` says how a line is read.
 mod feeds;
+mod scripts;
 
-use cv_base::Policy;
-use cv_cache::{Compiler, Plain};
-use cv_frame::Status;
-use cv_pivot::Stop;
-use cv_world::{Answer, Op, World};
-use std::alloc::Global;
+use crate::world::scripts::ask;
 use std::test::Fail;
 
-/// An OPEN that substitutes.
-fn open(world: &mut World, alloc: Global, caller: u32, to: &[u8], from: &[u8]) -> Answer {
-    let op = Op::Open {
-        to,
-        from,
-        policy: Policy::Substitute,
-    };
-    world.step(alloc, caller, op)
-}
-
-/// A PUT: the caller's part and this text are compiled.
-fn put(world: &mut World, alloc: Global, caller: u32, text: &[u8]) -> Result<Answer, Fail> {
-    let text = world.gather(alloc, caller, text)?;
-    let charmap = Plain.compile(&(), alloc, text.as_slice());
-    Ok(world.step(alloc, caller, Op::Put(charmap)))
-}
-
-/// A PUT of a charmap of this name, with `?` and this line.
-fn put_map(
-    world: &mut World,
-    alloc: Global,
-    caller: u32,
-    name: &str,
-    line: &str,
-) -> Result<Answer, Fail> {
-    let text = format!(in alloc;
-        "<code_set_name> {name}\nCHARMAP\n<question-mark> \\x3F\n{line}\nEND CHARMAP\n"
-    )?;
-    put(world, alloc, caller, text.as_bytes())
-}
-
-/// A CONV of one byte.
-fn conv(world: &mut World, alloc: Global, caller: u32, number: u32, byte: u8) -> Answer {
-    let input = &[byte];
-    let op = Op::Conv {
-        number,
-        room: 9,
-        input,
-    };
-    world.step(alloc, caller, op)
-}
-
-/// Whether all was converted, to this.
-fn is_converted(answer: &Answer, want: &[u8]) -> bool {
-    match answer {
-        Answer::Converted {
-            stop: Stop::Done,
-            left: 0,
-            bytes,
-            ..
-        } => bytes.as_slice() == want,
-        _ => false,
-    }
-}
-
-/// Whether it was refused for this.
-fn is_refused(answer: &Answer, want: Status) -> bool {
-    matches!(answer, Answer::Refused(status) if *status == want)
-}
+const LIMITS: &str = r"
+1 open US-ASCII UTF-8 = number 0
+1 open US-ASCII UTF-8 = number 1
+1 open US-ASCII UTF-8 = number 2
+1 open US-ASCII UTF-8 = number 3
+1 open US-ASCII UTF-8 = number 4
+1 open US-ASCII UTF-8 = number 5
+1 open US-ASCII UTF-8 = number 6
+1 open US-ASCII UTF-8 = number 7
+1 open US-ASCII UTF-8 = number 8
+1 open US-ASCII UTF-8 = number 9
+1 open US-ASCII UTF-8 = number 10
+1 open US-ASCII UTF-8 = number 11
+1 open US-ASCII UTF-8 = number 12
+1 open US-ASCII UTF-8 = number 13
+1 open US-ASCII UTF-8 = number 14
+1 open US-ASCII UTF-8 = number 15
+1 open US-ASCII UTF-8 = EMFILE
+1 put <code_set_name> A|CHARMAP|<question-mark> \x3F||END CHARMAP| = count 1
+1 put <code_set_name> B|CHARMAP|<question-mark> \x3F||END CHARMAP| = count 1
+1 put <code_set_name> C|CHARMAP|<question-mark> \x3F||END CHARMAP| = count 1
+1 put <code_set_name> D|CHARMAP|<question-mark> \x3F||END CHARMAP| = count 1
+1 put <code_set_name> E|CHARMAP|<question-mark> \x3F||END CHARMAP| = count 1
+1 put <code_set_name> F|CHARMAP|<question-mark> \x3F||END CHARMAP| = count 1
+1 put <code_set_name> G|CHARMAP|<question-mark> \x3F||END CHARMAP| = count 1
+1 put <code_set_name> H|CHARMAP|<question-mark> \x3F||END CHARMAP| = count 1
+1 put <code_set_name> I|CHARMAP|<question-mark> \x3F||END CHARMAP| = QUOTA
+1 put <code_set_name> h|CHARMAP|<question-mark> \x3F||END CHARMAP| = EXISTS
+1 put <code_set_name> utf-8|CHARMAP|<question-mark> \x3F||END CHARMAP| = EXISTS
+2 put <code_set_name> h|CHARMAP|<question-mark> \x3F||END CHARMAP| = count 1
+";
 
 #[test]
 fn numbers_and_charmaps_have_limits(rt: HostRuntime) -> Result<(), Fail> {
-    let alloc = rt.alloc();
-    let mut world = World::new(alloc);
-    let ascii = b"US-ASCII".as_slice();
-    for wanted in 0..16 {
-        let opened = open(&mut world, alloc, 1, ascii, b"UTF-8");
-        assert!(rt;
-            matches!(&opened, Answer::Number(number) if *number == wanted),
-            "{wanted}"
-        );
-    }
-    let full = open(&mut world, alloc, 1, ascii, b"UTF-8");
-    assert!(rt; is_refused(&full, Status::TooManyDescriptors));
-    for name in ["A", "B", "C", "D", "E", "F", "G", "H"] {
-        let held = put_map(&mut world, alloc, 1, name, "")?;
-        assert!(rt; matches!(&held, Answer::Count(1)), "{name}");
-    }
-    let cases = [
-        (1, "I", Some(Status::Quota)),
-        (1, "h", Some(Status::Exists)),
-        (1, "utf-8", Some(Status::Exists)),
-        (2, "h", None),
-    ];
-    for (caller, name, want) in cases {
-        let answer = put_map(&mut world, alloc, caller, name, "")?;
-        match want {
-            Some(status) => assert!(rt; is_refused(&answer, status), "{name}"),
-            None => assert!(rt; matches!(&answer, Answer::Count(1)), "{name}"),
-        }
-    }
-    Ok(())
+    ask(&rt, LIMITS)
 }
+
+const IN_USE: &str = r"
+1 put <code_set_name> TOY|CHARMAP|<question-mark> \x3F|<U0100> \x80|END CHARMAP| = count 2
+1 open UTF-8 toy = number 0
+1 drop TOY = BUSY
+1 conv 0 9 80 = Done 0 0 c480
+1 close 0 = empty
+1 drop TOY = empty
+1 drop TOY = NONAME
+1 conv 0 9 80 = EBADF
+1 conv 16 9 80 = EBADF
+1 open UTF8 UTF-8 = UNSUPPORTED
+";
 
 #[test]
 fn a_charmap_in_use_stays(rt: HostRuntime) -> Result<(), Fail> {
-    let alloc = rt.alloc();
-    let mut world = World::new(alloc);
-    let _ = put_map(&mut world, alloc, 1, "TOY", "<U0100> \\x80")?;
-    let opened = open(&mut world, alloc, 1, b"UTF-8", b"toy");
-    assert!(rt; matches!(&opened, Answer::Number(0)));
-    let busy = world.step(alloc, 1, Op::DropMap(b"TOY"));
-    assert!(rt; is_refused(&busy, Status::Busy));
-    let read = conv(&mut world, alloc, 1, 0, 0x80);
-    assert!(rt; is_converted(&read, b"\xc4\x80"));
-    let closed = world.step(alloc, 1, Op::Close(0));
-    assert!(rt; matches!(&closed, Answer::Empty));
-    let dropped = world.step(alloc, 1, Op::DropMap(b"TOY"));
-    assert!(rt; matches!(&dropped, Answer::Empty));
-    let again = world.step(alloc, 1, Op::DropMap(b"TOY"));
-    assert!(rt; is_refused(&again, Status::NoName));
-    for number in [0, 16] {
-        let unknown = conv(&mut world, alloc, 1, number, 0x80);
-        assert!(rt; is_refused(&unknown, Status::BadDescriptor), "{number}");
-    }
-    let misspelled = open(&mut world, alloc, 1, b"UTF8", b"UTF-8");
-    assert!(rt; is_refused(&misspelled, Status::Unsupported));
-    Ok(())
+    ask(&rt, IN_USE)
 }
+
+const BYE: &str = r"
+1 put <code_set_name> TOY|CHARMAP|<question-mark> \x3F|<U0100> \x80|END CHARMAP| = count 2
+1 open UTF-8 TOY = number 0
+2 put <code_set_name> TOY|CHARMAP|<question-mark> \x3F|<U0100> \x80|END CHARMAP| = count 2
+2 open UTF-8 TOY = number 0
+1 part xyz = count 3
+1 bye = empty
+1 conv 0 9 80 = EBADF
+1 open UTF-8 TOY = UNSUPPORTED
+1 part q = count 1
+1 open UTF-8 US-ASCII = number 0
+2 conv 0 9 80 = Done 0 0 c480
+2 open UTF-8 TOY = number 1
+";
 
 #[test]
 fn bye_empties_one_table(rt: HostRuntime) -> Result<(), Fail> {
-    let alloc = rt.alloc();
-    let mut world = World::new(alloc);
-    for caller in [1, 2] {
-        let _ = put_map(&mut world, alloc, caller, "TOY", "<U0100> \\x80")?;
-        let opened = open(&mut world, alloc, caller, b"UTF-8", b"TOY");
-        assert!(rt; matches!(&opened, Answer::Number(0)), "{caller}");
-    }
-    let _ = world.step(alloc, 1, Op::Part(b"xyz"));
-    let bye = world.step(alloc, 1, Op::Bye);
-    assert!(rt; matches!(&bye, Answer::Empty));
-    let unknown = conv(&mut world, alloc, 1, 0, 0x80);
-    assert!(rt; is_refused(&unknown, Status::BadDescriptor));
-    let dropped = open(&mut world, alloc, 1, b"UTF-8", b"TOY");
-    assert!(rt; is_refused(&dropped, Status::Unsupported));
-    let part = world.step(alloc, 1, Op::Part(b"q"));
-    assert!(rt; matches!(&part, Answer::Count(1)));
-    let opened = open(&mut world, alloc, 1, b"UTF-8", b"US-ASCII");
-    assert!(rt; matches!(&opened, Answer::Number(0)));
-    let read = conv(&mut world, alloc, 2, 0, 0x80);
-    assert!(rt; is_converted(&read, b"\xc4\x80"));
-    let next = open(&mut world, alloc, 2, b"UTF-8", b"TOY");
-    assert!(rt; matches!(&next, Answer::Number(1)));
-    Ok(())
+    ask(&rt, BYE)
 }
+
+const KEYS: &str = r#"
+1 open UTF-8 US-ASCII = number 0
+2 open UTF-8 US-ASCII = number 0
+1 close 0 = empty
+3 open UTF-16BE US-ASCII = number 0
+1 conv 0 9 "A" = EBADF
+3 conv 0 9 "A" = Done 0 0 00"A"
+2 conv 0 9 "A" = Done 0 0 "A"
+1 open UTF-8 US-ASCII = number 0
+"#;
 
 #[test]
 fn a_key_is_used_again(rt: HostRuntime) -> Result<(), Fail> {
-    let alloc = rt.alloc();
-    let mut world = World::new(alloc);
-    for caller in [1, 2] {
-        let opened = open(&mut world, alloc, caller, b"UTF-8", b"US-ASCII");
-        assert!(rt; matches!(&opened, Answer::Number(0)), "{caller}");
-    }
-    let closed = world.step(alloc, 1, Op::Close(0));
-    assert!(rt; matches!(&closed, Answer::Empty));
-    let third = open(&mut world, alloc, 3, b"UTF-16BE", b"US-ASCII");
-    assert!(rt; matches!(&third, Answer::Number(0)));
-    let gone = conv(&mut world, alloc, 1, 0, b'A');
-    assert!(rt; is_refused(&gone, Status::BadDescriptor));
-    let wide = conv(&mut world, alloc, 3, 0, b'A');
-    assert!(rt; is_converted(&wide, b"\0A"));
-    let narrow = conv(&mut world, alloc, 2, 0, b'A');
-    assert!(rt; is_converted(&narrow, b"A"));
-    let again = open(&mut world, alloc, 1, b"UTF-8", b"US-ASCII");
-    assert!(rt; matches!(&again, Answer::Number(0)));
-    Ok(())
+    ask(&rt, KEYS)
 }
+
+const PARTS: &str = r"
+1 part <code_set_name> P|CHARMAP|<question-mark> \x3F| = count 47
+2 part <code_set_name> P|CHARMAP|<question-mark> \x6F| = count 47
+1 put <U0100> \x80|END CHARMAP = count 2
+1 put <U0100> \x80|END CHARMAP = BADMAP 2
+1 open UTF-8 P = number 0
+1 conv 0 9 80 = Done 0 0 c480
+2 put <U0142> \x80|END CHARMAP = count 2
+2 put <U0142> \x80|END CHARMAP = BADMAP 2
+2 open UTF-8 P = number 0
+2 conv 0 9 80 = Done 0 0 c582
+";
 
 #[test]
 fn parts_are_their_callers(rt: HostRuntime) -> Result<(), Fail> {
-    let alloc = rt.alloc();
-    let mut world = World::new(alloc);
-    let cases = [
-        (
-            1,
-            b"<code_set_name> P\nCHARMAP\n<question-mark> \\x3F\n".as_slice(),
-            b"<U0100> \\x80\nEND CHARMAP".as_slice(),
-            b"\xc4\x80".as_slice(),
-        ),
-        (
-            2,
-            b"<code_set_name> P\nCHARMAP\n<question-mark> \\x6F\n".as_slice(),
-            b"<U0142> \\x80\nEND CHARMAP".as_slice(),
-            b"\xc5\x82".as_slice(),
-        ),
-    ];
-    for (caller, part, _, _) in cases {
-        let sent = world.step(alloc, caller, Op::Part(part));
-        assert!(rt; matches!(&sent, Answer::Count(0x2f)), "{caller}");
-    }
-    for (caller, _, text, want) in cases {
-        let held = put(&mut world, alloc, caller, text)?;
-        assert!(rt; matches!(&held, Answer::Count(2)), "{caller}");
-        let again = put(&mut world, alloc, caller, text)?;
-        assert!(rt;
-            matches!(&again, Answer::BadMap(fault) if fault.line == 2),
-            "{caller}"
-        );
-        let opened = open(&mut world, alloc, caller, b"UTF-8", b"P");
-        assert!(rt; matches!(&opened, Answer::Number(0)), "{caller}");
-        let read = conv(&mut world, alloc, caller, 0, 0x80);
-        assert!(rt; is_converted(&read, want), "{caller}");
-    }
-    Ok(())
+    ask(&rt, PARTS)
 }
+
+const REFUSED_PUT: &str = "
+2 part xyz = count 3
+2 put END = BADMAP 1
+2 part q = count 4
+2 part = count 0
+";
 
 #[test]
 fn a_refused_put_leaves_the_part(rt: HostRuntime) -> Result<(), Fail> {
-    let alloc = rt.alloc();
-    let mut world = World::new(alloc);
-    let sent = world.step(alloc, 2, Op::Part(b"xyz"));
-    assert!(rt; matches!(&sent, Answer::Count(3)));
-    let refused = put(&mut world, alloc, 2, b"END")?;
-    assert!(rt; matches!(&refused, Answer::BadMap(fault) if fault.line == 1));
-    let more = world.step(alloc, 2, Op::Part(b"q"));
-    assert!(rt; matches!(&more, Answer::Count(4)));
-    let none = world.step(alloc, 2, Op::Part(b""));
-    assert!(rt; matches!(&none, Answer::Count(0)));
-    Ok(())
+    ask(&rt, REFUSED_PUT)
 }

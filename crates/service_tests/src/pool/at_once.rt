@@ -1,5 +1,6 @@
 //! Shards that wait for one another: a pool that ran them one after another, or under one lock, would be late.
-use super::request;
+use crate::charmap_texts::text_of_size;
+use crate::requests::request;
 use cv_cache::{Compiler, Plain};
 use cv_charmap::CompileFault;
 use cv_frame::ops::{CONV, PUT};
@@ -88,15 +89,8 @@ impl<R> Compiler<R> for Meeting<'_> {
 
 #[test]
 fn texts_are_compiled_at_once(rt: HostRuntime) -> Result<(), Fail> {
-    let alloc = rt.alloc();
-    let mut text = Vec::new(alloc);
-    text.extend_from_slice(b"<code_set_name> TOY\nCHARMAP\n<question-mark> \\x3F\nEND CHARMAP\n")?;
-    text.resize(100_000, b'#')?;
-    let longer = {
-        let mut longer = text.clone()?;
-        longer.push(b'#')?;
-        longer
-    };
+    let text = text_of_size(rt.alloc(), 100_000)?;
+    let longer = text_of_size(rt.alloc(), 100_001)?;
     let even = AtomicU64::new(0);
     let odd = AtomicU64::new(0);
     let late = AtomicU64::new(0);
@@ -105,9 +99,9 @@ fn texts_are_compiled_at_once(rt: HostRuntime) -> Result<(), Fail> {
         odd: &odd,
         late: &late,
     };
-    let mut pool = Pool::new(alloc, 2, meeting, Open)?;
+    let mut pool = Pool::new(rt.alloc(), 2, meeting, Open)?;
     let requests = [request(0, 1, PUT, &text), request(1, 1, PUT, &longer)];
-    let replies = pool.batch(&rt, alloc, &requests)?;
+    let replies = pool.batch(&rt, rt.alloc(), &requests)?;
     for reply in &replies {
         assert_eq!(rt; reply.head.as_slice(), b"\0\0\0\x01".as_slice());
     }

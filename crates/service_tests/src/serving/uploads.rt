@@ -1,44 +1,86 @@
 //! Uploads served by an engine with a compiler of one's own.
+use crate::requests::request;
+use crate::words::{first_word, sides};
 use cv_cache::Plain;
 use cv_frame::ops::{BYE, PART, PUT};
-use cv_frame::{Request, Status};
+use cv_frame::{Reply, Request};
 use cv_loop::{Engine, WorldWith};
+use std::alloc::Global;
+use std::process::Abort;
 use std::test::Fail;
 
+/// Requests, and the statuses of their replies. A `part` begins a charmap text with its name, and each `put` ends one in the same way. The
+/// part goes with a charmap that is held, and one that isn't held leaves it.
+const UPLOADS: &str = "
+1 part <code_set_name> A = OK
+1 put = OK
+1 put = BADMAP
+1 part <code_set_name> B = OK
+2 put = BADMAP
+1 put = OK
+1 part <code_set_name> a = OK
+1 put = EXISTS
+1 put = EXISTS
+1 bye = OK
+1 put = BADMAP
+";
+
 /// How a charmap text ends that began with its name.
-const REST: &[u8] = b"CHARMAP\n<question-mark> \\x3F\nEND CHARMAP\n";
+const REST: &[u8] = b"\nCHARMAP\n<question-mark> \\x3F\nEND CHARMAP\n";
 
 #[test]
 fn a_text_is_put_together_just_before_its_step(rt: HostRuntime) -> Result<(), Fail> {
-    let cases = [
-        (1, PART, b"<code_set_name> A\n".as_slice(), Status::Ok),
-        (1, PUT, REST, Status::Ok),
-        // The part went with the charmap that was held.
-        (1, PUT, REST, Status::BadMap),
-        (1, PART, b"<code_set_name> B\n".as_slice(), Status::Ok),
-        (2, PUT, REST, Status::BadMap),
-        (1, PUT, REST, Status::Ok),
-        (1, PART, b"<code_set_name> a\n".as_slice(), Status::Ok),
-        // A charmap that isn't held leaves the part.
-        (1, PUT, REST, Status::Exists),
-        (1, PUT, REST, Status::Exists),
-        (1, BYE, b"".as_slice(), Status::Ok),
-        (1, PUT, REST, Status::BadMap),
-    ];
-    let mut requests = Vec::new(rt.alloc());
-    for (caller, op, body, _) in cases {
-        let tag = 0;
-        requests.push(Request {
-            caller,
-            tag,
-            op,
-            body,
-        })?;
-    }
+    let requests = requests(rt.alloc())?;
     let mut engine = WorldWith::new(rt.alloc(), Plain);
     let replies = engine.batch(&rt, rt.alloc(), &requests)?;
-    let told = replies.iter().map(|reply| reply.status);
-    let wanted = cases.iter().map(|(_, _, _, status)| *status);
-    assert!(rt; told.eq(wanted));
+    compare(&rt, &replies);
     Ok(())
+}
+
+/// The requests of all lines.
+fn requests(alloc: Global) -> Result<Vec<Request<'static>>, Fail> {
+    let mut requests = Vec::new(alloc);
+    for line in UPLOADS.trim().lines() {
+        requests.push(request_of(line)?)?;
+    }
+    Ok(requests)
+}
+
+/// The request of a line.
+fn request_of(line: &str) -> Result<Request<'_>, Fail> {
+    let (asked, _) = sides(line, " = ")?;
+    let (caller, asked) = sides(asked, " ")?;
+    let caller = caller.parse::<u32>()?;
+    let (command, text) = first_word(asked);
+    let op = op_of(command)?;
+    let body = if op == PUT { REST } else { text.as_bytes() };
+    Ok(request(caller, 0, op, body))
+}
+
+/// The op of a command.
+fn op_of(command: &str) -> Result<u8, Fail> {
+    match command {
+        "part" => Ok(PART),
+        "put" => Ok(PUT),
+        "bye" => Ok(BYE),
+        _ => Err("no such request".into()),
+    }
+}
+
+/// Compares the statuses of replies with those of the lines.
+fn compare<R: Abort>(rt: &R, replies: &[Reply]) {
+    assert_eq!(rt; replies.len(), 11);
+    let mut lines = UPLOADS.trim().lines();
+    for reply in replies {
+        let line = lines.next().unwrap_or("");
+        assert!(rt; has_status(reply, line), "{line}");
+    }
+}
+
+/// Whether a reply has the status of a line.
+fn has_status(reply: &Reply, line: &str) -> bool {
+    match line.rsplit_once(' ') {
+        Some((_, status)) => status == reply.status.name(),
+        None => false,
+    }
 }

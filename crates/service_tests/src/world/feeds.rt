@@ -1,5 +1,5 @@
 //! One text, cut in each way and converted into rooms of several sizes, while another caller converts.
-use cv_base::Policy;
+use super::scripts::is_answered;
 use cv_pivot::Stop;
 use cv_world::{Answer, Op, World};
 use std::alloc::Global;
@@ -9,104 +9,98 @@ use std::test::Fail;
 const TEXT: [u8; 4] = *b"\xf0\x9f\x98\x80";
 
 /// The ends of the pieces that the text comes in.
-const WAYS: [&[usize]; 8] = [
-    &[4],
-    &[1, 4],
-    &[2, 4],
-    &[3, 4],
-    &[1, 2, 4],
-    &[1, 3, 4],
-    &[2, 3, 4],
-    &[1, 2, 3, 4],
-];
+const WAYS: &str = "4, 1 4, 2 4, 3 4, 1 2 4, 1 3 4, 2 3 4, 1 2 3 4";
 
-/// What the other caller's descriptor writes for U+00E9, call by call: the digits of `+AOkA6QDpAO`.
-const OTHERS: [&[u8]; 4] = [b"+AO", b"kA6", b"QDp", b"AO"];
+/// The caller's descriptor that writes UTF-7, under either policy.
+const OPENINGS: &str = "
+1 open UTF-7 UTF-8 = number 0
+1 open UTF-7 UTF-8 strict = number 0
+";
 
-/// Opens a descriptor that writes UTF-7.
-fn open(world: &mut World, alloc: Global, caller: u32, from: &[u8], policy: Policy) -> bool {
-    let to = b"UTF-7".as_slice();
-    let opened = world.step(alloc, caller, Op::Open { to, from, policy });
-    matches!(&opened, Answer::Number(0))
-}
+/// What closes it.
+const CLOSING: &str = r#"1 reset 0 2 = written "A-""#;
 
-/// The other caller's call, and whether it wrote this.
-fn other_writes(world: &mut World, alloc: Global, want: &[u8]) -> bool {
-    let op = Op::Conv {
-        number: 0,
-        room: 9,
-        input: b"\xe9",
-    };
-    match world.step(alloc, 2, op) {
-        Answer::Converted { bytes, .. } => bytes.as_slice() == want,
-        _ => false,
-    }
-}
+/// The other caller's descriptor, which writes UTF-7 too.
+const OTHER: &str = "2 open UTF-7 ISO-8859-1 = number 0";
 
-/// Feeds the text in these pieces, each behind what the call before it left. Gives what was written, and the last stop.
-fn feed(
-    world: &mut World,
-    alloc: Global,
-    ends: &[usize],
-    room: u32,
-) -> Result<(Vec<u8>, Option<Stop>), Fail> {
-    let mut written = Vec::new(alloc);
-    let mut last = None;
-    let mut from = 0;
-    let mut others = OTHERS.iter();
-    for end in ends {
-        let front = &TEXT[..TEXT.len().min(*end)];
-        let input = &front[front.len().min(from)..];
-        let op = Op::Conv {
-            number: 0,
-            room,
-            input,
-        };
-        let Answer::Converted {
-            stop,
-            left,
-            count: 0,
-            bytes,
-        } = world.step(alloc, 1, op)
-        else {
-            return Err("not converted".into());
-        };
-        from = front.len().saturating_sub(left as usize);
-        written.extend_from_slice(bytes.as_slice())?;
-        last = Some(stop);
-        if let Some(want) = others.next()
-            && !other_writes(world, alloc, want)
-        {
-            return Err("the other caller's call".into());
-        }
-    }
-    Ok((written, last))
-}
+/// The other caller's calls, one behind each piece.
+const OTHERS: &str = r#"
+2 conv 0 9 e9 = Done 0 0 "+AO"
+2 conv 0 9 e9 = Done 0 0 "kA6"
+2 conv 0 9 e9 = Done 0 0 "QDp"
+2 conv 0 9 e9 = Done 0 0 "AO"
+"#;
 
 #[test]
 fn cuts_and_rooms_do_not_show(rt: HostRuntime) -> Result<(), Fail> {
-    let alloc = rt.alloc();
-    for policy in [Policy::Substitute, Policy::Strict] {
-        for ends in WAYS {
+    for opening in OPENINGS.trim().lines() {
+        for ends in WAYS.split(", ") {
             for room in 6..10 {
-                let mut world = World::new(alloc);
-                assert!(rt; open(&mut world, alloc, 1, b"UTF-8", policy));
-                assert!(rt; open(&mut world, alloc, 2, b"ISO-8859-1", Policy::Substitute));
-                let (written, last) = feed(&mut world, alloc, ends, room)?;
-                assert!(rt;
-                    written.as_slice() == b"+2D3eA".as_slice(),
-                    "{ends:?} {room}"
-                );
-                assert!(rt; last == Some(Stop::Done), "{ends:?} {room}");
-                let op = Op::Reset { number: 0, room: 2 };
-                let closed = world.step(alloc, 1, op);
-                let want = b"A-".as_slice();
-                assert!(rt;
-                    matches!(&closed, Answer::Written(bytes) if bytes.as_slice() == want),
-                    "{ends:?} {room}"
-                );
+                let written = is_written(rt.alloc(), opening, ends, room)?;
+                assert!(rt; written, "{opening}, {ends}, {room}");
             }
         }
     }
     Ok(())
+}
+
+/// Whether a new world writes all of the text, and answers the other caller as ever.
+fn is_written(alloc: Global, opening: &str, ends: &str, room: u32) -> Result<bool, Fail> {
+    let mut world = World::new(alloc);
+    let mut written = Vec::new(alloc);
+    let opened = is_answered(alloc, &mut world, opening)? && is_answered(alloc, &mut world, OTHER)?;
+    let fed = feed(alloc, &mut world, ends, room, &mut written)?;
+    let closed = is_answered(alloc, &mut world, CLOSING)?;
+    Ok(opened && fed && closed && written.as_slice() == b"+2D3eA".as_slice())
+}
+
+/// Feeds the text in these pieces, each behind what the call before it left, and adds what is written. Whether the other caller was
+/// answered behind each.
+fn feed(
+    alloc: Global,
+    world: &mut World,
+    ends: &str,
+    room: u32,
+    written: &mut Vec<u8>,
+) -> Result<bool, Fail> {
+    let mut others = OTHERS.trim().lines();
+    let mut from = 0;
+    for end in ends.split(' ') {
+        from = feed_piece(alloc, world, room, from, end.parse::<usize>()?, written)?;
+        if !is_answered(alloc, world, others.next().unwrap_or(""))? {
+            return Ok(false);
+        }
+    }
+    Ok(true)
+}
+
+/// Converts a piece, and adds what is written. Gives where the bytes begin that are left, of which the end of the text leaves none.
+fn feed_piece(
+    alloc: Global,
+    world: &mut World,
+    room: u32,
+    from: usize,
+    end: usize,
+    written: &mut Vec<u8>,
+) -> Result<usize, Fail> {
+    let front = &TEXT[..TEXT.len().min(end)];
+    let op = Op::Conv {
+        number: 0,
+        room,
+        input: &front[front.len().min(from)..],
+    };
+    let Answer::Converted {
+        stop,
+        left,
+        count: 0,
+        bytes,
+    } = world.step(alloc, 1, op)
+    else {
+        return Err("not converted".into());
+    };
+    if end == TEXT.len() && stop != Stop::Done {
+        return Err("not all of the text was converted".into());
+    }
+    written.extend_from_slice(bytes.as_slice())?;
+    Ok(front.len().saturating_sub(left as usize))
 }

@@ -1,0 +1,71 @@
+//! Readers that give their bytes in parts, writers that take some of them, and a stream of two callers.
+use std::io::{self, ErrorKind, Read, Write};
+
+/// Gives its bytes and then more of them, a few at a time, and then ends or fails.
+#[derive(Drop)]
+pub struct Slow<'a> {
+    pub bytes: &'a [u8],
+    pub more: &'a [u8],
+    pub step: usize,
+    pub fails: bool,
+}
+
+impl Read for Slow<'_> {
+    fn read(&mut self, buf: &mut [u8]) -> io::Result<usize> {
+        if self.bytes.is_empty() {
+            self.bytes = self.more;
+            self.more = b"";
+        }
+        let n = self.step.min(self.bytes.len()).min(buf.len());
+        if n == 0 && self.fails {
+            return Err(ErrorKind::BrokenPipe.into());
+        }
+        let (front, rest) = self.bytes.split_at(n);
+        buf[..n].copy_from_slice(front);
+        self.bytes = rest;
+        Ok(n)
+    }
+}
+
+/// Takes so many bytes, and then fails or takes none.
+#[derive(Drop)]
+pub struct Narrow {
+    pub taken: Vec<u8>,
+    pub room: usize,
+    pub fails: bool,
+}
+
+impl Write for Narrow {
+    fn write(&mut self, buf: &[u8]) -> io::Result<usize> {
+        let n = self.room.min(buf.len());
+        if n == 0 && self.fails {
+            return Err(ErrorKind::BrokenPipe.into());
+        }
+        self.taken.extend_from_slice(&buf[..n])?;
+        self.room -= n;
+        Ok(n)
+    }
+
+    fn flush(&mut self) -> io::Result<()> {
+        Ok(())
+    }
+}
+
+/// Callers 1 and 2 upload a charmap TOY, in which the byte 80 is U+0100 for the one and U+0142 for the other; each opens a descriptor
+/// from it, and converts the byte 80.
+pub const TWO_CALLERS: &[u8] = b"\
+    \0\0\0R\0\0\0\x01\0\0\0\x01\x01<code_set_name> TOY\nCHARMAP\n<question-mark> \\x3F\n<U0100> \\x80\nEND CHARMAP\
+    \0\0\0R\0\0\0\x02\0\0\0\x01\x01<code_set_name> TOY\nCHARMAP\n<question-mark> \\x3F\n<U0142> \\x80\nEND CHARMAP\
+    \0\0\0\x13\0\0\0\x01\0\0\0\x02\x03\x05UTF-8\x03TOY\
+    \0\0\0\x13\0\0\0\x02\0\0\0\x02\x03\x05UTF-8\x03toy\
+    \0\0\0\x12\0\0\0\x01\0\0\0\x03\x04\0\0\0\0\0\0\0\x09\x80\
+    \0\0\0\x12\0\0\0\x02\0\0\0\x03\x04\0\0\0\0\0\0\0\x09\x80";
+
+/// What they are told. The charmaps have two mappings, the descriptors the number 0, and the characters two bytes in UTF-8.
+pub const TOLD: &[u8] = b"\
+    \0\0\0\x0d\0\0\0\x01\0\0\0\x01\0\0\0\0\x02\
+    \0\0\0\x0d\0\0\0\x02\0\0\0\x01\0\0\0\0\x02\
+    \0\0\0\x0d\0\0\0\x01\0\0\0\x02\0\0\0\0\0\
+    \0\0\0\x0d\0\0\0\x02\0\0\0\x02\0\0\0\0\0\
+    \0\0\0\x13\0\0\0\x01\0\0\0\x03\0\0\0\0\0\0\0\0\0\xc4\x80\
+    \0\0\0\x13\0\0\0\x02\0\0\0\x03\0\0\0\0\0\0\0\0\0\xc5\x82";

@@ -1,9 +1,9 @@
 //! From the command line to the exit status.
 ghost use Rattle.std.specs.Prelude.{◌≤◌};
 
-use crate::words::arguments;
 use crate::job::{Job, Options};
 use crate::usage::{options, usage_status};
+use crate::words::arguments;
 use clap::Error;
 use clap::error::ErrorKind;
 use cv_commands::{RunFault, ask, checkmap, pipe, read_all, run, show, status, write_all};

@@ -1,5 +1,7 @@
 //! From the command line to the exit status.
-ghost use Rattle.std.specs.Prelude.{◌≤◌};
+ghost use Rattle.std.specs.Prelude.{◌≡◌, ◌≢◌, ◌≤◌, IfErr, OnOk};
+ghost use Rattle.clap.specs.Values.{kind_of};
+ghost use Rattle.cv_commands.specs.Status.{status_of};
 
 use crate::job::{Job, Options};
 use crate::usage::{options, usage_status};
@@ -17,7 +19,10 @@ use std::sync::Wait;
 use std::thread::Threads;
 
 /// The exit status of a command. A fault is said on standard error, if that can be; the status doesn't depend on it.
-fn conclude<R: Eprint>(rt: &R, done: Result<(), RunFault>) -> u8 {
+fn conclude<R: Eprint>(rt: &R, done: Result<(), RunFault>) -> u8
+    ensures done { OnOk done (result ≡ 0) }
+    ensures fault { IfErr done (λ fault. result ≡ status_of fault) }
+{
     match done {
         Ok(()) => 0,
         Err(fault) => {
@@ -67,13 +72,21 @@ where
 }
 
 /// Prints the help or the version, for which the command line asked.
-fn print_help<R: Print>(rt: &R, alloc: Global, asked: &Error) -> Result<(), RunFault> {
+fn print_help<R: Print>(rt: &R, alloc: Global, asked: &Error) -> Result<(), RunFault>
+    ensures { IfErr result (λ fault. status_of fault ≡ 1) }
+{
     let text = format!(in alloc; "{asked}")?;
     write_all(io::writer(rt), text.as_bytes())
 }
 
 /// Shows what a command line that is no command asked for, or says what is wrong with it, and gives the exit status.
-pub fn explain<R: Print + Eprint>(rt: &R, alloc: Global, fault: &Error) -> u8 {
+pub fn explain<R: Print + Eprint>(rt: &R, alloc: Global, fault: &Error) -> u8
+    ensures memory { kind_of fault.now ≡ ErrorKind.OutOfMemory → result ≡ 1 }
+    ensures help { kind_of fault.now ≡ ErrorKind.DisplayHelp → result ≤ 1 }
+    ensures version { kind_of fault.now ≡ ErrorKind.DisplayVersion → result ≤ 1 }
+    ensures usage { kind_of fault.now ≢ ErrorKind.OutOfMemory → kind_of fault.now ≢ ErrorKind.DisplayHelp
+        → kind_of fault.now ≢ ErrorKind.DisplayVersion → result ≡ 2 }
+{
     match fault.kind() {
         ErrorKind::DisplayHelp | ErrorKind::DisplayVersion => {
             conclude(rt, print_help(rt, alloc, fault))

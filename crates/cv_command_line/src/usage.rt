@@ -209,7 +209,9 @@ pub fn options<'a>(alloc: Global, words: &'a [&'a str]) -> Result<Options<'a>, E
 }
 
 /// The fault of a command line that has this word, which isn't UTF-8.
-pub fn not_utf8(alloc: Global, word: &[u8]) -> Result<Error, AllocError> {
+pub fn not_utf8(alloc: Global, word: &[u8]) -> Result<Error, AllocError>
+    ensures { IfOk result (λ fault. kind_of fault ≡ ErrorKind.InvalidValue) }
+{
     let text = format!(in alloc; "argument '{}' is not UTF-8", word.escape_ascii())?;
     program(alloc)?.error(ErrorKind::InvalidValue, &text)
 }

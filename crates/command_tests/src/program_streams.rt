@@ -8,25 +8,30 @@ use std::io::{self, ErrorKind};
 use std::rt::Env;
 use std::test::Fail;
 
-/// A standard output that takes nothing, and a standard error that is kept, or takes nothing either.
+/// A standard output that takes all or nothing, and a standard error that is kept, or takes nothing.
 #[derive(Drop)]
 struct Streams {
     alloc: Global,
+    takes_output: bool,
     takes_errors: bool,
     errors: Cell<String>,
 }
 
 impl Print for Streams {
     fn print<D: Display + Drop>(&self, _value: D) -> io::Result<()> {
-        Err(ErrorKind::BrokenPipe.into())
+        self.write_all(b"")
     }
 
     fn println<D: Display + Drop>(&self, _value: D) -> io::Result<()> {
-        Err(ErrorKind::BrokenPipe.into())
+        self.write_all(b"")
     }
 
     fn write_all(&self, _bytes: &[u8]) -> io::Result<()> {
-        Err(ErrorKind::BrokenPipe.into())
+        if self.takes_output {
+            Ok(())
+        } else {
+            Err(ErrorKind::BrokenPipe.into())
+        }
     }
 }
 
@@ -51,6 +56,7 @@ impl Streams {
     fn new(alloc: Global, takes_errors: bool) -> Streams {
         Streams {
             alloc,
+            takes_output: false,
             takes_errors,
             errors: Cell::new(String::new(alloc)),
         }
@@ -121,6 +127,20 @@ fn help_that_is_not_taken_is_a_failed_write(rt: HostRuntime) -> Result<(), Fail>
             said.as_str() == "iconvd: write failed after 0 bytes\n",
             "{said}"
         );
+    }
+    Ok(())
+}
+
+#[test]
+fn help_that_is_taken_succeeds(rt: HostRuntime) -> Result<(), Fail> {
+    for word in ["--help", "--version"] {
+        let asked = options(rt.alloc(), &["iconvd", word]).err().ok_or("taken")?;
+        let screen = Streams {
+            takes_output: true,
+            ..Streams::new(rt.alloc(), true)
+        };
+        assert_eq!(rt; explain(&screen, rt.alloc(), &asked), 0);
+        assert!(rt; screen.errors.into_inner().is_empty());
     }
     Ok(())
 }

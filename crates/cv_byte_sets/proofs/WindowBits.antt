@@ -1,9 +1,9 @@
 -- The bits of a window, up to the first that is set.
-use Rattle.std.proofs.Common.{◌≡◌, ℕ, ◌/◌, ◌*◌, ◌%◌, ◌^◌, inl, inr, ◌+◌, ◌-◌, ◌<◌, ◌≤◌, sym, ◌∙◌, ap, arith, w64}
+use Rattle.std.proofs.Common.{◌≡◌, ℕ, ◌/◌, ◌*◌, ◌%◌, ◌^◌, inl, inr, ◌+◌, ◌-◌, ◌<◌, ◌≤◌, sym, ◌∙◌, ap, arith, w64, bit_or}
 use Rattle.std.proofs.lemmas.Nat.{pow-add, pow_pos}
 use Rattle.std.proofs.Math.Nat.{div-div-eq-div-mul, div-le_self, div-lt_iff_lt-mul, pow-le-pow_right}
 use Rattle.std.specs.Int.{bit_at, trailing_zeros}
-use Rattle.std.proofs.lemmas.Nat.Bits.{bit_at-zero, bit_at_above, bit_at-trailing_zeros}
+use Rattle.std.proofs.lemmas.Nat.Bits.{bit_at-zero, bit_at_above, bit_at-trailing_zeros, bit_at_or, bit_at-pow_same, bit_at-pow_other, bit_at-lt}
 use Rattle.std.proofs.lemmas.Bool.{cases_lt}
 
 -- a bit of a window that begins at a place
@@ -40,3 +40,20 @@ run_ends stops place h l z =
 -- no bit is set
 pub run_all_clear : (stops place : ℕ) → stops / 2 ^ place ≡ 0 → (i : ℕ) → bit_at stops (place + i) ≡ 0
 run_all_clear stops place z i = bit_on stops place i ∙ ap (λ (n : ℕ). bit_at n i) z ∙ bit_at-zero i
+
+-- one bit behind sixteen is set
+pub one_behind : (stops : ℕ) → bit_at (bit_or stops 0x10000) 16 ≡ 1
+one_behind stops = omega (arith, bit_at_or stops 0x10000 16, bit_at-pow_same 16, bit_at-lt stops 16)
+
+-- and the sixteen stay
+pub others_stay : (stops i : ℕ) → i < 16 → bit_at (bit_or stops 0x10000) i ≡ bit_at stops i
+others_stay stops i l = omega (arith, bit_at_or stops 0x10000 i, bit_at-pow_other 16 i (λ e. omega (arith, e)))
+
+-- a run ends before a bit that is set
+pub run_ends_before : (stops place run end : ℕ) → place ≤ end → bit_at stops end ≡ 1 → ((i : ℕ) → i < run → bit_at stops (place + i) ≡ 0) → place + run ≤ end
+run_ends_before stops place run end within set clear = elim (cases_lt (end - place) run) [
+  | inl l ↦ (
+      let there : place + (end - place) ≡ end = omega arith in
+      absurd (omega (arith, set, ap (bit_at stops) (sym there) ∙ clear (end - place) l)))
+  | inr m ↦ omega arith
+]

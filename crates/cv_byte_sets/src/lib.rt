@@ -4,5 +4,5 @@
 mod byte_sets;
 mod windows;
 
-pub use byte_sets::outside;
-pub use windows::{WINDOW, padded, run_at};
+pub use byte_sets::{front_in, outside, sixteen_outside};
+pub use windows::{SIXTEEN, WINDOW, padded, run_at, run_in_sixteen};

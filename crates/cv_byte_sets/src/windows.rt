@@ -7,6 +7,9 @@ use std::simd::prelude::*;
 /// How many bytes are held against a set at once.
 pub const WINDOW: usize = 64;
 
+/// How many bytes are where a window of 64 is too many.
+pub const SIXTEEN: usize = 16;
+
 /// The bytes from a place of a text on, 64 at most, and zeros behind its end.
 #[inline(always)]
 pub fn padded(input: &[u8], at: usize) -> u8x64
@@ -35,4 +38,15 @@ pub fn run_at(stops: u64, place: usize) -> usize
         return WINDOW - place;
     }
     rest.trailing_zeros() as usize
+}
+
+/// How many bits from a place among the first sixteen on are not set, where the one behind those is.
+#[inline(always)]
+pub fn run_in_sixteen(stops: u64, place: usize) -> usize
+    requires place { place < 16 }
+    requires end { bit_at stops 16 ≡ 1 }
+    ensures within { place + result ≤ 16 }
+    ensures clear { (i : ℕ) → i < result → bit_at stops (place + i) ≡ 0 }
+{
+    run_at(stops, place)
 }

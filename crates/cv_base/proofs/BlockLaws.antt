@@ -1,10 +1,13 @@
 -- Characters that were read by their bytes are a block.
-use Rattle.std.proofs.Common.{◌≡◌, ℕ, ◌≤◌, ◌<◌, suc, get_or, get_or-take, length-take, List, [], ◌∷◌, length, take, drop, refl, sym, ◌∙◌, ap, arith, Some, length-append}
+use Rattle.std.proofs.Common.{◌≡◌, ℕ, ◌≤◌, ◌<◌, suc, get_or, get_or-take, length-take, List, [], ◌∷◌, length, take, drop, refl, sym, ◌∙◌, ap, arith, Some, length-append, add-zero, append-nil, take-append-drop}
 use Rattle.std.specs.List.{flat_map}
 use Rattle.cv_base.specs.Items.{Taken, taken, ItemRelation, Begins}
 use Rattle.cv_base.specs.Chains.{IsChain, used_bytes, read_state, characters_of}
-use Rattle.cv_base.specs.Blocks.{IsReadBlock}
+use Rattle.cv_base.specs.Blocks.{IsReadBlock, IsWrittenRun}
+use Rattle.cv_base.specs.Codecs.{Writing}
+use Rattle.cv_base.specs.declared.ascii_form.AsciiForm.{AsciiForm}
 use Rattle.cv_base.specs.declared.state.ReadState.{ReadState}
+use Rattle.cv_base.specs.declared.state.WriteState.{WriteState}
 use Rattle.cv_base.specs.SingleBytes.{byte_reads}
 use Rattle.cv_base.specs.declared.state.ReadState.TheVariants as read
 use Rattle.cv_base.proofs.Front.{Begins-front, Begins-back, Begins-take}
@@ -72,3 +75,13 @@ bytes_read limit n text buffer h l e below =
     (rw (each_byte front) (Begins-take n text))
     (rw (each_byte front) (omega (arith, length-take n text)))
     e l
+
+-- no unit is written
+pub no_run : (writes : Writing) (t : WriteState) (form : AsciiForm) (text before : List ℕ) (at : ℕ) → at ≤ length before → IsWrittenRun writes t form text before at 0 before
+no_run writes t form text before at h = record {
+  characters = [];
+  small = tt;
+  stand = tt;
+  written = refl;
+  put = record { wrote = refl; fits = omega arith; out = rw (add-zero, append-nil) (sym (take-append-drop at before)) };
+}

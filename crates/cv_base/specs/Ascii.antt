@@ -1,5 +1,5 @@
 -- Where characters stand for themselves: each below a limit is one unit of the same form, and the state stays.
-use Rattle.std.specs.Prelude.{◌≡◌, ℕ, ◌<◌, Some}
+use Rattle.std.specs.Prelude.{◌≡◌, ℕ, ◌<◌, List, [], ◌∷◌, Some}
 use Rattle.cv_base.specs.Items.{taken, ItemRelation}
 use Rattle.cv_base.specs.Codecs.{Writing}
 use Rattle.cv_base.specs.Units.{unit_of, unit_size}
@@ -22,3 +22,8 @@ WritesBelow limit writes t form = (c : ℕ) → c < limit → writes t c ≡ Som
 -- In this state each ASCII character is written as its unit.
 abbrev pub WritesAscii : Writing → WriteState → AsciiForm → Type 0
 WritesAscii = WritesBelow 128
+
+-- each character is below a limit
+abbrev pub AreBelow : ℕ → List ℕ → Type 0
+AreBelow limit [] = Unit {0}
+AreBelow limit (c ∷ characters) = (c < limit) × AreBelow limit characters

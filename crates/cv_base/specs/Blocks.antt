@@ -1,10 +1,14 @@
 -- Blocks: characters that are read at once, and written at once. They serve speed: no contract of a conversion cites them.
 use Rattle.std.specs.Prelude.{◌≡◌, ℕ, ◌≤◌, List, take, length, Option, Some, None}
-use Rattle.cv_base.specs.Items.{Taken, ItemRelation}
+use Rattle.std.specs.List.{flat_map}
+use Rattle.cv_base.specs.Ascii.{AreBelow}
+use Rattle.cv_base.specs.Items.{Taken, ItemRelation, Begins}
 use Rattle.cv_base.specs.Codecs.{Writing}
 use Rattle.cv_base.specs.Chains.{IsChain, used_bytes, read_state, characters_of, output, output_of, output_for}
-use Rattle.cv_base.specs.Places.{IsOutput}
+use Rattle.cv_base.specs.Places.{IsOutput, IsPut}
 use Rattle.cv_base.specs.Policies.{Allows}
+use Rattle.cv_base.specs.Units.{unit_of}
+use Rattle.cv_base.specs.declared.ascii_form.AsciiForm.{AsciiForm}
 use Rattle.cv_base.specs.declared.block.ReadBlock.{ReadBlock}
 use Rattle.cv_base.specs.declared.block.WrittenBlock.{WrittenBlock}
 use Rattle.cv_base.specs.declared.policy.Policy.{Policy}
@@ -39,3 +43,11 @@ pub record IsUnchanged (reads : ItemRelation) (writes : Writing) (s : ReadState)
   pub uses : n ≡ used_bytes chain
   pub stays : read_state s chain ≡ s
   pub output : output_of writes t chain ≡ output (take n text) 0 t
+
+-- Units of one form at the front of a text are those of ASCII characters, each is written as the byte of its number in a state that stays, and these bytes were put at a place.
+pub record IsWrittenRun (writes : Writing) (t : WriteState) (form : AsciiForm) (text before : List ℕ) (at n : ℕ) (after : List ℕ) : Type 0 where
+  pub characters : List ℕ
+  pub small : AreBelow 128 characters
+  pub stand : Begins (flat_map (unit_of form) characters) text
+  pub written : output_for writes t characters ≡ output characters 0 t
+  pub put : IsPut characters before at n after

@@ -1,7 +1,7 @@
 //! What an encoding offers for speed.
 ghost use Rattle.std.specs.Prelude.{◌≡◌, ◌≤◌, ◌+◌, ◌*◌, length, IfSome};
 ghost use Rattle.cv_base.specs.Ascii.{ReadsBelow, WritesBelow};
-ghost use Rattle.cv_base.specs.Blocks.{IsReadBlock, IsUnchanged, MayWriteBlock};
+ghost use Rattle.cv_base.specs.Blocks.{IsReadBlock, IsUnchanged, IsWrittenRun, MayWriteBlock};
 
 use crate::ascii_form::AsciiForm;
 use crate::block::{ReadBlock, WrittenBlock};
@@ -41,6 +41,25 @@ pub trait BlockCodec: Codec {
     fn unchanged(&self, _reading: ReadState, _writing: WriteState, _input: &[u8]) -> usize
         ensures { IsUnchanged (Self.reads self.now) (Self.writes self.now) _reading _writing
             _input.now result }
+    {
+        0
+    }
+
+    /// Writes ASCII characters at the front of a text, whose units have this form, at a place of a slice, as long as each is written as
+    /// a byte of its number in this state, which stays. Answers how many they are. Bytes of the slice around them stay. It may be
+    /// fewer than could: what is behind them goes by blocks, or one by one.
+    #[inline]
+    fn write_ascii_run(
+        &self,
+        _state: WriteState,
+        _form: AsciiForm,
+        _text: &[u8],
+        _out: &mut [u8],
+        _at: usize,
+    ) -> usize
+        requires { _at ≤ length _out.old }
+        ensures { IsWrittenRun (Self.writes self.now) _state _form _text.now
+            _out.old _at result _out.new }
     {
         0
     }

@@ -6,12 +6,13 @@ use Rattle.std.proofs.lemmas.Bool.{cases_lt}
 use Rattle.std.proofs.lemmas.List.{drop-drop, take_all}
 use Rattle.std.proofs.lemmas.Grind.{flat_map-append}
 use Rattle.std.proofs.lemmas.Nat.{le_or_l, le_or_r}
+use Rattle.cv_base.specs.Ascii.{AreBelow}
 use Rattle.cv_base.specs.Items.{Begins}
 use Rattle.cv_base.proofs.Front.{Begins-join}
 use Rattle.cv_base.specs.Units.{unit_of, unit_size}
 use Rattle.cv_base.specs.declared.ascii_form.AsciiForm.{AsciiForm}
 use Rattle.cv_base.specs.declared.ascii_form.AsciiForm.TheVariants.{Byte}
-use Rattle.cv_block.specs.AsciiRuns.{AreBelow, units_of, offset, IsBelowAt, IsRunBelow, characters_in}
+use Rattle.cv_block.specs.AsciiRuns.{units_of, offset, IsBelowAt, IsRunBelow, characters_in}
 use Rattle.cv_block.specs.Units.{IsUnitAt}
 use Rattle.cv_block.proofs.UnitBytes.{length-unit_of, low_byte, byte_fits, below_at}
 use Rattle.cv_base.proofs.WrittenEach.{out_more}

@@ -7,11 +7,6 @@ use Rattle.cv_base.specs.declared.ascii_form.AsciiForm.{AsciiForm}
 use Rattle.cv_base.specs.declared.ascii_form.AsciiForm.TheVariants.{Byte, Two, Four}
 use Rattle.cv_base.specs.declared.endian.Endian.TheVariants.{Big, Little}
 
--- each character is below a limit
-abbrev pub AreBelow : ℕ → List ℕ → Type 0
-AreBelow limit [] = Unit {0}
-AreBelow limit (c ∷ characters) = (c < limit) × AreBelow limit characters
-
 -- characters, each as its unit
 abbrev pub units_of : AsciiForm → List ℕ → List ℕ
 units_of form characters = flat_map (unit_of form) characters

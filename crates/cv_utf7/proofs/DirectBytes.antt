@@ -1,5 +1,5 @@
 -- The sets of bytes are those of the characters that are direct.
-use Rattle.std.proofs.Common.{◌≡◌, ℕ, ◌<◌, Bool, true, false, cond, refl, arith}
+use Rattle.std.proofs.Common.{◌≡◌, ℕ, ◌<◌, refl}
 use Rattle.std.proofs.lemmas.Bool.{agree_below_at}
 use Rattle.cv_byte_sets.specs.ByteSets.{is_in}
 use Rattle.cv_utf7.specs.Sets.{may_be_direct, is_direct, is_set_d, is_set_o, is_blank}
@@ -14,8 +14,3 @@ may_stand_in b l = agree_below_at (is_in MAY_STAND) may_be_direct 256 b refl l
 pub stands_in : (b : ℕ) → b < 256 → is_in STANDS b ≡ is_direct b
 unfolding is_in is_direct is_set_d is_set_o is_blank
 stands_in b l = agree_below_at (is_in STANDS) is_direct 256 b refl l
-
--- where the bit of what is outside is not set, the byte is in the set
-pub not_outside : (b : Bool) → cond {A = ℕ} b 0 1 ≡ 0 → b ≡ true
-not_outside true e = refl
-not_outside false e = absurd (omega arith)

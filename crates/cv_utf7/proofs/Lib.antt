@@ -8,6 +8,7 @@ pub mod FewDigits
 pub mod FrontDigits
 pub mod GrownDigits
 pub mod DirectBytes
+pub mod DirectRuns
 pub mod LoneSequences
 pub mod OneItem
 pub mod PendingBits

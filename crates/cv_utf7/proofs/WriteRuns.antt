@@ -1,11 +1,11 @@
 -- Runs of direct characters that are written.
 use Rattle.std.proofs.Common.{◌≡◌, ℕ, zero, suc, ◌+◌, ◌-◌, ◌<◌, ◌≤◌, true, List, [], ◌∷◌, ◌++◌, length, take, drop, get_or, set, refl, sym, ◌∙◌, ap, subst, arith, append_assoc, length-append, length-take, length-drop, get_or-take, get_or-drop, inl, inr}
-use Rattle.std.proofs.lemmas.Bool.{cases_eq, false≢true}
+use Rattle.std.proofs.lemmas.Bool.{cases_eq}
 use Rattle.std.proofs.lemmas.List.{drop-drop, take-append-drop, ext_get_or, get_or-set_same, get_or-set_other, set_split, take_at, drop_at}
 use Rattle.cv_base.specs.Chains.{Output, output, output_for}
 use Rattle.cv_base.specs.declared.state.WriteState.{WriteState}
 use Rattle.cv_base.specs.declared.state.WriteState.TheVariants as write
-use Rattle.cv_utf7.specs.Sets.{is_direct, is_set_d, is_blank}
+use Rattle.cv_utf7.specs.Sets.{is_direct}
 use Rattle.cv_utf7.specs.Utf7.{utf7_writes, writes_at_start}
 use Rattle.cv_utf7.specs.Private.WriteSteps.{place, WritesOn}
 use Rattle.cv_utf7.specs.declared.write_sequences.Reached.{Reached}
@@ -36,14 +36,16 @@ abbrev pub AreDirect : List ℕ → Type 0
 AreDirect [] = Unit {0}
 AreDirect (c ∷ characters) = (is_direct c ≡ true) × AreDirect characters
 
-direct_output : (characters : List ℕ) → AreDirect characters → output_for utf7_writes write.Start characters ≡ output characters 0 write.Start
+-- direct characters are written as themselves
+pub direct_output : (characters : List ℕ) → AreDirect characters → output_for utf7_writes write.Start characters ≡ output characters 0 write.Start
 direct_output [] d = refl
 direct_output (c ∷ characters) d =
     let rest = direct_output characters d.1 in
     let e : writes_at_start c ≡ (c ∷ [], write.Start) = start_direct c d.0 in
     rw (e, rest) refl
 
-are_direct : (n : ℕ) (characters : List ℕ) → ((i : ℕ) → i < n → i < length characters → is_direct (get_or characters i 0) ≡ true) → AreDirect (take n characters)
+-- the first characters are direct
+pub are_direct : (n : ℕ) (characters : List ℕ) → ((i : ℕ) → i < n → i < length characters → is_direct (get_or characters i 0) ≡ true) → AreDirect (take n characters)
 are_direct zero characters h = tt
 are_direct (suc n) [] h = tt
 are_direct (suc n) (c ∷ characters) h = (h 0 (omega arith) (omega arith), are_direct n characters (λ i l m. h (suc i) (omega arith) (omega arith)))
@@ -78,9 +80,9 @@ same_parts n i j a b h l e = ext_get_or 0 (take n (drop i a)) (take n (drop j b)
     get_or-take n (drop i a) k 0 s ∙ get_or-drop i a k 0 ∙ e k s ∙ sym (get_or-drop j b k 0) ∙ sym (get_or-take n (drop j b) k 0 s)))
 
 -- a run of direct characters of a window is written
-pub writes_run : (characters : List ℕ) (base : ℕ) (bytes : List ℕ) (stops n at run : ℕ) (before after : List ℕ) → ((i : ℕ) → i < 64 → bit_at stops i ≡ 0 → (is_direct (get_or bytes i 0) ≡ true) × (get_or bytes i 0 ≡ get_or characters (base + i) 0)) → length bytes ≡ 80 → base ≤ n → n < base + 64 → (many : ℕ) → n + many ≤ length characters → at + many ≤ length before
-    → n - base + run ≤ 64 → ((i : ℕ) → i < run → bit_at stops (n - base + i) ≡ 0) → after ≡ take at before ++ take many (drop (n - base) bytes) ++ drop (at + many) before → many ≤ 16 → (r : ℕ) → r ≤ run → r ≤ many → WritesOn characters (place write.Start n at) before (place write.Start (n + r) (at + r)) after
-writes_run characters base bytes stops n at run before after window padded b p many left room within clear put most r k s =
+pub writes_run : (characters : List ℕ) (base : ℕ) (bytes : List ℕ) (stops n at run : ℕ) (before after : List ℕ) → ((i : ℕ) → i < 16 → bit_at stops i ≡ 0 → (is_direct (get_or bytes i 0) ≡ true) × (get_or bytes i 0 ≡ get_or characters (base + i) 0)) → length bytes ≡ 32 → base ≤ n → n < base + 16 → (many : ℕ) → n + many ≤ length characters → at + many ≤ length before
+    → ((i : ℕ) → i < run → bit_at stops (n - base + i) ≡ 0) → after ≡ take at before ++ take many (drop (n - base) bytes) ++ drop (at + many) before → many ≤ 16 → (r : ℕ) → r ≤ run → r ≤ many → n - base + r ≤ 16 → WritesOn characters (place write.Start n at) before (place write.Start (n + r) (at + r)) after
+writes_run characters base bytes stops n at run before after window padded b p many left room clear put most r k s within =
     let there : (i : ℕ) → base + (n - base + i) ≡ n + i = λ i. omega arith in
     let found : (i : ℕ) → i < r → (is_direct (get_or bytes (n - base + i) 0) ≡ true) × (get_or bytes (n - base + i) 0 ≡ get_or characters (n + i) 0) = (λ i l. subst (λ (j : ℕ). (is_direct (get_or bytes (n - base + i) 0) ≡ true) × (get_or bytes (n - base + i) 0 ≡ get_or characters j 0)) (there i) (window (n - base + i) (omega arith) (clear i (omega arith)))) in
     let long : length (take at before) ≡ at = simp length-take (omega arith) in
@@ -99,8 +101,3 @@ narrow_more n i b bytes characters h e p k l = elim (cases_eq k i) [
   | inl same ↦ subst (λ (j : ℕ). is_direct (get_or (set bytes i b) j 0) ≡ true → get_or (set bytes i b) j 0 ≡ get_or characters (n + j) 0) (sym same) (subst (λ (x : ℕ). is_direct x ≡ true → x ≡ get_or characters (n + i) 0) (sym (get_or-set_same bytes i b 0 h)) e)
   | inr other ↦ subst (λ (x : ℕ). is_direct x ≡ true → x ≡ get_or characters (n + k) 0) (sym (get_or-set_other bytes i k b 0 other)) (p k (omega arith))
 ]
-
--- 0 is not direct
-pub zero_not_direct : is_direct 0 ≡ true → ⊥
-unfolding is_direct is_set_d is_blank
-zero_not_direct e = false≢true e

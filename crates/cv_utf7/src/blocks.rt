@@ -1,10 +1,13 @@
 //! UTF-7 by blocks.
 
+use crate::direct_runs::write_direct_run;
 use crate::read_blocks::{read_on, read_one};
 use crate::utf7::Utf7;
 use crate::write_blocks::write_on;
 use crate::write_sequences::Reached;
-use cv_base::{BlockCodec, Policy, ReadBlock, ReadState, Scalar, WriteState, WrittenBlock};
+use cv_base::{
+    AsciiForm, BlockCodec, Policy, ReadBlock, ReadState, Scalar, WriteState, WrittenBlock,
+};
 
 impl BlockCodec for Utf7 {
     fn read_block(&self, state: ReadState, input: &[u8], buffer: &mut [Scalar]) -> ReadBlock {
@@ -40,5 +43,20 @@ impl BlockCodec for Utf7 {
             count: 0,
             next: reached.next,
         })
+    }
+
+    #[inline]
+    fn write_ascii_run(
+        &self,
+        state: WriteState,
+        form: AsciiForm,
+        text: &[u8],
+        out: &mut [u8],
+        at: usize,
+    ) -> usize {
+        match state {
+            WriteState::Start => write_direct_run(form, text, out, at),
+            _ => 0,
+        }
     }
 }

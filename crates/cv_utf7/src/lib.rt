@@ -4,6 +4,7 @@
 mod blocks;
 mod cut;
 mod direct_bytes;
+mod direct_runs;
 mod items;
 pub mod laws;
 mod read_blocks;

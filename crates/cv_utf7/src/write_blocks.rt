@@ -3,13 +3,10 @@ ghost use Rattle.std.specs.Prelude.{◌≤◌, ◌<◌, ◌+◌, ◌-◌, ◌*�
 ghost use Rattle.cv_utf7.specs.Private.WriteSteps.{place, WritesOn};
 
 use crate::direct_bytes::not_written_direct;
-use crate::write_runs::{MANY_WRITTEN, narrowed, window_size, write_direct, write_run};
+use crate::write_runs::{MANY_WRITTEN, narrowed, write_direct, write_run};
 use crate::write_sequences::{Reached, write_inside, write_one, write_sequence};
 use cv_base::{Scalar, WriteState};
 use std::simd::prelude::*;
-
-/// How many characters a window is made of at the least: fewer are written sooner one by one.
-const LEAST: usize = 2 * MANY_WRITTEN;
 
 /// Writes direct characters, and sequences between them, from a place to the last of a window.
 #[inline(always)]
@@ -20,18 +17,17 @@ fn write_window(characters: &[Scalar], from: usize, out: &mut [u8], at: usize) -
     ensures more { WritesOn characters.now (place WriteState.Start from at) out.old result out.new }
     ensures on { from < result.n }
 {
-    let size = window_size(characters.len());
-    let base = from.min(characters.len() - size);
-    let bytes = narrowed(characters, base, size);
-    let stops = not_written_direct(u8x64::from_slice(&bytes));
+    let base = from.min(characters.len() - MANY_WRITTEN);
+    let bytes = narrowed(characters, base);
+    let stops = not_written_direct(u8x16::from_slice(&bytes));
     let mut n = from;
     let mut end = at;
-    while n - base < size {
-        let (run, goes_on) = write_run(characters, base, &bytes, stops, n, out, end);
+    while n - base < MANY_WRITTEN {
+        let run = write_run(characters, base, &bytes, stops, n, out, end);
         n += run;
         end += run;
-        if goes_on {
-            continue;
+        if n - base == MANY_WRITTEN {
+            break;
         }
         let reached = write_sequence(characters, n, out, end);
         match reached.next {
@@ -58,7 +54,7 @@ fn write_outside(characters: &[Scalar], from: usize, out: &mut [u8], at: usize) 
     ensures on { from < result.n }
 {
     let len = characters.len();
-    if len >= LEAST && len - from >= MANY_WRITTEN {
+    if len >= MANY_WRITTEN {
         return write_window(characters, from, out, at);
     }
     let run = write_direct(characters, from, out, at);

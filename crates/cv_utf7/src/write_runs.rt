@@ -6,13 +6,16 @@ ghost use Rattle.cv_utf7.specs.Private.WriteSteps.{place, WritesOn};
 
 use crate::sets::stands;
 use cv_base::{Scalar, WriteState};
-use cv_byte_sets::{WINDOW, run_at};
+use cv_byte_sets::{SIXTEEN, run_in_sixteen};
 
-/// How many bytes of a run are written at once.
-pub(crate) const MANY_WRITTEN: usize = 16;
+/// How many characters a window has, and how many bytes of a run are written at once.
+pub(crate) const MANY_WRITTEN: usize = SIXTEEN;
 
-/// The bytes of a window, and as many behind them as are written at once.
-const PADDED_WINDOW: usize = WINDOW + MANY_WRITTEN;
+/// How many bytes of a shorter run are written at once, where fewer characters are left.
+const SOME_WRITTEN: usize = 8;
+
+/// How many bytes of the shortest runs are.
+const FEW_WRITTEN: usize = 4;
 
 /// Writes the direct characters of a run, and answers how many they are.
 #[inline(always)]
@@ -34,43 +37,31 @@ pub(crate) fn write_direct(characters: &[Scalar], n: usize, out: &mut [u8], at: 
     run
 }
 
-/// The byte of a character, and 0 if it is not ASCII.
+/// The byte of a character, and that of the last below 256 if it has none. No byte from 80 on is direct.
 #[inline(always)]
 fn narrow(c: Scalar) -> u8
     ensures { is_direct result ≡ true → result ≡ c }
 {
-    let value = c.value();
-    if value < 128 { value as u8 } else { 0 }
+    c.value().min(0xff) as u8
 }
 
-/// How many of so many characters a window has at most: as many sixteens as there are, up to four.
+/// The characters of a window as bytes, of which those that are direct are the characters, and as many zeros behind them.
 #[inline(always)]
-pub(crate) fn window_size(len: usize) -> usize
-    ensures most { result ≤ 64 }
-    ensures within { result ≤ len }
-    ensures some { 16 ≤ len → 16 ≤ result }
+pub(crate) fn narrowed(characters: &[Scalar], base: usize) -> [u8; 32]
+    requires { base + 16 ≤ length characters.now }
+    ensures { (i : ℕ) → i < 16 → is_direct (get_or result i 0) ≡ true
+        → get_or result i 0 ≡ get_or characters.now (base + i) 0 }
 {
-    len.min(WINDOW) / MANY_WRITTEN * MANY_WRITTEN
-}
-
-/// So many characters as bytes, with 0 where one is not ASCII, and zeros behind them.
-#[inline(always)]
-pub(crate) fn narrowed(characters: &[Scalar], n: usize, size: usize) -> [u8; 80]
-    requires most { size ≤ 64 }
-    requires within { n + size ≤ length characters.now }
-    ensures { (i : ℕ) → i < 64 → is_direct (get_or result i 0) ≡ true
-        → get_or result i 0 ≡ get_or characters.now (n + i) 0 }
-{
-    let mut bytes = [0u8; PADDED_WINDOW];
-    for i in 0..size {
-        bytes[i] = narrow(characters[n + i]);
+    let mut bytes = [0u8; 32];
+    for i in 0..MANY_WRITTEN {
+        bytes[i] = narrow(characters[base + i]);
     }
     bytes
 }
 
 /// Copies so many bytes, if there are any.
 #[inline(always)]
-fn copy(bytes: &[u8], from: usize, many: usize, out: &mut [u8], at: usize)
+pub(crate) fn copy(bytes: &[u8], from: usize, many: usize, out: &mut [u8], at: usize)
     requires within { from + many ≤ length bytes.now }
     requires room { at + many ≤ length out.old }
     ensures { out.new ≡ take at out.old ++ take many (drop from bytes.now)
@@ -81,7 +72,7 @@ fn copy(bytes: &[u8], from: usize, many: usize, out: &mut [u8], at: usize)
     }
 }
 
-/// Writes the direct characters of a run, 16 at most. Answers how many they are, and whether the run may go on.
+/// Writes the direct characters from a place of a window on, as far as it goes, and answers how many they are.
 #[inline(always)]
 pub(crate) fn write_run(
     characters: &[Scalar],
@@ -91,28 +82,31 @@ pub(crate) fn write_run(
     n: usize,
     out: &mut [u8],
     at: usize,
-) -> (usize, bool)
-    requires window { (i : ℕ) → i < 64 → bit_at stops i ≡ 0
+) -> usize
+    requires window { (i : ℕ) → i < 16 → bit_at stops i ≡ 0
         → (is_direct (get_or bytes.now i 0) ≡ true)
         × (get_or bytes.now i 0 ≡ get_or characters.now (base + i) 0) }
-    requires padded { length bytes.now ≡ 80 }
-    requires place { (base ≤ n) × (n < base + 64) }
-    requires some { n < length characters.now }
+    requires end { bit_at stops 16 ≡ 1 }
+    requires padded { length bytes.now ≡ 32 }
+    requires within { base + 16 ≤ length characters.now }
+    requires place { (base ≤ n) × (n < base + 16) }
     requires room { at + 8 * (length characters.now - n) ≤ length out.old }
     ensures run { WritesOn characters.now (place WriteState.Start n at) out.old
-        (place WriteState.Start (n + result.0) (at + result.0)) out.new }
-    ensures within { n + result.0 ≤ length characters.now }
-    ensures on { IsTrue result.1 → 0 < result.0 }
-    ensures stops { result.1 ≡ false → n + result.0 < length characters.now }
+        (place WriteState.Start (n + result) (at + result)) out.new }
+    ensures within { n + result ≤ base + 16 }
 {
     let place = n - base;
-    let run = run_at(stops, place);
+    let run = run_in_sixteen(stops, place);
     let left = characters.len() - n;
-    if left < MANY_WRITTEN {
-        let few = run.min(left);
-        copy(bytes, place, few, out, at);
-        return (few, few == left);
+    // A number of bytes that is known is copied sooner, where behind the run as many may be overwritten.
+    if left >= MANY_WRITTEN {
+        copy(bytes, place, MANY_WRITTEN, out, at);
+    } else if left >= SOME_WRITTEN && run <= SOME_WRITTEN {
+        copy(bytes, place, SOME_WRITTEN, out, at);
+    } else if left >= FEW_WRITTEN && run <= FEW_WRITTEN {
+        copy(bytes, place, FEW_WRITTEN, out, at);
+    } else {
+        copy(bytes, place, run, out, at);
     }
-    copy(bytes, place, MANY_WRITTEN, out, at);
-    (run.min(MANY_WRITTEN), run >= MANY_WRITTEN)
+    run
 }

@@ -1,6 +1,7 @@
 use Rattle.std.proofs.Common.{sym, ◌∙◌, ◌+◌, ap}
 use Rattle.cv_utf7.specs.Sets.{may_be_direct}
-use Rattle.cv_utf7.proofs.DirectBytes.{may_stand_in, not_outside}
+use Rattle.cv_byte_sets.proofs.Lanes.{not_outside}
+use Rattle.cv_utf7.proofs.DirectBytes.{may_stand_in}
 use Rattle.cv_utf7.proofs.direct_bytes.not_direct.Goals as goal
 
 pub returns : goal.returns

@@ -1,0 +1,61 @@
+//! Runs of direct characters out of a text in which ASCII stands for itself.
+ghost use Rattle.std.specs.Prelude.{◌≤◌, length};
+ghost use Rattle.cv_base.specs.Blocks.{IsWrittenRun};
+ghost use Rattle.cv_base.specs.declared.ascii_form.AsciiForm.{AsciiForm};
+ghost use Rattle.cv_base.specs.declared.state.WriteState.{WriteState};
+ghost use Rattle.cv_utf7.specs.Utf7.{utf7_writes};
+
+use crate::direct_bytes::written_direct;
+use crate::write_runs::{MANY_WRITTEN, copy};
+use cv_base::AsciiForm;
+use cv_block::take_ascii_run;
+
+/// How many units of more than one byte are made bytes at once.
+const MANY_UNITS: usize = 64;
+
+/// Writes the direct bytes at the front of a text, as far as there is room, and answers how many they are.
+#[inline(always)]
+fn write_direct_bytes(text: &[u8], out: &mut [u8], at: usize) -> usize
+    requires { at ≤ length out.old }
+    ensures { IsWrittenRun utf7_writes WriteState.Start AsciiForm.Byte text.now
+        out.old at result out.new }
+{
+    let most = text.len().min(out.len() - at);
+    let run = written_direct(&text[..most]);
+    // Fewer go sooner by a block.
+    if run < MANY_WRITTEN {
+        return 0;
+    }
+    copy(text, 0, run, out, at);
+    run
+}
+
+/// Writes the direct characters at the front of a text whose ASCII has this form, as far as there is room, and answers how many they
+/// are.
+#[inline(always)]
+fn write_direct_units(form: AsciiForm, text: &[u8], out: &mut [u8], at: usize) -> usize
+    requires { at ≤ length out.old }
+    ensures { IsWrittenRun utf7_writes WriteState.Start form text.now out.old at result out.new }
+{
+    let mut ascii = [0; MANY_UNITS];
+    let n = take_ascii_run(form, AsciiForm::Byte, text, &mut ascii, 0);
+    let run = written_direct(&ascii).min(n).min(out.len() - at);
+    // Fewer go sooner by a block.
+    if run < MANY_WRITTEN {
+        return 0;
+    }
+    copy(&ascii, 0, run, out, at);
+    run
+}
+
+/// Writes the direct characters at the front of a text whose ASCII has this form, as far as there is room, and answers how many they
+/// are. They may be none where they are few.
+pub(crate) fn write_direct_run(form: AsciiForm, text: &[u8], out: &mut [u8], at: usize) -> usize
+    requires { at ≤ length out.old }
+    ensures { IsWrittenRun utf7_writes WriteState.Start form text.now out.old at result out.new }
+{
+    match form {
+        AsciiForm::Byte => write_direct_bytes(text, out, at),
+        _ => write_direct_units(form, text, out, at),
+    }
+}

@@ -227,6 +227,30 @@ impl BlockCodec for Encoding {
         }
     }
 
+    #[inline(never)]
+    fn write_ascii_run(
+        &self,
+        state: WriteState,
+        form: AsciiForm,
+        text: &[u8],
+        out: &mut [u8],
+        at: usize,
+    ) -> usize {
+        match self {
+            Encoding::Ascii => Ascii.write_ascii_run(state, form, text, out, at),
+            Encoding::Latin1 => Latin1.write_ascii_run(state, form, text, out, at),
+            Encoding::Utf8 => Utf8.write_ascii_run(state, form, text, out, at),
+            Encoding::Utf16(order) => {
+                Utf16::new(*order).write_ascii_run(state, form, text, out, at)
+            }
+            Encoding::Utf32(order) => {
+                Utf32::new(*order).write_ascii_run(state, form, text, out, at)
+            }
+            Encoding::Utf7 => Utf7.write_ascii_run(state, form, text, out, at),
+            Encoding::Charmap(map) => map.write_ascii_run(state, form, text, out, at),
+        }
+    }
+
     fn reads_latin(&self, state: ReadState) -> Option<AsciiForm> {
         match self {
             Encoding::Ascii => Ascii.reads_latin(state),

@@ -148,3 +148,15 @@ members_more set bytes n run stops before window few clear i l = elim (cases_lt 
       let byte : get_or (chunk n 16 bytes) (i - n) 0 ≡ get_or bytes i 0 = get_or-chunk n 16 bytes (i - n) 0 (omega arith) ∙ ap (λ (j : ℕ). get_or bytes j 0) there in
       ap (is_in set) (sym byte) ∙ not_outside _ (sym (window (i - n) (omega arith)) ∙ ap (bit_at stops) here ∙ clear (i - n) (omega arith)))
 ]
+
+-- where the bit is set, the byte is not in the set
+is_outside : (b : Bool) → cond {A = ℕ} b 0 1 ≡ 1 → b ≡ false
+is_outside true e = absurd (omega arith)
+is_outside false e = refl
+
+-- the byte of a window whose bit is set is not in the set
+pub member_stops : (set bytes : List ℕ) (n run stops : ℕ) → ((i : ℕ) → i < 16 → bit_at stops i ≡ cond {A = ℕ} (is_in set (get_or (chunk n 16 bytes) i 0)) 0 1) → run < 16 → bit_at stops (0 + run) ≡ 1 → is_in set (get_or bytes (n + run) 0) ≡ false
+member_stops set bytes n run stops window few stop =
+    let here : run ≡ 0 + run = omega arith in
+    let byte : get_or (chunk n 16 bytes) run 0 ≡ get_or bytes (n + run) 0 = get_or-chunk n 16 bytes run 0 few in
+    ap (is_in set) (sym byte) ∙ is_outside _ (sym (window run few) ∙ ap (bit_at stops) here ∙ stop)

@@ -1,5 +1,5 @@
 //! Sets of bytes, looked up by the two halves of each byte.
-ghost use Rattle.std.specs.Prelude.{◌≡◌, ◌≤◌, ◌<◌, ◌/◌, ℕ, IsTrue, true, cond, map, length, get_or, bit_and};
+ghost use Rattle.std.specs.Prelude.{◌≡◌, ◌≤◌, ◌<◌, ◌+◌, ◌/◌, ℕ, IsTrue, true, false, cond, map, length, get_or, bit_and};
 ghost use Rattle.std.specs.Int.{bit_at};
 ghost use Rattle.cv_byte_sets.specs.ByteSets.{half_bits, is_in, repeats};
 
@@ -81,6 +81,7 @@ pub fn sixteen_outside(set: [u8; 16], bytes: u8x16) -> u64
 pub fn front_in(set: [u8; 16], bytes: &[u8]) -> usize
     ensures within { result ≤ length bytes.now }
     ensures members { (i : ℕ) → i < result → is_in set (get_or bytes.now i 0) ≡ true }
+    ensures stop { result + 16 ≤ length bytes.now → is_in set (get_or bytes.now result 0) ≡ false }
 {
     let mut n = 0;
     while bytes.len() - n >= SIXTEEN {

@@ -7,7 +7,7 @@ use std::simd::prelude::*;
 /// How many bytes are held against a set at once.
 pub const WINDOW: usize = 64;
 
-/// How many bytes are where a window of 64 is too many.
+/// How many bytes are held against a set at once where a window is too many.
 pub const SIXTEEN: usize = 16;
 
 /// The bytes from a place of a text on, 64 at most, and zeros behind its end.
@@ -47,6 +47,7 @@ pub fn run_in_sixteen(stops: u64, place: usize) -> usize
     requires end { bit_at stops 16 ≡ 1 }
     ensures within { place + result ≤ 16 }
     ensures clear { (i : ℕ) → i < result → bit_at stops (place + i) ≡ 0 }
+    ensures whole { bit_at stops (place + result) ≡ 1 }
 {
     run_at(stops, place)
 }

@@ -22,6 +22,7 @@ abbrev pub AreRead : ItemRelation → ReadState → (ℕ → List ℕ) → List 
 AreRead reads s bytes_of [] = Unit {0}
 AreRead reads s bytes_of (c ∷ characters) = reads s (bytes_of c) (taken (length (bytes_of c)) (Some c) s) × AreRead reads s bytes_of characters
 
+-- characters whose bytes begin a text are a chain
 pub chain_for : (reads : ItemRelation) (s : ReadState) (bytes_of : ℕ → List ℕ) (characters text : List ℕ) → AreRead reads s bytes_of characters → Begins (flat_map bytes_of characters) text → IsChain reads s text (items_for s bytes_of characters)
 chain_for reads s bytes_of [] text p q = tt
 chain_for reads s bytes_of (c ∷ characters) text p q = (
@@ -33,6 +34,7 @@ pub used_for : (s : ReadState) (bytes_of : ℕ → List ℕ) (characters : List 
 used_for s bytes_of [] = refl
 used_for s bytes_of (c ∷ characters) = omega (arith, used_for s bytes_of characters, length-append (bytes_of c) (flat_map bytes_of characters))
 
+-- behind them the state is as before
 pub state_for : (s : ReadState) (bytes_of : ℕ → List ℕ) (characters : List ℕ) → read_state s (items_for s bytes_of characters) ≡ s
 state_for s bytes_of [] = refl
 state_for s bytes_of (c ∷ characters) = state_for s bytes_of characters
@@ -57,10 +59,12 @@ read_block_of reads s bytes_of text characters buffer n used p q e f h = record 
 pub nothing_read : (reads : ItemRelation) (s : ReadState) (text buffer : List ℕ) → IsReadBlock reads s text (record { n = 0; used = 0; next = s }) buffer
 nothing_read reads s text buffer = record { chain = []; is_chain = tt; within = omega arith; gives = refl; uses = refl; next = refl }
 
+-- bytes below a limit are read as the characters of their numbers
 pub bytes_are_read : (limit : ℕ) (bytes : List ℕ) → ((k : ℕ) → k < length bytes → get_or bytes k 0 < limit) → AreRead (byte_reads limit) read.Start (λ c. c ∷ []) bytes
 bytes_are_read limit [] h = tt
 bytes_are_read limit (b ∷ bytes) h = ((h 0 (omega arith), refl), bytes_are_read limit bytes (λ k l. h (suc k) (omega arith)))
 
+-- bytes, one by one, are the bytes
 pub each_byte : (bytes : List ℕ) → flat_map (λ (c : ℕ). c ∷ []) bytes ≡ bytes
 each_byte [] = refl
 each_byte (b ∷ bytes) = ap (λ (x : List ℕ). b ∷ x) (each_byte bytes)

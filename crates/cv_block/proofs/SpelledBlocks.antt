@@ -21,6 +21,7 @@ ReadsSpelled reads s bytes_of = (c : ℕ) → IsScalar c → reads s (bytes_of c
 abbrev pub WritesSpelled : Writing → WriteState → BytesOf → Type 0
 WritesSpelled writes t bytes_of = (c : ℕ) → writes t c ≡ Some (bytes_of c, t)
 
+-- characters that are spelled are read by their bytes
 pub scalars_read : (reads : ItemRelation) (s : ReadState) (bytes_of : BytesOf) → ReadsSpelled reads s bytes_of → (characters : List ℕ) → AreScalars characters → AreRead reads s bytes_of characters
 scalars_read reads s bytes_of r [] p = tt
 scalars_read reads s bytes_of r (c ∷ characters) p = (r c p.0, scalars_read reads s bytes_of r characters p.1)

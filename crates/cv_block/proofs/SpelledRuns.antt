@@ -13,6 +13,7 @@ use Rattle.cv_base.proofs.Front.{Begins-length, Begins-join}
 abbrev pub spelled : ℕ → ℕ → Spelled
 spelled n used = record { n = n; used = used }
 
+-- characters, and characters behind them
 pub AreScalars-append : (a b : List ℕ) → AreScalars a → AreScalars b → AreScalars (a ++ b)
 AreScalars-append [] b p q = q
 AreScalars-append (c ∷ a) b p q = (p.0, AreScalars-append a b p.1 q)

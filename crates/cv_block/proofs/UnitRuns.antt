@@ -23,6 +23,7 @@ pub record Begun (bytes_of : BytesOf) (form : AsciiForm) (text numbers : List �
   pub begins : Begins (flat_map bytes_of (take n numbers)) text
   pub uses : length (flat_map bytes_of (take n numbers)) ≡ unit_size form * n
 
+-- units at the front of a text are the bytes of their characters
 pub begun : (bytes_of : BytesOf) (form : AsciiForm) → SpellsUnits form bytes_of → (text numbers : List ℕ) (n : ℕ) → n ≤ length numbers → AreUnits form text numbers n → Begun bytes_of form text numbers n
 begun bytes_of form spells text numbers zero h units = record { begins = tt; uses = sym (mul-zero (unit_size form)) }
 begun bytes_of form spells text numbers (suc n) h units =
@@ -39,6 +40,7 @@ begun bytes_of form spells text numbers (suc n) h units =
       uses = rw e (omega (arith, length-append (flat_map bytes_of (take n numbers)) (bytes_of c), before.uses, single, mul-suc (unit_size form) n));
     }
 
+-- numbers that are each that of a character
 pub all_scalars : (numbers : List ℕ) → AreScalarsBelow numbers (length numbers) → AreScalars numbers
 all_scalars [] h = tt
 all_scalars (c ∷ numbers) h = (h 0 (omega arith), all_scalars numbers (λ k l. h (suc k) (omega arith)))

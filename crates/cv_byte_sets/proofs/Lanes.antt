@@ -102,9 +102,11 @@ in_set n few set v xs ys long ex ey i l =
 abbrev pub HasHalfBits : List ℕ → Type 0
 HasHalfBits t = (k : ℕ) → k < 16 → get_or t k 0 ≡ get_or half_bits k 0
 
+-- the table for sixteen bytes
 pub half_bits_once : HasHalfBits HALF_BITS
 half_bits_once k l = eqb-true _ _ (agree_below_at (λ k. nat_eq (get_or HALF_BITS k 0) (get_or half_bits k 0)) (λ k. true) 16 k refl l)
 
+-- the table for a window of 64
 pub half_bits_four_times : HasHalfBits HALF_BITS_FOUR_TIMES
 half_bits_four_times k l = eqb-true _ _ (agree_below_at (λ k. nat_eq (get_or HALF_BITS_FOUR_TIMES k 0) (get_or half_bits k 0)) (λ k. true) 16 k refl l)
 

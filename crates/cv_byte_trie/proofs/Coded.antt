@@ -14,9 +14,11 @@ not_eqb a b h = grind (arith, nat_tests)
 abbrev pub over : Edge → ℕ → ℕ → ℕ
 over e b c = cond (e.byte == b) e.code c
 
+-- over its own byte an edge leads to its code
 pub over_same : (e : Edge) (b c : ℕ) → e.byte ≡ b → over e b c ≡ e.code
 over_same e b c h = rw (eq-eqb e.byte b h) refl
 
+-- over another byte it says nothing new
 pub over_other : (e : Edge) (b c : ℕ) → e.byte ≢ b → over e b c ≡ c
 over_other e b c h = rw (not_eqb e.byte b h) refl
 

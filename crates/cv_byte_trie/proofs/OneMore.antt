@@ -84,6 +84,7 @@ end_whole size depth place p is low = elim (end_cases size depth place) [
   | inr e ↦ absurd (let f : p ≡ tail_code place = sym is ∙ e.1 in omega arith)
 ]
 
+-- where an entry ends with a tail, the tail is its own
 pub end_tail : (size depth place p : ℕ) → place < tails → end_code size depth place ≡ tail_code p → (size ≢ depth + 1) × (p ≡ place)
 end_tail size depth place p low is = elim (end_cases size depth place) [
   | inl e ↦ absurd (let f : place ≡ tail_code p = sym e.1 ∙ is in omega arith)

@@ -14,6 +14,7 @@ prefix_len-map : {X Y : Type 0} (p : Y → Bool) (f : X → Y) (xs : List X) →
 prefix_len-map p f [] = refl
 prefix_len-map p f (x ∷ xs) = ap (λ (n : ℕ). cond (p (f x)) (1 + n) 0) (prefix_len-map p f xs)
 
+-- the first place whose value passes is the first that is mapped to one that does
 pub position-map : {X Y : Type 0} (p : Y → Bool) (f : X → Y) (xs : List X) → position p (map f xs) ≡ position (λ x. p (f x)) xs
 position-map p f xs = rw (prefix_len-map (λ y. not (p y)) f xs, length-map xs f) refl
 
@@ -21,6 +22,7 @@ none_same : {X Y : Type 0} (f : X → Y) (o : Option X) → is_none (option_map 
 none_same f (Some x) = refl
 none_same f None = refl
 
+-- the first free place stays where values are mapped
 pub position_none-map : {X Y : Type 0} (f : X → Y) (xs : List (Option X)) → position is_none (map (option_map f) xs) ≡ position is_none xs
 position_none-map f xs = position-map is_none (option_map f) xs ∙ ap (λ p. position p xs) (fun_ext (none_same f))
 

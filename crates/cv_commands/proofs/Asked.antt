@@ -26,6 +26,7 @@ pub record NextRequest (later : List Message) (ahead : List ℕ) (n : ℕ) : Typ
   pub front : take n ahead ≡ spelling request
   pub behind : drop n ahead ≡ joined others
 
+-- what stands whole at the front is the next request
 pub next_request : (later : List Message) (ahead : List ℕ) (m : Message) (n : ℕ) → AllByRecursion FitsFrame later → ahead ≡ joined later → front_of ahead ≡ Whole m n → NextRequest later ahead n
 next_request [] ahead m n good is e =
     let short : front_of ahead ≡ Partial = ap front_of is ∙ front_short [] (omega arith) in

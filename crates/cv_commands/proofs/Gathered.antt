@@ -18,13 +18,16 @@ pub record Gathered (frames : List ℕ) (lines : List (List ℕ)) : Type 0 where
   pub fits : AllByRecursion FitsFrame requests
   pub many : length requests ≡ count_by asks lines
 
+-- of no lines no frames are gathered
 pub Gathered-none : Gathered [] []
 Gathered-none = record { requests = []; whole = refl; fits = tt; many = refl }
 
+-- what is not asked is skipped
 pub skipped : (b : Bool) → true ≡ not b → b ≡ false
 skipped true e = cc
 skipped false e = refl
 
+-- what is not skipped is asked
 pub taken : (b : Bool) → false ≡ not b → b ≡ true
 taken true e = refl
 taken false e = cc
@@ -33,9 +36,11 @@ taken false e = cc
 asks-push : (lines : List (List ℕ)) (line : List ℕ) → count_by asks (lines ++ line ∷ []) ≡ count_by asks lines + cond (asks line) 1 0
 asks-push lines line = sum_by_push (λ (x : List ℕ). cond (asks x) 1 0) lines line
 
+-- a line that asks nothing adds no frame
 pub Gathered-skip : (frames : List ℕ) (lines : List (List ℕ)) (line : List ℕ) → Gathered frames lines → true ≡ not (asks line) → Gathered frames (lines ++ line ∷ [])
 Gathered-skip frames lines line p e = record { requests = p.requests; whole = p.whole; fits = p.fits; many = p.many ∙ sym (asks-push lines line ∙ ap (λ (b : Bool). count_by asks lines + cond b 1 0) (skipped (asks line) e) ∙ omega arith) }
 
+-- a line that asks adds its frame
 pub Gathered-more : (frames frames' : List ℕ) (lines : List (List ℕ)) (line : List ℕ) → Gathered frames lines → false ≡ not (asks line) → AddsRequest frames frames'
     → Gathered frames' (lines ++ line ∷ [])
 Gathered-more frames frames' lines line p e q = record {

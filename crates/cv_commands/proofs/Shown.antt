@@ -8,6 +8,7 @@ use Rattle.cv_frame.specs.declared.reading.Frame.TheVariants.{Whole}
 use Rattle.cv_frame.proofs.Cuts.{cut_whole, cut_rest, front_short}
 use Rattle.cv_commands.specs.Lines.{line_of, lines_of}
 
+-- the lines of replies, and of one more
 pub lines-push : (replies : List Message) (m : Message) → lines_of (replies ++ m ∷ []) ≡ lines_of replies ++ line_of m
 lines-push replies m = flat_map-append line_of replies (m ∷ []) ∙ ap (λ (x : List ℕ). lines_of replies ++ x) (append-nil (line_of m))
 
@@ -16,9 +17,11 @@ pub record ShownBefore (replies rest lines : List ℕ) : Type 0 where
   pub shown : lines_of (messages_of replies) ≡ lines ++ lines_of (messages_of rest)
   pub others : rest_of replies ≡ rest_of rest
 
+-- at first nothing was shown
 pub ShownBefore-none : (replies : List ℕ) → ShownBefore replies replies []
 ShownBefore-none replies = record { shown = refl; others = refl }
 
+-- one reply more was shown
 pub ShownBefore-more : (replies rest rest' lines lines' : List ℕ) (m : Message) (n : ℕ) → ShownBefore replies rest lines → Whole m n ≡ front_of rest → rest' ≡ drop n rest
     → lines' ≡ lines ++ line_of m → ShownBefore replies rest' lines'
 ShownBefore-more replies rest rest' lines lines' m n p e behind more =
@@ -34,6 +37,7 @@ ShownBefore-more replies rest rest' lines lines' m n p e behind more =
 pub no_more : cut_of [] ≡ no_frames []
 no_more = cut_rest [] (λ m n e. let f = front_short [] (omega arith) in cc)
 
+-- where nothing is left, all replies were shown
 pub ShownBefore-all : (replies rest lines : List ℕ) → ShownBefore replies rest lines → rest ≡ [] → (lines ≡ lines_of (messages_of replies)) × (rest_of replies ≡ [])
 ShownBefore-all replies rest lines p none =
     let e : cut_of rest ≡ no_frames [] = ap cut_of none ∙ no_more in (

@@ -36,6 +36,7 @@ pub record Standing (frames : List ℕ) (sent : ℕ) (lines lines' : List ℕ) (
   pub gave : Consumes left left' (joined replies ++ kept)
   pub took : Appends held held' (joined answered)
 
+-- at first no frame was sent
 pub Standing-none : (frames lines : List ℕ) (left held : Option (List ℕ)) → IsCut frames (messages_of frames) [] → Standing frames 0 lines lines left left held held []
 Standing-none frames lines left held cut = record {
   answered = [];
@@ -60,6 +61,7 @@ pub record Asking (frames : List ℕ) (sent n : ℕ) (later : List Message) : Ty
   pub within : sent + n ≤ length frames
   pub slice : take ((sent + n) - sent) (drop sent frames) ≡ spelling next.request
 
+-- the frame that is sent next is that of the next request
 pub asking : (frames : List ℕ) (sent n : ℕ) (later : List Message) (m : Message) → sent ≤ length frames → AllByRecursion FitsFrame later → drop sent frames ≡ joined later
     → front_of (take (length frames - sent) (drop sent frames)) ≡ Whole m n → Asking frames sent n later
 asking frames sent n later m within good ahead e =

@@ -166,6 +166,7 @@ number_only body number fits e =
       | inr p ↦ absurd (let h = p.1 in cc)
     ]
 
+-- bodies that are spelled are read back, and no others are read
 pub read_back : ReadBack
 read_back = record {
   drops = drop_back;

@@ -77,5 +77,6 @@ front_of_rest bytes ends = record {
   ];
 }
 
+-- bytes have one cut
 pub one_cut : OneCut
 one_cut = record { some = cut_is; one = cut_only; rest = front_of_rest }

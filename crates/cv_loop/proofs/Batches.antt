@@ -8,17 +8,21 @@ use Rattle.cv_frame.specs.Cut.{front_of, IsBytes}
 use Rattle.cv_frame.specs.declared.reading.Frame.TheVariants.{Whole}
 use Rattle.cv_frame.proofs.Cuts.{front_takes, front_size, IsBytes-drop, length-spelling}
 
+-- all frames fit, and one more does
 pub all-push : (ms : List Message) (m : Message) → AllByRecursion FitsFrame ms → FitsFrame m → AllByRecursion FitsFrame (ms ++ m ∷ [])
 all-push [] m all one = (one, tt)
 all-push (x ∷ ms) m all one = (all.0, all-push ms m all.1 one)
 
+-- all frames fit, and those behind them do
 pub all-append : (ms ns : List Message) → AllByRecursion FitsFrame ms → AllByRecursion FitsFrame ns → AllByRecursion FitsFrame (ms ++ ns)
 all-append [] ns p q = q
 all-append (x ∷ ms) ns p q = (p.0, all-append ms ns p.1 q)
 
+-- the bytes of frames, and of one more
 pub joined-push : (ms : List Message) (m : Message) → joined (ms ++ m ∷ []) ≡ joined ms ++ spelling m
 joined-push ms m = flat_map-append spelling ms (m ∷ []) ∙ ap (λ (x : List ℕ). joined ms ++ x) (append-nil (spelling m))
 
+-- So many whole frames at the front of bytes were gathered, which use so many of them.
 pub record Gathered (bytes : List ℕ) (ms : List Message) (used count : ℕ) : Type 0 where
   pub within : used ≤ length bytes
   pub front : bytes ≡ joined ms ++ drop used bytes
@@ -26,6 +30,7 @@ pub record Gathered (bytes : List ℕ) (ms : List Message) (used count : ℕ) : 
   pub far : count ≤ used
   pub many : length ms ≡ count
 
+-- one whole frame more is gathered
 pub gathered_more : (bytes : List ℕ) (ms : List Message) (used count n : ℕ) (m : Message) → IsBytes bytes → Gathered bytes ms used count
     → Whole m n ≡ front_of (take (length bytes - used) (drop used bytes)) → Gathered bytes (ms ++ m ∷ []) (used + n) (count + 1)
 gathered_more bytes ms used count n m fits so e =

@@ -14,6 +14,7 @@ use Rattle.cv_loop.proofs.Known.{Appends-none, Appends-then}
 use Rattle.cv_loop.proofs.Batches.{all-append}
 use Rattle.cv_machine.specs.Machine.{Turn}
 
+-- to count in two steps is to count the sum
 pub counted-add : (a b c : ℕ) → counted (counted (a + b) + c) ≡ counted (a + (b + c))
 counted-add a b c = omega arith
 
@@ -61,6 +62,7 @@ module _ {Table : Type 0} {turn : Turn Table} where
         q.why;
   }
 
+-- the bytes of frames, and of those behind them
 pub joined-append : (ms ns : List Message) → joined (ms ++ ns) ≡ joined ms ++ joined ns
 joined-append ms ns = flat_map-append spelling ms ns
 

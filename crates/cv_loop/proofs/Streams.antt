@@ -235,6 +235,7 @@ at_the_end false old new bytes end failed e r =
     let none = r.1 refl in
     (none, r.0 ∙ ap (λ (x : List ℕ). old ++ x) none ∙ append-nil old, r.3, r.4)
 
+-- where more may come, the end was not read
 pub before_the_end : (more : Bool) (old new bytes : List ℕ) (end failed : Bool) → more ≡ true → ReadsMore (Ok more) old new bytes end failed
     → (new ≡ old ++ bytes) × (end ≡ false) × (failed ≡ false) × (0 < length bytes)
 before_the_end true old new bytes end failed e r = (r.0, r.3, r.4, r.2 refl)

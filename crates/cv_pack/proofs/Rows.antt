@@ -33,6 +33,7 @@ abbrev pub all_below : ℕ → List ℕ → Bool
 all_below n [] = true
 all_below n (x ∷ xs) = ltb x n && all_below n xs
 
+-- lists that the test finds the same are the same
 pub same_is : (xs ys : List ℕ) → same xs ys ≡ true → xs ≡ ys
 same_is [] [] e = refl
 same_is [] (y ∷ ys) e = cc
@@ -41,6 +42,7 @@ same_is (x ∷ xs) (y ∷ ys) e =
     let both = and_parts (eqb x y) (same xs ys) e in
     ap₂ (λ (a : ℕ) (l : List ℕ). a ∷ l) (eqb-true x y both.0) (same_is xs ys both.1)
 
+-- numbers that the test finds below a limit are below it
 pub below_is : (n : ℕ) (xs : List ℕ) → all_below n xs ≡ true → Each1 (λ x. x < n) xs
 below_is n [] e = tt
 below_is n (x ∷ xs) e =

@@ -14,6 +14,7 @@ use Rattle.cv_pages.specs.Private.Numbered.{AreNumbered}
 pub entry_bytes : (entries : List Entry) (k : ℕ) (x : Entry) → k < length entries → x ≡ get_or entries k x → bytes_at entries k ≡ x.0
 entry_bytes entries k x low is = ap (λ (e : Entry). e.0) (sym (get_or_read entries k x low is no_entry))
 
+-- the character of an entry stands at its place
 pub entry_character : (entries : List Entry) (k : ℕ) (x : Entry) → k < length entries → x ≡ get_or entries k x → character_at entries k ≡ x.1
 entry_character entries k x low is = ap (λ (e : Entry). e.1) (sym (get_or_read entries k x low is no_entry))
 

@@ -18,11 +18,13 @@ use Rattle.cv_pool.proofs.Pooling.{Seen, pooled_runs}
 
 -- ---- the part of a shard, one request further
 
+-- a request of the shard is one more of its part
 pub part_mine : (count n : ℕ) (ms : List Message) (m : Message) → m.caller % count ≡ n → part count n (ms ++ m ∷ []) ≡ part count n ms ++ m ∷ []
 part_mine count n ms m is =
     let e : eqb (m.caller % count) n ≡ true = grind (arith, nat_tests, is) in
     filter-append (λ (q : Message). eqb (q.caller % count) n) ms (m ∷ []) ∙ ap (λ (b : Bool). part count n ms ++ cond b (m ∷ []) []) e
 
+-- a request of another shard adds nothing to its part
 pub part_others : (count n : ℕ) (ms : List Message) (m : Message) → m.caller % count ≢ n → part count n (ms ++ m ∷ []) ≡ part count n ms
 part_others count n ms m apart =
     let e : eqb (m.caller % count) n ≡ false = grind (arith, nat_tests, apart) in

@@ -111,6 +111,7 @@ four_bits t vs long =
     let four : length (map t vs) ≡ 4 = length-map vs t ∙ long in
     rw four at (mask_l-lt (map t vs))
 
+-- the marks of four characters are a byte
 pub marks_lt : (vs : List ℕ) → length vs ≡ 4 → marks vs < 256
 marks_lt vs long = omega (arith, four_bits has_two vs long, four_bits has_three vs long)
 
@@ -118,6 +119,7 @@ marks_lt vs long = omega (arith, four_bits has_two vs long, four_bits has_three 
 pub two_bits : (vs : List ℕ) → length vs ≡ 4 → mask_l (tests 4 0x80 vs) % 2 ^ 64 ≡ mask_l (map has_two vs)
 two_bits vs long = ap (λ l. mask_l l % 2 ^ 64) (twos_are 4 vs long) ∙ mask_l-mod (map has_two vs) 64 (omega (arith, length-map vs has_two, long))
 
+-- the bits of a test are those of the characters of three bytes
 pub three_bits : (vs : List ℕ) → length vs ≡ 4 → mask_l (tests 4 0x800 vs) % 2 ^ 64 ≡ mask_l (map has_three vs)
 three_bits vs long = ap (λ l. mask_l l % 2 ^ 64) (threes_are 4 vs long) ∙ mask_l-mod (map has_three vs) 64 (omega (arith, length-map vs has_three, long))
 

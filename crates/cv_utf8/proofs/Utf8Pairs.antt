@@ -111,6 +111,7 @@ part_long characters values n room e = ap length e ∙ length-chunk n 8 characte
 pub part_short : (characters values : List ℕ) (n : ℕ) → values ≡ take 8 (drop n characters) → ((k : ℕ) → k < 8 → get_or characters (n + k) 0 < 0x800) → (k : ℕ) → k < 8 → get_or values k 0 < 0x800
 part_short characters values n e p k h = rw (e, get_or-take, get_or-drop) (p k h)
 
+-- the marks of eight characters are a byte
 pub mask_lt : (vs : List ℕ) → length vs ≡ 8 → mask_l (map has_two vs) < 256
 mask_lt vs long =
     let eight : length (map has_two vs) ≡ 8 = length-map vs has_two ∙ long in

@@ -61,6 +61,7 @@ states_more : (from : States) (calls : List Call) (call : Call) → (total from 
 states_more from [] call = refl
 states_more from (c ∷ calls) call = states_more c.came.states calls call
 
+-- one call more is fed
 pub one_more : (charmaps : Charmaps) (d : Descriptor) (calls : List Call) (call : Call) → IsFedBy charmaps d calls
     → IsConverted (form_reads (form_in charmaps d.from)) (form_writes (form_in charmaps d.to)) d.policy d.states call.input call.room call.came
     → IsFedBy charmaps (record d { states = call.came.states }) (calls ++ call ∷ [])
@@ -71,6 +72,7 @@ one_more charmaps d calls call p q = record {
 
 -- ---- what is read of its reply
 
+-- the number of a stop's status tells the stop
 pub stop_back : (s : Stop) → stop_of (status_number (stop_status s)) ≡ Some s
 stop_back stop.Done = refl
 stop_back stop.TooBig = refl

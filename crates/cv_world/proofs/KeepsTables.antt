@@ -29,6 +29,7 @@ use Rattle.cv_world.proofs.OtherOps.{not_put}
 
 -- ---- the empty table
 
+-- where nothing stands, each that stands has any property
 pub none_standing : {X : Type 0} (P : X → Type 0) (n place : ℕ) → IfSome (get_or (let xs : List (Option X) = replicate n None in xs) place None) P
 none_standing P zero place = tt
 none_standing P (suc n) zero = tt
@@ -66,10 +67,12 @@ name_there charmaps name = found_there charmaps name (place_of charmaps name) re
 
 -- ---- charmaps
 
+-- where not one of two holds, the first doesn't
 pub or_left : (a b : Bool) → (a || b) ≡ false → a ≡ false
 or_left false b e = refl
 or_left true b e = absurd cc
 
+-- nor does the second
 pub or_right : (a b : Bool) → (a || b) ≡ false → b ≡ false
 or_right false b e = e
 or_right true b e = absurd cc
@@ -114,6 +117,7 @@ all_unused : (charmaps : Charmaps) (place : ℕ) (d : Option Descriptor) → use
 all_unused charmaps place None a h = tt
 all_unused charmaps place (Some d) a h = (stays_unused charmaps place d.to (or_left _ _ a) h.0, stays_unused charmaps place d.from (or_right _ _ a) h.1)
 
+-- where no descriptor uses a charmap, the one at a number doesn't
 pub none_uses : (place : ℕ) (ds : List (Option Descriptor)) → list_any (uses place) ds ≡ false → (number : ℕ) → uses place (get_or ds number None) ≡ false
 none_uses place [] h number = refl
 none_uses place (d ∷ ds) h zero = or_left (uses place d) (list_any (uses place) ds) h
@@ -154,10 +158,12 @@ without_map table is place lt idle = record {
 does : (next : Table) (answer : Answer) → IsSound next → (t : Table) (a : Answer) → Does t a next answer → IsSound t
 does next answer is t a d = subst IsSound (sym d.0) is
 
+-- what follows on either side of a test follows
 pub by_test : (b : Bool) (A B P : Type 0) → (A → P) → (b ≡ false → B → P) → When b A B → P
 by_test true A B P f g h = f h
 by_test false A B P f g h = g refl h
 
+-- what follows from either of two follows
 pub either : (A B P : Type 0) → (A → P) → (B → P) → A ⊎ B → P
 either A B P f g h = elim h [ inl x ↦ f x | inr x ↦ g x ]
 

@@ -26,6 +26,7 @@ use Rattle.cv_world.proofs.Stepping.{seen, others_seen, some_value, open_at, non
 
 -- ---- PART
 
+-- PART does what is done to its caller
 pub part_done : (G : ℕ → Option Conversion) (k k2 : Keyed) (bytes : List ℕ) (r : Result ℕ PartFault) → IsPart k bytes r k2 → Acts (table_of G k) (Part bytes) (table_of G k2) (part_answer r)
 part_done G k k2 [] r h = (ap (table_of G) h.1, ap part_answer h.0)
 part_done G k k2 (b ∷ bytes) (Ok n) h =
@@ -53,6 +54,7 @@ alike_world K K2 G same own =
       fits = λ d n p v h g. subst (λ (y : Charmaps). Fits y p v) (sym (same d).1) (own.fits d n p v (sym (back d n) ∙ h) g);
     }
 
+-- a world stays one where a part was kept
 pub part_world : (K K2 : ℕ → Keyed) (G : ℕ → Option Conversion) (c : ℕ) (bytes : List ℕ) (r : Result ℕ PartFault) → IsPart (K c) bytes r (K2 c) → ((d : ℕ) → d ≢ c → K2 d ≡ K d) → IsWorld K G → IsWorld K2 G
 part_world K K2 G c bytes r h others own =
     let kept = part_keeps (K c) (K2 c) bytes r h in
@@ -87,6 +89,7 @@ closes T next n a (Some d) e h = (
   λ m k. ap (λ (t : Table). descriptor_at t m) h.0 ∙ still_none T.descriptors n m k,
 )
 
+-- one descriptor more is closed
 pub closed_more : (T next : Table) (n : ℕ) (a : Answer) → Acts T (Close n) next a → ((m : ℕ) → m < n → descriptor_at T m ≡ None) → (m : ℕ) → m < n + 1 → descriptor_at next m ≡ None
 closed_more T next n a h below m l =
     let now = closes T next n a (descriptor_at T n) refl h in
@@ -100,12 +103,14 @@ closed_more T next n a h below m l =
 other_of : (s t : ℕ → Table) (c q : ℕ) → t ≡ with_table s c (t c) → eqb q c ≡ false → t q ≡ s q
 other_of s t c q h e = let at : t q ≡ with_table s c (t c) q = ap (λ (f : ℕ → Table). f q) h in rw e at at
 
+-- two steps of one caller leave the others' tables
 pub others_both : (s t u : ℕ → Table) (c : ℕ) → t ≡ with_table s c (t c) → u ≡ with_table t c (u c) → u ≡ with_table s c (u c)
 others_both s t u c h i = changes_only s u c (λ q e. other_of t u c q i e ∙ other_of s t c q h e)
 
 own_of_table : (s : ℕ → Table) (c : ℕ) (t : Table) → with_table s c t c ≡ t
 own_of_table s c t = let e : eqb c c ≡ true = grind (arith, nat_tests) in rw e refl
 
+-- a caller that leaves has an empty table, and the others' stay
 pub leaves_empty : (s t : ℕ → Table) (c : ℕ) → t ≡ with_table s c empty_table → (t c ≡ empty_table) × (t ≡ with_table s c (t c))
 leaves_empty s t c h =
     let own : t c ≡ empty_table = ap (λ (f : ℕ → Table). f c) h ∙ own_of_table s c empty_table in
@@ -113,6 +118,7 @@ leaves_empty s t c h =
 
 -- ---- a caller of whom no number is bound, and who goes
 
+-- where no descriptor is open, no place is bound
 pub unbound : (G : ℕ → Option Conversion) (k : Keyed) → ((n : ℕ) (p : Place) → place_at k n ≡ Some p → IsSome (G p.key)) → ((n : ℕ) → descriptor_at (table_of G k) n ≡ None) → (n : ℕ) → place_at k n ≡ None
 unbound G k live free n =
     (elim (place_at k n) as (λ (o : Option Place). place_at k n ≡ o → o ≡ None) [
@@ -122,6 +128,7 @@ unbound G k live free n =
           absurd (let bad = sym (free n) ∙ open_at G k n p v.0 h v.1 in cc)
     ]) refl
 
+-- a world stays one where a caller with no conversions leaves
 pub gone_world : (K K2 : ℕ → Keyed) (G : ℕ → Option Conversion) (c : ℕ) → SetsKeyed K K2 c no_keys → ((n : ℕ) → place_at (K c) n ≡ None) → IsWorld K G → IsWorld K2 G
 gone_world K K2 G c sets free own =
     let apart : (d n : ℕ) (p : Place) → place_at (K2 d) n ≡ Some p → d ≢ c = λ d n p h e.
@@ -136,6 +143,7 @@ gone_world K K2 G c sets free own =
       fits = λ d n p v h g. subst (λ (k : Keyed). Fits k.charmaps p v) (sym (sets.others d (apart d n p h))) (own.fits d n p v (back d n p h) g);
     }
 
+-- its table is seen empty, and the others' as before
 pub gone_seen : (callers callers2 : BTreeMap ℕ Keyed) (s : slab.Slab Conversion) (v : List (ℕ × Table)) (c : ℕ) → tables_in callers.entries s ≡ v → SetsKeyed (keyed_in callers) (keyed_in callers2) c no_keys
     → world_tables (tables_in callers2.entries s) ≡ with_table (world_tables v) c empty_table
 gone_seen callers callers2 s v c is sets =
@@ -144,16 +152,20 @@ gone_seen callers callers2 s v c is sets =
 
 -- ---- a caller who is forgotten, since nothing is left
 
+-- a world of the same callers is one
 pub same_world : (K K2 : ℕ → Keyed) (G : ℕ → Option Conversion) → ((d : ℕ) → K2 d ≡ K d) → IsWorld K G → IsWorld K2 G
 same_world K K2 G same own = subst (λ (F : ℕ → Keyed). IsWorld F G) (sym (fun_ext same)) own
 
+-- the same callers and conversions are seen as the same tables
 pub same_seen : (callers callers2 : BTreeMap ℕ Keyed) (s : slab.Slab Conversion) (v : List (ℕ × Table)) → tables_in callers.entries s ≡ v → ((d : ℕ) → keyed_in callers2 d ≡ keyed_in callers d)
     → world_tables (tables_in callers2.entries s) ≡ world_tables v
 same_seen callers callers2 s v is same =
     fun_ext (λ d. seen callers2 s d ∙ ap (table_of (slab.get s)) (same d) ∙ sym (seen callers s d) ∙ ap (λ (x : List (ℕ × Table)). world_tables x d) is)
 
+-- what is done to a table is done where the tables after it are the same
 pub acts_same : (s t u : ℕ → Table) (c : ℕ) (action : Action) (a : Answer) → u ≡ t → Acts (s c) action (t c) a → Acts (s c) action (u c) a
 acts_same s t u c action a e h = subst (λ (f : ℕ → Table). Acts (s c) action (f c) a) (sym e) h
 
+-- and the others' tables stay
 pub others_same : (s t u : ℕ → Table) (c : ℕ) → u ≡ t → t ≡ with_table s c (t c) → u ≡ with_table s c (u c)
 others_same s t u c e h = subst (λ (f : ℕ → Table). f ≡ with_table s c (f c)) (sym e) h

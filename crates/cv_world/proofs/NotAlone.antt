@@ -136,6 +136,7 @@ map_there : (held : Option Charmap) → is_some held ≡ true → IfSome held (�
 map_there (Some charmap) h is = is
 map_there None h is = absurd cc
 
+-- an encoding that a sound table names has a form
 pub form_there : (table : Table) → IsSound table → (named : Named) → IsThere table.charmaps named → IsForm (form_in table.charmaps named)
 form_there table is (BuiltIn builtin) h = tt
 form_there table is (Held place) h = map_there (charmap_at table.charmaps place) h (is.is_table.charmaps.maps place)

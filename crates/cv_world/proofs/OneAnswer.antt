@@ -88,6 +88,7 @@ one_open : (table : Table) (number : Option ℕ) (to from : List ℕ) (policy : 
 one_open table None to from policy = one_does table _ _ (λ e. absurd cc)
 one_open table (Some number) to from policy = one_bind table number policy (named_of table.charmaps to) (named_of table.charmaps from)
 
+-- no stop has the status of want of memory
 pub other_code : (s : Stop) → status_number (stop_status s) ≢ no_memory
 other_code stop.Done e = absurd cc
 other_code stop.TooBig e = absurd cc

@@ -29,12 +29,15 @@ declined : (T : Table) (n : Option ℕ) (to from : List ℕ) (policy : Policy) (
 declined T None to from policy s h = (refl, ap answers.Refused h)
 declined T (Some n) to from policy s h = declined_bind T n policy (named_of T.charmaps to) (named_of T.charmaps from) s h
 
+-- OPEN that is refused leaves the table
 pub open_declined : (G : ℕ → Option Conversion) (k : Keyed) (to from : List ℕ) (policy : Policy) (s : Status) → ((n : ℕ) (p : Place) → place_at k n ≡ Some p → IsSome (G p.key)) → DeclinesOpen k to from s → Acts (table_of G k) (Open to from policy) (table_of G k) (answers.Refused s)
 open_declined G k to from policy s live h = rw (least_free_seen G k live) (declined (table_of G k) (position is_none k.places) to from policy s h)
 
+-- OPEN for which memory lacks leaves the table
 pub open_lacks : (G : ℕ → Option Conversion) (k : Keyed) (to from : List ℕ) (policy : Policy) (o : Opening) (next : Table) → ((n : ℕ) (p : Place) → place_at k n ≡ Some p → IsSome (G p.key)) → IsOpening k to from policy o → next ≡ table_of G k → Acts (table_of G k) (Open to from policy) next (answers.Refused status.NoMemory)
 open_lacks G k to from policy o next live is e = rw (least_free_seen G k live, is.number, is.to_named, is.from_named) (inr (e, refl))
 
+-- OPEN that opens
 pub open_done : (G : ℕ → Option Conversion) (k : Keyed) (to from : List ℕ) (policy : Policy) (o : Opening) (next : Table) → ((n : ℕ) (p : Place) → place_at k n ≡ Some p → IsSome (G p.key)) → IsOpening k to from policy o
     → next ≡ with_descriptor (table_of G k) o.number (Some (record { to = named o.to o.conversion.to; from = named o.from o.conversion.from; policy = policy; states = start })) → Acts (table_of G k) (Open to from policy) next (answers.Number o.number)
 open_done G k to from policy o next live is e = rw (least_free_seen G k live, is.number, is.to_named, is.from_named) (inl (e, refl))

@@ -56,6 +56,7 @@ descriptor_seen G k n = get_or-map (option_and_then (descriptor_of G)) k.places 
 place_kept : (k : Keyed) (n : ℕ) (p : Place) → place_at k n ≡ Some p → with_place k n (Some p) ≡ k
 place_kept k n p h = ap (λ (ps : List (Option Place)). let t : Keyed = record { charmaps = k.charmaps; places = ps; part = k.part } in t) (ap (λ (o : Option Place). set k.places n o) (sym h) ∙ set-get_or k.places n None)
 
+-- where one conversion changes, its descriptor alone does
 pub written_table : (G G2 : ℕ → Option Conversion) (k : Keyed) (n : ℕ) (p : Place) → place_at k n ≡ Some p → ((m : ℕ) (q : Place) → m ≢ n → place_at k m ≡ Some q → G2 q.key ≡ G q.key)
     → table_of G2 k ≡ with_descriptor (table_of G k) n (descriptor_of G2 p)
 written_table G G2 k n p h others = ap (table_of G2) (sym (place_kept k n p h)) ∙ changed_table G G2 k n (Some p) others
@@ -87,6 +88,7 @@ none_seen : (G : ℕ → Option Conversion) (o : Option Place) → ((p : Place) 
 none_seen G None live = refl
 none_seen G (Some p) live = let t = some_there G p (live p refl) in not_none _ t
 
+-- the least free number is that of the least free place
 pub least_free_seen : (G : ℕ → Option Conversion) (k : Keyed) → ((n : ℕ) (p : Place) → place_at k n ≡ Some p → IsSome (G p.key)) → position is_none (table_of G k).descriptors ≡ position is_none k.places
 least_free_seen G k live = position_seen is_none is_none (option_and_then (descriptor_of G)) k.places None (λ m. none_seen G (get_or k.places m None) (live m))
 
@@ -102,6 +104,7 @@ uses_seen : (G : ℕ → Option Conversion) (place : ℕ) (o : Option Place) →
 uses_seen G place None live = refl
 uses_seen G place (Some p) live = uses_by place p (G p.key) (live p refl)
 
+-- a charmap is used by a descriptor where a place refers to it
 pub busy_seen : (G : ℕ → Option Conversion) (k : Keyed) (place : ℕ) → ((n : ℕ) (p : Place) → place_at k n ≡ Some p → IsSome (G p.key)) → list_any (uses place) (table_of G k).descriptors ≡ list_any (refers place) k.places
 busy_seen G k place live = any_seen (uses place) (refers place) (option_and_then (descriptor_of G)) k.places None (λ m. uses_seen G place (get_or k.places m None) (live m))
 
@@ -290,6 +293,7 @@ is_place_not : (place : ℕ) (o : Option ℕ) → is_place place o ≡ false →
 is_place_not place (Some q) h e = absurd (let same : q ≡ place = cc in let t = eq-eqb q place same in let bad = sym t ∙ h in cc)
 is_place_not place None h e = absurd cc
 
+-- a charmap to which no place refers is unused
 pub idle_unused : (k : Keyed) (place : ℕ) → list_any (refers place) k.places ≡ false → Unused k place
 idle_unused k place h n p e =
     let r : refers place (Some p) ≡ false = ap (refers place) (sym e) ∙ any_none (refers place) k.places None refl h n in
@@ -297,6 +301,7 @@ idle_unused k place h n p e =
 
 -- ---- all tables after a change
 
+-- a world stays one where a conversion's states change
 pub written : (K : ℕ → Keyed) (G G2 : ℕ → Option Conversion) (c n : ℕ) (p : Place) (v w : Conversion) → IsWorld K G → place_at (K c) n ≡ Some p → G2 p.key ≡ Some w → w.to ≡ v.to → w.from ≡ v.from → w.policy ≡ v.policy
     → ((o : ℕ) → o ≢ p.key → G2 o ≡ G o)
     → (table_of G2 (K c) ≡ with_descriptor (table_of G (K c)) n (Some (record { to = named p.to v.to; from = named p.from v.from; policy = v.policy; states = w.states }))) × ((d : ℕ) → d ≢ c → table_of G2 (K d) ≡ table_of G (K d))
@@ -305,6 +310,7 @@ written K G G2 c n p v w own h is t f y others = (
   λ d a. kept_table G G2 (K d) (λ m q i. others q.key (λ e. a (own.one d m c n q p i h e).0)),
 )
 
+-- a world stays one where a descriptor is opened
 pub opened : (K K2 : ℕ → Keyed) (G G2 : ℕ → Option Conversion) (c n : ℕ) (p : Place) (v : Conversion) → SetsKeyed K K2 c (with_place (K c) n (Some p)) → IsWorld K G → G p.key ≡ None → G2 p.key ≡ Some v
     → ((o : ℕ) → o ≢ p.key → G2 o ≡ G o)
     → (table_of G2 (K2 c) ≡ with_descriptor (table_of G (K c)) n (Some (record { to = named p.to v.to; from = named p.from v.from; policy = v.policy; states = v.states }))) × ((d : ℕ) → d ≢ c → table_of G2 (K2 d) ≡ table_of G (K d))
@@ -314,6 +320,7 @@ opened K K2 G G2 c n p v sets own vacant now others =
       λ d a. ap (table_of G2) (sets.others d a) ∙ kept_table G G2 (K d) (λ m q i. others q.key (apart d m q i)),
     )
 
+-- a world stays one where a descriptor is closed
 pub closed : (K K2 : ℕ → Keyed) (G G2 : ℕ → Option Conversion) (c n : ℕ) (p : Place) → SetsKeyed K K2 c (with_place (K c) n None) → IsWorld K G → place_at (K c) n ≡ Some p → ((o : ℕ) → o ≢ p.key → G2 o ≡ G o)
     → (table_of G2 (K2 c) ≡ with_descriptor (table_of G (K c)) n None) × ((d : ℕ) → d ≢ c → table_of G2 (K2 d) ≡ table_of G (K d))
 closed K K2 G G2 c n p sets own mine others = (

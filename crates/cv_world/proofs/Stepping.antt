@@ -42,15 +42,18 @@ seen_in (e ∷ es) s c = elim (is_at (nat_cmp c) e.0) as (λ (b : Bool). unwrap_
       | false ↦ seen_in es s c
     ]
 
+-- a caller's table is that of its keys and their conversions
 pub seen : (callers : BTreeMap ℕ Keyed) (s : slab.Slab Conversion) (c : ℕ) → world_tables (tables_in callers.entries s) c ≡ table_of (slab.get s) (keyed_in callers c)
 seen callers s c = seen_in callers.entries s c
 
+-- what is done to a caller's keys is done to its table as it is seen
 pub acts_seen : (callers callers2 : BTreeMap ℕ Keyed) (s s2 : slab.Slab Conversion) (v : List (ℕ × Table)) (c : ℕ) (action : Action) (a : Answer) → tables_in callers.entries s ≡ v
     → Acts (table_of (slab.get s) (keyed_in callers c)) action (table_of (slab.get s2) (keyed_in callers2 c)) a → Acts (world_tables v c) action (world_tables (tables_in callers2.entries s2) c) a
 acts_seen callers callers2 s s2 v c action a is h =
     subst (λ (t : Table). Acts t action (world_tables (tables_in callers2.entries s2) c) a) (sym (seen callers s c) ∙ ap (λ (x : List (ℕ × Table)). world_tables x c) is)
     (subst (λ (t : Table). Acts (table_of (slab.get s) (keyed_in callers c)) action t a) (sym (seen callers2 s2 c)) h)
 
+-- and the others' tables are seen as before
 pub others_seen : (callers callers2 : BTreeMap ℕ Keyed) (s s2 : slab.Slab Conversion) (v : List (ℕ × Table)) (c : ℕ) → tables_in callers.entries s ≡ v
     → ((d : ℕ) → d ≢ c → table_of (slab.get s2) (keyed_in callers2 d) ≡ table_of (slab.get s) (keyed_in callers d))
     → world_tables (tables_in callers2.entries s2) ≡ with_table (world_tables v) c (world_tables (tables_in callers2.entries s2) c)
@@ -60,6 +63,7 @@ others_seen callers callers2 s s2 v c is h =
 
 -- ---- descriptors
 
+-- what is there has a value
 pub some_value : (o : Option Conversion) → IsSome o → (v : Conversion) × (o ≡ Some v)
 some_value (Some v) h = (v, refl)
 some_value None h = absurd cc
@@ -68,29 +72,36 @@ some_value None h = absurd cc
 abbrev pub described : Place → Conversion → Descriptor
 described p v = record { to = named p.to v.to; from = named p.from v.from; policy = v.policy; states = v.states }
 
+-- a place that is bound is an open descriptor
 pub open_at : (G : ℕ → Option Conversion) (k : Keyed) (n : ℕ) (p : Place) (v : Conversion) → place_at k n ≡ Some p → G p.key ≡ Some v → descriptor_at (table_of G k) n ≡ Some (described p v)
 open_at G k n p v h g = descriptor_seen G k n ∙ ap (option_and_then (descriptor_of G)) h ∙ ap (option_map (λ (c : Conversion). described p c)) g
 
+-- a place that is free is no descriptor
 pub closed_at : (G : ℕ → Option Conversion) (k : Keyed) (n : ℕ) → place_at k n ≡ None → descriptor_at (table_of G k) n ≡ None
 closed_at G k n h = descriptor_seen G k n ∙ ap (option_and_then (descriptor_of G)) h
 
 -- ---- CLOSE
 
+-- CLOSE of no descriptor is refused
 pub close_none : (T : Table) (n : ℕ) → descriptor_at T n ≡ None → Acts T (Close n) T (answers.Refused status.BadDescriptor)
 close_none T n h = rw h (refl, refl)
 
+-- CLOSE that closes
 pub close_done : (T next : Table) (n : ℕ) (d : Descriptor) → descriptor_at T n ≡ Some d → next ≡ with_descriptor T n None → Acts T (Close n) next answers.Empty
 close_done T next n d h e = rw h (e, refl)
 
 -- ---- where nothing changes
 
+-- what leaves callers and conversions leaves the tables
 pub acts_still : (callers : BTreeMap ℕ Keyed) (s : slab.Slab Conversion) (v : List (ℕ × Table)) (c : ℕ) (action : Action) (a : Answer) → tables_in callers.entries s ≡ v
     → Acts (table_of (slab.get s) (keyed_in callers c)) action (table_of (slab.get s) (keyed_in callers c)) a → Acts (world_tables v c) action (world_tables v c) a
 acts_still callers s v c action a is h = subst (λ (t : Table). Acts t action t a) (sym (seen callers s c) ∙ ap (λ (x : List (ℕ × Table)). world_tables x c) is) h
 
+-- conversions that are the same at each key are the same
 pub all_same : (G G2 : ℕ → Option Conversion) (k : ℕ) → G2 k ≡ G k → ((o : ℕ) → o ≢ k → G2 o ≡ G o) → G2 ≡ G
 all_same G G2 k same others = fun_ext (λ o. elim (cases_eq o k) [ inl e ↦ ap G2 e ∙ same ∙ ap G (sym e) | inr a ↦ others o a ])
 
+-- a place that is bound is one of the list
 pub within : (xs : List (Option Place)) (n : ℕ) (p : Place) → get_or xs n None ≡ Some p → n < length xs
 within [] n p h = absurd cc
 within (x ∷ xs) zero p h = omega arith
@@ -98,6 +109,7 @@ within (x ∷ xs) (suc n) p h = let l = within xs n p h in omega (arith, l)
 
 -- ---- nothing yet
 
+-- of places that are all free each is
 pub none_of : (m n : ℕ) → get_or (let xs : List (Option Place) = replicate m None in xs) n None ≡ None
 none_of zero n = refl
 none_of (suc m) zero = refl
@@ -106,6 +118,7 @@ none_of (suc m) (suc n) = none_of m n
 no_place : (K : ℕ → Keyed) → ((c : ℕ) → K c ≡ no_keys) → (A : Type 0) (c n : ℕ) (p : Place) → place_at (K c) n ≡ Some p → A
 no_place K keyed A c n p h = absurd (let bad : None ≡ Some p = sym (none_of 16 n) ∙ ap (λ (k : Keyed). place_at k n) (sym (keyed c)) ∙ h in cc)
 
+-- callers with no keys, and no conversions, are a world
 pub nothing_there : (K : ℕ → Keyed) (G : ℕ → Option Conversion) → ((c : ℕ) → K c ≡ no_keys) → ((k : ℕ) → G k ≡ None) → IsWorld K G
 nothing_there K G keyed held = record {
   live = λ c n p h. no_place K keyed _ c n p h;
@@ -116,15 +129,18 @@ nothing_there K G keyed held = record {
 
 -- ---- DROP
 
+-- DROP does what is done to its caller
 pub drop_done : (G : ℕ → Option Conversion) (k k2 : Keyed) (name : List ℕ) (r : Result (Unit {0}) DropFault) → ((n : ℕ) (p : Place) → place_at k n ≡ Some p → IsSome (G p.key)) → IsDropped k name r k2
     → Acts (table_of G k) (DropMap name) (table_of G k2) (drop_answer r)
 drop_done G k k2 name (Ok u) live h = rw (h.1, busy_seen G k h.0 live, h.2) (rw h.3 refl, refl)
 drop_done G k k2 name (Err drop.NoName) live h = rw h.0 (ap (table_of G) h.1, refl)
 drop_done G k k2 name (Err drop.Busy) live h = rw (h.1, busy_seen G k h.0 live, h.2) (ap (table_of G) h.3, refl)
 
+-- callers that are the same at each number are the same
 pub all_keyed : (K K2 : ℕ → Keyed) (c : ℕ) → K2 c ≡ K c → ((d : ℕ) → d ≢ c → K2 d ≡ K d) → K2 ≡ K
 all_keyed K K2 c same others = fun_ext (λ d. elim (cases_eq d c) [ inl e ↦ ap K2 e ∙ same ∙ ap K (sym e) | inr a ↦ others d a ])
 
+-- a world stays one where a charmap was dropped
 pub drop_world : (K K2 : ℕ → Keyed) (G : ℕ → Option Conversion) (c : ℕ) (name : List ℕ) (r : Result (Unit {0}) DropFault) → IsDropped (K c) name r (K2 c) → ((d : ℕ) → d ≢ c → K2 d ≡ K d) → IsWorld K G → IsWorld K2 G
 drop_world K K2 G c name (Ok u) h others own = mapped_world K K2 c h.0 None (ap (λ (k : Keyed). k.places) h.3) (ap (λ (k : Keyed). k.charmaps) h.3) others G (idle_unused (K c) h.0 h.2) own
 drop_world K K2 G c name (Err drop.NoName) h others own = subst (λ (F : ℕ → Keyed). IsWorld F G) (sym (all_keyed K K2 c h.1 others)) own
@@ -140,12 +156,14 @@ holds_lacks : (T next : Table) (m : Charmap) (place : Option ℕ) → is_none pl
 holds_lacks T next m (Some p) e h = inr (h, refl)
 holds_lacks T next m None e h = absurd cc
 
+-- PUT of a charmap that was read does what is done to its caller
 pub put_done : (G : ℕ → Option Conversion) (k k2 : Keyed) (m : Charmap) (r : Result (Unit {0}) AddFault) → IsPut k m r k2 → Acts (table_of G k) (Put (Read m)) (table_of G k2) (add_answer (length m.pairs) r)
 put_done G k k2 m (Ok u) h = rw (h.1.0, h.1.1, h.1.3) (inl (ap (table_of G) h.2 ∙ rw h.1.4 refl, refl))
 put_done G k k2 m (Err add.Exists) h = rw h.0 (ap (table_of G) h.1, refl)
 put_done G k k2 m (Err add.Quota) h = rw (h.0, h.1) (ap (table_of G) h.2, refl)
 put_done G k k2 m (Err add.Memory) h = rw (h.0, h.1) (holds_lacks (table_of G k) (table_of G k2) m (least_place k.charmaps) (not_full _ _ h.1) (ap (table_of G) h.2))
 
+-- a world stays one where a charmap was put
 pub put_world : (K K2 : ℕ → Keyed) (G : ℕ → Option Conversion) (c : ℕ) (m : Charmap) (r : Result (Unit {0}) AddFault) → ArePlaces (K c).charmaps (K c).places → IsPut (K c) m r (K2 c) → ((d : ℕ) → d ≢ c → K2 d ≡ K d) → IsWorld K G → IsWorld K2 G
 put_world K K2 G c m (Ok u) are h others own =
     mapped_world K K2 c h.1.2 (Some m) (ap (λ (k : Keyed). k.places) h.2 ∙ ap (λ (k : Keyed). k.places) h.1.4) (ap (λ (k : Keyed). k.charmaps) h.2 ∙ ap (λ (k : Keyed). k.charmaps) h.1.4) others G

@@ -1,0 +1,82 @@
+#!/usr/bin/env python3
+"""list.py: lemmas that are stated more than once, that std has, or that nothing names. It only lists: each has to be looked at.
+
+Statements are compared as far as they stand on the lemma's first line, up to the names of what they bind. The same words over
+definitions of a file's own are another statement, and what is bound only to be recursed on is often stated alike. A lemma that
+nothing names can be found by a proof's search where its file is cited, so that it is dead only if the crate is proved without it.
+The status is 0.
+"""
+import glob
+import os
+import re
+import subprocess
+
+TOP = os.path.dirname(os.path.dirname(os.path.dirname(os.path.abspath(__file__))))
+NAME = r"[A-Za-z0-9_'\-]+"
+LEMMA = re.compile(rf"^(?:pub )?({NAME}) : (.*)$", re.M)
+GENERATED = ("Answers.antt", "Invariants.antt", "Examples.antt")
+SHORT = 12  # statements of fewer characters are not compared
+
+
+def read(path):
+    with open(path, encoding="utf-8") as opened:
+        return opened.read()
+
+
+def form(statement):
+    """A statement in which what is bound is numbered, one name to a binder, and arrows between binders are left out."""
+    bound = []
+    for names in re.findall(r"[({]([^(){}:]+) : ", statement):
+        bound += [name for name in names.split() if name not in bound]
+    words = re.findall(rf"{NAME}|[^\sA-Za-z0-9_'\-]", statement.replace("{ℓ}", ""))
+    said = " ".join(f"v{bound.index(word)}" if word in bound else word for word in words)
+    said = re.sub(r"[({] ((?:v\d+ )+): ([^(){}]*?) [)}]",
+                  lambda group: " ".join(f"( {name} : {group[2]} )" for name in group[1].split()), said)
+    return said.replace(") → ", ") ")
+
+
+def stated(paths):
+    """Each form of the lemmas of some files, with where it is stated."""
+    found = {}
+    for path in paths:
+        for name, statement in LEMMA.findall(read(path)):
+            if len(statement) >= SHORT:
+                found.setdefault(form(statement), []).append((name, path))
+    return found
+
+
+def std_pages():
+    """The pages of the toolchain that list std's lemmas."""
+    guide = subprocess.run(["rt", "doc"], stdout=subprocess.PIPE, text=True, check=True).stdout.strip()
+    return glob.glob(os.path.join(os.path.dirname(guide), "rattle/std/lemmas/**/*.md"), recursive=True)
+
+
+def nameless(lemmas, sources):
+    """The lemmas whose names stand only where they are stated and defined."""
+    counts = {}
+    for text in sources.values():
+        for word in re.findall(NAME, text):
+            counts[word] = counts.get(word, 0) + 1
+    for path in lemmas:
+        for name, _ in LEMMA.findall(sources[path]):
+            own = len(re.findall(rf"^(?:pub )?{re.escape(name)}(?![A-Za-z0-9_'\-])", sources[path], re.M))
+            if counts[name] <= own:
+                yield name, path
+
+
+def main():
+    os.chdir(os.path.join(TOP, "crates"))
+    paths = [path for kind in ("antt", "rt") for path in glob.glob(f"*/*/**/*.{kind}", recursive=True) if "/out/" not in path]
+    lemmas = sorted(path for path in paths if "/proofs/" in path and not path.endswith(GENERATED))
+    ours, std = stated(lemmas), stated(std_pages())
+    for said, places in ours.items():
+        if len(places) > 1:
+            print("twice:", ", ".join(f"{name} ({path})" for name, path in places))
+        if said in std:
+            print("in std:", ", ".join(f"{name} ({path})" for name, path in places), "as", std[said][0][0])
+    for name, path in nameless(lemmas, {path: read(path) for path in paths}):
+        print(f"named nowhere: {name} ({path})")
+
+
+if __name__ == "__main__":
+    main()

@@ -14,7 +14,7 @@ import subprocess
 TOP = os.path.dirname(os.path.dirname(os.path.dirname(os.path.abspath(__file__))))
 NAME = r"[A-Za-z0-9_'\-]+"
 LEMMA = re.compile(rf"^(?:pub )?({NAME}) : (.*)$", re.M)
-GENERATED = ("Answers.antt", "Invariants.antt", "Examples.antt")
+NO_LEMMAS = ("Answers.antt", "Invariants.antt", "Examples.antt")
 SHORT = 12  # statements of fewer characters are not compared
 
 
@@ -67,7 +67,7 @@ def nameless(lemmas, sources):
 def main():
     os.chdir(os.path.join(TOP, "crates"))
     paths = [path for kind in ("antt", "rt") for path in glob.glob(f"*/*/**/*.{kind}", recursive=True) if "/out/" not in path]
-    lemmas = sorted(path for path in paths if "/proofs/" in path and not path.endswith(GENERATED))
+    lemmas = sorted(path for path in paths if "/proofs/" in path and not path.endswith(NO_LEMMAS))
     ours, std = stated(lemmas), stated(std_pages())
     for said, places in ours.items():
         if len(places) > 1:

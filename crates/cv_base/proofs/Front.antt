@@ -1,6 +1,7 @@
 -- What stands at the front of a text.
-use Rattle.std.proofs.Common.{◌≡◌, ℕ, ◌<◌, ◌≤◌, List, [], ◌∷◌, ◌++◌, length, get_or, take, drop, zero, suc, refl, sym, ◌∙◌, ap, arith, inl, inr}
+use Rattle.std.proofs.Common.{◌≡◌, ℕ, ◌-◌, ◌<◌, ◌≤◌, List, [], ◌∷◌, ◌++◌, length, get_or, take, drop, zero, suc, refl, sym, ◌∙◌, ap, arith, inl, inr}
 use Rattle.std.proofs.lemmas.Bool.{cases_lt}
+use Rattle.std.proofs.lemmas.List.{take_all, length-drop}
 use Rattle.cv_base.specs.Items.{Taken, ItemRelation, Begins, Stands, NoneStands, CanGrow}
 use Rattle.cv_base.specs.Codecs.{IsReadable, StaysWhenBytesFollow, OneIsNext, UsesSome}
 use Rattle.cv_base.specs.declared.state.ReadState.{ReadState}
@@ -19,6 +20,14 @@ Begins-meet [] b c p q l = tt
 Begins-meet (x ∷ a) [] c p q l = absurd (omega arith)
 Begins-meet (x ∷ a) (y ∷ b) [] p q l = absurd p
 Begins-meet (x ∷ a) (y ∷ b) (z ∷ c) p q l = (p.0 ∙ sym q.0, Begins-meet a b c p.1 q.1 (omega arith))
+
+-- two of one length that begin one text are the same
+pub Begins-same : (a b text : List ℕ) → Begins a text → Begins b text → length a ≡ length b → a ≡ b
+Begins-same [] [] text p q e = refl
+Begins-same [] (y ∷ b) text p q e = absurd (omega arith)
+Begins-same (x ∷ a) [] text p q e = absurd (omega arith)
+Begins-same (x ∷ a) (y ∷ b) [] p q e = absurd p
+Begins-same (x ∷ a) (y ∷ b) (t ∷ text) p q e = let f : a ≡ b = Begins-same a b text p.1 q.1 (omega arith) in cc (p.0, q.0, f)
 
 -- what begins a text is no longer than it
 pub Begins-length : (a b : List ℕ) → Begins a b → length a ≤ length b
@@ -57,6 +66,12 @@ Begins-back [] b text p = p
 Begins-back (x ∷ a) b [] p = absurd p
 Begins-back (x ∷ a) b (t ∷ text) p = Begins-back a b text p.1
 
+-- a text is what begins it, and what is behind that
+pub Begins-split : (a text : List ℕ) → Begins a text → text ≡ a ++ drop (length a) text
+Begins-split [] text p = refl
+Begins-split (x ∷ a) [] p = absurd p
+Begins-split (x ∷ a) (t ∷ text) p = rw (p.0) (ap (λ (y : List ℕ). t ∷ y) (Begins-split a text p.1))
+
 -- a list begins itself
 pub Begins-refl : (a : List ℕ) → Begins a a
 Begins-refl [] = tt
@@ -66,6 +81,10 @@ Begins-refl (x ∷ a) = (refl, Begins-refl a)
 pub Begins-append : (a b : List ℕ) → Begins a (a ++ b)
 Begins-append [] b = tt
 Begins-append (x ∷ a) b = (refl, Begins-append a b)
+
+-- `&text[used..]`
+pub rest_is : (used : ℕ) (text : List ℕ) → take (length text - used) (drop used text) ≡ drop used text
+rest_is used text = take_all (length text - used) (drop used text) (omega (arith, length-drop used text))
 
 -- Two lists agree where both have a byte.
 abbrev pub Agree : List ℕ → List ℕ → Type 0

@@ -2,7 +2,7 @@
 use Rattle.std.proofs.Common.{◌≡◌, ℕ, ◌+◌, ◌*◌, ◌<◌, ◌≤◌, List, [], ◌∷◌, ◌++◌, length, take, drop, refl, sym, ◌∙◌, ap, arith, length-append, length-drop, length-take, append_assoc, append-nil, slice_set}
 use Rattle.std.proofs.Math.Seq.{take-add}
 use Rattle.std.specs.List.{flat_map}
-use Rattle.std.proofs.lemmas.List.{drop-drop, take_more_set, length-set}
+use Rattle.std.proofs.lemmas.List.{drop-drop, take_more_set, length-set, nil_from_length}
 use Rattle.std.proofs.lemmas.Grind.{flat_map-append}
 use Rattle.cv_base.specs.Scalars.{AreScalars}
 use Rattle.cv_block.specs.Spelled.{BytesOf, HasFourAtMost, IsSpelledAt, IsReadSpelled, IsWrittenSpelled}
@@ -42,15 +42,11 @@ read_more bytes_of text at before n m u mid k v place behind after p e f q =
       size = q.size ∙ p.size;
     }
 
-nothing : (c : List ℕ) → 0 ≡ length c → c ≡ []
-nothing [] e = refl
-nothing (x ∷ c) e = absurd (omega arith)
-
 -- some, where none was read before them
 pub read_after_none : (bytes_of : BytesOf) (text : List ℕ) (at : ℕ) (before : List ℕ) (n : ℕ) (none : Spelled) (mid : List ℕ) (run : Spelled) (after : List ℕ) → none.n ≡ 0
     → IsReadSpelled bytes_of text at before n none mid → IsReadSpelled bytes_of text at mid n run after → IsReadSpelled bytes_of text at before n run after
 read_after_none bytes_of text at before n none mid run after z p q =
-    let stayed : take n mid ≡ take n before = ap (λ i. take i mid) (let o : n ≡ n + none.n = omega arith in o) ∙ p.stand ∙ ap (λ (x : List ℕ). take n before ++ x) (nothing p.characters (sym z ∙ p.counts)) ∙ append-nil (take n before) in
+    let stayed : take n mid ≡ take n before = ap (λ i. take i mid) (let o : n ≡ n + none.n = omega arith in o) ∙ p.stand ∙ ap (λ (x : List ℕ). take n before ++ x) (nil_from_length p.characters (sym p.counts ∙ z)) ∙ append-nil (take n before) in
     record {
       characters = q.characters;
       scalars = q.scalars;

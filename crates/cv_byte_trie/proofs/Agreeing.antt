@@ -1,10 +1,9 @@
 -- How many bytes two byte strings have in common.
-use Rattle.std.proofs.Common.{◌≡◌, ℕ, ◌<◌, ◌≤◌, ◌+◌, ◌-◌, List, length, take, drop, get_or, sym, subst, ◌∙◌, ap, arith, inl, inr}
+use Rattle.std.proofs.Common.{◌≡◌, ℕ, ◌<◌, ◌≤◌, ◌+◌, ◌-◌, List, length, take, drop, sym, subst, ◌∙◌, ap, arith, inl, inr}
 use Rattle.std.proofs.lemmas.Bool.{cases_lt}
-use Rattle.std.proofs.lemmas.List.{take_all, get_or_read, take-take, drop-take}
+use Rattle.std.proofs.lemmas.List.{take_all, take-take, drop-take}
 use Rattle.cv_base.specs.Items.{Begins}
 use Rattle.cv_base.proofs.Front.{Begins-take, Begins-agree}
-use Rattle.cv_byte_trie.specs.Entries.{Entry, no_entry, bytes_at}
 use Rattle.cv_byte_trie.specs.Private.Meetings.{AgreeFor}
 
 -- the same from the other side
@@ -19,20 +18,12 @@ agree_begins v x n a e = subst (λ (y : List ℕ). Begins y x) (sym a.same ∙ t
 pub agree_not : (v x : List ℕ) (n : ℕ) → AgreeFor v x n → n < length v → Begins v x → ⊥
 agree_not v x n a l f = let g = Begins-agree v x f in a.differ l (omega (arith, g.0)) (g.1 n l (omega (arith, g.0)))
 
--- if both are, they are the same
-pub agree_same : (v x : List ℕ) (n : ℕ) → AgreeFor v x n → n ≡ length v → n ≡ length x → v ≡ x
-agree_same v x n a e f = sym (take_all n v (omega arith)) ∙ a.same ∙ take_all n x (omega arith)
-
 -- what begins both is in common
 pub agree_deep : (u v x : List ℕ) (n : ℕ) → AgreeFor v x n → n < length v → n < length x → Begins u v → Begins u x → length u ≤ n
 agree_deep u v x n a l m f g = elim (cases_lt n (length u)) [
   | inl h ↦ absurd (a.differ l m (sym ((Begins-agree u v f).1 n h l) ∙ (Begins-agree u x g).1 n h m))
   | inr h ↦ h
 ]
-
--- the bytes of an entry that was read
-pub entry_bytes : (entries : List Entry) (k : ℕ) (x : Entry) → k < length entries → x ≡ get_or entries k x → bytes_at entries k ≡ x.0
-entry_bytes entries k x low is = ap (λ (e : Entry). e.0) (sym (get_or_read entries k x low is no_entry))
 
 -- some of the bytes in front of others
 pub part_is : (padded v : List ℕ) (n d l : ℕ) → take n padded ≡ v → l < n → d < l → take (l + 1 - (d + 1)) (drop (d + 1) padded) ≡ drop (d + 1) (take (l + 1) v)

@@ -1,14 +1,9 @@
 -- The edges of a block.
-use Rattle.std.proofs.Common.{◌≡◌, ◌≢◌, ◌==◌, ℕ, ◌<◌, ◌≤◌, ◌+◌, false, cond, List, zero, suc, refl, sym, ◌∙◌, ap, arith, inl, inr, eq-eqb}
-use Rattle.std.proofs.lemmas.Bool.{cases_eq}
-use Rattle.std.proofs.lemmas.Bool.Decides.{nat_tests}
+use Rattle.std.proofs.Common.{◌≡◌, ◌≢◌, ◌==◌, ℕ, ◌<◌, ◌≤◌, ◌+◌, cond, List, zero, suc, refl, sym, ◌∙◌, ap, arith, inl, inr, eq-eqb}
+use Rattle.std.proofs.lemmas.Bool.{cases_eq, ne_eqb}
 use Rattle.cv_byte_trie.specs.Tries.{none}
 use Rattle.cv_byte_trie.specs.Tables.{coded, edge_in}
 use Rattle.cv_byte_trie.specs.declared.node.Edge.{Edge}
-
--- the test of two numbers that differ
-pub not_eqb : (a b : ℕ) → a ≢ b → (a == b) ≡ false
-not_eqb a b h = grind (arith, nat_tests)
 
 -- one place, over what those before it give
 abbrev pub over : Edge → ℕ → ℕ → ℕ
@@ -20,7 +15,7 @@ over_same e b c h = rw (eq-eqb e.byte b h) refl
 
 -- over another byte it says nothing new
 pub over_other : (e : Edge) (b c : ℕ) → e.byte ≢ b → over e b c ≡ c
-over_other e b c h = rw (not_eqb e.byte b h) refl
+over_other e b c h = rw (ne_eqb e.byte b h) refl
 
 -- a byte that no place has leads nowhere
 pub coded_none : (edges : List Edge) (u s b : ℕ) → ((k : ℕ) → k < s → (edge_in edges (u + k)).byte ≢ b) → coded edges u s b ≡ none

@@ -1,7 +1,7 @@
 -- Blocks of twice the size.
 use Rattle.std.proofs.Common.{◌≡◌, ◌≢◌, ◌⊎◌, ℕ, ◌+◌, ◌*◌, ◌-◌, ◌<◌, ◌≤◌, Bool, List, [], ◌++◌, length, take, drop, get_or, refl, sym, ◌∙◌, ap, arith, inl, inr, slice_set, cond, eq-eqb, length-append, append-nil, length-drop}
 use Rattle.std.proofs.Math.ListN.{replicate}
-use Rattle.std.proofs.lemmas.Bool.{cases_eq, cases_lt}
+use Rattle.std.proofs.lemmas.Bool.{cases_eq, cases_lt, ne_eqb}
 use Rattle.std.proofs.lemmas.List.{get_or-set_same, get_or-set_other, get_or_append_left, get_or-append-add, get_or-append_right, get_or-take, get_or-drop, get_or-replicate, length-set, length-take-le, length-replicate}
 use Rattle.cv_byte_trie.specs.Tries.{none}
 use Rattle.cv_byte_trie.specs.Tables.{coded, edge_in, node_at, edge_at, edge_of}
@@ -11,7 +11,7 @@ use Rattle.cv_byte_trie.specs.declared.node.Edge.{Edge}
 use Rattle.cv_byte_trie.specs.declared.node.Node.{Node}
 use Rattle.cv_byte_trie.specs.declared.node.Node.TheVariants.{One, Few, Table}
 use Rattle.cv_byte_trie.specs.declared.steps.Steps.{Steps}
-use Rattle.cv_byte_trie.proofs.Coded.{not_eqb, coded_none, coded_at, coded_same, coded_more}
+use Rattle.cv_byte_trie.proofs.Coded.{coded_none, coded_at, coded_same, coded_more}
 use Rattle.cv_byte_trie.proofs.Setting.{block_sets}
 use Rattle.cv_byte_trie.proofs.Keeping.{IsBlock, IsNew, node_keeps}
 
@@ -114,7 +114,7 @@ module _ (t u : Steps) (s : IsSound t) (n : ℕ) (low : n < length t.nodes.items
       | inr e ↦ coded_none u.edges.items start 2 c (λ j l f. elim (which_two j l) [
         | inl p ↦ h (sym f ∙ byte_there j p)
         | inr p ↦ e (sym f ∙ byte_beside j p)
-      ]) ∙ sym (ap (edge_at t n c) one ∙ ap (λ (y : Bool). cond y led none) (not_eqb c own e))
+      ]) ∙ sym (ap (edge_at t n c) one ∙ ap (λ (y : Bool). cond y led none) (ne_eqb c own e))
     ]
 
     pub pair_sets : SetsEdge t u n b code

@@ -1,8 +1,7 @@
 -- Where a byte leads from a node: by its block, or by its table.
-use Rattle.std.proofs.Common.{◌≡◌, ◌≢◌, slice_set, ℕ, ◌<◌, ◌≤◌, ◌+◌, List, length, get_or, suc, sym, ◌∙◌, ap, arith, inl, inr, None}
+use Rattle.std.proofs.Common.{◌≡◌, ◌≢◌, ℕ, ◌<◌, ◌+◌, List, length, get_or, sym, ◌∙◌, ap, None}
 use Rattle.std.proofs.Math.ListN.{replicate}
-use Rattle.std.proofs.lemmas.Bool.{cases_eq}
-use Rattle.std.proofs.lemmas.List.{get_or_read, get_or-set_same, get_or-set_other, get_or-replicate}
+use Rattle.std.proofs.lemmas.List.{get_or_read, get_or-replicate}
 use Rattle.cv_byte_trie.specs.Tries.{none}
 use Rattle.cv_byte_trie.specs.Tables.{coded, edge_in, node_at, edge_at, edge_of}
 use Rattle.cv_byte_trie.specs.Private.Blocks.{FindsEdge}
@@ -11,7 +10,7 @@ use Rattle.cv_byte_trie.specs.declared.node.Edge.{Edge}
 use Rattle.cv_byte_trie.specs.declared.node.Node.{Node}
 use Rattle.cv_byte_trie.specs.declared.node.Node.TheVariants.{Few, Table}
 use Rattle.cv_byte_trie.specs.declared.steps.Steps.{Steps}
-use Rattle.cv_byte_trie.proofs.Coded.{over, over_same, over_other, coded_none, coded_at}
+use Rattle.cv_byte_trie.proofs.Coded.{coded_none, coded_at}
 
 -- a node that was read
 pub node_read : (t : Steps) (n : ℕ) (x y : Node) → n < length t.nodes.items → x ≡ get_or t.nodes.items n x → x ≡ y → node_at t n ≡ y
@@ -37,21 +36,6 @@ module _ (t : Steps) (s : IsSound t) (n size start : ℕ) (low : n < length t.no
   -- where it leads nowhere no place has it
   pub lacks : edge_of t n b ≡ none → (k : ℕ) → k < size → (edge_in t.edges.items (start + k)).byte ≢ b
   lacks z k here is = s.led n size start k low few here (rw is byte) (sym (edge_found k here is) ∙ z)
-
--- one more place of a block in a table
-pub fill_more : (edges : List Edge) (start at : ℕ) (table : List ℕ) (edge : Edge) → edge ≡ edge_in edges (start + at) → edge.byte < 256 → length table ≡ 256
-    → ((b : ℕ) → b < 256 → get_or table b none ≡ coded edges start at b) → (b : ℕ) → b < 256 → get_or (slice_set table edge.byte edge.code) b none ≡ coded edges start (suc at) b
-fill_more edges start at table edge is byte size h b low = elim (cases_eq b edge.byte) [
-  | inl e ↦ ap (λ (x : ℕ). get_or (slice_set table edge.byte edge.code) x none) e ∙ get_or-set_same table edge.byte edge.code none (omega arith)
-      ∙ sym (ap (λ (x : Edge). over x b (coded edges start at b)) (sym is) ∙ over_same edge b (coded edges start at b) (sym e))
-  | inr e ↦ get_or-set_other table edge.byte b edge.code none e ∙ h b low
-      ∙ sym (ap (λ (x : Edge). over x b (coded edges start at b)) (sym is) ∙ over_other edge b (coded edges start at b) (λ f. e (sym f)))
-]
-
--- a place with no edge changes no table
-pub fill_same : (edges : List Edge) (start at : ℕ) (table : List ℕ) (edge : Edge) → edge ≡ edge_in edges (start + at) → 256 ≤ edge.byte
-    → ((b : ℕ) → b < 256 → get_or table b none ≡ coded edges start at b) → (b : ℕ) → b < 256 → get_or table b none ≡ coded edges start (suc at) b
-fill_same edges start at table edge is byte h b low = h b low ∙ sym (ap (λ (x : Edge). over x b (coded edges start at b)) (sym is) ∙ over_other edge b (coded edges start at b) (λ f. omega arith))
 
 -- a table with no edge
 pub fill_start : (edges : List Edge) (start b : ℕ) → b < 256 → get_or (replicate 256 none) b none ≡ coded edges start 0 b

@@ -3,13 +3,13 @@ use Rattle.std.proofs.Common.{◌≡◌, ℕ, ◌<◌, ◌≤◌, ◌+◌, List,
 use Rattle.std.proofs.lemmas.Bool.{cases_lt}
 use Rattle.std.proofs.lemmas.List.{length-take-le}
 use Rattle.cv_base.specs.Items.{Begins}
-use Rattle.cv_base.proofs.Front.{Begins-trans, Begins-meet, Begins-length, Begins-take}
+use Rattle.cv_base.proofs.Front.{Begins-trans, Begins-meet, Begins-length, Begins-take, Begins-same, Begins-refl}
 use Rattle.cv_byte_trie.specs.Entries.{Entry, bytes_at, AreEntries}
 use Rattle.cv_byte_trie.specs.Results.{MeetsNone, GoesOnBehind}
 use Rattle.cv_byte_trie.specs.Tries.{StepsBy, tails, tail_code, none, node_code, IsAlone}
 use Rattle.cv_byte_trie.specs.Private.Reading.{IsAt, IsVacant, IsTail}
 use Rattle.cv_byte_trie.specs.declared.walking.Tail.{Tail}
-use Rattle.cv_byte_trie.proofs.Ways.{Begins-more, Begins-same, Begins-self, longer_by_one}
+use Rattle.cv_byte_trie.proofs.Ways.{Begins-more, longer_by_one}
 
 module _ (entries : List Entry) (a : AreEntries entries) (S : StepsBy) (count : ℕ) (x : List ℕ) (d i : ℕ) (r : IsAt S count entries x d i) where
   -- no entry of this length or less begins the text
@@ -25,7 +25,7 @@ module _ (entries : List Entry) (a : AreEntries entries) (S : StepsBy) (count : 
   -- the text ends at the node
   pub ends_inside : length x ≤ d → 0 < length x → (p : ℕ) × GoesOnBehind entries x p
   ends_inside l some =
-      let e : r.way i ≡ x = Begins-same (r.way i) x x r.at (Begins-self x) (let m = Begins-length (r.way i) x r.at in omega (arith, r.deep)) in
+      let e : r.way i ≡ x = Begins-same (r.way i) x x r.at (Begins-refl x) (let m = Begins-length (r.way i) x r.at in omega (arith, r.deep)) in
       let some_way : 0 < length (r.way i) = rw e some in
       let on = r.trie.on_way i r.low some_way in
       (on.0, subst (λ (w : List ℕ). GoesOnBehind entries w on.0) e on.1)

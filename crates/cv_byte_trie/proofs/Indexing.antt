@@ -1,6 +1,6 @@
 -- What a byte trie keeps, from entry to entry.
 use Rattle.std.proofs.Common.{◌≡◌, ◌≢◌, ◌==◌, ◌&&◌, ℕ, ◌<◌, ◌≤◌, ◌+◌, ◌-◌, cond, List, [], ◌∷◌, ◌++◌, length, take, drop, get_or, refl, sym, subst, ◌∙◌, ap, arith, inl, inr, eq-eqb, length-drop}
-use Rattle.std.proofs.lemmas.Bool.{cases_eq}
+use Rattle.std.proofs.lemmas.Bool.{cases_eq, ne_eqb}
 use Rattle.std.proofs.lemmas.List.{get_or-drop, get_or-take, length-take-le}
 use Rattle.cv_base.specs.Items.{Begins}
 use Rattle.cv_base.specs.Scalars.{IsScalar}
@@ -19,7 +19,6 @@ use Rattle.cv_byte_trie.specs.declared.node.Node.{Node}
 use Rattle.cv_byte_trie.specs.declared.node.Node.TheVariants.{Table}
 use Rattle.cv_byte_trie.specs.declared.steps.Steps.{Steps}
 use Rattle.cv_byte_trie.specs.declared.walking.Tail.{Tail}
-use Rattle.cv_byte_trie.proofs.Coded.{not_eqb}
 use Rattle.cv_byte_trie.proofs.Agreeing.{agree_flip, agree_not, agree_deep}
 use Rattle.cv_byte_trie.proofs.Followed.{vacant_meets_none, tail_alone, tail_begun, tail_size, tail_meets_none}
 use Rattle.cv_byte_trie.proofs.OneMore.{cases_same, one_more_entry, one_more_trie, longer, root_alone}
@@ -116,9 +115,9 @@ without_other : (T : StepsBy) (m x n c : ℕ) → ((n ≡ m) × (c ≡ x) → �
 without_other T m x n c h = elim (cases_eq n m) [
   | inl p ↦ elim (cases_eq c x) [
     | inl q ↦ absurd (h (p, q))
-    | inr q ↦ rw (eq-eqb n m p, not_eqb c x q) refl
+    | inr q ↦ rw (eq-eqb n m p, ne_eqb c x q) refl
   ]
-  | inr p ↦ rw (not_eqb n m p) refl
+  | inr p ↦ rw (ne_eqb n m p) refl
 ]
 
 -- The bytes w and those of the entry that the next byte leads to have l bytes in common.

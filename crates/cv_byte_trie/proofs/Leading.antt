@@ -1,6 +1,6 @@
 -- New nodes that lead over bytes, one by one from the last.
 use Rattle.std.proofs.Common.{◌≡◌, ◌≢◌, ℕ, ◌+◌, ◌-◌, ◌<◌, ◌≤◌, Bool, cond, List, [], ◌∷◌, ◌++◌, length, take, get_or, sym, ◌∙◌, ap, arith, inl, inr, length-append}
-use Rattle.std.proofs.lemmas.Bool.{cases_lt}
+use Rattle.std.proofs.lemmas.Bool.{cases_lt, ne_eqb}
 use Rattle.std.proofs.lemmas.List.{get_or_push, get_or_append_left, take-append-le}
 use Rattle.cv_byte_trie.specs.Tries.{none, node_code}
 use Rattle.cv_byte_trie.specs.Tables.{node_at, edge_at, edge_of}
@@ -9,7 +9,6 @@ use Rattle.cv_byte_trie.specs.Private.Growth.{code_behind, LeadsOver}
 use Rattle.cv_byte_trie.specs.declared.node.Node.{Node}
 use Rattle.cv_byte_trie.specs.declared.node.Node.TheVariants.{One, Few, Table}
 use Rattle.cv_byte_trie.specs.declared.steps.Steps.{Steps}
-use Rattle.cv_byte_trie.proofs.Coded.{not_eqb}
 
 -- There are nodes for all bytes but the first n, and this code leads to them.
 pub record IsLeading (old new : Steps) (bytes : List ℕ) (code n first : ℕ) : Type 0 where
@@ -20,11 +19,11 @@ pub record IsLeading (old new : Steps) (bytes : List ℕ) (code n first : ℕ) :
 
 -- over bytes the newest node leads on
 pub behind_some : (code count j : ℕ) → 0 < j → code_behind code count j ≡ node_code (count + j - 1)
-behind_some code count j some = ap (λ (b : Bool). cond b code (node_code (count + j - 1))) (not_eqb j 0 (let h : j ≢ 0 = omega arith in h))
+behind_some code count j some = ap (λ (b : Bool). cond b code (node_code (count + j - 1))) (ne_eqb j 0 (let h : j ≢ 0 = omega arith in h))
 
 -- a byte that the chain does not have leads nowhere from its nodes
 pub chain_off : (old new : Steps) (bytes : List ℕ) (code : ℕ) → LeadsOver old new bytes code → (j c : ℕ) → j < length bytes → c ≢ get_or bytes (length bytes - 1 - j) 0 → edge_of new (length old.nodes.items + j) c ≡ none
-chain_off old new bytes code l j c low h = ap (edge_at new (length old.nodes.items + j) c) (l.chain j low) ∙ ap (λ (b : Bool). cond b (code_behind code (length old.nodes.items) j) none) (not_eqb c (get_or bytes (length bytes - 1 - j) 0) h)
+chain_off old new bytes code l j c low h = ap (edge_at new (length old.nodes.items + j) c) (l.chain j low) ∙ ap (λ (b : Bool). cond b (code_behind code (length old.nodes.items) j) none) (ne_eqb c (get_or bytes (length bytes - 1 - j) 0) h)
 
 module _ (old t u : Steps) (bytes : List ℕ) (code n first : ℕ) (some : 0 < n) (within : n ≤ length bytes) (l : IsLeading old t bytes code n first) (byte : ℕ) (is : byte ≡ get_or bytes (n - 1) 0)
     (pushed : u.nodes.items ≡ t.nodes.items ++ One byte first ∷ []) where

@@ -5,6 +5,7 @@ pub mod Keeping
 pub mod Doubling
 pub mod Ways
 pub mod Agreeing
+pub mod ReadEntries
 pub mod Followed
 pub mod Leading
 pub mod OneMore

@@ -1,25 +1,18 @@
 -- An edge that leads to an entry, lowered: new nodes lead over bytes of the entry, and the last of them to it.
-use Rattle.std.proofs.Common.{◌≡◌, ◌≢◌, ◌⊎◌, ℕ, ◌<◌, ◌≤◌, ◌+◌, ◌-◌, true, false, cond, ltb, List, [], ◌∷◌, ◌++◌, length, take, get_or, refl, sym, subst, ◌∙◌, ap, arith, inl, inr}
-use Rattle.std.proofs.lemmas.Bool.{cases_lt, cases_eq}
-use Rattle.std.proofs.lemmas.Bool.Decides.{nat_tests}
+use Rattle.std.proofs.Common.{◌≡◌, ◌≢◌, ◌⊎◌, ℕ, ◌<◌, ◌+◌, ◌-◌, cond, ltb, List, [], ◌∷◌, ◌++◌, length, take, get_or, refl, sym, subst, ◌∙◌, ap, arith, inl, inr}
+use Rattle.std.proofs.lemmas.Bool.{cases_lt, cases_eq, lt-ltb, le-ltb}
 use Rattle.std.proofs.lemmas.List.{same_from_push, take_more, length-take-le, take_all}
 use Rattle.cv_base.specs.Items.{Begins}
-use Rattle.cv_base.proofs.Front.{Begins-trans, Begins-meet, Begins-length, Begins-take, Begins-front}
+use Rattle.cv_base.proofs.Front.{Begins-trans, Begins-meet, Begins-length, Begins-take, Begins-front, Begins-same}
 use Rattle.cv_byte_trie.specs.Entries.{Entry, bytes_at, AreEntries}
 use Rattle.cv_byte_trie.specs.Results.{GoesOnBehind}
 use Rattle.cv_byte_trie.specs.Tries.{StepsBy, tails, tail_code, none, node_code, IsAlone, IsTrie}
 use Rattle.cv_byte_trie.specs.Private.Growth.{end_code, code_behind}
 use Rattle.cv_byte_trie.specs.Private.Reading.{IsAt}
-use Rattle.cv_byte_trie.proofs.Ways.{Begins-same, longer_by_one}
+use Rattle.cv_byte_trie.proofs.Ways.{longer_by_one}
 use Rattle.cv_byte_trie.proofs.Followed.{front}
 use Rattle.cv_byte_trie.proofs.Leading.{behind_some}
 use Rattle.cv_byte_trie.proofs.OneMore.{cases_same, end_low, end_whole, end_tail}
-
-lt_true : (a b : ℕ) → a < b → ltb a b ≡ true
-lt_true a b h = grind (arith, nat_tests)
-
-lt_false : (a b : ℕ) → b ≤ a → ltb a b ≡ false
-lt_false a b h = grind (arith, nat_tests)
 
 -- A byte b leads from node i to the entry at p, of which bytes are left; m new nodes lead over its bytes up to the one at l.
 module _ (entries : List Entry) (a : AreEntries entries) (S : StepsBy) (count p : ℕ) (lp : p < length entries) (d i : ℕ) (r : IsAt S count entries (bytes_at entries p) d i) (b : ℕ) (more : d < length (bytes_at entries p))
@@ -77,11 +70,11 @@ module _ (entries : List Entry) (a : AreEntries entries) (S : StepsBy) (count p 
 
   way_old : (n : ℕ) → n < count → way_with n ≡ r.way n
   unfolding way_with
-  way_old n low = rw (lt_true n count low) refl
+  way_old n low = rw (lt-ltb n count low) refl
 
   pub way_new : (j : ℕ) → way_with (count + j) ≡ take (l - j) v
   unfolding way_with
-  way_new j = rw (lt_false (count + j) count (omega arith)) (ap (λ (x : ℕ). take (l - x) v) (let e : count + j - count ≡ j = omega arith in e))
+  way_new j = rw (le-ltb (count + j) count (omega arith)) (ap (λ (x : ℕ). take (l - x) v) (let e : count + j - count ≡ j = omega arith in e))
 
   way_size : (j : ℕ) → length (take (l - j) v) ≡ l - j
   way_size j = length-take-le (l - j) v (omega arith)

@@ -1,18 +1,17 @@
 -- One more entry, and the trie with it.
 use Rattle.std.proofs.Common.{◌≡◌, ◌≢◌, ◌⊎◌, ℕ, ◌<◌, ◌≤◌, ◌+◌, Bool, cond, List, [], ◌∷◌, ◌++◌, length, take, get_or, refl, sym, subst, ◌∙◌, ap, arith, inl, inr, eq-eqb, length-append}
-use Rattle.std.proofs.lemmas.Bool.{cases_lt, cases_eq}
+use Rattle.std.proofs.lemmas.Bool.{cases_lt, cases_eq, ne_eqb}
 use Rattle.std.proofs.lemmas.List.{same_from_push, get_or_push, get_or_append_left, length-take-le, take_all}
 use Rattle.cv_base.specs.Items.{Begins}
 use Rattle.cv_base.specs.Scalars.{IsScalar}
-use Rattle.cv_base.proofs.Front.{Begins-trans, Begins-meet, Begins-length, Begins-take, Begins-front}
+use Rattle.cv_base.proofs.Front.{Begins-trans, Begins-meet, Begins-length, Begins-take, Begins-front, Begins-same}
 use Rattle.cv_byte_trie.specs.Entries.{Entry, no_entry, bytes_at, character_at, AreEntries}
 use Rattle.cv_byte_trie.specs.Results.{MeetsNone, GoesOnBehind}
 use Rattle.cv_byte_trie.specs.Tries.{StepsBy, tails, tail_code, none, node_code, IsAlone, HasTrie}
 use Rattle.cv_byte_trie.specs.Private.Growth.{end_code}
 use Rattle.cv_byte_trie.specs.Private.Reading.{IsAt}
-use Rattle.cv_byte_trie.proofs.Ways.{Begins-same, longer_by_one}
+use Rattle.cv_byte_trie.proofs.Ways.{longer_by_one}
 use Rattle.cv_byte_trie.proofs.Followed.{begins_none, front}
-use Rattle.cv_byte_trie.proofs.Coded.{not_eqb}
 
 -- ---- the list
 
@@ -70,7 +69,7 @@ cases_same i b n c = elim (cases_eq n i) [
 pub end_cases : (size depth place : ℕ) → ((size ≡ depth + 1) × (end_code size depth place ≡ place)) ⊎ ((size ≢ depth + 1) × (end_code size depth place ≡ tail_code place))
 end_cases size depth place = elim (cases_eq size (depth + 1)) [
   | inl e ↦ inl (e, ap (λ (t : Bool). cond t place (tail_code place)) (eq-eqb size (depth + 1) e))
-  | inr e ↦ inr (e, ap (λ (t : Bool). cond t place (tail_code place)) (not_eqb size (depth + 1) e))
+  | inr e ↦ inr (e, ap (λ (t : Bool). cond t place (tail_code place)) (ne_eqb size (depth + 1) e))
 ]
 
 -- it is below the code of no edge

@@ -1,6 +1,6 @@
 -- Setting an edge of a node.
 use Rattle.std.proofs.Common.{◌≡◌, ◌≢◌, ℕ, ◌+◌, ◌*◌, ◌<◌, ◌≤◌, Bool, List, ◌++◌, length, get_or, refl, sym, ◌∙◌, ap, arith, inl, inr, slice_set, eq-eqb, cond}
-use Rattle.std.proofs.lemmas.Bool.{cases_eq}
+use Rattle.std.proofs.lemmas.Bool.{cases_eq, ne_eqb}
 use Rattle.std.proofs.lemmas.List.{get_or-set_same, get_or-set_other, get_or_append_left}
 use Rattle.cv_byte_trie.specs.Tries.{none}
 use Rattle.cv_byte_trie.specs.Tables.{coded, edge_in, node_at, edge_at, edge_of}
@@ -10,7 +10,7 @@ use Rattle.cv_byte_trie.specs.declared.node.Edge.{Edge}
 use Rattle.cv_byte_trie.specs.declared.node.Node.{Node}
 use Rattle.cv_byte_trie.specs.declared.node.Node.TheVariants.{One, Few, Table}
 use Rattle.cv_byte_trie.specs.declared.steps.Steps.{Steps}
-use Rattle.cv_byte_trie.proofs.Coded.{not_eqb, coded_same, coded_other, coded_at}
+use Rattle.cv_byte_trie.proofs.Coded.{coded_same, coded_other, coded_at}
 
 -- the places of a block stay
 abbrev pub SameBlock : Steps → Steps → ℕ → ℕ → Type 0
@@ -55,7 +55,7 @@ module _ (t u : Steps) (s : IsSound t) (n : ℕ) (low : n < length t.nodes.items
     same = λ m c lm lc h. elim (cases_eq m n) [
       | inl p ↦ (
           let apart : c ≢ b = λ q. h (p, q) in
-          ap (λ (y : ℕ). edge_of u y c) p ∙ ap (edge_at u n c) (now ∙ is) ∙ ap (λ (y : Bool). cond y code none) (not_eqb c b apart) ∙ sym (ap (λ (y : Bool). cond y led none) (not_eqb c b apart)) ∙ sym (ap (edge_at t n c) was) ∙ ap (λ (y : ℕ). edge_of t y c) (sym p))
+          ap (λ (y : ℕ). edge_of u y c) p ∙ ap (edge_at u n c) (now ∙ is) ∙ ap (λ (y : Bool). cond y code none) (ne_eqb c b apart) ∙ sym (ap (λ (y : Bool). cond y led none) (ne_eqb c b apart)) ∙ sym (ap (edge_at t n c) was) ∙ ap (λ (y : ℕ). edge_of t y c) (sym p))
       | inr p ↦ ap (edge_at u m c) (other m p) ∙ edge_same t u m c (node_at t m) tables (λ size start _ k _. ap (λ (y : List Edge). edge_in y (start + k)) edges)
     ];
   }
@@ -83,25 +83,4 @@ place_sets t u s n b code size start k low byte few here once was nodes tables e
             ∙ sym (ap (edge_at t n c) few) ∙ ap (λ (y : ℕ). edge_of t y c) (sym p))
         | inr p ↦ ap (edge_at u m c) (stays m) ∙ edge_same t u m c (node_at t m) tables (λ width from is j l. apart (from + j) (λ q. p (s.own m n width from size start (from + j) lm low is few (omega arith) (omega arith) (omega arith) (omega arith))))
       ];
-    }
-
--- an edge in a table
-pub table_sets : (t u : Steps) → IsSound t → (n b code k : ℕ) → n < length t.nodes.items → b < 256 → node_at t n ≡ Table k → u.nodes.items ≡ t.nodes.items → u.edges.items ≡ t.edges.items
-    → u.tables.items ≡ slice_set t.tables.items (k * 256 + b) code → SetsEdge t u n b code
-table_sets t u s n b code k low byte is nodes edges tables =
-    let whole = s.whole n k low is in
-    let stays : (m : ℕ) → node_at u m ≡ node_at t m = λ m. ap (λ (y : List Node). get_or y m (Table 0)) nodes in
-    let others : (m c : ℕ) → m < length t.nodes.items → c < 256 → ((m ≡ n) × (c ≡ b) → ⊥) → (x : Node) → node_at t m ≡ x → edge_at u m c x ≡ edge_at t m c x = λ m c lm lc h x e. elim x as (λ x. node_at t m ≡ x → edge_at u m c x ≡ edge_at t m c x) [
-      | One own led ↦ λ e. refl
-      | Few size start ↦ λ e. ap (λ (y : List Edge). coded y start size c) edges
-      | Table j ↦ λ e.
-          let apart : j * 256 + c ≢ k * 256 + b = λ same. (
-          let c_same : c ≡ b = omega arith in
-          let k_same : j ≡ k = omega arith in
-          h (s.apart m n k lm low (e ∙ ap (λ (y : ℕ). Table y) k_same) is, c_same)) in
-          ap (λ (y : List ℕ). get_or y (j * 256 + c) none) tables ∙ get_or-set_other t.tables.items (k * 256 + b) (j * 256 + c) code none apart
-    ] e in
-    record {
-      set = ap (edge_at u n b) (stays n ∙ is) ∙ ap (λ (y : List ℕ). get_or y (k * 256 + b) none) tables ∙ get_or-set_same t.tables.items (k * 256 + b) code none (omega arith);
-      same = λ m c lm lc h. ap (edge_at u m c) (stays m) ∙ others m c lm lc h (node_at t m) refl;
     }

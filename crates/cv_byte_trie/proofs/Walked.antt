@@ -1,41 +1,33 @@
 -- Where whole byte strings lead.
-use Rattle.std.proofs.Common.{◌≡◌, ◌≢◌, ◌==◌, ◌⊎◌, ℕ, suc, ◌<◌, ◌≤◌, ◌+◌, ◌-◌, true, false, cond, ltb, List, [], ◌∷◌, ◌++◌, length, take, refl, sym, subst, ◌∙◌, ap, arith, inl, inr, append_assoc, append-nil, length-append, eq-eqb}
-use Rattle.std.proofs.lemmas.Bool.{cases_lt, cases_eq}
-use Rattle.std.proofs.lemmas.Bool.Decides.{nat_tests}
+use Rattle.std.proofs.Common.{◌≡◌, ◌≢◌, ◌==◌, ◌⊎◌, ℕ, suc, ◌<◌, ◌+◌, ◌-◌, cond, ltb, List, [], ◌∷◌, ◌++◌, length, take, refl, sym, subst, ◌∙◌, ap, arith, inl, inr, append_assoc, append-nil, length-append, eq-eqb}
+use Rattle.std.proofs.lemmas.Bool.{cases_lt, cases_eq, lt-ltb, le-ltb, ne_eqb}
 use Rattle.cv_base.specs.Items.{Begins}
 use Rattle.cv_base.proofs.Front.{Begins-append}
 use Rattle.cv_byte_trie.specs.Entries.{Entry, bytes_at, AreEntries}
 use Rattle.cv_byte_trie.specs.Results.{GoesOnBehind}
 use Rattle.cv_byte_trie.specs.Tries.{StepsBy, tails, tail_code, none, node_code, IsAlone, IsTrie, HasTrie}
 use Rattle.cv_byte_trie.specs.Walks.{Destination, Leaf, Tail, Node, Nowhere, later, walk, AreBytes, Leads}
-use Rattle.cv_byte_trie.proofs.Coded.{not_eqb}
-
-lt_true : (a b : ℕ) → a < b → ltb a b ≡ true
-lt_true a b h = grind (arith, nat_tests)
-
-lt_false : (a b : ℕ) → b ≤ a → ltb a b ≡ false
-lt_false a b h = grind (arith, nat_tests)
 
 -- a step from a code
 abbrev go : StepsBy → ℕ → List ℕ → Destination
 go S c bytes = cond (ltb c tails) (Leaf c 1) (cond (ltb c none) (Tail (c - 0x40000000) 1) (cond (c == none) Nowhere (later (walk S (c - 0x80000001) bytes))))
 
 go_leaf : (S : StepsBy) (c : ℕ) (bytes : List ℕ) → c < tails → go S c bytes ≡ Leaf c 1
-go_leaf S c bytes l = rw (lt_true c tails l) refl
+go_leaf S c bytes l = rw (lt-ltb c tails l) refl
 
 go_tail : (S : StepsBy) (c p : ℕ) (bytes : List ℕ) → c ≡ tail_code p → p < tails → go S c bytes ≡ Tail p 1
 go_tail S c p bytes e l =
     let i : c - 0x40000000 ≡ p = omega arith in
-    rw (lt_false c tails (omega arith), lt_true c none (omega arith), i) refl
+    rw (le-ltb c tails (omega arith), lt-ltb c none (omega arith), i) refl
 
 go_none : (S : StepsBy) (c : ℕ) (bytes : List ℕ) → c ≡ none → go S c bytes ≡ Nowhere
-go_none S c bytes e = rw (lt_false c tails (omega arith), lt_false c none (omega arith), eq-eqb c none e) refl
+go_none S c bytes e = rw (le-ltb c tails (omega arith), le-ltb c none (omega arith), eq-eqb c none e) refl
 
 go_node : (S : StepsBy) (c j : ℕ) (bytes : List ℕ) → c ≡ node_code j → go S c bytes ≡ later (walk S j bytes)
 go_node S c j bytes e =
     let n : c ≢ none = omega arith in
     let i : c - 0x80000001 ≡ j = omega arith in
-    rw (lt_false c tails (omega arith), lt_false c none (omega arith), not_eqb c none n, i) refl
+    rw (le-ltb c tails (omega arith), le-ltb c none (omega arith), ne_eqb c none n, i) refl
 
 leaf_later : (f : Destination) (c n : ℕ) → later f ≡ Leaf c n → (m : ℕ) × (f ≡ Leaf c m) × (n ≡ suc m)
 leaf_later (Leaf d m) c n h = let e : d ≡ c = cc in let g : suc m ≡ n = cc in (m, ap (λ (x : ℕ). Leaf x m) e, sym g)

@@ -1,5 +1,5 @@
 -- Lists that begin one list.
-use Rattle.std.proofs.Common.{◌≡◌, ℕ, ◌<◌, ◌+◌, List, [], ◌∷◌, ◌++◌, length, get_or, zero, suc, refl, sym, ◌∙◌, arith, length-append}
+use Rattle.std.proofs.Common.{◌≡◌, ℕ, ◌<◌, ◌+◌, List, [], ◌∷◌, ◌++◌, length, get_or, zero, suc, arith, length-append}
 use Rattle.cv_base.specs.Items.{Begins}
 
 -- one byte more
@@ -11,20 +11,6 @@ Begins-more (x ∷ u) [] d b p e l is = absurd p
 Begins-more (x ∷ u) (y ∷ w) zero b p e l is = absurd (omega arith)
 Begins-more (x ∷ u) (y ∷ w) (suc d) b p e l is = (p.0, Begins-more u w d b p.1 (omega arith) (omega arith) is)
 
--- of one length they are the same
-pub Begins-same : (a b w : List ℕ) → Begins a w → Begins b w → length a ≡ length b → a ≡ b
-Begins-same [] [] w p q e = refl
-Begins-same [] (y ∷ b) w p q e = absurd (omega arith)
-Begins-same (x ∷ a) [] w p q e = absurd (omega arith)
-Begins-same (x ∷ a) (y ∷ b) [] p q e = absurd p
-Begins-same (x ∷ a) (y ∷ b) (z ∷ w) p q e =
-    let h : a ≡ b = Begins-same a b w p.1 q.1 (omega arith) in let g : x ≡ y = p.0 ∙ sym q.0 in (cc)
-
 -- one more byte makes a list longer by one
 pub longer_by_one : (u : List ℕ) (b : ℕ) → length (u ++ b ∷ []) ≡ length u + 1
 longer_by_one u b = length-append u (b ∷ [])
-
--- a list begins itself
-pub Begins-self : (a : List ℕ) → Begins a a
-Begins-self [] = tt
-Begins-self (x ∷ a) = (refl, Begins-self a)

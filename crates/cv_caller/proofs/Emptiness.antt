@@ -4,6 +4,7 @@ use Rattle.std.specs.Prelude.{is_some, option_map, IsTrue, ◌↔◌}
 use Rattle.std.specs.List.{list_any}
 use Rattle.std.specs.Arc.{arc_value}
 use Rattle.std.proofs.lemmas.Bool.Decides.{nat_tests}
+use Rattle.std.proofs.lemmas.List.{nil_from_length}
 use Rattle.cv_caller.specs.Tables.{Charmaps}
 use Rattle.cv_caller.specs.Keyed.{Keyed, no_keys}
 use Rattle.cv_caller.specs.Private.Uploaded.{Uploaded, no_uploads}
@@ -28,10 +29,6 @@ list_any_some-map f [] = refl
 list_any_some-map f (None ∷ xs) = list_any_some-map f xs
 list_any_some-map f (Some x ∷ xs) = refl
 
-no_bytes : (bytes : List ℕ) → 0 ≡ length bytes → bytes ≡ []
-no_bytes [] e = refl
-no_bytes (b ∷ bytes) e = absurd (omega arith)
-
 same_uploads : (charmaps others : Charmaps) (part bytes : List ℕ) → charmaps ≡ others → part ≡ bytes → (let u : Uploaded = record { charmaps = charmaps; part = part } in u) ≡ record { charmaps = others; part = bytes }
 same_uploads charmaps others part bytes c p = cc
 
@@ -45,7 +42,7 @@ not_bare store some e =
 pub bare : (store : Store) (n : ℕ) → false ≡ list_any is_some store.charmaps → length store.charmaps ≡ 8 → n ≡ length (part_of store.part) → IsTrue (nat_eq n 0) ↔ (stored_in store ≡ no_uploads)
 bare store zero none size len =
     let charmaps : charmaps_of store.charmaps ≡ replicate 8 None = all_free arc_value store.charmaps (sym none) ∙ ap (λ (k : ℕ). let c : Charmaps = replicate k None in c) size in
-    (λ _. same_uploads _ _ _ _ charmaps (no_bytes (part_of store.part) len), λ _. refl)
+    (λ _. same_uploads _ _ _ _ charmaps (nil_from_length (part_of store.part) (sym len)), λ _. refl)
 bare store (suc n) none size len =
     (λ e. absurd (grind (arith, nat_tests, e)), λ e. (let h = ap (λ (u : Uploaded). length u.part) e in absurd (omega arith)))
 

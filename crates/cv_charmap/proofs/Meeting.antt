@@ -7,6 +7,7 @@ use Rattle.std.proofs.lemmas.List.Folds.{list_any_at, list_any_none}
 use Rattle.std.proofs.lemmas.List.Elements.{All-from_get_or}
 use Rattle.std.proofs.lemmas.Slice.Eq.{bytes_eq-Decides}
 use Rattle.cv_base.specs.Items.{Begins}
+use Rattle.cv_base.proofs.Front.{Begins-refl}
 use Rattle.cv_lex.specs.Words.{begins}
 use Rattle.cv_lex.specs.declared.cause.Cause.TheVariants.{Clash, Prefix, TooMany}
 use Rattle.cv_byte_trie.specs.Entries.{bytes_at, character_at, AreApart}
@@ -31,10 +32,6 @@ begins_from (x ∷ b) (y ∷ t) e = let parts = and_parts (nat_eq x y) (begins t
   where
     same : (x y : ℕ) → nat_eq x y ≡ true → x ≡ y
     same x y h = elim (cases_eq x y) [ inl s ↦ s | inr s ↦ absurd (false≢true (sym (ne_eqb x y s) ∙ h)) ]
-
-begins_self : (b : List ℕ) → Begins b b
-begins_self [] = tt
-begins_self (x ∷ b) = (refl, begins_self b)
 
 -- byte strings that pass the test are the same
 pub same_bytes : (a b : List ℕ) → bytes_eq a b ≡ true → a ≡ b
@@ -95,7 +92,7 @@ module _ (all : List Pair) (p : Pair) where
   -- a pair that meets none is new
   pub fresh : MeetsNone all p.0 → (list_any (repeats p) all ≡ false) × (pair_cause all p ≡ cond (leb most_pairs (length all)) (Some TooMany) None)
   fresh meets =
-      let other : (k : ℕ) → k < length all → bytes_at all k ≢ p.0 = λ k low e. (meets k low).0 (rw e (begins_self p.0)) in
+      let other : (k : ℕ) → k < length all → bytes_at all k ≢ p.0 = λ k low e. (meets k low).0 (rw e (Begins-refl p.0)) in
       let r = repeat_free other in
       (r, cause_by all p false false false (clash_free (λ k low e. absurd (other k low e))) (overlap_free (λ k low _. ((meets k low).1, (meets k low).0))) r)
 
@@ -115,7 +112,7 @@ module _ (all : List Pair) (p : Pair) where
     pub held_again : bytes_at all k ≡ p.0 → character_at all k ≡ p.1 → (pair_cause all p ≡ None) × (entered all p ≡ all)
     held_again e c =
         let r : list_any (repeats p) all ≡ true = list_any_at (repeats p) all k ([], 0) low (rw (eq_bytes (bytes_at all k) p.0 e, eq-eqb (character_at all k) p.1 c) refl) in
-        let clash = clash_free (λ j lj f. ap (character_at all) (apart j k lj low (rw (f, e) (begins_self p.0))) ∙ c) in
+        let clash = clash_free (λ j lj f. ap (character_at all) (apart j k lj low (rw (f, e) (Begins-refl p.0))) ∙ c) in
         (cause_by all p false false true clash (held_overlaps e) r, rw r refl)
 
     -- bytes that are there with another character

@@ -91,7 +91,8 @@ alone_only (taken, []) name e =
     ap (λ (x : List ℕ). (x, [])) is
 alone_only (taken, b ∷ bytes) name e = absurd cc
 
-drop_only : (body name : List ℕ) → drop_of body ≡ Some name → body ≡ name_body name
+-- what is read as a name alone is that name, spelled
+pub drop_only : (body name : List ℕ) → drop_of body ≡ Some name → body ≡ name_body name
 drop_only body name e =
     let taken = bound name_alone (name_at body) name e in
     let front : name_at body ≡ Some (name, []) = taken.1 ∙ ap Some (alone_only taken.0 name taken.2) in

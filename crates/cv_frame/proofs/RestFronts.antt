@@ -2,11 +2,11 @@
 use Rattle.std.proofs.Common.{◌≡◌, ℕ, ◌+◌, ◌≤◌, Bool, true, false, ltb, List, ◌++◌, length, drop, refl, ap, arith, inl, inr, ◌⊎◌}
 use Rattle.std.specs.Prelude.{◌||◌, replicate}
 use Rattle.std.specs.Int.{w32, from_be_bytes}
-use Rattle.std.proofs.lemmas.Bool.{ltb-false, le-ltb}
+use Rattle.std.proofs.lemmas.Bool.{ltb-false, le-ltb, or_parts}
 use Rattle.std.proofs.lemmas.List.{take-append-le, length-append, length-replicate}
 use Rattle.cv_frame.specs.Cut.{number_at, message_at, front_of, IsRest, CanBeWhole, IsFrontOfRest, OneCut}
 use Rattle.cv_frame.specs.declared.reading.Frame.TheVariants.{Partial, Bad}
-use Rattle.cv_frame.proofs.Cuts.{either_false, front_by, front_short, cut_is, cut_only}
+use Rattle.cv_frame.proofs.Cuts.{front_by, front_short, cut_is, cut_only}
 
 -- whether a length is one that no frame has
 abbrev pub is_bad : ℕ → Bool
@@ -20,7 +20,7 @@ number_more bytes more long = ap (from_be_bytes w32) (take-append-le 4 bytes mor
 good_can : (bytes : List ℕ) → 4 ≤ length bytes → is_bad (number_at bytes) ≡ false → CanBeWhole bytes
 good_can bytes long good =
     let k : ℕ = number_at bytes in
-    let t = either_false (ltb k 9) (ltb 1048576 k) good in
+    let t = or_parts (ltb k 9) (ltb 1048576 k) good in
     let more : List ℕ = replicate (4 + k) 0 in
     record {
       more = more;
@@ -49,7 +49,7 @@ unfolding front_of
 good_front bytes long ends good =
     let k : ℕ = number_at bytes in
     let t : ltb (length bytes) 4 ≡ false = le-ltb _ _ long in
-    let g = either_false (ltb k 9) (ltb 1048576 k) good in
+    let g = or_parts (ltb k 9) (ltb 1048576 k) good in
     (elim (ltb (length bytes) (4 + k)) as (λ (b : Bool). ltb (length bytes) (4 + k) ≡ b → front_of bytes ≡ Partial) [
       | true ↦ λ (s : ltb (length bytes) (4 + k) ≡ true). rw (t, good, s) refl
       | false ↦ λ (s : ltb (length bytes) (4 + k) ≡ false). absurd (ends (message_at k (drop 4 bytes)) (4 + k) (front_by bytes k refl (ltb-false _ _ g.0) (ltb-false _ _ g.1) (ltb-false _ _ s)))

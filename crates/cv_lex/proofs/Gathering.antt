@@ -59,10 +59,6 @@ pub record IsGathered (escape : ℕ) (kind : Kind) (text rest piece : List ℕ) 
   pub many : 8 < count → 8 < length numbers
   pub below : count ≤ 9
 
-prepend_none : (o : Option (List ℕ)) → o ≡ prepend [] o
-prepend_none None = refl
-prepend_none (Some x) = refl
-
 prepend_more : (numbers : List ℕ) (n : ℕ) (o : Option (List ℕ)) → prepend numbers (option_map (λ more. n ∷ more) o) ≡ prepend (numbers ++ n ∷ []) o
 prepend_more numbers n None = refl
 prepend_more numbers n (Some more) = ap Some (sym (append_assoc numbers (n ∷ []) more))

@@ -13,11 +13,6 @@ pub all-push : (ms : List Message) (m : Message) → AllByRecursion FitsFrame ms
 all-push [] m all one = (one, tt)
 all-push (x ∷ ms) m all one = (all.0, all-push ms m all.1 one)
 
--- all frames fit, and those behind them do
-pub all-append : (ms ns : List Message) → AllByRecursion FitsFrame ms → AllByRecursion FitsFrame ns → AllByRecursion FitsFrame (ms ++ ns)
-all-append [] ns p q = q
-all-append (x ∷ ms) ns p q = (p.0, all-append ms ns p.1 q)
-
 -- the bytes of frames, and of one more
 pub joined-push : (ms : List Message) (m : Message) → joined (ms ++ m ∷ []) ≡ joined ms ++ spelling m
 joined-push ms m = flat_map-append spelling ms (m ∷ []) ∙ ap (λ (x : List ℕ). joined ms ++ x) (append-nil (spelling m))

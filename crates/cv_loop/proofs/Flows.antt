@@ -2,16 +2,15 @@
 use Rattle.std.proofs.Common.{◌≡◌, ℕ, ◌+◌, ◌-◌, ◌^◌, ◌<◌, false, Bool, List, [], ◌++◌, length, take, drop, Option, refl, sym, ap, ◌∙◌, append_assoc, arith, length-append}
 use Rattle.std.proofs.lemmas.List.{length-drop, drop-drop, take_rest}
 use Rattle.std.proofs.lemmas.List.Concat.{flat_map-append}
+use Rattle.std.proofs.KnownBytes.{Appends-nil, Appends-trans}
 use Rattle.cv_frame.specs.Message.{Message, joined, spelling}
-use Rattle.cv_machine.proofs.Runs.{Progress-none, Progress-then}
+use Rattle.cv_machine.proofs.Runs.{Progress-none, Progress-then, all-append}
 use Rattle.cv_frame.specs.Cut.{front_of}
 use Rattle.cv_frame.specs.declared.reading.Frame.TheVariants as front
 use Rattle.cv_loop.specs.Serving.{counted}
 use Rattle.cv_loop.specs.Private.Draining.{Broken, BreaksOff, Answered, Drained, Stops, Stopped}
 use Rattle.cv_loop.specs.declared.fault.ServeFault.{ServeFault}
 use Rattle.cv_loop.specs.declared.fault.ServeFault.TheVariants as fault
-use Rattle.cv_loop.proofs.Known.{Appends-none, Appends-then}
-use Rattle.cv_loop.proofs.Batches.{all-append}
 use Rattle.cv_machine.specs.Machine.{Turn}
 
 -- to count in two steps is to count the sum
@@ -22,7 +21,7 @@ module _ {Table : Type 0} {turn : Turn Table} where
   pub Answered-none : (s : ℕ → Table) (h : Option (List ℕ)) (n : ℕ) → n < 2 ^ 64 → Answered turn s h h [] s n n
   Answered-none s h n small = record {
     written = [];
-    wrote = record { took = Appends-none h; ran = Progress-none turn s };
+    wrote = record { took = Appends-nil h; ran = Progress-none turn s };
     counts = omega arith;
   }
 
@@ -31,7 +30,7 @@ module _ {Table : Type 0} {turn : Turn Table} where
   Answered-then s t u h i j asked more a b c p q = record {
     written = p.written ++ q.written;
     wrote = record {
-      took = Appends-then h i j p.written q.written p.wrote.took q.wrote.took;
+      took = Appends-trans h i j p.written q.written p.wrote.took q.wrote.took;
       ran = Progress-then turn s t u asked more [] p.written q.written [] p.wrote.ran q.wrote.ran;
     };
     counts = q.counts ∙ ap (λ (n : ℕ). counted (n + length q.written)) p.counts ∙ counted-add a (length p.written) (length q.written)
@@ -54,7 +53,7 @@ module _ {Table : Type 0} {turn : Turn Table} where
     written = p.written ++ q.written;
     unwritten = q.unwritten;
     wrote = record {
-      took = Appends-then h i j p.written q.written p.wrote.took q.wrote.took;
+      took = Appends-trans h i j p.written q.written p.wrote.took q.wrote.took;
       ran = Progress-then turn s t u asked more q.later p.written q.written q.unwritten p.wrote.ran q.wrote.ran;
     };
     why = BreaksOff-then f _ _ failed
@@ -113,7 +112,7 @@ module _ {Table : Type 0} {turn : Turn Table} where
     rest = bytes;
     fits = tt;
     front = refl;
-    stops = record { later = []; written = []; unwritten = []; wrote = record { took = Appends-none h; ran = Progress-none turn s }; why = works };
+    stops = record { later = []; written = []; unwritten = []; wrote = record { took = Appends-nil h; ran = Progress-none turn s }; why = works };
   }
 
 -- what stands after a batch within the bytes from used on

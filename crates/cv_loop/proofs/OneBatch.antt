@@ -1,6 +1,7 @@
 -- One batch that ran, and how much of it was written.
 use Rattle.std.proofs.Common.{◌≡◌, ℕ, ◌+◌, ◌≤◌, true, false, Bool, List, [], length, take, drop, Option, refl, sym, ap, ◌∙◌, arith}
 use Rattle.std.proofs.lemmas.List.{append-nil, take-append-drop, length-take}
+use Rattle.std.proofs.KnownBytes.{Appends-nil}
 use Rattle.std.specs.Io.KnownBytes.{Appends}
 use Rattle.cv_frame.specs.Message.{Message, joined}
 use Rattle.cv_machine.specs.Machine.{Turn, Runs}
@@ -8,7 +9,6 @@ use Rattle.cv_machine.proofs.Runs.{Progress-batch, Progress-stays}
 use Rattle.cv_loop.specs.Serving.{counted}
 use Rattle.cv_loop.specs.Private.Draining.{Broken, Answered}
 use Rattle.cv_loop.specs.declared.fault.ServeFault.TheVariants as fault
-use Rattle.cv_loop.proofs.Known.{Appends-none}
 
 module _ {Table : Type 0} {turn : Turn Table} where
   -- the engine had no memory for the batch
@@ -17,7 +17,7 @@ module _ {Table : Type 0} {turn : Turn Table} where
     later = asked;
     written = [];
     unwritten = [];
-    wrote = record { took = Appends-none h; ran = Progress-stays turn s new asked e };
+    wrote = record { took = Appends-nil h; ran = Progress-stays turn s new asked e };
     why = works;
   }
 
@@ -27,7 +27,7 @@ module _ {Table : Type 0} {turn : Turn Table} where
     later = [];
     written = [];
     unwritten = joined told;
-    wrote = record { took = Appends-none h; ran = Progress-batch turn s asked told new [] (joined told) runs refl };
+    wrote = record { took = Appends-nil h; ran = Progress-batch turn s asked told new [] (joined told) runs refl };
     why = works;
   }
 

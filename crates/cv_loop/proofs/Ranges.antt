@@ -3,7 +3,7 @@ use Rattle.std.proofs.Common.{◌≡◌, ℕ, ◌+◌, ◌-◌, ◌≤◌, ◌==
 use Rattle.std.specs.Prelude.{slice_range, not}
 use Rattle.std.proofs.lemmas.Bool.Decides.{nat_tests}
 use Rattle.std.proofs.lemmas.List.{length-take, length-drop, drop-drop, drop-take, drop-append-le, take-append-le, take-take}
-use Rattle.std.proofs.Math.Seq.{take-append_seam, take-append-add}
+use Rattle.std.proofs.Math.Seq.{take-append-add}
 
 -- a range but its first bytes
 pub range_forget : (b : List ℕ) (s e n : ℕ) → n ≤ length (slice_range b s e) → slice_range b (s + n) e ≡ drop n (slice_range b s e)
@@ -21,13 +21,6 @@ from_front b more s e le within =
 
 length-range : (b : List ℕ) (s e : ℕ) → s ≤ e → e ≤ length b → length (slice_range b s e) ≡ e - s
 length-range b s e le within = omega (arith, length-take (e - s) (drop s b), length-drop s b)
-
--- a range stays where bytes behind it change
-pub range_kept : (b more : List ℕ) (s e : ℕ) → s ≤ e → e ≤ length b → slice_range (take e b ++ more) s e ≡ slice_range b s e
-range_kept b more s e le within =
-    ap (take (e - s)) (from_front b more s e le within)
-    ∙ ap (λ (m : ℕ). take m (slice_range b s e ++ more)) (sym (length-range b s e le within))
-    ∙ take-append_seam (slice_range b s e) more
 
 -- a range within the front of a buffer
 pub range_within : (b : List ℕ) (len s e : ℕ) → s ≤ e → e ≤ len → slice_range (take len b) s e ≡ slice_range b s e

@@ -2,20 +2,19 @@
 use Rattle.std.proofs.Common.{◌≡◌, ◌≢◌, ℕ, ◌+◌, ◌<◌, ◌≤◌, true, false, Bool, List, [], ◌++◌, length, drop, Option, Result, Ok, Err, refl, sym, ap, subst, ◌∙◌, append_assoc, arith, length-append}
 use Rattle.std.specs.List.{AllByRecursion}
 use Rattle.std.proofs.lemmas.List.{append-nil}
+use Rattle.std.proofs.KnownBytes.{Consumes-nil, Consumes-trans}
 use Rattle.std.specs.Io.KnownBytes.{Consumes}
 use Rattle.cv_frame.specs.Message.{Message, joined, FitsFrame}
 use Rattle.cv_frame.specs.Cut.{front_of, Cut, messages_of, rest_of, IsRest}
 use Rattle.cv_frame.specs.declared.reading.Frame.TheVariants as at_front
 use Rattle.cv_machine.specs.Machine.{Turn, Progress}
-use Rattle.cv_machine.proofs.Runs.{Progress-later}
+use Rattle.cv_machine.proofs.Runs.{Progress-later, all-append}
 use Rattle.cv_frame.proofs.Cuts.{cut_only, cut-joined, front_short}
 use Rattle.cv_loop.specs.Serving.{Serving, EndsWhere, IsAll, counted, ending_of, met_the_end, read_failed, write_failed}
 use Rattle.cv_loop.specs.Private.Draining.{Broken, Answered, Drained, Stopped, ReadsMore}
 use Rattle.cv_loop.specs.declared.serving.Served.{Served}
 use Rattle.cv_loop.specs.declared.fault.ServeFault.{ServeFault}
 use Rattle.cv_loop.specs.declared.fault.ServeFault.TheVariants as fault
-use Rattle.cv_loop.proofs.Known.{Consumes-none, Consumes-then}
-use Rattle.cv_loop.proofs.Batches.{all-append}
 use Rattle.cv_loop.proofs.Flows.{Answered-none, Answered-then, Broken-then, joined-append}
 
 -- All whole frames of what was given so far were answered, and less than a frame is held.
@@ -35,7 +34,7 @@ module _ {Table : Type 0} {turn : Turn Table} where
   Standing-none s left sunk = record {
     given = [];
     asked = [];
-    gave = Consumes-none left;
+    gave = Consumes-nil left;
     fits = tt;
     front = refl;
     answered = Answered-none s sunk 0 (omega arith);
@@ -59,7 +58,7 @@ module _ {Table : Type 0} {turn : Turn Table} where
   Standing-more s t u left left' left'' sunk sunk' sunk'' held held' bytes used k l a b r p gave more some q partial = record {
     given = p.given ++ bytes;
     asked = p.asked ++ q.asked;
-    gave = Consumes-then left left' left'' p.given bytes p.gave gave;
+    gave = Consumes-trans left left' left'' p.given bytes p.gave gave;
     fits = all-append p.asked q.asked p.fits q.fits;
     front = front_on p.given held held' bytes (drop used held') p.asked q.asked p.front more q.front;
     answered = Answered-then s t u sunk sunk' sunk'' p.asked q.asked 0 a b p.answered q.answered;
@@ -108,7 +107,7 @@ module _ {Table : Type 0} {turn : Turn Table} where
       let same : p.given ++ bytes ≡ p.given = ap (λ (x : List ℕ). p.given ++ x) none ∙ append-nil p.given in
       record {
         given = p.given;
-        gave = subst (λ (x : List ℕ). Consumes left left'' x) same (Consumes-then left left' left'' p.given bytes p.gave gave);
+        gave = subst (λ (x : List ℕ). Consumes left left'' x) same (Consumes-trans left left' left'' p.given bytes p.gave gave);
         written = p.answered.written;
         took = p.answered.wrote.took;
         later = [];
@@ -136,7 +135,7 @@ module _ {Table : Type 0} {turn : Turn Table} where
       → Standing turn s t left left' sunk sunk' held k a r → pulls ≡ max → max ≡ r
       → Serving turn (Err fault.TooManyReads) s t left left' sunk sunk' pulls max
   Serving-reads s t left left' sunk sunk' held k a r pulls max p enough all =
-      ends_standing (Err fault.TooManyReads) s t left left' left' sunk sunk' held [] k a r pulls max p (Consumes-none left') refl (λ frames written counts partial. (partial, enough)) (λ e. omega (arith, all))
+      ends_standing (Err fault.TooManyReads) s t left left' left' sunk sunk' held [] k a r pulls max p (Consumes-nil left') refl (λ frames written counts partial. (partial, enough)) (λ e. omega (arith, all))
 
   -- a read that failed, or for whose bytes there was no memory
   pub Serving-unread : (f : ServeFault) (s t : ℕ → Table) (left left' left'' sunk sunk' : Option (List ℕ)) (held held' bytes : List ℕ) (k a r : ℕ) (end failed : Bool) (pulls max : ℕ)
@@ -150,7 +149,7 @@ module _ {Table : Type 0} {turn : Turn Table} where
       let all : messages_of (p.given ++ bytes) ≡ p.asked ++ messages_of (held ++ bytes) = ap messages_of front ∙ ap (λ (c : Cut). c.messages) e in
       record {
         given = p.given ++ bytes;
-        gave = Consumes-then left left' left'' p.given bytes p.gave gave;
+        gave = Consumes-trans left left' left'' p.given bytes p.gave gave;
         written = p.answered.written;
         took = p.answered.wrote.took;
         later = messages_of (held ++ bytes);
@@ -183,7 +182,7 @@ module _ {Table : Type 0} {turn : Turn Table} where
       let w = whole s u sunk sunk'' (p.given ++ bytes) q.rest (p.asked ++ q.asked) 0 q.stops.0 front (all-append p.asked q.asked p.fits q.fits) (rest_bad q.rest n q.stops.2) answered in
       record {
         given = p.given ++ bytes;
-        gave = Consumes-then left left' left'' p.given bytes p.gave gave;
+        gave = Consumes-trans left left' left'' p.given bytes p.gave gave;
         written = answered.written;
         took = answered.wrote.took;
         later = [];
@@ -198,7 +197,7 @@ module _ {Table : Type 0} {turn : Turn Table} where
       let b = Broken-then s t u sunk sunk' sunk'' p.asked q.asked 0 a (fault.Write n) failed p.answered q.stops in
       record {
         given = p.given ++ bytes;
-        gave = Consumes-then left left' left'' p.given bytes p.gave gave;
+        gave = Consumes-trans left left' left'' p.given bytes p.gave gave;
         written = b.written;
         took = b.wrote.took;
         later = b.later ++ messages_of q.rest;
@@ -213,7 +212,7 @@ module _ {Table : Type 0} {turn : Turn Table} where
       let b = Broken-then s t u sunk sunk' sunk'' p.asked q.asked 0 a fault.Memory failed p.answered q.stops in
       record {
         given = p.given ++ bytes;
-        gave = Consumes-then left left' left'' p.given bytes p.gave gave;
+        gave = Consumes-trans left left' left'' p.given bytes p.gave gave;
         written = b.written;
         took = b.wrote.took;
         later = b.later ++ messages_of q.rest;

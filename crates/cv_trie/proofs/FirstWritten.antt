@@ -1,21 +1,21 @@
 -- Which bytes are written for a character, by the place that pages name for it.
 use Rattle.std.proofs.Common.{◌≡◌, ◌≢◌, ◌==◌, ℕ, zero, suc, ◌<◌, List, [], ◌∷◌, length, refl, sym, ◌∙◌, ap, arith, eq-eqb, Some, None, option_map}
+use Rattle.std.proofs.lemmas.Bool.{ne_eqb}
 use Rattle.std.specs.List.{find}
 use Rattle.cv_base.specs.declared.state.WriteState.{WriteState}
 use Rattle.cv_base.specs.declared.state.WriteState.TheVariants as write
 use Rattle.cv_byte_trie.specs.Entries.{Entry, bytes_at, character_at}
-use Rattle.cv_byte_trie.proofs.Coded.{not_eqb}
 use Rattle.cv_pages.specs.Paging.{nowhere, NameFirst}
 use Rattle.cv_trie.specs.Charmaps.{as_written, map_writes}
 
 find_first : (entries : List Entry) (c k : ℕ) → k < length entries → character_at entries k ≡ c → ((j : ℕ) → j < k → character_at entries j ≢ c) → option_map as_written (find (λ (p : Entry). p.1 == c) entries) ≡ Some (bytes_at entries k, write.Start)
 find_first [] c k l e h = absurd (omega arith)
 find_first (p ∷ entries) c zero l e h = rw (eq-eqb p.1 c e) refl
-find_first (p ∷ entries) c (suc k) l e h = rw (not_eqb p.1 c (h 0 (omega arith))) (find_first entries c k (omega arith) e (λ j m. h (suc j) (omega arith)))
+find_first (p ∷ entries) c (suc k) l e h = rw (ne_eqb p.1 c (h 0 (omega arith))) (find_first entries c k (omega arith) e (λ j m. h (suc j) (omega arith)))
 
 find_none : (entries : List Entry) (c : ℕ) → ((j : ℕ) → j < length entries → character_at entries j ≢ c) → option_map as_written (find (λ (p : Entry). p.1 == c) entries) ≡ None
 find_none [] c h = refl
-find_none (p ∷ entries) c h = rw (not_eqb p.1 c (h 0 (omega arith))) (find_none entries c (λ j m. h (suc j) (omega arith)))
+find_none (p ∷ entries) c h = rw (ne_eqb p.1 c (h 0 (omega arith))) (find_none entries c (λ j m. h (suc j) (omega arith)))
 
 module _ (entries : List Entry) (place : ℕ → ℕ) (h : NameFirst place (length entries) entries) (c k : ℕ) (is : k ≡ place c) where
   -- a character that has a place is written as the bytes there

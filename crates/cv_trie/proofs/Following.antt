@@ -9,14 +9,13 @@ use Rattle.cv_base.specs.Items.{Taken, taken, Begins, ItemRelation, Stands}
 use Rattle.cv_base.specs.Chains.{used_bytes, read_state}
 use Rattle.cv_base.specs.Blocks.{IsReadBlock}
 use Rattle.cv_base.specs.declared.state.ReadState.TheVariants as read
-use Rattle.cv_base.proofs.Front.{Begins-take, Begins-length, Begins-append}
-use Rattle.cv_byte_trie.proofs.Ways.{Begins-same}
+use Rattle.cv_base.proofs.Front.{Begins-take, Begins-length, Begins-append, Begins-same}
 use Rattle.cv_base.proofs.ChainLaws.{used_bytes-append, read_state-append, characters_of-append, IsChain-append}
 use Rattle.cv_byte_trie.specs.Entries.{Entry, bytes_at, character_at, AreEntries}
 use Rattle.cv_byte_trie.specs.Tries.{StepsBy, tails, none, HasTrie}
 use Rattle.cv_byte_trie.specs.Private.Reading.{IsAt}
 use Rattle.cv_byte_trie.proofs.Followed.{leads_to_leaf, leads_to_tail, leads_to_node, tail_low}
-use Rattle.cv_pages.proofs.FirstPlaces.{entry_bytes}
+use Rattle.cv_byte_trie.proofs.ReadEntries.{entry_bytes}
 use Rattle.cv_trie.specs.Charmaps.{map_reads}
 use Rattle.cv_trie.specs.Private.Fronts.{IsReadFront}
 use Rattle.cv_trie.specs.Private.Followed.{IsFollowed, IsFound}
@@ -59,10 +58,6 @@ followed_stands entries text size code f l fits =
     let long : length (bytes_at entries code) ≡ size = ap length e ∙ length-take-le size text fits in
     let front : Begins (bytes_at entries code) text = rw e (Begins-take size text) in
     subst (λ (n : ℕ). Stands (map_reads entries) read.Start text (taken n (Some (character_at entries code)) read.Start)) long (pair_stands entries read.Start text code (f.low l) front)
-
--- what was followed to its end is found
-pub followed_found : (S : StepsBy) (count : ℕ) (entries : List Entry) (text : List ℕ) (size code : ℕ) → IsFollowed S count entries text size code → (code < none → code < tails) → IsFound entries text size code
-followed_found S count entries text size code f end = record { low = λ l. f.low (end l); leaf = λ l. f.leaf (end l) }
 
 -- the entry whose bytes begin a text
 pub begun_found : (entries : List Entry) (text : List ℕ) (place : ℕ) (x : Entry) → place < length entries → x ≡ get_or entries place x → Begins x.0 text → IsFound entries text (length x.0) place

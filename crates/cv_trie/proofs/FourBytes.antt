@@ -4,7 +4,7 @@ use Rattle.std.proofs.Math.Seq.{drop-cons}
 use Rattle.cv_base.specs.Items.{taken, Begins, Stands}
 use Rattle.cv_base.specs.declared.state.ReadState.TheVariants as read
 use Rattle.cv_byte_trie.specs.Entries.{Entry, bytes_at, character_at}
-use Rattle.cv_pages.proofs.FirstPlaces.{entry_bytes, entry_character}
+use Rattle.cv_byte_trie.proofs.ReadEntries.{entry_bytes, entry_character}
 use Rattle.cv_trie.specs.Charmaps.{map_reads}
 use Rattle.cv_trie.proofs.MapItems.{pair_stands}
 

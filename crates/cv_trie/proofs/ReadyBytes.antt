@@ -1,13 +1,11 @@
 -- What is written by bytes that stand ready.
-use Rattle.std.proofs.Common.{◌≡◌, ℕ, ◌<◌, ◌≤◌, List, [], length, get_or, take, refl, ◌∙◌, Some}
-use Rattle.cv_base.specs.Codecs.{Writing}
+use Rattle.std.proofs.Common.{◌≡◌, ℕ, ◌<◌, ◌≤◌, List, [], length, get_or, take, refl, Some}
 use Rattle.cv_base.specs.Chains.{output, written}
 use Rattle.cv_base.specs.declared.state.WriteState.TheVariants as write
 use Rattle.cv_byte_trie.specs.Entries.{Entry, bytes_at}
 use Rattle.cv_pages.specs.Paging.{cell_of, place_of, AreFirst}
 use Rattle.cv_pages.specs.Shorts.{no_size, AreShorts}
 use Rattle.cv_trie.specs.Charmaps.{map_writes}
-use Rattle.cv_trie.specs.Private.Fronts.{IsWrittenFront}
 use Rattle.cv_trie.proofs.Written.{chosen}
 
 -- what stands ready for a character is what is written for it
@@ -27,12 +25,3 @@ module _ (entries : List Entry) (tops cells : List ℕ) (bytes : List (List ℕ)
         long = short.long;
         written = chosen entries (place_of tops cells) names c (place_of tops cells c) refl short.has;
       }
-
--- what was written stays, where what is behind it changes
-pub written_stays : (writes : Writing) (characters buffer after : List ℕ) (used count : ℕ) → take used after ≡ take used buffer → IsWrittenFront writes characters buffer used count → IsWrittenFront writes characters after used count
-written_stays writes characters buffer after used count e s = record {
-  bytes = e ∙ s.bytes;
-  uses = s.uses;
-  counts = s.counts;
-  next = s.next;
-}

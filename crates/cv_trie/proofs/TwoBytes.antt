@@ -17,15 +17,6 @@ use Rattle.cv_trie.proofs.Following.{front_more}
 
 -- ---- numbering rows
 
--- no byte has a row yet
-pub rows_none : (ones : List ℕ) → AreRows ones 0 256
-rows_none ones = record {
-  some = omega arith;
-  within = λ b l. absurd (omega arith);
-  behind = λ b l some. absurd (omega arith);
-  apart = λ a b less l some. absurd (omega arith);
-}
-
 -- a byte more that has no row
 pub rows_same : (ones : List ℕ) (n size : ℕ) → AreRows ones n size → get_or ones n 0 ≤ no_character → AreRows ones (n + 1) size
 rows_same ones n size r none =
@@ -138,22 +129,6 @@ twos_more pairs a ones twos size r t place cell v low is here =
             rw e (t.each b c lb lc (rw e at l)))
       ];
     }
-
--- what stands for no character can stand anywhere
-pub twos_kept : (pairs : List Entry) (ones twos : List ℕ) (cell v : ℕ) → no_character ≤ v → AreTwos pairs ones twos → AreTwos pairs ones (slice_set twos cell v)
-twos_kept pairs ones twos cell v none t = record {
-  within = λ b l. (let w = t.within b l in omega (arith, length-set twos cell v));
-  each = λ b c lb lc l. elim (cases_eq (row_of ones b + c) cell) [
-    | inl same ↦ absurd (
-        let w = t.within b lb in
-        let inside : cell < length twos = omega arith in
-        let e : two_at ones (slice_set twos cell v) b c ≡ v = rw same (get_or-set_same twos cell v 0 inside) in
-        omega arith)
-    | inr ne ↦ (
-        let e : two_at ones (slice_set twos cell v) b c ≡ two_at ones twos b c = get_or-set_other twos cell (row_of ones b + c) v 0 ne in
-        rw e (t.each b c lb lc (rw e at l)))
-  ];
-}
 
 -- ---- reading
 

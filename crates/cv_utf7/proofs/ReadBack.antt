@@ -1,7 +1,8 @@
 -- What is written is read back.
 use Rattle.std.proofs.Common.{◌≡◌, ℕ, ◌+◌, ◌-◌, ◌*◌, ◌/◌, ◌%◌, ◌<◌, ◌≤◌, Bool, true, false, ◌||◌, List, [], ◌∷◌, ◌++◌, length, take, drop, replicate, refl, sym, ◌∙◌, ap, subst, arith, inl, inr, Some, None, option_to_list}
-use Rattle.std.proofs.lemmas.Bool.{cases_Bool, cases_eq, eq-eqb, or_cases}
+use Rattle.std.proofs.lemmas.Bool.{cases_Bool, cases_eq, eq-eqb, or_cases, or_right}
 use Rattle.std.proofs.lemmas.List.{length-append, append_assoc, append-nil, length-take-le, length-replicate, take-append-drop, drop_at}
+use Rattle.cv_block.proofs.SpelledRuns.{AreScalars-append}
 use Rattle.cv_base.specs.Scalars.{IsScalar, AreScalars}
 use Rattle.cv_base.specs.Items.{Taken, taken}
 use Rattle.cv_base.proofs.Front.{Begins-append}
@@ -33,10 +34,6 @@ all_bits-snoc : (os : List ℕ) (c : ℕ) → all_bits (os ++ c ∷ []) ≡ all_
 unfolding all_bits
 all_bits-snoc [] c = append-nil (character_bits c)
 all_bits-snoc (o ∷ os) c = ap (λ (t : List Bool). character_bits o ++ t) (all_bits-snoc os c) ∙ sym (append_assoc (character_bits o) (all_bits os) (character_bits c))
-
-AreScalars-snoc : (os : List ℕ) (c : ℕ) → AreScalars os → IsScalar c → AreScalars (os ++ c ∷ [])
-AreScalars-snoc [] c a s = (s, tt)
-AreScalars-snoc (o ∷ os) c a s = (a.0, AreScalars-snoc os c a.1 s)
 
 all_even : (os : List ℕ) → length (all_bits os) % 2 ≡ 0
 unfolding all_bits
@@ -141,15 +138,11 @@ last_back (a ∷ l) h =
     let d : last_digit (a ∷ l) ≡ digit_of (number ((a ∷ l) ++ replicate (5 - length l) false)) ∷ [] = last_digit_six (a ∷ l) (5 - length l) (omega arith) (omega arith) in
     (5 - length l, omega arith, subst AreDigits (sym d) (AreDigits-cons _ [] s.0 no_digits), ap digit_bits d ∙ append-nil _ ∙ s.1)
 
-or_true : (b : Bool) → (b || true) ≡ true
-or_true true = refl
-or_true false = refl
-
 may_of : (c : ℕ) → is_direct c ≡ true → may_be_direct c ≡ true
 unfolding is_direct may_be_direct
 may_of c e = elim (or_cases (is_set_d c) (is_blank c) e) [
   | inl d ↦ rw d refl
-  | inr b ↦ rw b (or_true (is_set_d c || is_set_o c))
+  | inr b ↦ rw b (or_right (is_set_d c || is_set_o c) true refl)
 ]
 
 -- a direct character in front
@@ -219,7 +212,7 @@ shift_on c cs i h r p z os d s e =
     let b : List Bool = bits_of p ++ character_bits c in
     let v : length (bits_of p ++ character_bits c) % 2 ≡ 0 = (let a : length (bits_of p) ≡ p.count = length-bits p.count p.value in elim (character_length c) [ inl z ↦ rw length-append (omega (arith, p.even)) | inr z ↦ rw length-append (omega (arith, p.even)) ]) in
     let k = cut_back (bits_of p ++ character_bits c) v in
-    let g = h r (pending_of (over (bits_of p ++ character_bits c))) (z ++ digits (bits_of p ++ character_bits c)) (os ++ c ∷ []) (AreDigits-append z (digits (bits_of p ++ character_bits c)) d k.0) (AreScalars-snoc os c s i)
+    let g = h r (pending_of (over (bits_of p ++ character_bits c))) (z ++ digits (bits_of p ++ character_bits c)) (os ++ c ∷ []) (AreDigits-append z (digits (bits_of p ++ character_bits c)) d k.0) (AreScalars-append os (c ∷ []) s (i, tt))
     (ap (λ (t : List Bool). (bits_of r ++ t) ++ bits_of (pending_of (over (bits_of p ++ character_bits c)))) (digit_bits-append z (digits (bits_of p ++ character_bits c)))
     ∙ ap (λ (t : List Bool). t ++ bits_of (pending_of (over (bits_of p ++ character_bits c)))) (sym (append_assoc (bits_of r) (digit_bits z) (digit_bits (digits (bits_of p ++ character_bits c)))))
     ∙ append_assoc (bits_of r ++ digit_bits z) (digit_bits (digits (bits_of p ++ character_bits c))) (bits_of (pending_of (over (bits_of p ++ character_bits c))))

@@ -1,12 +1,12 @@
 -- Steps of reading a block, one after another.
 use Rattle.std.proofs.Common.{◌≡◌, ℕ, ◌+◌, ◌-◌, ◌<◌, ◌≤◌, List, [], ◌∷◌, ◌++◌, length, take, drop, set, refl, sym, ◌∙◌, ap, arith, append_assoc, append-nil, add-zero, length-set, length-drop, Some, None}
-use Rattle.std.proofs.lemmas.List.{drop-drop, take_all, take_more_set}
+use Rattle.std.proofs.lemmas.List.{drop-drop, take_more_set}
 use Rattle.cv_base.specs.Items.{Taken, taken, Stands}
 use Rattle.cv_base.specs.Chains.{used_bytes, read_state, characters_of}
 use Rattle.cv_base.specs.Blocks.{IsReadBlock}
 use Rattle.cv_base.specs.declared.block.ReadBlock.{ReadBlock}
 use Rattle.cv_base.specs.declared.state.ReadState.{ReadState}
-use Rattle.cv_base.proofs.Front.{stands_within}
+use Rattle.cv_base.proofs.Front.{stands_within, rest_is}
 use Rattle.cv_utf7.specs.Utf7.{utf7_reads}
 use Rattle.cv_utf7.proofs.OneItem.{utf7_readable}
 use Rattle.cv_utf7.specs.Private.ReadSteps.{place, ReadsOn}
@@ -106,10 +106,6 @@ is_block text s before block after p = record {
   uses = omega (arith, p.uses);
   next = p.next;
 }
-
--- `&text[used..]`
-pub rest_is : (used : ℕ) (text : List ℕ) → take (length text - used) (drop used text) ≡ drop used text
-rest_is used text = take_all (length text - used) (drop used text) (omega (arith, length-drop used text))
 
 -- one character more, where the item was sought in `&text[at.used..]`
 pub character_more : {text : List ℕ} {from at : ReadBlock} {before now : List ℕ} → ReadsOn text from before at now → at.n < length now → (c k : ℕ) (next : ReadState) → Stands utf7_reads at.next (take (length text - at.used) (drop at.used text)) (taken k (Some c) next)

@@ -5,6 +5,7 @@ use Rattle.cv_base.specs.Items.{Taken, taken, Begins}
 use Rattle.cv_base.specs.Codecs.{IsReadable}
 use Rattle.cv_base.specs.declared.state.ReadState.{ReadState}
 use Rattle.cv_base.specs.declared.state.ReadState.TheVariants as read
+use Rattle.cv_base.proofs.Front.{Begins-same}
 use Rattle.cv_utf8.specs.Private.Utf8Bytes.{IsTail, IsSecond}
 use Rattle.cv_utf8.specs.Utf8.{table, carried, IsOfRow, IsOfOne, utf8_reads, row, range, tail}
 
@@ -83,13 +84,6 @@ same_length w v c d q r e =
         ]
       ]
     ]
-
-Begins-same : (a b text : List ℕ) → Begins a text → Begins b text → length a ≡ length b → a ≡ b
-Begins-same [] [] text p q e = refl
-Begins-same [] (y ∷ b) text p q e = absurd (omega arith)
-Begins-same (x ∷ a) [] text p q e = absurd (omega arith)
-Begins-same (x ∷ a) (y ∷ b) [] p q e = absurd p
-Begins-same (x ∷ a) (y ∷ b) (t ∷ text) p q e = let f : a ≡ b = Begins-same a b text p.1 q.1 (omega arith) in cc (p.0, q.0, f)
 
 Begins-first : (a text : List ℕ) → 0 < length a → Begins a text → get_or a 0 0 ≡ get_or text 0 0
 Begins-first [] text h p = absurd (omega arith)

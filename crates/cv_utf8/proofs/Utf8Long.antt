@@ -20,6 +20,7 @@ use Rattle.cv_base.specs.declared.endian.Endian.TheVariants.{Little}
 use Rattle.cv_block.specs.Spelled.{IsReadSpelled}
 use Rattle.cv_block.specs.Units.{IsUnitAt}
 use Rattle.cv_block.proofs.UnitRuns.{flat_map-more}
+use Rattle.cv_block.proofs.SpelledRuns.{AreScalars-append}
 use Rattle.cv_utf8.specs.Utf8.{utf8_bytes}
 use Rattle.cv_utf8.specs.Private.Utf8Long.{AreWordsOf, IsNumberOf, AreNumbersOf}
 
@@ -47,10 +48,6 @@ record Begun (size : ℕ) (text numbers : List ℕ) (n : ℕ) : Type 0 where
   uses : length (flat_map utf8_bytes (take n numbers)) ≡ size * n
   scalars : AreScalars (take n numbers)
 
-AreScalars-more : (cs : List ℕ) (c : ℕ) → AreScalars cs → IsScalar c → AreScalars (cs ++ c ∷ [])
-AreScalars-more [] c p q = (q, tt)
-AreScalars-more (d ∷ cs) c p q = (p.0, AreScalars-more cs c p.1 q)
-
 begun : (size : ℕ) (text numbers : List ℕ) (n : ℕ) → n ≤ length numbers → ((k : ℕ) → k < n → IsLongAt size text (size * k) (get_or numbers k 0)) → Begun size text numbers n
 begun size text numbers zero h at = record { begins = tt; uses = sym (mul-zero size); scalars = tt }
 begun size text numbers (suc n) h at =
@@ -63,7 +60,7 @@ begun size text numbers (suc n) h at =
     record {
       begins = rw f (Begins-join _ (utf8_bytes c) text before.begins (rw before.uses here.begins));
       uses = rw f (omega (arith, length-append (flat_map utf8_bytes (take n numbers)) (utf8_bytes c), before.uses, here.long, mul-suc size n));
-      scalars = rw e (AreScalars-more (take n numbers) c before.scalars here.scalar);
+      scalars = rw e (AreScalars-append (take n numbers) (c ∷ []) before.scalars (here.scalar, tt));
     }
 
 -- characters of so many bytes each are read

@@ -1,11 +1,10 @@
 -- The spelling of UTF-8: ASCII, sixteen bytes that are tested at once, a word that is written, and the codec.
-use Rattle.std.proofs.Common.{◌≡◌, ℕ, ◌+◌, ◌<◌, ◌≤◌, List, [], ◌∷◌, ◌++◌, length, take, drop, get_or, refl, sym, ◌∙◌, ap, subst, arith, zero, suc, length-append, length-take, length-drop, get_or-take, get_or-drop}
+use Rattle.std.proofs.Common.{◌≡◌, ℕ, ◌+◌, ◌<◌, ◌≤◌, List, [], ◌∷◌, ◌++◌, length, take, drop, get_or, refl, sym, ◌∙◌, ap, subst, arith, suc, length-append, length-take, length-drop, get_or-take, get_or-drop}
 use Rattle.std.specs.List.{flat_map}
 use Rattle.std.proofs.Math.Seq.{take-append-add}
 use Rattle.std.proofs.lemmas.Bool.{lt-ltb}
 use Rattle.std.proofs.lemmas.List.{take-take}
 use borrow.Rule.Slice.PartMut.{put_mid}
-use Rattle.cv_base.specs.Items.{Begins}
 use Rattle.cv_base.specs.Scalars.{AreScalars}
 use Rattle.cv_block.specs.Spelled.{IsReadSpelled, IsWrittenSpelled}
 use Rattle.cv_block.proofs.SpelledBlocks.{ReadsSpelled, WritesSpelled}
@@ -13,7 +12,7 @@ use Rattle.cv_block.specs.declared.spelling.Spelled.{Spelled}
 use Rattle.cv_base.specs.declared.state.ReadState.TheVariants as read
 use Rattle.cv_base.specs.declared.state.WriteState.TheVariants as write
 use Rattle.cv_utf8.specs.Utf8.{utf8_reads, utf8_bytes, utf8_writes}
-use Rattle.cv_base.proofs.Front.{Begins-refl}
+use Rattle.cv_base.proofs.Front.{Begins-refl, Begins-take}
 use Rattle.cv_block.proofs.FrontOfAWord.{front_stands}
 use Rattle.cv_utf8.proofs.Utf8ReadBack.{is_in_table}
 
@@ -34,11 +33,6 @@ are_scalars [] p = tt
 are_scalars (c ∷ xs) p =
     let h : c < 128 = p 0 (omega arith) in
     ((omega arith, λ l. omega arith), are_scalars xs (λ k l. p (suc k) (omega arith)))
-
-take_begins : (k : ℕ) (xs : List ℕ) → Begins (take k xs) xs
-take_begins zero xs = tt
-take_begins (suc k) [] = tt
-take_begins (suc k) (x ∷ xs) = (refl, take_begins k xs)
 
 length-part : (xs : List ℕ) (at k : ℕ) → at + k ≤ length xs → length (take k (drop at xs)) ≡ k
 length-part xs at k h = simp (length-take, length-drop) (omega arith)
@@ -69,7 +63,7 @@ read_front text at before after n k within most p room size put =
     record {
       characters = take k (drop at text);
       scalars = are_scalars (take k (drop at text)) (part_is_ascii text at k some p);
-      begins = rw same (take_begins k (drop at text));
+      begins = rw same (Begins-take k (drop at text));
       uses = sym (ap length same ∙ long);
       counts = sym long;
       stand = sym (take-take (n + k) (n + 16) after fewer) ∙ rw put (joined (take n before) (drop at text) n k front most);

@@ -1,5 +1,5 @@
 -- What stands next at the start of a text that may have a mark.
-use Rattle.std.proofs.Common.{◌≡◌, ℕ, ◌⊎◌, ◌<◌, inl, inr, Bool, true, false, List, [], ◌∷◌, ◌++◌, length, take, drop, refl, sym, ap, subst, arith, Some, None}
+use Rattle.std.proofs.Common.{◌≡◌, ℕ, ◌⊎◌, ◌<◌, inl, inr, Bool, true, false, List, length, take, drop, refl, sym, ap, subst, arith, Some, None}
 use Rattle.std.specs.Cmp.Lexicographic.{pointwise}
 use Rattle.std.specs.Prelude.{IsTrue, ◌↔◌, nat_eq}
 use Rattle.std.specs.Str.{bytes_eq}
@@ -14,7 +14,7 @@ use Rattle.cv_base.specs.declared.state.ReadState.TheVariants as read
 use Rattle.cv_base.specs.declared.item.Item.{Item}
 use Rattle.cv_base.specs.declared.item.Item.TheVariants.{Char, Shift, Incomplete, Ill, End}
 use Rattle.cv_wide.specs.Orders.{Form, gives, reads_first, mark}
-use Rattle.cv_base.proofs.Front.{Begins-append, Begins-refl, Begins-trans}
+use Rattle.cv_base.proofs.Front.{Begins-append, Begins-refl, Begins-trans, Begins-split}
 use Rattle.cv_wide.specs.Private.Forms.{IsForm}
 use Rattle.cv_wide.specs.Private.AnyState.{always_gives, always_first}
 
@@ -82,16 +82,11 @@ big_mark_stands form s x n front e = record { bytes = form Big mark; is_item = i
 pub little_mark_stands : (form : Form) (s : ReadState) (x : List ℕ) (n : ℕ) → Begins (form Little mark) x → length (form Little mark) ≡ n → Stands (always_first form) s x (taken n None read.Little)
 little_mark_stands form s x n front e = record { bytes = form Little mark; is_item = inr (inl (refl, ap (λ m. taken m None read.Little) (sym e))); front = front }
 
-append-Begins : (a b : List ℕ) → Begins a b → b ≡ a ++ drop (length a) b
-append-Begins [] b h = refl
-append-Begins (x ∷ a) [] h = absurd h
-append-Begins (x ∷ a) (y ∷ b) h = let e : b ≡ a ++ drop (length a) b = append-Begins a b h.1 in cc (h.0, e)
-
 -- the test whether a list begins another is true just where it does
 pub begins_test : (a b : List ℕ) (r : Bool) → r ≡ pointwise nat_eq a (take (length a) b) → IsTrue r ↔ Begins a b
 begins_test a b r e =
     let both = starts_is Decides-eqb b a r e in
-    (λ h. subst (λ w. Begins a w) (sym (both.0 h)) (Begins-append a (drop (length a) b)), λ h. both.1 (drop (length a) b) (append-Begins a b h))
+    (λ h. subst (λ w. Begins a w) (sym (both.0 h)) (Begins-append a (drop (length a) b)), λ h. both.1 (drop (length a) b) (Begins-split a b h))
 
 -- a front of the little-endian mark that is not all of it is incomplete
 pub part_of_little_mark : (form : Form) → IsForm form → (s : ReadState) (x : List ℕ) → 0 < length x → (Begins (form Big mark) x → ⊥) → (Begins (form Little mark) x → ⊥) → Begins x (form Little mark) → IsNext (always_first form) s x Incomplete

@@ -5,7 +5,7 @@ use Rattle.std.specs.List.{flat_map}
 use Rattle.std.proofs.lemmas.Bool.{cases_eq, ne_eqb}
 use Rattle.std.proofs.lemmas.List.{take_all, take_more, take_more_set, take-set, take_rest}
 use mir.Val.{bool_byte}
-use Rattle.cv_base.specs.Scalars.{IsScalar, AreScalars}
+use Rattle.cv_base.specs.Scalars.{AreScalars}
 use Rattle.cv_base.specs.Items.{Begins}
 use Rattle.cv_base.specs.declared.ascii_form.AsciiForm.TheVariants.{Two}
 use Rattle.cv_base.specs.declared.endian.Endian.{Endian}
@@ -15,6 +15,7 @@ use Rattle.cv_block.specs.Surrogates.{IsHighUnit, IsLowUnit, IsPair}
 use Rattle.cv_block.specs.Units.{IsUnitAt}
 use Rattle.cv_block.proofs.UnitBytes.{one_number}
 use Rattle.cv_block.proofs.UnitRuns.{flat_map-more}
+use Rattle.cv_block.proofs.SpelledRuns.{AreScalars-append}
 use Rattle.cv_wide.specs.Private.Joined.{IsJoined, AreJoined, unless_low, without_low}
 use Rattle.cv_wide.specs.Utf16.{utf16}
 use Rattle.cv_wide.proofs.Utf16Units.{one_spelled, pair_spelled}
@@ -59,16 +60,12 @@ pub record IsFront (e : Endian) (text characters : List ℕ) (at : ℕ) : Type 0
   pub begins : Begins (flat_map (utf16 e) characters) text
   pub uses : length (flat_map (utf16 e) characters) ≡ at
 
-scalars_more : (characters : List ℕ) (c : ℕ) → AreScalars characters → IsScalar c → AreScalars (characters ++ c ∷ [])
-scalars_more [] c all s = (s, tt)
-scalars_more (x ∷ characters) c all s = (all.0, scalars_more characters c all.1 s)
-
 -- one character more
 front_more : (e : Endian) (text characters : List ℕ) (at size c : ℕ) → IsFront e text characters at → IsSpelledAt (utf16 e) text at c size → IsFront e text (characters ++ c ∷ []) (at + size)
 front_more e text characters at size c front p =
     let more = flat_map-more (utf16 e) characters c in
     record {
-      scalars = scalars_more characters c front.scalars p.0;
+      scalars = AreScalars-append characters (c ∷ []) front.scalars (p.0, tt);
       begins = subst (λ (w : List ℕ). Begins w text) (sym more) (Begins-join (flat_map (utf16 e) characters) (utf16 e c) text front.begins (subst (λ (n : ℕ). Begins (utf16 e c) (drop n text)) (sym front.uses) p.1));
       uses = ap length more ∙ omega (arith, length-append (flat_map (utf16 e) characters) (utf16 e c), front.uses, p.2);
     }

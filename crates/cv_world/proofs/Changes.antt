@@ -2,11 +2,6 @@
 use Rattle.std.proofs.Common.{◌≡◌, ℕ, Bool, true, false, eqb, refl, ap}
 use Rattle.std.proofs.Math.Path.{fun_ext}
 use Rattle.std.proofs.lemmas.Bool.{eqb-true}
-use Rattle.std.proofs.Common.{arith}
-use Rattle.std.proofs.lemmas.Grind.{common_steps}
-use Rattle.std.proofs.lemmas.Bool.Decides.{nat_tests}
-use Rattle.std.specs.Ordering.{nat_cmp}
-use Rattle.std.specs.BTreeMap.{is_at}
 use Rattle.cv_machine.specs.Machine.{with_table}
 use Rattle.cv_caller.specs.Tables.{Table}
 
@@ -20,7 +15,3 @@ changes_at s t c h q =
 -- only this caller's table changed
 pub changes_only : (s t : ℕ → Table) (c : ℕ) → ((q : ℕ) → eqb q c ≡ false → t q ≡ s q) → t ≡ with_table s c (t c)
 changes_only s t c h = fun_ext (changes_at s t c h)
-
--- another key is not at this one
-pub is_at_other : (c q : ℕ) → eqb q c ≡ false → is_at (nat_cmp c) q ≡ false
-is_at_other c q e = grind (arith, common_steps, nat_tests, e)

@@ -3,7 +3,7 @@ use Rattle.std.proofs.Common.{◌≡◌, ◌<◌, ◌≤◌, ◌^◌, ◌==◌, 
 use Rattle.std.specs.Prelude.{is_none, IfSome, if◌then◌else◌}
 use Rattle.std.specs.Int.{w32, to_be_bytes}
 use Rattle.std.specs.List.{list_any}
-use Rattle.std.proofs.lemmas.Bool.{eqb-true}
+use Rattle.std.proofs.lemmas.Bool.{eqb-true, or_parts}
 use Rattle.std.proofs.lemmas.Bool.Decides.{nat_tests}
 use Rattle.std.proofs.lemmas.List.Quantifiers.{position-Some}
 use Rattle.cv_base.specs.declared.policy.Policy.{Policy}
@@ -30,7 +30,7 @@ use Rattle.cv_world.specs.declared.answer.Answer.{Answer}
 use Rattle.cv_world.specs.declared.answer.Answer.TheVariants as answers
 use Rattle.cv_world.proofs.FormsStay.{put_stays, drop_stays}
 use Rattle.cv_world.proofs.FedCalls.{IsFedBy, Keeps, answer_of, none_fed, same_forms, other_number, this_number, one_more, stop_back, call_back}
-use Rattle.cv_world.proofs.KeepsTables.{by_test, either, none_standing, none_uses, or_left, or_right}
+use Rattle.cv_world.proofs.KeepsTables.{by_test, either, none_standing, none_uses}
 
 -- the outcome of an action that came to this table and this answer
 abbrev pub came_to : Table → Answer → Outcome Table
@@ -69,7 +69,7 @@ put_forms charmaps place x free (Some d) h = (put_stays charmaps place x free d.
 drop_forms : (charmaps : Charmaps) (place : ℕ) (o : Option Descriptor) → uses place o ≡ false
     → IfSome o (λ d. (form_in (slice_set charmaps place None) d.from ≡ form_in charmaps d.from) × (form_in (slice_set charmaps place None) d.to ≡ form_in charmaps d.to))
 drop_forms charmaps place None h = tt
-drop_forms charmaps place (Some d) h = (drop_stays charmaps place d.from (or_right _ _ h), drop_stays charmaps place d.to (or_left _ _ h))
+drop_forms charmaps place (Some d) h = (drop_stays charmaps place d.from ((or_parts _ _ h).1), drop_stays charmaps place d.to ((or_parts _ _ h).0))
 
 step_hold : (table : Table) → IsSound table → (number : ℕ) (calls : List Call) → Keeps table number calls → (came : Compiled) (charmap : Charmap) (place : Option ℕ) → IfSome place (λ p. charmap_at table.charmaps p ≡ None)
     → (t : Table) (a : Answer) → Holds table charmap place t a → KeepsBy number calls (Put came) t a

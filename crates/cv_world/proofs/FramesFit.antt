@@ -1,7 +1,7 @@
 -- The body of a frame that was cut is no longer than the most.
 use Rattle.std.proofs.Common.{◌≡◌, ◌≤◌, ℕ, zero, suc, ◌+◌, ◌-◌, ltb, List, [], ◌∷◌, length, drop, refl, sym, subst, arith, inl, inr, length-take, ◌||◌}
 use Rattle.std.specs.List.{AllByRecursion}
-use Rattle.std.proofs.lemmas.Bool.{ltb-false}
+use Rattle.std.proofs.lemmas.Bool.{ltb-false, or_parts}
 use Rattle.cv_caller.specs.Tables.{Table}
 use Rattle.cv_machine.specs.Machine.{Event, requests}
 use Rattle.cv_frame.specs.Message.{Message}
@@ -9,7 +9,7 @@ use Rattle.cv_frame.specs.Cut.{Cut, number_at, message_at, front_of, cut_from, c
 use Rattle.cv_frame.specs.declared.reading.Frame.{Frame}
 use Rattle.cv_frame.specs.declared.reading.Frame.TheVariants.{Whole, Partial, Bad}
 use Rattle.cv_frame.specs.declared.sizes.TheConstants.{MOST_BODY}
-use Rattle.cv_frame.proofs.Cuts.{chosen, either_false}
+use Rattle.cv_frame.proofs.Cuts.{chosen}
 use Rattle.cv_world.specs.Feeds.{BodiesFit}
 
 -- Their bodies are no longer than the most.
@@ -27,7 +27,7 @@ front_short bytes m n e =
         | inr b ↦ elim (chosen (ltb (length bytes) (4 + k)) _ _ _ b.1) [
           | inl d ↦ absurd (let h = d.1 in cc)
           | inr d ↦
-              let low : k ≤ 1048576 = ltb-false _ _ ((either_false (ltb k 9) (ltb 1048576 k) b.0).1) in
+              let low : k ≤ 1048576 = ltb-false _ _ ((or_parts (ltb k 9) (ltb 1048576 k) b.0).1) in
               let whole : Message = message_at k (drop 4 bytes) in
               let few : length whole.body ≤ MOST_BODY = omega (arith, low, length-take (k - 9) (drop 9 (drop 4 bytes))) in
               let h : Whole whole (4 + k) ≡ Whole m n = d.1 in

@@ -1,7 +1,8 @@
 -- What a turn leaves of a sound table is sound.
-use Rattle.std.proofs.Common.{◌≡◌, ◌≢◌, ◌<◌, ◌≤◌, ◌⊎◌, inl, inr, ◌+◌, ◌==◌, ◌||◌, ℕ, zero, suc, Bool, true, false, List, [], ◌∷◌, ◌++◌, length, nat_lt, replicate, get_or, set, Option, Some, None, refl, sym, ap, subst, ◌∙◌, arith}
+use Rattle.std.proofs.Common.{◌≡◌, ◌≢◌, ◌<◌, ◌≤◌, ◌⊎◌, inl, inr, ◌+◌, ◌==◌, ℕ, zero, suc, Bool, true, false, List, [], ◌∷◌, ◌++◌, length, nat_lt, replicate, get_or, set, Option, Some, None, refl, sym, ap, subst, ◌∙◌, arith}
 use Rattle.std.specs.Prelude.{is_some, is_none, IfSome, if◌then◌else◌}
 use Rattle.std.specs.List.{list_any}
+use Rattle.std.proofs.lemmas.Bool.{or_parts}
 use Rattle.std.proofs.lemmas.Bool.Decides.{nat_tests}
 use Rattle.std.proofs.lemmas.List.{length-set}
 use Rattle.std.proofs.lemmas.List.Sums.{sum_by-set}
@@ -67,20 +68,10 @@ name_there charmaps name = found_there charmaps name (place_of charmaps name) re
 
 -- ---- charmaps
 
--- where not one of two holds, the first doesn't
-pub or_left : (a b : Bool) → (a || b) ≡ false → a ≡ false
-or_left false b e = refl
-or_left true b e = absurd cc
-
--- nor does the second
-pub or_right : (a b : Bool) → (a || b) ≡ false → b ≡ false
-or_right false b e = e
-or_right true b e = absurd cc
-
 few_with : (charmaps : Charmaps) (place : ℕ) (charmap : Charmap) → place < length charmaps → is_full charmaps (length charmap.pairs) ≡ false → mappings (set charmaps place (Some charmap)) ≤ MOST_MAPPINGS
 few_with charmaps place charmap lt room =
     let e = sum_by-set (λ (c : Option Charmap). length (pairs_in c)) charmaps place (Some charmap) None lt in
-    let small : nat_lt MOST_MAPPINGS (mappings charmaps + length charmap.pairs) ≡ false = or_left _ _ room in
+    let small : nat_lt MOST_MAPPINGS (mappings charmaps + length charmap.pairs) ≡ false = (or_parts _ _ room).0 in
     grind (arith, nat_tests, e, small)
 
 few_without : (charmaps : Charmaps) (place : ℕ) → place < length charmaps → mappings charmaps ≤ MOST_MAPPINGS → mappings (set charmaps place None) ≤ MOST_MAPPINGS
@@ -115,13 +106,13 @@ all_held charmaps place charmap (Some d) h = (stays_held charmaps place charmap 
 
 all_unused : (charmaps : Charmaps) (place : ℕ) (d : Option Descriptor) → uses place d ≡ false → IfSome d (AreThere charmaps) → IfSome d (AreThere (set charmaps place None))
 all_unused charmaps place None a h = tt
-all_unused charmaps place (Some d) a h = (stays_unused charmaps place d.to (or_left _ _ a) h.0, stays_unused charmaps place d.from (or_right _ _ a) h.1)
+all_unused charmaps place (Some d) a h = (stays_unused charmaps place d.to ((or_parts _ _ a).0) h.0, stays_unused charmaps place d.from ((or_parts _ _ a).1) h.1)
 
 -- where no descriptor uses a charmap, the one at a number doesn't
 pub none_uses : (place : ℕ) (ds : List (Option Descriptor)) → list_any (uses place) ds ≡ false → (number : ℕ) → uses place (get_or ds number None) ≡ false
 none_uses place [] h number = refl
-none_uses place (d ∷ ds) h zero = or_left (uses place d) (list_any (uses place) ds) h
-none_uses place (d ∷ ds) h (suc number) = none_uses place ds (or_right (uses place d) (list_any (uses place) ds) h) number
+none_uses place (d ∷ ds) h zero = (or_parts (uses place d) (list_any (uses place) ds) h).0
+none_uses place (d ∷ ds) h (suc number) = none_uses place ds ((or_parts (uses place d) (list_any (uses place) ds) h).1) number
 
 -- with a charmap at a place that was free
 with_map : (table : Table) → IsSound table → (place : ℕ) (charmap : Charmap) → IsMap charmap.pairs → place < length table.charmaps → is_full table.charmaps (length charmap.pairs) ≡ false → IsSound (with_charmap table place (Some charmap))

@@ -2,6 +2,7 @@
 use Rattle.std.proofs.Common.{◌≡◌, ◌≢◌, ◌||◌, ◌&&◌, ◌==◌, ℕ, Bool, true, false, List, [], ◌∷◌, ◌++◌, length, nat_lt, Option, Some, None, refl, sym, ap, ◌∙◌, arith}
 use Rattle.std.specs.Prelude.{if◌then◌else◌}
 use Rattle.std.specs.List.{list_any}
+use Rattle.std.proofs.lemmas.Bool.{or_left, or_right, and_from}
 use Rattle.std.proofs.lemmas.Bool.Decides.{nat_tests}
 use Rattle.cv_pivot.specs.Encodings.{form_closes}
 use Rattle.cv_machine.specs.Machine.{When, no_memory}
@@ -65,18 +66,6 @@ acts table Bad t a d e = absurd (does table _ (λ x. absurd cc) t a d e)
 
 -- ---- what the bytes of a request ask for
 
-first : (a b : Bool) → a ≡ true → (a || b) ≡ true
-first true b e = refl
-first false b e = absurd cc
-
-second : (a b : Bool) → b ≡ true → (a || b) ≡ true
-second true b e = refl
-second false b e = e
-
-both : (a b : Bool) → a ≡ true → b ≡ true → (a && b) ≡ true
-both true b e f = f
-both false b e f = absurd cc
-
 choose : (b : Bool) (x y : Action) (P : Type 0) → (b ≡ true → takes x ≡ true → P) → (takes y ≡ true → P) → takes (if b then x else y) ≡ true → P
 choose true x y P f g h = f refl h
 choose false x y P f g h = g h
@@ -100,12 +89,12 @@ bye_takes (b ∷ body) e = absurd cc
 other_takes : (code : ℕ) (body : List ℕ) → takes (action_of code body) ≡ true → (code == OPEN || (code == CONV || (code == PART && nat_lt 0 (length body)))) ≡ true
 other_takes code body =
     choose (code == DROP) _ _ _ (λ _ h. absurd (drop_takes (drop_of body) h)) (
-    choose (code == OPEN) _ _ _ (λ is _. first _ _ is) (
-    choose (code == CONV) _ _ _ (λ is _. second _ _ (first _ _ is)) (
+    choose (code == OPEN) _ _ _ (λ is _. or_left _ _ is) (
+    choose (code == CONV) _ _ _ (λ is _. or_right _ _ (or_left _ _ is)) (
     choose (code == RESET) _ _ _ (λ _ h. absurd (reset_takes (reset_of body) h)) (
     choose (code == CLOSE) _ _ _ (λ _ h. absurd (close_takes (number_of body) h)) (
     choose (code == BYE) _ _ _ (λ _ h. absurd (bye_takes body h)) (
-    choose (code == PART) _ _ _ (λ is h. second _ _ (second _ _ (both _ _ is h))) (λ h. absurd cc)))))))
+    choose (code == PART) _ _ _ (λ is h. or_right _ _ (or_right _ _ (and_from _ _ is h))) (λ h. absurd cc)))))))
 
 asks_takes : (t : Bool) (text : List ℕ) (other action : Action) (rest : Bool) → When t (AsksPut text action) (action ≡ other) → (takes other ≡ true → rest ≡ true) → takes action ≡ true → (t || rest) ≡ true
 asks_takes true text other action rest p f h = refl

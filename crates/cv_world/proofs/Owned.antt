@@ -1,10 +1,10 @@
 -- What becomes of tables and of what a world keeps, where one number or the conversion under one key changes.
-use Rattle.std.proofs.Common.{◌≡◌, ◌≢◌, ◌⊎◌, inl, inr, ◌||◌, ◌<◌, ℕ, zero, suc, Bool, true, false, List, [], ◌∷◌, length, map, get_or, set, Option, Some, None, IsSome, refl, sym, ◌∙◌, ap, subst, eq-eqb}
+use Rattle.std.proofs.Common.{◌≡◌, ◌≢◌, ◌⊎◌, inl, inr, ◌<◌, ℕ, zero, suc, Bool, true, false, List, [], ◌∷◌, length, map, get_or, set, Option, Some, None, IsSome, refl, sym, ◌∙◌, ap, subst, eq-eqb}
 use Rattle.std.specs.Prelude.{is_some, is_none}
 use Rattle.std.specs.List.{position, list_any}
 use Rattle.std.specs.Option.{option_map, option_and_then}
 use Rattle.std.proofs.Math.ListN.{get_or-map}
-use Rattle.std.proofs.lemmas.Bool.{cases_eq}
+use Rattle.std.proofs.lemmas.Bool.{cases_eq, or_parts}
 use Rattle.std.specs.List.{prefix_len}
 use Rattle.std.proofs.Common.{not}
 use Rattle.std.proofs.lemmas.List.{set-get_or, get_or-set_same, get_or-set_other, length-map}
@@ -276,18 +276,10 @@ free_unused k place are free n p h =
     let held = rw h at (are.held n) in
     (free_held k.charmaps place p.to free held.0, free_held k.charmaps place p.from free held.1)
 
-or_left : (a b : Bool) → (a || b) ≡ false → a ≡ false
-or_left false b e = refl
-or_left true b e = absurd cc
-
-or_right : (a b : Bool) → (a || b) ≡ false → b ≡ false
-or_right false b e = e
-or_right true b e = absurd cc
-
 any_none : {X : Type 0} (f : X → Bool) (xs : List X) (d : X) → f d ≡ false → list_any f xs ≡ false → (n : ℕ) → f (get_or xs n d) ≡ false
 any_none f [] d h e n = h
-any_none f (x ∷ xs) d h e zero = or_left (f x) (list_any f xs) e
-any_none f (x ∷ xs) d h e (suc n) = any_none f xs d h (or_right (f x) (list_any f xs) e) n
+any_none f (x ∷ xs) d h e zero = (or_parts (f x) (list_any f xs) e).0
+any_none f (x ∷ xs) d h e (suc n) = any_none f xs d h ((or_parts (f x) (list_any f xs) e).1) n
 
 is_place_not : (place : ℕ) (o : Option ℕ) → is_place place o ≡ false → o ≢ Some place
 is_place_not place (Some q) h e = absurd (let same : q ≡ place = cc in let t = eq-eqb q place same in let bad = sym t ∙ h in cc)
@@ -297,7 +289,7 @@ is_place_not place None h e = absurd cc
 pub idle_unused : (k : Keyed) (place : ℕ) → list_any (refers place) k.places ≡ false → Unused k place
 idle_unused k place h n p e =
     let r : refers place (Some p) ≡ false = ap (refers place) (sym e) ∙ any_none (refers place) k.places None refl h n in
-    (is_place_not place p.to (or_left _ _ r), is_place_not place p.from (or_right _ _ r))
+    (is_place_not place p.to ((or_parts _ _ r).0), is_place_not place p.from ((or_parts _ _ r).1))
 
 -- ---- all tables after a change
 

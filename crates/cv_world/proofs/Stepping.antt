@@ -1,7 +1,7 @@
 -- The steps of a world, over what its two parts hold.
-use Rattle.std.proofs.Common.{◌≡◌, ◌≢◌, inl, inr, ◌<◌, ◌||◌, ℕ, zero, suc, Bool, true, false, cond, eqb, List, [], ◌∷◌, length, replicate, get_or, Option, Some, None, IsSome, Result, Ok, Err, refl, sym, ◌∙◌, ap, subst, arith}
+use Rattle.std.proofs.Common.{◌≡◌, ◌≢◌, inl, inr, ◌<◌, ℕ, zero, suc, Bool, true, false, cond, eqb, List, [], ◌∷◌, length, replicate, get_or, Option, Some, None, IsSome, Result, Ok, Err, refl, sym, ◌∙◌, ap, subst, arith}
 use Rattle.std.specs.Prelude.{unwrap_or, is_none, option_map}
-use Rattle.std.proofs.lemmas.Bool.{cases_eq}
+use Rattle.std.proofs.lemmas.Bool.{cases_eq, or_parts}
 use Rattle.std.specs.Option.{option_and_then}
 use Rattle.std.specs.Ordering.{nat_cmp}
 use Rattle.std.specs.BTreeMap.{BTreeMap, is_at}
@@ -148,10 +148,6 @@ drop_world K K2 G c name (Err drop.Busy) h others own = subst (λ (F : ℕ → K
 
 -- ---- PUT
 
-not_full : (b c : Bool) → (b || c) ≡ false → c ≡ false
-not_full false c e = e
-not_full true c e = absurd cc
-
 holds_lacks : (T next : Table) (m : Charmap) (place : Option ℕ) → is_none place ≡ false → next ≡ T → Holds T m place next (answers.Refused status.NoMemory)
 holds_lacks T next m (Some p) e h = inr (h, refl)
 holds_lacks T next m None e h = absurd cc
@@ -161,7 +157,7 @@ pub put_done : (G : ℕ → Option Conversion) (k k2 : Keyed) (m : Charmap) (r :
 put_done G k k2 m (Ok u) h = rw (h.1.0, h.1.1, h.1.3) (inl (ap (table_of G) h.2 ∙ rw h.1.4 refl, refl))
 put_done G k k2 m (Err add.Exists) h = rw h.0 (ap (table_of G) h.1, refl)
 put_done G k k2 m (Err add.Quota) h = rw (h.0, h.1) (ap (table_of G) h.2, refl)
-put_done G k k2 m (Err add.Memory) h = rw (h.0, h.1) (holds_lacks (table_of G k) (table_of G k2) m (least_place k.charmaps) (not_full _ _ h.1) (ap (table_of G) h.2))
+put_done G k k2 m (Err add.Memory) h = rw (h.0, h.1) (holds_lacks (table_of G k) (table_of G k2) m (least_place k.charmaps) ((or_parts _ _ h.1).1) (ap (table_of G) h.2))
 
 -- a world stays one where a charmap was put
 pub put_world : (K K2 : ℕ → Keyed) (G : ℕ → Option Conversion) (c : ℕ) (m : Charmap) (r : Result (Unit {0}) AddFault) → ArePlaces (K c).charmaps (K c).places → IsPut (K c) m r (K2 c) → ((d : ℕ) → d ≢ c → K2 d ≡ K d) → IsWorld K G → IsWorld K2 G

@@ -4,7 +4,8 @@ use Rattle.cv_byte_trie.specs.Entries.{Entry, bytes_at}
 use Rattle.cv_byte_trie.specs.Tables.{edge_of}
 use Rattle.cv_byte_trie.specs.Private.Growth.{Forks, end_code}
 use Rattle.cv_byte_trie.specs.Private.Indexed.{IsIndexed}
-use Rattle.cv_byte_trie.proofs.Agreeing.{entry_bytes, part_is}
+use Rattle.cv_byte_trie.proofs.Agreeing.{part_is}
+use Rattle.cv_byte_trie.proofs.ReadEntries.{entry_bytes}
 use Rattle.cv_byte_trie.proofs.Followed.{tail_low}
 use Rattle.cv_byte_trie.proofs.Indexing.{indexed_unchanged, indexed_beside, between_some, between_apart, beside_meets_none}
 use Rattle.cv_byte_trie.proofs.byte_trie.enter_beside.Goals as goal

@@ -1,8 +1,7 @@
 use Rattle.std.proofs.Common.{◌≡◌, length, sym, ap, ◌∙◌, refl, arith}
-use Rattle.cv_base.proofs.Front.{Begins-length}
+use Rattle.cv_base.proofs.Front.{Begins-length, Begins-same, Begins-refl}
 use Rattle.cv_byte_trie.specs.Entries.{bytes_at}
-use Rattle.cv_byte_trie.proofs.Ways.{Begins-same, Begins-self}
-use Rattle.cv_byte_trie.proofs.Agreeing.{entry_bytes}
+use Rattle.cv_byte_trie.proofs.ReadEntries.{entry_bytes}
 use Rattle.cv_byte_trie.proofs.byte_trie.met.Goals as goal
 
 pub returns-then-len-bytes : goal.returns-then-len-bytes
@@ -10,7 +9,7 @@ returns-then-len-bytes c = λ _.
     (let v = bytes_at c.args.entries.now c.args.place in
     let x = c.args.bytes.now in
     let size : length v ≡ length x = ap length (entry_bytes c.args.entries.now c.args.place c.index-entries-place.result c.requires.low c.index-entries-place.is) ∙ sym c.len.ensures ∙ c.if-len-bytes.true in
-    (c.requires.low, Begins-same v x x c.requires.front (Begins-self x) size, refl))
+    (c.requires.low, Begins-same v x x c.requires.front (Begins-refl x) size, refl))
 
 pub returns-else-len-bytes : goal.returns-else-len-bytes
 returns-else-len-bytes c = λ _.

@@ -1,11 +1,11 @@
 use Rattle.std.proofs.Common.{◌≡◌, ◌<◌, ◌/◌, ◌∙◌, ℕ, sym, arith, get_or, length}
 use Rattle.std.proofs.lemmas.List.{get_or_read, length-set}
 use Rattle.cv_byte_trie.specs.Entries.{character_at}
+use Rattle.cv_byte_trie.proofs.ReadEntries.{entry_character}
 use Rattle.cv_pages.specs.Paging.{nowhere, cell_of, place_of}
-use Rattle.cv_pages.proofs.FirstPlaces.{entry_character}
 use Rattle.cv_pages.proofs.FirstPlaces.{has_page, named_more, named_kept}
-use Rattle.cv_pages.proofs.pages.fill.Goals as goal
 use Rattle.cv_pages.proofs.pages.fill.Goals.{then-index, else-index}
+use Rattle.cv_pages.proofs.pages.fill.Goals as goal
 
 pub bounds-tops-character : goal.bounds-tops-character
 bounds-tops-character c =

@@ -1,5 +1,6 @@
 use Rattle.std.proofs.Common.{arith, inr}
-use Rattle.cv_pivot.proofs.Progress.{rest_is, step_smaller}
+use Rattle.cv_base.proofs.Front.{rest_is}
+use Rattle.cv_pivot.proofs.Progress.{step_smaller}
 use Rattle.cv_pivot.proofs.SeveralSteps.{any_then_some, any_within}
 use Rattle.cv_pivot.proofs.blocks.long_blocks.Goals as goal
 

@@ -1,6 +1,7 @@
 use Rattle.std.proofs.Common.{arith}
 use Rattle.std.proofs.lemmas.List.{drop_all}
-use Rattle.cv_pivot.proofs.Progress.{rest_is, some_of_one, step_smaller}
+use Rattle.cv_base.proofs.Front.{rest_is}
+use Rattle.cv_pivot.proofs.Progress.{some_of_one, step_smaller}
 use Rattle.cv_pivot.proofs.SeveralSteps.{no_items, items_more, items_within, items_finish}
 use Rattle.cv_pivot.proofs.items.each_item.Goals as goal
 

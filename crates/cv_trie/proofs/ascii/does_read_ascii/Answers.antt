@@ -2,7 +2,7 @@ use Rattle.std.proofs.Common.{◌≡◌, ◌<◌, List, length, subst, sym, ◌�
 use Rattle.std.proofs.lemmas.Bool.{cases_lt}
 use Rattle.cv_byte_trie.specs.Entries.{Entry, character_at}
 use Rattle.cv_byte_trie.specs.Tables.{edge_of}
-use Rattle.cv_pages.proofs.FirstPlaces.{entry_character}
+use Rattle.cv_byte_trie.proofs.ReadEntries.{entry_character}
 use Rattle.cv_trie.proofs.Following.{root_leaf, root_reads}
 use Rattle.cv_trie.proofs.ascii.does_read_ascii.Goals as goal
 

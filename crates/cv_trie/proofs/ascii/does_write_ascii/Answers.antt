@@ -3,8 +3,8 @@ use Rattle.std.proofs.lemmas.Bool.{cases_lt, not-false}
 use Rattle.std.specs.Cmp.Lexicographic.{same_text}
 use Rattle.cv_base.specs.declared.state.WriteState.TheVariants as write
 use Rattle.cv_byte_trie.specs.Entries.{bytes_at}
+use Rattle.cv_byte_trie.proofs.ReadEntries.{entry_bytes}
 use Rattle.cv_pages.specs.Paging.{place_of}
-use Rattle.cv_pages.proofs.FirstPlaces.{entry_bytes}
 use Rattle.cv_pages.proofs.FirstPlaces.{place_low}
 use Rattle.cv_trie.specs.Charmaps.{map_writes}
 use Rattle.cv_trie.proofs.FirstWritten.{writes_place}

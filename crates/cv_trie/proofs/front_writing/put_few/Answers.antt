@@ -1,6 +1,6 @@
 use Rattle.std.proofs.Common.{◌≡◌, ◌∙◌, arith}
 use Rattle.cv_byte_trie.specs.Entries.{bytes_at}
-use Rattle.cv_pages.proofs.FirstPlaces.{entry_bytes}
+use Rattle.cv_byte_trie.proofs.ReadEntries.{entry_bytes}
 use Rattle.cv_trie.specs.Charmaps.{map_writes}
 use Rattle.cv_trie.proofs.Written.{written_more}
 use Rattle.cv_trie.proofs.front_writing.put_few.Goals as goal

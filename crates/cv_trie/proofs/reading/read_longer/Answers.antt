@@ -1,7 +1,7 @@
 use Rattle.std.proofs.Common.{◌≡◌, ◌<◌, List, sym, subst, ◌∙◌, arith, length, drop}
 use Rattle.std.proofs.lemmas.List.{length-set}
 use Rattle.cv_byte_trie.specs.Entries.{Entry, character_at}
-use Rattle.cv_pages.proofs.FirstPlaces.{entry_character}
+use Rattle.cv_byte_trie.proofs.ReadEntries.{entry_character}
 use Rattle.cv_trie.proofs.Following.{followed_stands, front_more}
 use Rattle.cv_trie.proofs.reading.read_longer.Goals as goal
 

@@ -1,11 +1,11 @@
 use Rattle.std.proofs.Common.{◌≡◌, ◌+◌, ℕ, List, ◌∙◌, sym, subst, replicate, arith}
 use Rattle.cv_byte_trie.specs.Entries.{bytes_at, character_at}
-use Rattle.cv_pages.proofs.FirstPlaces.{entry_bytes, entry_character}
+use Rattle.cv_byte_trie.proofs.ReadEntries.{entry_bytes, entry_character}
 use Rattle.cv_trie.specs.Private.Ones.{no_character}
 use Rattle.cv_trie.specs.Private.Twos.{IsCell}
 use Rattle.cv_trie.proofs.TwoBytes.{twos_none, twos_more}
-use Rattle.cv_trie.proofs.twos.fill_rows.Goals as goal
 use Rattle.cv_trie.proofs.twos.fill_rows.Goals.{then-cell-gt0, else-cell-gt0}
+use Rattle.cv_trie.proofs.twos.fill_rows.Goals as goal
 
 pub loop-place-init : goal.loop-place-init
 loop-place-init c =

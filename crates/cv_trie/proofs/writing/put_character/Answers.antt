@@ -4,8 +4,8 @@ use Rattle.cv_base.specs.declared.place.Put.TheVariants as put
 use Rattle.cv_base.specs.declared.state.WriteState.{WriteState}
 use Rattle.cv_base.specs.declared.state.WriteState.TheVariants as write
 use Rattle.cv_byte_trie.specs.Entries.{bytes_at}
+use Rattle.cv_byte_trie.proofs.ReadEntries.{entry_bytes}
 use Rattle.cv_pages.specs.Paging.{place_of}
-use Rattle.cv_pages.proofs.FirstPlaces.{entry_bytes}
 use Rattle.cv_pages.proofs.FirstPlaces.{place_low}
 use Rattle.cv_trie.proofs.FirstWritten.{writes_place, writes_nothing}
 use Rattle.cv_trie.proofs.writing.put_character.Goals as goal

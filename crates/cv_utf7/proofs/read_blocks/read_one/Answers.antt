@@ -1,5 +1,6 @@
 use Rattle.std.proofs.Common.{arith}
-use Rattle.cv_utf7.proofs.ReadSteps.{reads_character, reads_shift, some_used, rest_is}
+use Rattle.cv_base.proofs.Front.{rest_is}
+use Rattle.cv_utf7.proofs.ReadSteps.{reads_character, reads_shift, some_used}
 use Rattle.cv_utf7.proofs.read_blocks.read_one.Goals as goal
 
 pub overflow_add-result-in-Char : goal.overflow_add-result-in-Char

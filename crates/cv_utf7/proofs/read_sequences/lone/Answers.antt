@@ -1,6 +1,6 @@
 use Rattle.std.proofs.Common.{refl, sym}
 use Rattle.std.proofs.lemmas.Bool.{false≢true}
-use Rattle.cv_utf7.proofs.ReadSteps.{rest_is}
+use Rattle.cv_base.proofs.Front.{rest_is}
 use Rattle.cv_utf7.proofs.read_sequences.lone.Goals as goal
 
 pub returns : goal.returns

@@ -1,6 +1,7 @@
 use Rattle.std.proofs.Common.{arith}
 use Rattle.cv_base.specs.declared.state.ReadState.TheVariants as read
-use Rattle.cv_utf7.proofs.ReadSteps.{character_more, shift_more, some_used, rest_is}
+use Rattle.cv_base.proofs.Front.{rest_is}
+use Rattle.cv_utf7.proofs.ReadSteps.{character_more, shift_more, some_used}
 use Rattle.cv_utf7.proofs.read_sequences.read_inside.Goals as goal
 
 pub overflow_add-at : goal.overflow_add-at

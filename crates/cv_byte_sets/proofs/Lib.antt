@@ -1,2 +1,2 @@
 pub mod Lanes
-pub mod WindowBits
+pub mod StopBits

@@ -19,6 +19,7 @@ pub mod SetMembers
 pub mod ShiftItems
 pub mod StartItems
 pub mod Tables
+pub mod Narrowed
 pub mod WriteRuns
 pub mod WriteSteps
 pub mod Writes

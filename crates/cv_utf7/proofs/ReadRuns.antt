@@ -1,8 +1,7 @@
 -- Runs of direct characters that are read.
-use Rattle.std.proofs.Common.{◌≡◌, ℕ, ◌+◌, ◌-◌, ◌<◌, ◌≤◌, List, [], ◌∷◌, ◌++◌, length, take, drop, set, refl, sym, ◌∙◌, ap, subst, arith, append_assoc, length-drop, length-take, get_or, get_or-drop, zero, suc, true, Some}
+use Rattle.std.proofs.Common.{◌≡◌, ℕ, ◌+◌, ◌<◌, ◌≤◌, List, [], ◌∷◌, ◌++◌, length, take, drop, set, refl, sym, ◌∙◌, ap, arith, append_assoc, length-drop, length-take, get_or, get_or-drop, zero, suc, true, Some}
 use Rattle.std.proofs.lemmas.List.{take_more, take-take, take_more_set}
 use Rattle.std.proofs.Math.Seq.{take-append-add}
-use Rattle.std.specs.Int.{bit_at}
 use Rattle.cv_base.specs.Items.{Taken, taken, Begins}
 use Rattle.cv_base.specs.Chains.{IsChain, used_bytes, read_state, characters_of}
 use Rattle.cv_base.proofs.Front.{Begins-take}
@@ -67,15 +66,11 @@ front_of_put n run most before after bytes h r e =
     let long : length (take n before) ≡ n = simp length-take (omega arith) in
     sym (take-take (n + run) (n + most) after (omega arith)) ∙ ap (take (n + run)) e ∙ ap (λ (k : ℕ). take (k + run) (take n before ++ take most bytes)) (sym long) ∙ take-append-add (take n before) (take most bytes) run ∙ ap (λ (x : List ℕ). take n before ++ x) (take-take run most bytes r)
 
--- a run of direct bytes of a window is read
-pub reads_run : (text : List ℕ) (base stops used n run most : ℕ) (before after : List ℕ) → ((i : ℕ) → i < 64 → bit_at stops i ≡ 0 → may_be_direct (get_or text (base + i) 0) ≡ true) → base ≤ used → used + most ≤ length text → n + most ≤ length before → length after ≡ length before
-    → used - base + run ≤ 64 → ((i : ℕ) → i < run → bit_at stops (used - base + i) ≡ 0) → take (n + most) after ≡ take n before ++ take most (drop used text)
+-- the first of a run of direct bytes are read
+pub reads_run : (text : List ℕ) (used n run most : ℕ) (before after : List ℕ) → used + most ≤ length text → n + most ≤ length before → length after ≡ length before → ((i : ℕ) → i < run → may_be_direct (get_or text (used + i) 0) ≡ true) → take (n + most) after ≡ take n before ++ take most (drop used text)
     → (m : ℕ) → m ≤ run → m ≤ most → ReadsOn text (place read.Start used n) before (place read.Start (used + m) (n + m)) after
-reads_run text base stops used n run most before after window b h l size w clear put m k s =
-    reads_direct text used n m before after (omega arith) (omega arith) size (λ i p. (
-    let there : base + (used - base + i) ≡ used + i = omega arith in
-    subst (λ (j : ℕ). may_be_direct (get_or text j 0) ≡ true) there (window (used - base + i) (omega arith) (clear i (omega arith)))))
-    (front_of_put n m most before after (drop used text) (omega arith) s put)
+reads_run text used n run most before after h l size direct put m k s =
+    reads_direct text used n m before after (omega arith) (omega arith) size (λ i p. direct i (omega arith)) (front_of_put n m most before after (drop used text) (omega arith) s put)
 
 -- one more of many is put
 pub put_more : (n i v : ℕ) (before now bytes : List ℕ) → n + i < length now → i < length bytes → v ≡ get_or bytes i 0 → take (n + i) now ≡ take n before ++ take i bytes → take (n + (i + 1)) (set now (n + i) v) ≡ take n before ++ take (i + 1) bytes

@@ -1,7 +1,6 @@
 -- Runs of direct characters that are written.
-use Rattle.std.proofs.Common.{◌≡◌, ℕ, zero, suc, ◌+◌, ◌-◌, ◌<◌, ◌≤◌, true, List, [], ◌∷◌, ◌++◌, length, take, drop, get_or, set, refl, sym, ◌∙◌, ap, subst, arith, append_assoc, length-append, length-take, length-drop, get_or-take, get_or-drop, inl, inr}
-use Rattle.std.proofs.lemmas.Bool.{cases_eq}
-use Rattle.std.proofs.lemmas.List.{drop-drop, take-append-drop, ext_get_or, get_or-set_same, get_or-set_other, set_split, take_at, drop_at}
+use Rattle.std.proofs.Common.{◌≡◌, ℕ, zero, suc, ◌+◌, ◌-◌, ◌<◌, ◌≤◌, true, List, [], ◌∷◌, ◌++◌, length, take, drop, get_or, set, refl, sym, ◌∙◌, ap, subst, arith, append_assoc, length-append, length-take, length-drop, get_or-take, get_or-drop}
+use Rattle.std.proofs.lemmas.List.{drop-drop, take-append-drop, ext_get_or, set_split, take_at, drop_at}
 use Rattle.cv_base.specs.Chains.{Output, output, output_for}
 use Rattle.cv_base.specs.declared.state.WriteState.{WriteState}
 use Rattle.cv_base.specs.declared.state.WriteState.TheVariants as write
@@ -9,7 +8,6 @@ use Rattle.cv_utf7.specs.Sets.{is_direct}
 use Rattle.cv_utf7.specs.Utf7.{utf7_writes, writes_at_start}
 use Rattle.cv_utf7.specs.Private.WriteSteps.{place, WritesOn}
 use Rattle.cv_utf7.specs.declared.write_sequences.Reached.{Reached}
-use Rattle.std.specs.Int.{bit_at}
 use Rattle.cv_utf7.proofs.ReadRuns.{front_of_put}
 use Rattle.cv_utf7.proofs.Writes.{start_direct}
 use Rattle.cv_utf7.proofs.WriteSteps.{bytes_in, later, put_one, writes_more}
@@ -73,31 +71,22 @@ writes_direct characters k at r many before after h w f d s b l =
       size = l;
     }
 
--- parts of two lists that are the same at each place
-same_parts : (n i j : ℕ) (a b : List ℕ) → i + n ≤ length a → j + n ≤ length b → ((k : ℕ) → k < n → get_or a (i + k) 0 ≡ get_or b (j + k) 0) → take n (drop i a) ≡ take n (drop j b)
-same_parts n i j a b h l e = ext_get_or 0 (take n (drop i a)) (take n (drop j b)) (simp (length-take, length-drop) (omega arith)) (λ k m. (
-    let s : k < n = omega (arith, length-take n (drop i a)) in
-    get_or-take n (drop i a) k 0 s ∙ get_or-drop i a k 0 ∙ e k s ∙ sym (get_or-drop j b k 0) ∙ sym (get_or-take n (drop j b) k 0 s)))
+-- the front of a list that has the numbers of a part of another
+same_front : (n j : ℕ) (a b : List ℕ) → n ≤ length a → j + n ≤ length b → ((k : ℕ) → k < n → get_or a k 0 ≡ get_or b (j + k) 0) → take n a ≡ take n (drop j b)
+same_front n j a b h l e = ext_get_or 0 (take n a) (take n (drop j b)) (simp (length-take, length-drop) (omega arith)) (λ k m. (
+    let s : k < n = omega (arith, length-take n a) in
+    get_or-take n a k 0 s ∙ e k s ∙ sym (get_or-drop j b k 0) ∙ sym (get_or-take n (drop j b) k 0 s)))
 
--- a run of direct characters of a window is written
-pub writes_run : (characters : List ℕ) (base : ℕ) (bytes : List ℕ) (stops n at run : ℕ) (before after : List ℕ) → ((i : ℕ) → i < 16 → bit_at stops i ≡ 0 → (is_direct (get_or bytes i 0) ≡ true) × (get_or bytes i 0 ≡ get_or characters (base + i) 0)) → length bytes ≡ 32 → base ≤ n → n < base + 16 → (many : ℕ) → n + many ≤ length characters → at + many ≤ length before
-    → ((i : ℕ) → i < run → bit_at stops (n - base + i) ≡ 0) → after ≡ take at before ++ take many (drop (n - base) bytes) ++ drop (at + many) before → many ≤ 16 → (r : ℕ) → r ≤ run → r ≤ many → n - base + r ≤ 16 → WritesOn characters (place write.Start n at) before (place write.Start (n + r) (at + r)) after
-writes_run characters base bytes stops n at run before after window padded b p many left room clear put most r k s within =
-    let there : (i : ℕ) → base + (n - base + i) ≡ n + i = λ i. omega arith in
-    let found : (i : ℕ) → i < r → (is_direct (get_or bytes (n - base + i) 0) ≡ true) × (get_or bytes (n - base + i) 0 ≡ get_or characters (n + i) 0) = (λ i l. subst (λ (j : ℕ). (is_direct (get_or bytes (n - base + i) 0) ≡ true) × (get_or bytes (n - base + i) 0 ≡ get_or characters j 0)) (there i) (window (n - base + i) (omega arith) (clear i (omega arith)))) in
+-- the direct characters at the front of sixteen are written where all sixteen were put
+pub writes_run : (characters bytes : List ℕ) (n at run : ℕ) (before after : List ℕ) → length bytes ≡ 16 → ((i : ℕ) → i < 16 → is_direct (get_or bytes i 0) ≡ true → get_or bytes i 0 ≡ get_or characters (n + i) 0) → n + 16 ≤ length characters → at + 16 ≤ length before
+    → run ≤ 16 → ((i : ℕ) → i < run → is_direct (get_or bytes i 0) ≡ true) → after ≡ take at before ++ take 16 bytes ++ drop (at + 16) before → WritesOn characters (place write.Start n at) before (place write.Start (n + run) (at + run)) after
+writes_run characters bytes n at run before after sixteen narrowed left room few direct put =
+    let same : (i : ℕ) → i < run → get_or bytes i 0 ≡ get_or characters (n + i) 0 = (λ i l. narrowed i (omega arith) (direct i l)) in
     let long : length (take at before) ≡ at = simp length-take (omega arith) in
-    let part : length (take many (drop (n - base) bytes)) ≡ many = simp (length-take, length-drop) (omega arith) in
-    let whole : length (take at before ++ take many (drop (n - base) bytes)) ≡ at + many = simp length-append (omega arith) in
-    let front : take (at + many) after ≡ take at before ++ take many (drop (n - base) bytes) = ap (take (at + many)) put ∙ take_at (take at before ++ take many (drop (n - base) bytes)) (drop (at + many) before) (at + many) whole in
-    writes_direct characters n at r many before after s left room (λ i l. subst (λ (c : ℕ). is_direct c ≡ true) (found i l).1 (found i l).0)
-    (front_of_put at r many before after (drop (n - base) bytes) (omega arith) s front ∙ ap (λ (x : List ℕ). take at before ++ x) (same_parts r (n - base) n bytes characters (omega arith) (omega arith) (λ i l. (found i l).1)))
-    (ap (drop (at + many)) put ∙ drop_at (take at before ++ take many (drop (n - base) bytes)) (drop (at + many) before) (at + many) whole)
+    let part : length (take 16 bytes) ≡ 16 = simp length-take (omega arith) in
+    let whole : length (take at before ++ take 16 bytes) ≡ at + 16 = simp length-append (omega arith) in
+    let front : take (at + 16) after ≡ take at before ++ take 16 bytes = ap (take (at + 16)) put ∙ take_at (take at before ++ take 16 bytes) (drop (at + 16) before) (at + 16) whole in
+    writes_direct characters n at run 16 before after few left room (λ i l. ap is_direct (sym (same i l)) ∙ direct i l)
+    (front_of_put at run 16 before after bytes (omega arith) few front ∙ ap (λ (x : List ℕ). take at before ++ x) (same_front run n bytes characters (omega arith) (omega arith) same))
+    (ap (drop (at + 16)) put ∙ drop_at (take at before ++ take 16 bytes) (drop (at + 16) before) (at + 16) whole)
     (ap length put ∙ simp (length-append, length-drop) (omega arith))
-
--- one character more is narrowed
-pub narrow_more : (n i b : ℕ) (bytes characters : List ℕ) → i < length bytes → (is_direct b ≡ true → b ≡ get_or characters (n + i) 0) → ((k : ℕ) → k < i → is_direct (get_or bytes k 0) ≡ true → get_or bytes k 0 ≡ get_or characters (n + k) 0)
-    → (k : ℕ) → k < i + 1 → is_direct (get_or (set bytes i b) k 0) ≡ true → get_or (set bytes i b) k 0 ≡ get_or characters (n + k) 0
-narrow_more n i b bytes characters h e p k l = elim (cases_eq k i) [
-  | inl same ↦ subst (λ (j : ℕ). is_direct (get_or (set bytes i b) j 0) ≡ true → get_or (set bytes i b) j 0 ≡ get_or characters (n + j) 0) (sym same) (subst (λ (x : ℕ). is_direct x ≡ true → x ≡ get_or characters (n + i) 0) (sym (get_or-set_same bytes i b 0 h)) e)
-  | inr other ↦ subst (λ (x : ℕ). is_direct x ≡ true → x ≡ get_or characters (n + k) 0) (sym (get_or-set_other bytes i k b 0 other)) (p k (omega arith))
-]

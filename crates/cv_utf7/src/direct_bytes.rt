@@ -1,21 +1,16 @@
 //! The bytes that are direct, as sets against which many bytes are held at once.
 ghost use Rattle.std.specs.Prelude.{◌≡◌, ◌+◌, ◌≤◌, ◌<◌, ℕ, true, length, get_or};
-ghost use Rattle.std.specs.Int.{bit_at};
 ghost use Rattle.cv_utf7.specs.Sets.{may_be_direct, is_direct};
 
-use cv_byte_sets::{front_in, outside, padded, sixteen_outside};
-use std::simd::prelude::*;
+use cv_byte_sets::{front_in, run_in};
 
 // A set has sixteen entries, one for each lower half of a byte, with a bit for each higher half. So entry 9 of `MAY_STAND`, 0xFD, has the
 // tab (09), `)` (29), `9`, `I`, `Y`, `i` and `y`, and lacks 19, a control; entry 11, 0xF8, has `;`, `K`, `[`, `k` and `{`, and lacks
 // `+` (2B).
 
-// What may be direct in a text that is read. It is looked up by windows of 64 bytes, for which its entries stand four times.
+// What may be direct in a text that is read.
 #[rattlefmt::skip]
-const MAY_STAND: [u8; 64] = [
-    0xFC, 0xFC, 0xFC, 0xFC, 0xFC, 0xFC, 0xFC, 0xFC, 0xFC, 0xFD, 0xFD, 0xF8, 0xDC, 0xFD, 0x7C, 0x7C,
-    0xFC, 0xFC, 0xFC, 0xFC, 0xFC, 0xFC, 0xFC, 0xFC, 0xFC, 0xFD, 0xFD, 0xF8, 0xDC, 0xFD, 0x7C, 0x7C,
-    0xFC, 0xFC, 0xFC, 0xFC, 0xFC, 0xFC, 0xFC, 0xFC, 0xFC, 0xFD, 0xFD, 0xF8, 0xDC, 0xFD, 0x7C, 0x7C,
+const MAY_STAND: [u8; 16] = [
     0xFC, 0xFC, 0xFC, 0xFC, 0xFC, 0xFC, 0xFC, 0xFC, 0xFC, 0xFD, 0xFD, 0xF8, 0xDC, 0xFD, 0x7C, 0x7C,
 ];
 
@@ -25,23 +20,26 @@ const STANDS: [u8; 16] = [
     0xAC, 0xF8, 0xF8, 0xF8, 0xF8, 0xF8, 0xF8, 0xFC, 0xFC, 0xFD, 0xF9, 0x50, 0x54, 0x55, 0x54, 0x5C,
 ];
 
-/// A bit for each of 64 bytes that may not be direct in a text that is read, and for each behind its end.
+/// How many bytes from a place of a text that is read on may be direct, sixteen at most.
 #[inline(always)]
-pub(crate) fn not_direct(input: &[u8], at: usize) -> u64
-    requires { at ≤ length input.now }
-    ensures { (i : ℕ) → i < 64 → bit_at result i ≡ 0
-        → may_be_direct (get_or input.now (at + i) 0) ≡ true }
+pub(crate) fn direct_run(input: &[u8], from: usize) -> usize
+    requires many { 16 ≤ length input.now }
+    requires from { from ≤ length input.now }
+    ensures within { from + result ≤ length input.now }
+    ensures few { result ≤ 16 }
+    ensures direct { (i : ℕ) → i < result → may_be_direct (get_or input.now (from + i) 0) ≡ true }
 {
-    outside(MAY_STAND, padded(input, at))
+    run_in(MAY_STAND, input, from)
 }
 
-/// A bit for each of sixteen bytes that is not written as itself, and one behind them.
+/// How many bytes at the front are written as themselves, sixteen at most.
 #[inline(always)]
-pub(crate) fn not_written_direct(bytes: u8x16) -> u64
-    ensures direct { (i : ℕ) → i < 16 → bit_at result i ≡ 0 → is_direct (get_or bytes i 0) ≡ true }
-    ensures end { bit_at result 16 ≡ 1 }
+pub(crate) fn written_run(bytes: &[u8]) -> usize
+    requires many { 16 ≤ length bytes.now }
+    ensures few { result ≤ 16 }
+    ensures direct { (i : ℕ) → i < result → is_direct (get_or bytes.now i 0) ≡ true }
 {
-    sixteen_outside(STANDS, bytes)
+    run_in(STANDS, bytes, 0)
 }
 
 /// How many bytes at the front are written as themselves, as far as whole sixteens of them go.

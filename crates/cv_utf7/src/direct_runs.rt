@@ -6,9 +6,10 @@ ghost use Rattle.cv_base.specs.declared.state.WriteState.{WriteState};
 ghost use Rattle.cv_utf7.specs.Utf7.{utf7_writes};
 
 use crate::direct_bytes::written_direct;
-use crate::write_runs::{MANY_WRITTEN, copy};
+use crate::write_runs::copy;
 use cv_base::AsciiForm;
 use cv_block::take_ascii_run;
+use cv_byte_sets::SIXTEEN;
 
 /// How many units of more than one byte are made bytes at once.
 const MANY_UNITS: usize = 64;
@@ -23,10 +24,10 @@ fn write_direct_bytes(text: &[u8], out: &mut [u8], at: usize) -> usize
     let most = text.len().min(out.len() - at);
     let run = written_direct(&text[..most]);
     // Fewer go sooner by a block.
-    if run < MANY_WRITTEN {
+    if run < SIXTEEN {
         return 0;
     }
-    copy(text, 0, run, out, at);
+    copy(text, run, out, at);
     run
 }
 
@@ -41,10 +42,10 @@ fn write_direct_units(form: AsciiForm, text: &[u8], out: &mut [u8], at: usize) -
     let n = take_ascii_run(form, AsciiForm::Byte, text, &mut ascii, 0);
     let run = written_direct(&ascii).min(n).min(out.len() - at);
     // Fewer go sooner by a block.
-    if run < MANY_WRITTEN {
+    if run < SIXTEEN {
         return 0;
     }
-    copy(&ascii, 0, run, out, at);
+    copy(&ascii, run, out, at);
     run
 }
 

@@ -2,27 +2,23 @@
 ghost use Rattle.std.specs.Prelude.{◌≡◌, ◌≤◌, ◌<◌, ◌+◌, MatchOption, IfSome, length};
 ghost use Rattle.cv_utf7.specs.Private.ReadSteps.{place, ReadsOn};
 
-use crate::direct_bytes::not_direct;
-use crate::read_runs::{LONE_PLACES, MANY_READ, read_direct, read_run};
+use crate::read_runs::{LONE_PLACES, read_direct, read_run};
 use crate::read_sequences::{read_inside, read_lone, read_sequence};
 use crate::utf7::Utf7;
 use cv_base::{Codec, Item, ReadBlock, ReadState, Scalar};
-use cv_byte_sets::WINDOW;
+use cv_byte_sets::SIXTEEN;
 
-/// Reads direct characters, and sequences between them, from the first byte of a window to its last or to what stops it.
+/// Reads direct characters, and sequences between them, as far as it goes.
 #[inline(always)]
-fn read_window(input: &[u8], base: usize, buffer: &mut [Scalar], n: usize) -> ReadBlock
-    requires within { base ≤ length input.now }
-    requires room { n + 3 ≤ length buffer.old }
-    ensures more { ReadsOn input.now (place ReadState.Start base n) buffer.old result buffer.new }
-    ensures on { base ≤ result.used }
+fn read_outside(input: &[u8], start: usize, buffer: &mut [Scalar], n: usize) -> ReadBlock
+    requires within { start ≤ length input.now }
+    requires room { n ≤ length buffer.old }
+    ensures { ReadsOn input.now (place ReadState.Start start n) buffer.old result buffer.new }
 {
-    let stops = not_direct(input, base);
-    let size = WINDOW.min(input.len() - base);
-    let mut used = base;
+    let mut used = start;
     let mut count = n;
-    while used - base < size && buffer.len() - count > LONE_PLACES {
-        let (run, goes_on) = read_run(input, base, stops, used, buffer, count);
+    while input.len() >= SIXTEEN && used < input.len() && buffer.len() - count > LONE_PLACES {
+        let (run, goes_on) = read_run(input, used, buffer, count);
         used += run;
         count += run;
         if goes_on {
@@ -35,32 +31,6 @@ fn read_window(input: &[u8], base: usize, buffer: &mut [Scalar], n: usize) -> Re
             continue;
         }
         let block = read_sequence(input, used, buffer, count);
-        match block.next {
-            ReadState::Start if block.used > used => {
-                used = block.used;
-                count = block.n;
-            }
-            _ => return block,
-        }
-    }
-    ReadBlock {
-        n: count,
-        used,
-        next: ReadState::Start,
-    }
-}
-
-/// Reads outside a shifted sequence, as far as it goes.
-#[inline(always)]
-fn read_outside(input: &[u8], start: usize, buffer: &mut [Scalar], n: usize) -> ReadBlock
-    requires within { start ≤ length input.now }
-    requires room { n ≤ length buffer.old }
-    ensures { ReadsOn input.now (place ReadState.Start start n) buffer.old result buffer.new }
-{
-    let mut used = start;
-    let mut count = n;
-    while input.len() - used >= MANY_READ && buffer.len() - count > LONE_PLACES {
-        let block = read_window(input, used, buffer, count);
         match block.next {
             ReadState::Start if block.used > used => {
                 used = block.used;

@@ -1,16 +1,12 @@
 //! Runs of direct characters that are read.
-ghost use Rattle.std.specs.Prelude.{◌≡◌, ◌≤◌, ◌<◌, ◌+◌, ◌++◌, ℕ, true, IsTrue, length, take, drop, get_or};
-ghost use Rattle.std.specs.Int.{bit_at};
-ghost use Rattle.cv_utf7.specs.Sets.{may_be_direct};
+ghost use Rattle.std.specs.Prelude.{◌≡◌, ◌≤◌, ◌<◌, ◌+◌, ◌++◌, IsTrue, length, take, drop};
 ghost use Rattle.cv_utf7.specs.Private.ReadSteps.{place, ReadsOn};
 
+use crate::direct_bytes::direct_run;
 use crate::sets::may_stand;
 use cv_base::{ReadState, Scalar};
-use cv_byte_sets::run_at;
+use cv_byte_sets::SIXTEEN;
 use std::simd::prelude::*;
-
-/// How many bytes of a run are put into the buffer at once.
-pub(crate) const MANY_READ: usize = 16;
 
 /// How many places the character of a shifted sequence takes with the one behind it.
 pub(crate) const LONE_PLACES: usize = 2;
@@ -41,7 +37,7 @@ fn put_many(input: &[u8], at: usize, buffer: &mut [Scalar], n: usize)
     ensures { take (n + 16) buffer.new ≡ take n buffer.old ++ take 16 (drop at input.now) }
 {
     let bytes = u8x16::from_slice(&input[at..]).to_array();
-    for i in 0..MANY_READ {
+    for i in 0..SIXTEEN {
         buffer[n + i] = Scalar::known(bytes[i] as u32);
     }
 }
@@ -60,17 +56,8 @@ fn put_rest(input: &[u8], at: usize, many: usize, buffer: &mut [Scalar], n: usiz
 
 /// Reads the direct characters of a run, as many as are put at once. Answers how many they are, and whether the run may go on.
 #[inline(always)]
-pub(crate) fn read_run(
-    input: &[u8],
-    base: usize,
-    stops: u64,
-    used: usize,
-    buffer: &mut [Scalar],
-    n: usize,
-) -> (usize, bool)
-    requires window { (i : ℕ) → i < 64 → bit_at stops i ≡ 0
-        → may_be_direct (get_or input.now (base + i) 0) ≡ true }
-    requires place { (base ≤ used) × (used < base + 64) }
+pub(crate) fn read_run(input: &[u8], used: usize, buffer: &mut [Scalar], n: usize) -> (usize, bool)
+    requires many { 16 ≤ length input.now }
     requires within { used < length input.now }
     requires room { n + 3 ≤ length buffer.old }
     ensures run { ReadsOn input.now (place ReadState.Start used n) buffer.old
@@ -79,11 +66,11 @@ pub(crate) fn read_run(
     ensures on { IsTrue result.1 → 0 < result.0 }
     ensures fits { n + result.0 + 2 ≤ length buffer.old }
 {
-    let run = run_at(stops, used - base);
+    let run = direct_run(input, used);
     let most = (input.len() - used).min(buffer.len() - n - LONE_PLACES);
-    if most >= MANY_READ {
+    if most >= SIXTEEN {
         put_many(input, used, buffer, n);
-        return (run.min(MANY_READ), run >= MANY_READ);
+        return (run, run == SIXTEEN);
     }
     let rest = run.min(most);
     put_rest(input, used, rest, buffer, n);

@@ -2,32 +2,27 @@
 ghost use Rattle.std.specs.Prelude.{◌≤◌, ◌<◌, ◌+◌, ◌-◌, ◌*◌, length};
 ghost use Rattle.cv_utf7.specs.Private.WriteSteps.{place, WritesOn};
 
-use crate::direct_bytes::not_written_direct;
-use crate::write_runs::{MANY_WRITTEN, narrowed, write_direct, write_run};
+use crate::write_runs::write_run;
 use crate::write_sequences::{Reached, write_inside, write_one, write_sequence};
 use cv_base::{Scalar, WriteState};
-use std::simd::prelude::*;
+use cv_byte_sets::SIXTEEN;
 
-/// Writes direct characters, and sequences between them, from a place to the last of a window.
+/// Writes direct characters, and sequences between them, as far as it goes.
 #[inline(always)]
-fn write_window(characters: &[Scalar], from: usize, out: &mut [u8], at: usize) -> Reached
+fn write_outside(characters: &[Scalar], from: usize, out: &mut [u8], at: usize) -> Reached
     requires some { from < length characters.now }
-    requires many { 16 ≤ length characters.now }
     requires room { at + 8 * (length characters.now - from) ≤ length out.old }
     ensures more { WritesOn characters.now (place WriteState.Start from at) out.old result out.new }
     ensures on { from < result.n }
 {
-    let base = from.min(characters.len() - MANY_WRITTEN);
-    let bytes = narrowed(characters, base);
-    let stops = not_written_direct(u8x16::from_slice(&bytes));
     let mut n = from;
     let mut end = at;
-    while n - base < MANY_WRITTEN {
-        let run = write_run(characters, base, &bytes, stops, n, out, end);
+    while n < characters.len() {
+        let run = write_run(characters, n, out, end);
         n += run;
         end += run;
-        if n - base == MANY_WRITTEN {
-            break;
+        if run == SIXTEEN || n == characters.len() {
+            continue;
         }
         let reached = write_sequence(characters, n, out, end);
         match reached.next {
@@ -43,30 +38,6 @@ fn write_window(characters: &[Scalar], from: usize, out: &mut [u8], at: usize) -
         end,
         next: WriteState::Start,
     }
-}
-
-/// Writes outside a shifted sequence, as far as it goes.
-#[inline(always)]
-fn write_outside(characters: &[Scalar], from: usize, out: &mut [u8], at: usize) -> Reached
-    requires some { from < length characters.now }
-    requires room { at + 8 * (length characters.now - from) ≤ length out.old }
-    ensures more { WritesOn characters.now (place WriteState.Start from at) out.old result out.new }
-    ensures on { from < result.n }
-{
-    let len = characters.len();
-    if len >= MANY_WRITTEN {
-        return write_window(characters, from, out, at);
-    }
-    let run = write_direct(characters, from, out, at);
-    let reached = Reached {
-        n: from + run,
-        end: at + run,
-        next: WriteState::Start,
-    };
-    if reached.n == len {
-        return reached;
-    }
-    write_one(characters, reached, out)
 }
 
 /// Writes on from a place, as far as it goes at once.

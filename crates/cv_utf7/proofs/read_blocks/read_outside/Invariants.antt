@@ -3,8 +3,8 @@ use Rattle.cv_base.specs.declared.state.ReadState.TheVariants as read
 use Rattle.cv_utf7.specs.Private.ReadSteps.{place, ReadsOn}
 use Rattle.cv_utf7.proofs.read_blocks.read_outside.Given as goal
 
-abbrev pub invariant-loop-used : goal.invariant-loop-used
-invariant-loop-used l = ReadsOn l.input (place read.Start l.start l.fn.n) l.fn.buffer (place read.Start l.used l.count) l.buffer
+abbrev pub invariant-loop-buffer : goal.invariant-loop-buffer
+invariant-loop-buffer l = ReadsOn l.input (place read.Start l.start l.fn.n) l.fn.buffer (place read.Start l.used l.count) l.buffer
 
-abbrev pub decreases-loop-used : goal.decreases-loop-used
-decreases-loop-used l = length l.input - l.used
+abbrev pub decreases-loop-buffer : goal.decreases-loop-buffer
+decreases-loop-buffer l = length l.input - l.used

@@ -1,6 +1,6 @@
 use Rattle.std.proofs.Common.{arith, refl, ◌∙◌, length-set}
 use Rattle.std.proofs.lemmas.List.{get_or_read}
-use Rattle.cv_utf7.proofs.WriteRuns.{narrow_more}
+use Rattle.cv_utf7.proofs.Narrowed.{narrow_more}
 use Rattle.cv_utf7.proofs.write_runs.narrowed.Goals as goal
 
 pub loop-i-init : goal.loop-i-init

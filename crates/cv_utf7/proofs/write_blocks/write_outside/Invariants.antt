@@ -1,12 +1,12 @@
 use Rattle.std.proofs.Common.{length, ◌-◌, ◌≤◌}
 use Rattle.cv_base.specs.declared.state.WriteState.TheVariants as write
 use Rattle.cv_utf7.specs.Private.WriteSteps.{place, WritesOn}
-use Rattle.cv_utf7.proofs.write_blocks.write_window.Given as goal
+use Rattle.cv_utf7.proofs.write_blocks.write_outside.Given as goal
 
 abbrev pub invariant-loop-n : goal.invariant-loop-n
 invariant-loop-n l = record {
   wrote : WritesOn l.characters (place write.Start l.from l.at) l.fn.out (place write.Start l.n l.end) l.out;
-  on : l.base ≤ l.n;
+  on : l.from ≤ l.n;
 }
 
 abbrev pub decreases-loop-n : goal.decreases-loop-n

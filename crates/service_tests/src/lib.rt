@@ -1,6 +1,6 @@
-//! Tests of frames, callers' tables, the cache, worlds, serving and pools. A crate with tests is proved twice, so those of the crates that
-//! others stand on are here, and say what a client of these crates could. What is proved of a nested array costs much, so a table is a
-//! text: `words` reads its words.
+//! Tests of frames, callers' tables, the cache and worlds. A crate with tests is proved twice, so those of the crates that others stand
+//! on are here, and say what a client of these crates could. What is proved of a nested array costs much, so a table is a text: `words`
+//! reads its words.
 #![tactic(auto)]
 
 #[cfg(test)]
@@ -11,14 +11,6 @@ mod callers;
 mod charmap_texts;
 #[cfg(test)]
 mod frames;
-#[cfg(test)]
-mod pool;
-#[cfg(test)]
-mod requests;
-#[cfg(test)]
-mod serving;
-#[cfg(test)]
-mod streams;
 #[cfg(test)]
 mod words;
 #[cfg(test)]

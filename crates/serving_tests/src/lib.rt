@@ -1,0 +1,16 @@
+//! Tests of serving and of pools: streams of frames, and batches by several workers. They say what a client of cv_loop and cv_pool could,
+//! and stand here since a crate with tests is proved twice.
+#![tactic(auto)]
+
+#[cfg(test)]
+mod charmap_texts;
+#[cfg(test)]
+mod pool;
+#[cfg(test)]
+mod requests;
+#[cfg(test)]
+mod serving;
+#[cfg(test)]
+mod streams;
+#[cfg(test)]
+mod words;

@@ -1,4 +1,4 @@
--- Where nothing stands at any place, and there is no part, a table is the empty one.
+-- If nothing is at any place, and there is no part, a table is the empty one.
 use Rattle.std.proofs.Common.{◌≡◌, ℕ, zero, suc, nat_eq, Bool, true, false, List, [], ◌∷◌, length, map, replicate, Option, Some, None, refl, sym, ap, ◌∙◌, arith}
 use Rattle.std.specs.Prelude.{is_some, option_map, IsTrue, ◌↔◌}
 use Rattle.std.specs.List.{list_any}
@@ -12,7 +12,7 @@ use Rattle.cv_caller.specs.Private.Views.{charmaps_of, part_of, stored_in, keyed
 use Rattle.cv_caller.specs.declared.place.Place.{Place}
 use Rattle.cv_caller.specs.declared.store.Store.{Store}
 
--- places of which none has anything are free
+-- places are free if none of them has anything
 all_free : {X Y : Type 0} (f : X → Y) (xs : List (Option X)) → list_any is_some xs ≡ false → map (option_map f) xs ≡ replicate (length xs) None
 all_free f [] e = refl
 all_free {Y = Y} f (None ∷ xs) e = ap (λ (ys : List (Option Y)). None ∷ ys) (all_free f xs e)
@@ -23,7 +23,7 @@ all_none [] e = refl
 all_none {X} (None ∷ xs) e = ap (λ (ys : List (Option X)). None ∷ ys) (all_none xs e)
 all_none (Some x ∷ xs) e = absurd cc
 
--- mapped places have something where the places have
+-- mapped places have something if the places have
 list_any_some-map : {X Y : Type 0} (f : X → Y) (xs : List (Option X)) → list_any is_some (map (option_map f) xs) ≡ list_any is_some xs
 list_any_some-map f [] = refl
 list_any_some-map f (None ∷ xs) = list_any_some-map f xs
@@ -32,13 +32,13 @@ list_any_some-map f (Some x ∷ xs) = refl
 same_uploads : (charmaps others : Charmaps) (part bytes : List ℕ) → charmaps ≡ others → part ≡ bytes → (let u : Uploaded = record { charmaps = charmaps; part = part } in u) ≡ record { charmaps = others; part = bytes }
 same_uploads charmaps others part bytes c p = cc
 
--- a store in which a charmap stands is not empty
+-- a store that holds a charmap is not empty
 pub not_bare : (store : Store) → true ≡ list_any is_some store.charmaps → stored_in store ≡ no_uploads → ⊥
 not_bare store some e =
     let none : list_any is_some store.charmaps ≡ false = sym (list_any_some-map arc_value store.charmaps) ∙ ap (λ (u : Uploaded). list_any is_some u.charmaps) e in
     absurd cc
 
--- a store in which no charmap stands is empty where its part has no bytes
+-- a store that holds no charmap is empty if its part has no bytes
 pub bare : (store : Store) (n : ℕ) → false ≡ list_any is_some store.charmaps → length store.charmaps ≡ 8 → n ≡ length (part_of store.part) → IsTrue (nat_eq n 0) ↔ (stored_in store ≡ no_uploads)
 bare store zero none size len =
     let charmaps : charmaps_of store.charmaps ≡ replicate 8 None = all_free arc_value store.charmaps (sym none) ∙ ap (λ (k : ℕ). let c : Charmaps = replicate k None in c) size in
@@ -46,7 +46,7 @@ bare store zero none size len =
 bare store (suc n) none size len =
     (λ e. absurd (grind (arith, nat_tests, e)), λ e. (let h = ap (λ (u : Uploaded). length u.part) e in absurd (omega arith)))
 
--- a table with no number in use is empty where nothing was uploaded
+-- a table with no number in use is empty if nothing was uploaded
 pub empty_keyed : (u : Uploaded) (places : List (Option Place)) (now : Keyed) (r : Bool) → keyed_of u places ≡ now → false ≡ list_any is_some places → length places ≡ 16 → IsTrue r ↔ (u ≡ no_uploads) → IsTrue r ↔ (now ≡ no_keys)
 empty_keyed u places now r seen none size is =
     let free : places ≡ replicate 16 None = all_none places (sym none) ∙ ap (λ (k : ℕ). let p : List (Option Place) = replicate k None in p) size in (

@@ -1,4 +1,4 @@
--- Places of charmaps: what stands at those that were found, and what a change of one does to the others.
+-- Places of charmaps: what is at those that were found, and what a change of one does to the others.
 use Rattle.std.proofs.Common.{◌≡◌, ◌+◌, ℕ, zero, suc, not, Bool, true, cond, List, [], ◌∷◌, map, get_or, set, Option, Some, None, refl, sym, ap, ◌∙◌}
 use Rattle.std.specs.Prelude.{is_none, is_some, IfSome, option_map}
 use Rattle.std.specs.List.{position, prefix_len}
@@ -22,17 +22,17 @@ none_same : {X Y : Type 0} (f : X → Y) (o : Option X) → is_none (option_map 
 none_same f (Some x) = refl
 none_same f None = refl
 
--- the first free place stays where values are mapped
+-- the first free place stays if values are mapped
 pub position_none-map : {X Y : Type 0} (f : X → Y) (xs : List (Option X)) → position is_none (map (option_map f) xs) ≡ position is_none xs
 position_none-map f xs = position-map is_none (option_map f) xs ∙ ap (λ p. position p xs) (fun_ext (none_same f))
 
--- ---- what stands there
+-- ---- what is there
 
 has_some : (name : List ℕ) (held : Option Charmap) → has_name name held ≡ true → is_some held ≡ true
 has_some name (Some charmap) h = refl
 has_some name None h = absurd cc
 
--- a charmap stands at the place of a name
+-- a charmap is at the place of a name
 pub named_there : (charmaps : Charmaps) (name : List ℕ) (place : ℕ) → Some place ≡ place_of charmaps name → is_some (charmap_at charmaps place) ≡ true
 named_there charmaps name place e = has_some name _ ((position-Some (has_name name) charmaps place None (sym e)).1)
 
@@ -40,7 +40,7 @@ is_nothing : {X : Type 0} (held : Option X) → is_none held ≡ true → held �
 is_nothing (Some x) h = absurd cc
 is_nothing None h = refl
 
--- nothing stands at the first place that was found free
+-- nothing is at the first place that was found free
 pub found_free : {X : Type 0} (places : List (Option X)) (found : Option ℕ) → found ≡ position is_none places → IfSome found (λ place. get_or places place None ≡ None)
 found_free places (Some place) e = is_nothing _ ((position-Some is_none places place None (sym e)).1)
 found_free places None e = tt

@@ -17,7 +17,7 @@ pub charmaps_seen : (store : Option (Box Store)) (box : Box Store) (now : Upload
 charmaps_seen store box now value seen is same =
     ap (λ (u : Uploaded). u.charmaps) (sym seen) ∙ ap (λ (s : Option (Box Store)). (uploaded_of s).charmaps) is ∙ ap (λ (s : Store). charmaps_of s.charmaps) (sym same)
 
--- a name is found where its charmap is seen
+-- a name is found if its charmap is seen
 pub name_seen : (charmaps : Charmaps) (raw : List (Option (Arc Charmap Global))) (name : List ℕ) (r : Option ℕ) → charmaps ≡ charmaps_of raw → r ≡ position (λ held. has_name name (option_map arc_value held)) raw → r ≡ place_of charmaps name
 name_seen charmaps raw name r seen is =
     is ∙ sym (position-map (has_name name) (option_map arc_value) raw) ∙ ap (λ (c : Charmaps). place_of c name) (sym seen)

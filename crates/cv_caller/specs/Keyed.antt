@@ -1,4 +1,4 @@
--- A caller's table as the program keeps it: in place of conversions it has the keys that they have among those of all callers.
+-- A caller's table as the program keeps it: instead of conversions it has their keys among those of all callers.
 use Rattle.std.specs.Prelude.{◌≡◌, ◌==◌, ◌||◌, ◌≤◌, ℕ, Bool, true, false, List, [], length, map, Option, Some, None, IfSome, option_map, slice_index_or, slice_set, replicate, is_some}
 use Rattle.std.specs.Option.{option_and_then}
 use Rattle.cv_charmap.specs.Meaning.{Charmap}
@@ -6,7 +6,7 @@ use Rattle.cv_pivot.specs.Encodings.{Builtin, Ascii, Form, Own, Mapped, form_of}
 use Rattle.cv_pivot.specs.declared.conversion.Conversion.{Conversion}
 use Rattle.cv_pivot.specs.declared.encoding.Encoding.{Encoding}
 use Rattle.cv_caller.specs.Tables.{Named, BuiltIn, Held, Charmaps, Descriptor, Table, charmap_at, form_in, AreCharmaps}
-use Rattle.cv_caller.specs.declared.limits.TheConstants.{DESCRIPTORS, CHARMAPS, MOST_PART}
+use Rattle.cv_caller.specs.Limits.{most_descriptors, most_charmaps, most_part}
 use Rattle.cv_caller.specs.declared.place.Place.{Place}
 
 -- What contracts see of a caller's table.
@@ -17,7 +17,7 @@ pub record Keyed : Type 0 where
 
 -- nothing is held or open
 abbrev pub no_keys : Keyed
-no_keys = record { charmaps = replicate CHARMAPS None; places = replicate DESCRIPTORS None; part = [] }
+no_keys = record { charmaps = replicate most_charmaps None; places = replicate most_descriptors None; part = [] }
 
 -- what a number stands for
 abbrev pub place_at : Keyed → ℕ → Option Place
@@ -47,7 +47,7 @@ refers map None = false
 
 -- ---- what every table keeps
 
--- A charmap stands at the place, where there is one.
+-- If a place is given, a charmap is at it.
 abbrev pub IsHeld : Charmaps → Option ℕ → Type 0
 IsHeld charmaps None = Unit {0}
 IsHeld charmaps (Some place) = is_some (charmap_at charmaps place) ≡ true
@@ -58,33 +58,33 @@ AreHeld charmaps place = IsHeld charmaps place.to × IsHeld charmaps place.from
 
 -- What numbers stand for: there are sixteen, and each charmap that one writes or reads is held.
 pub record ArePlaces (charmaps : Charmaps) (places : List (Option Place)) : Type 0 where
-  pub numbers : length places ≡ DESCRIPTORS
+  pub numbers : length places ≡ most_descriptors
   pub held : (number : ℕ) → IfSome (slice_index_or places number None) (AreHeld charmaps)
 
 -- A table that the program may have: it is within the limits.
 pub record IsKeyed (keyed : Keyed) : Type 0 where
   pub charmaps : AreCharmaps keyed.charmaps
   pub places : ArePlaces keyed.charmaps keyed.places
-  pub part : length keyed.part ≤ MOST_PART
+  pub part : length keyed.part ≤ most_part
 
 -- ---- the private table that it stands for
 
--- the built-in encoding that a form is; this is asked of no other form
+-- the built-in encoding that a form is; it is used for no other form
 abbrev pub own_of : Form → Builtin
 own_of (Own builtin) = builtin
 own_of (Mapped pairs) = Ascii
 
--- how a descriptor names an encoding: by the place of its charmap, where it has one
+-- how a descriptor names an encoding: by the place of its charmap, if it has one
 abbrev pub named : Option ℕ → Encoding → Named
 named (Some place) encoding = Held place
 named None encoding = BuiltIn (own_of (form_of encoding))
 
--- a number's descriptor, by the conversions that stand under the keys
+-- a number's descriptor, by the conversions under the keys
 abbrev pub descriptor_of : (ℕ → Option Conversion) → Place → Option Descriptor
 descriptor_of conversions place =
     option_map (λ c. record { to = named place.to c.to; from = named place.from c.from; policy = c.policy; states = c.states }) (conversions place.key)
 
--- the private table, by the conversions that stand under the keys
+-- the private table, by the conversions under the keys
 abbrev pub table_of : (ℕ → Option Conversion) → Keyed → Table
 table_of conversions keyed =
     record { charmaps = keyed.charmaps; descriptors = map (option_and_then (descriptor_of conversions)) keyed.places; part = keyed.part }

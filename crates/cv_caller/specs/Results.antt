@@ -1,11 +1,11 @@
--- What the calls of a caller's table come to, the refusals in their order.
+-- The results of the calls of a caller's table, the refusals in their order.
 use Rattle.std.specs.Prelude.{◌≡◌, ◌||◌, ◌+◌, ◌<◌, ◌≤◌, ℕ, Bool, true, false, List, [], ◌∷◌, ◌++◌, length, Some, None, Result, Ok, Err, nat_lt, is_some, is_none}
 use Rattle.std.specs.List.{list_any}
 use Rattle.cv_charmap.specs.Meaning.{Charmap}
 use Rattle.cv_pivot.specs.Encodings.{Own, form_of}
 use Rattle.cv_caller.specs.Tables.{Charmaps, Named, BuiltIn, Held, charmap_at, named_of, place_of, least_place, mappings}
 use Rattle.cv_caller.specs.Keyed.{Keyed, own_of, refers, keyed_with_charmap, keyed_with_part}
-use Rattle.cv_caller.specs.declared.limits.TheConstants.{MOST_MAPPINGS, MOST_PART}
+use Rattle.cv_caller.specs.Limits.{most_mappings, most_part}
 use Rattle.cv_caller.specs.declared.faults.AddFault.{AddFault}
 use Rattle.cv_caller.specs.declared.faults.AddFault.TheVariants as add
 use Rattle.cv_caller.specs.declared.faults.DropFault.{DropFault}
@@ -22,22 +22,22 @@ abbrev pub named_found : Found → Named
 named_found (found.Builtin encoding) = BuiltIn (own_of (form_of encoding))
 named_found (found.Map place) = Held place
 
--- What was found is a built-in encoding, or a place at which a charmap stands.
+-- What was found is a built-in encoding, or a place at which a charmap is held.
 abbrev pub IsFound : Charmaps → Found → Type 0
 IsFound charmaps (found.Builtin encoding) = form_of encoding ≡ Own (own_of (form_of encoding))
 IsFound charmaps (found.Map place) = is_some (charmap_at charmaps place) ≡ true
 
--- ---- charmaps that come and go
+-- ---- charmaps that are held and dropped
 
 -- whether a name is that of a built-in encoding, or of a charmap that is held
 abbrev pub is_taken : Charmaps → List ℕ → Bool
 is_taken charmaps name = is_some (named_of charmaps name)
 
--- whether so many mappings more are too many, or no place is free
+-- whether this many more mappings are too many, or no place is free
 abbrev pub is_full : Charmaps → ℕ → Bool
-is_full charmaps more = nat_lt MOST_MAPPINGS (mappings charmaps + more) || is_none (least_place charmaps)
+is_full charmaps more = nat_lt most_mappings (mappings charmaps + more) || is_none (least_place charmaps)
 
--- What came of a charmap that was to be held: it stands at the least place that was free, or it was refused and nothing changed.
+-- The result of holding a charmap: it is at the least place that was free, or it was refused and nothing changed.
 abbrev pub IsAdded : Keyed → Charmap → Result Unit AddFault → Keyed → Type 0
 IsAdded old charmap (Ok u) new =
     (is_taken old.charmaps charmap.name ≡ false) × (is_full old.charmaps (length charmap.pairs) ≡ false)
@@ -48,7 +48,7 @@ IsAdded old charmap (Err add.Quota) new =
 IsAdded old charmap (Err add.Memory) new =
     (is_taken old.charmaps charmap.name ≡ false) × (is_full old.charmaps (length charmap.pairs) ≡ false) × (new ≡ old)
 
--- What came of a charmap that was to go: its place is free, or it was refused and nothing changed.
+-- The result of dropping a charmap: its place is free, or it was refused and nothing changed.
 abbrev pub IsDropped : Keyed → List ℕ → Result Unit DropFault → Keyed → Type 0
 IsDropped old name (Ok u) new =
     (place : ℕ) × (place_of old.charmaps name ≡ Some place) × (list_any (refers place) old.places ≡ false) × (new ≡ keyed_with_charmap old place None)
@@ -58,14 +58,14 @@ IsDropped old name (Err drop.Busy) new =
 
 -- ---- the part of an upload
 
--- What came of bytes that were to be put behind the part: they stand there, and the answer is how many bytes it has; or they were refused and nothing changed.
+-- The result of appending bytes to the part: they are there, and the answer is how many bytes the part has; or they were refused and nothing changed.
 abbrev pub IsAppended : Keyed → List ℕ → Result ℕ PartFault → Keyed → Type 0
 IsAppended old bytes (Ok count) new =
-    (length (old.part ++ bytes) ≤ MOST_PART) × (count ≡ length (old.part ++ bytes)) × (new ≡ keyed_with_part old (old.part ++ bytes))
-IsAppended old bytes (Err part.Quota) new = (MOST_PART < length (old.part ++ bytes)) × (new ≡ old)
-IsAppended old bytes (Err part.Memory) new = (length (old.part ++ bytes) ≤ MOST_PART) × (new ≡ old)
+    (length (old.part ++ bytes) ≤ most_part) × (count ≡ length (old.part ++ bytes)) × (new ≡ keyed_with_part old (old.part ++ bytes))
+IsAppended old bytes (Err part.Quota) new = (most_part < length (old.part ++ bytes)) × (new ≡ old)
+IsAppended old bytes (Err part.Memory) new = (length (old.part ++ bytes) ≤ most_part) × (new ≡ old)
 
--- What came of a part that was sent. An empty one takes back what was sent before.
+-- The result of sending a part. An empty one drops what was sent before.
 abbrev pub IsPart : Keyed → List ℕ → Result ℕ PartFault → Keyed → Type 0
 IsPart old [] result new = (result ≡ Ok 0) × (new ≡ keyed_with_part old [])
 IsPart old (byte ∷ bytes) result new = IsAppended old (byte ∷ bytes) result new

@@ -8,7 +8,7 @@ use Rattle.cv_charmap.specs.Maps.{IsMap}
 use Rattle.cv_charmap.specs.Meaning.{Charmap}
 use Rattle.cv_pivot.specs.Encodings.{Builtin, Form, Own, Mapped, builtin_of}
 use Rattle.cv_pivot.specs.declared.outcome.States.{States}
-use Rattle.cv_caller.specs.declared.limits.TheConstants.{DESCRIPTORS, CHARMAPS, MOST_MAPPINGS, MOST_PART}
+use Rattle.cv_caller.specs.Limits.{most_descriptors, most_charmaps, most_mappings, most_part}
 
 -- An encoding of a descriptor: a built-in one, or a charmap that the caller holds, by its place.
 pub data Named : Type 0 where
@@ -26,7 +26,7 @@ pub record Descriptor : Type 0 where
 abbrev pub Charmaps : Type 0
 Charmaps = List (Option Charmap)
 
--- Charmaps stand at eight places, and descriptors at sixteen numbers.
+-- Charmaps are at eight places, and descriptors at sixteen numbers.
 pub record Table : Type 0 where
   pub charmaps : Charmaps
   pub descriptors : List (Option Descriptor)
@@ -34,11 +34,11 @@ pub record Table : Type 0 where
 
 -- nothing is held or open
 abbrev pub empty_table : Table
-empty_table = record { charmaps = replicate CHARMAPS None; descriptors = replicate DESCRIPTORS None; part = [] }
+empty_table = record { charmaps = replicate most_charmaps None; descriptors = replicate most_descriptors None; part = [] }
 
 -- ---- charmaps
 
--- what stands at a place
+-- what is at a place
 abbrev pub charmap_at : Charmaps → ℕ → Option Charmap
 charmap_at charmaps place = slice_index_or charmaps place None
 
@@ -47,12 +47,12 @@ abbrev pub pairs_in : Option Charmap → List Pair
 pairs_in (Some charmap) = charmap.pairs
 pairs_in None = []
 
--- what an encoding of a descriptor comes to
+-- the form of an encoding of a descriptor
 abbrev pub form_in : Charmaps → Named → Form
 form_in charmaps (BuiltIn builtin) = Own builtin
 form_in charmaps (Held place) = Mapped (pairs_in (charmap_at charmaps place))
 
--- whether a charmap stands there, of this name in any case of its ASCII letters
+-- whether a charmap is there, of this name in any case of its ASCII letters
 abbrev pub has_name : List ℕ → Option Charmap → Bool
 has_name name (Some charmap) = is_same_name charmap.name name
 has_name name None = false
@@ -70,7 +70,7 @@ named_by None place = option_map Held place
 abbrev pub named_of : Charmaps → List ℕ → Option Named
 named_of charmaps name = named_by (builtin_of name) (place_of charmaps name)
 
--- the least place that is free
+-- the least free place
 abbrev pub least_place : Charmaps → Option ℕ
 least_place charmaps = position is_none charmaps
 
@@ -80,7 +80,7 @@ mappings charmaps = sum_by (λ charmap. length (pairs_in charmap)) charmaps
 
 -- ---- descriptors
 
--- the least number that is free
+-- the least free number
 abbrev pub least_free : Table → Option ℕ
 least_free table = position is_none table.descriptors
 
@@ -114,14 +114,14 @@ with_part table part = record table { part = part }
 
 -- ---- what every table keeps
 
--- Charmaps that a caller may hold: at most eight, each of them one that a text can mean, with no more mappings in all than the most.
+-- Charmaps that a caller may hold: at most eight, each of them one that a text can mean, with no more mappings together than the limit.
 pub record AreCharmaps (charmaps : Charmaps) : Type 0 where
-  pub places : length charmaps ≡ CHARMAPS
+  pub places : length charmaps ≡ most_charmaps
   pub maps : (place : ℕ) → IfSome (charmap_at charmaps place) (λ charmap. IsMap charmap.pairs)
-  pub few : mappings charmaps ≤ MOST_MAPPINGS
+  pub few : mappings charmaps ≤ most_mappings
 
 -- A table that a caller may have.
 pub record IsTable (table : Table) : Type 0 where
   pub charmaps : AreCharmaps table.charmaps
-  pub numbers : length table.descriptors ≡ DESCRIPTORS
-  pub part : length table.part ≤ MOST_PART
+  pub numbers : length table.descriptors ≡ most_descriptors
+  pub part : length table.part ≤ most_part

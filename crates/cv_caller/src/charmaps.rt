@@ -9,7 +9,7 @@ use cv_base::same_name;
 use cv_trie::Charmap;
 use std::sync::Arc;
 
-/// Whether a charmap of this name stands there.
+/// Whether a charmap of this name is there.
 fn is_named(held: &Option<Arc<Charmap>>, name: &[u8]) -> bool
     ensures { result ≡ has_name name.now (option_map arc_value held.now) }
 {
@@ -27,7 +27,7 @@ pub(crate) fn place_named(charmaps: &[Option<Arc<Charmap>>; CHARMAPS], name: &[u
     charmaps.iter().position(|held| is_named(held, name))
 }
 
-/// The least place that is free.
+/// The least free place.
 pub(crate) fn first_place(charmaps: &[Option<Arc<Charmap>>; CHARMAPS]) -> Option<usize>
     ensures free { result ≡ position is_none charmaps.now }
     ensures within { IfSome result (λ place. place < CHARMAPS) }
@@ -35,7 +35,7 @@ pub(crate) fn first_place(charmaps: &[Option<Arc<Charmap>>; CHARMAPS]) -> Option
     charmaps.iter().position(|held| held.is_none())
 }
 
-/// Whether a charmap stands at some place.
+/// Whether a charmap is at some place.
 pub(crate) fn has_charmaps(charmaps: &[Option<Arc<Charmap>>; CHARMAPS]) -> bool
     ensures any { result ≡ list_any is_some charmaps.now }
     ensures size { length charmaps.now ≡ CHARMAPS }
@@ -43,7 +43,7 @@ pub(crate) fn has_charmaps(charmaps: &[Option<Arc<Charmap>>; CHARMAPS]) -> bool
     charmaps.iter().any(|held| held.is_some())
 }
 
-/// How many mappings stand there.
+/// How many mappings are there.
 fn size_of_held(held: &Option<Arc<Charmap>>) -> usize
     ensures { result ≡ length (pairs_in (option_map arc_value held.now)) }
 {

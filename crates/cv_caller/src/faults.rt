@@ -1,4 +1,4 @@
-//! Why a caller's table stays as it was.
+//! Why a caller's table stays unchanged.
 use thiserror::Error;
 
 /// Why a charmap was not taken.
@@ -7,15 +7,15 @@ pub enum AddFault {
     /// Its name is that of a built-in encoding, or of a charmap that is held.
     #[error("the name is taken")]
     Exists,
-    /// Its mappings are too many beside those that are held, or no place is free.
+    /// Its mappings and those that are held are too many together, or no place is free.
     #[error("too many charmaps or mappings")]
     Quota,
-    /// No memory was to be had.
+    /// An allocation failed.
     #[error("out of memory")]
     Memory,
 }
 
-/// Why a charmap was not given up.
+/// Why a charmap was not dropped.
 #[derive(Clone, Copy, Debug, PartialEq, Eq, Error)]
 pub enum DropFault {
     /// No charmap of this name is held.
@@ -32,7 +32,7 @@ pub enum PartFault {
     /// It is too long, with the part before it.
     #[error("the part is too long")]
     Quota,
-    /// No memory was to be had.
+    /// An allocation failed.
     #[error("out of memory")]
     Memory,
 }

@@ -9,5 +9,5 @@ pub const CHARMAPS: usize = 8;
 /// How many mappings its charmaps may have in all.
 pub const MOST_MAPPINGS: usize = 262_144;
 
-/// How many bytes the part of an upload may have: with the largest body behind it these are 8,388,608.
+/// How many bytes the part of an upload may have. Together with the largest body these are 8,388,608.
 pub const MOST_PART: usize = 7_340_041;

@@ -2,7 +2,7 @@
 use cv_pivot::Encoding;
 
 /// What a number stands for: the key of its conversion among those of all callers, and the places of the charmaps that it
-/// writes and reads, where they are charmaps.
+/// writes and reads, if they are charmaps.
 #[derive(Clone, Copy, Debug, PartialEq, Eq)]
 pub struct Place {
     pub key: u32,

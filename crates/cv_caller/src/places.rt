@@ -6,7 +6,7 @@ ghost use Rattle.cv_caller.specs.Keyed.{refers};
 use crate::limits::DESCRIPTORS;
 use crate::place::Place;
 
-/// The least number that is free.
+/// The least free number.
 pub(crate) fn first_free(places: &[Option<Place>; DESCRIPTORS]) -> Option<usize>
     ensures least { result ≡ position is_none places.now }
     ensures within { IfSome result (λ number. number < DESCRIPTORS) }

@@ -1,4 +1,4 @@
-//! Where uploads are stored.
+//! The storage of uploads.
 ghost use Rattle.std.specs.Prelude.{◌≡◌, ◌<◌, ◌++◌, ◌↔◌, [], IsTrue, IsSome, length, OnOk, OnErr, slice_set, option_map};
 ghost use Rattle.std.specs.Arc.{arc_value};
 ghost use Rattle.cv_caller.specs.Private.Uploaded.{no_uploads};
@@ -11,7 +11,7 @@ use cv_trie::Charmap;
 use std::alloc::Global;
 use std::sync::Arc;
 
-/// Charmaps at their places, and the part of one that is on its way.
+/// Charmaps at their places, and the part of one that is still being uploaded.
 #[derive(Drop)]
 pub(crate) struct Store {
     pub(crate) charmaps: [Option<Arc<Charmap>>; CHARMAPS],
@@ -28,7 +28,7 @@ fn part_len(part: &Option<Vec<u8>>) -> usize
     }
 }
 
-/// Whether nothing stands in a store.
+/// Whether nothing is in a store.
 pub(crate) fn is_bare(store: &Store) -> bool
     ensures { IsTrue result ↔ (stored_in store.now ≡ no_uploads) }
 {
@@ -38,7 +38,7 @@ pub(crate) fn is_bare(store: &Store) -> bool
     part_len(&store.part) == 0
 }
 
-/// Makes an empty store where there is none.
+/// Makes an empty store if there is none.
 pub(crate) fn make_store(alloc: Global, store: &mut Option<Box<Store>>) -> Result<(), Memory>
     ensures same { uploaded_of store.new ≡ uploaded_of store.old }
     ensures there { OnOk result (IsSome store.new) }
@@ -53,7 +53,7 @@ pub(crate) fn make_store(alloc: Global, store: &mut Option<Box<Store>>) -> Resul
     Ok(())
 }
 
-/// Sets what stands at a place.
+/// Sets what is at a place.
 pub(crate) fn set_charmap(store: &mut Option<Box<Store>>, place: u8, charmap: Option<Arc<Charmap>>)
     requires there { IsSome store.old }
     requires within { place < CHARMAPS }
@@ -64,7 +64,7 @@ pub(crate) fn set_charmap(store: &mut Option<Box<Store>>, place: u8, charmap: Op
     store.charmaps[place as usize] = charmap;
 }
 
-/// Puts bytes behind the part of a store.
+/// Appends bytes to the part of a store.
 fn extend(alloc: Global, store: &mut Store, bytes: &[u8]) -> Result<(), Memory>
     ensures ok { OnOk result (part_of store.new.part ≡ part_of store.old.part ++ bytes.now) }
     ensures err { OnErr result (part_of store.new.part ≡ part_of store.old.part) }
@@ -77,7 +77,7 @@ fn extend(alloc: Global, store: &mut Store, bytes: &[u8]) -> Result<(), Memory>
     Ok(())
 }
 
-/// Puts bytes behind the part that is stored.
+/// Appends bytes to the part that is stored.
 pub(crate) fn append(
     alloc: Global,
     store: &mut Option<Box<Store>>,
@@ -92,7 +92,7 @@ pub(crate) fn append(
     extend(alloc, store, bytes)
 }
 
-/// Lets the part go that is stored.
+/// Drops the part that is stored.
 pub(crate) fn clear(store: &mut Option<Box<Store>>)
     ensures { uploaded_of store.new ≡ record (uploaded_of store.old) { part = [] } }
 {

@@ -67,7 +67,7 @@ impl Table {
         self.uploads.is_empty()
     }
 
-    /// The least number that is free.
+    /// The least free number.
     pub fn least_free(&self) -> Option<u32>
         ensures least { result ≡ position is_none self.now.places }
         ensures within { IfSome result (λ number. number < DESCRIPTORS) }
@@ -92,7 +92,7 @@ impl Table {
         }
     }
 
-    /// Binds a number that is free.
+    /// Binds a free number.
     pub fn bind(&mut self, number: u32, place: Place)
         requires within { number < DESCRIPTORS }
         requires free { place_at self.old number ≡ None }
@@ -102,7 +102,7 @@ impl Table {
         self.places[number as usize] = Some(place);
     }
 
-    /// Gives a number back, and answers what it stood for.
+    /// Frees a number, and answers what it stood for.
     pub fn unbind(&mut self, number: u32) -> Option<Place>
         ensures place { result ≡ place_at self.old number }
         ensures free { self.new ≡ with_place self.old number None }
@@ -143,7 +143,7 @@ impl Table {
         self.uploads.encoding(map)
     }
 
-    /// Holds a charmap, at the least place that is free. One that is refused is dropped.
+    /// Holds a charmap at the least free place. A charmap that is refused is dropped.
     pub fn add_map(&mut self, alloc: Global, charmap: Arc<Charmap>) -> Result<(), AddFault>
         ensures { IsAdded self.old (arc_value charmap) result self.new }
     {
@@ -159,7 +159,7 @@ impl Table {
         Ok(())
     }
 
-    /// Gives up the charmap of a name, unless a descriptor reads or writes it.
+    /// Drops the charmap of a name, unless a descriptor reads or writes it.
     pub fn drop_map(&mut self, name: &[u8]) -> Result<(), DropFault>
         ensures { IsDropped self.old name.now result self.new }
     {
@@ -181,7 +181,7 @@ impl Table {
         self.uploads.part()
     }
 
-    /// Puts a part behind the one that was sent before, and answers how many bytes they have. An empty one takes back what was sent, and
+    /// Puts a part after the one that was sent before, and answers how many bytes they have. An empty one drops what was sent, and
     /// takes no memory.
     pub fn add_part(&mut self, alloc: Global, bytes: &[u8]) -> Result<u32, PartFault>
         ensures { IsPart self.old bytes.now result self.new }
@@ -199,7 +199,7 @@ impl Table {
         }
     }
 
-    /// Lets the part go, as what it was sent for is done.
+    /// Drops the part, because the request that it was sent for is done.
     pub fn clear_part(&mut self)
         ensures { self.new ≡ keyed_with_part self.old [] }
     {

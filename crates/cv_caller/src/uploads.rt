@@ -16,8 +16,8 @@ use std::alloc::Global;
 use std::marker::Model;
 use std::sync::Arc;
 
-/// What a caller has uploaded: charmaps, and the part of one that is on its way. Most callers upload nothing, so there is a store
-/// only once something was. Contracts see the names and lists of the charmaps, and the part.
+/// What a caller has uploaded: charmaps, and the part of one that is still being uploaded. Most callers upload nothing, so a store
+/// is allocated only once something was. Contracts see the names and lists of the charmaps, and the part.
 #[derive(Drop)]
 pub(crate) struct Uploads {
     store: Option<Box<Store>>,
@@ -59,7 +59,7 @@ impl Uploads {
         }
     }
 
-    /// Gives the store's memory back where nothing stands in it.
+    /// Frees the store's memory if nothing is in it.
     fn release(&mut self)
         ensures { self.new ≡ self.old }
     {
@@ -83,7 +83,7 @@ impl Uploads {
         }
     }
 
-    /// The least place that is free.
+    /// The least free place.
     pub(crate) fn least_place(&self) -> Option<u8>
         ensures place { result ≡ least_place self.now.charmaps }
         ensures within { IfSome result (λ place. place < CHARMAPS) }
@@ -108,12 +108,12 @@ impl Uploads {
         }
     }
 
-    /// The least place that is free, unless so many mappings more are too many.
+    /// The least free place, unless this many more mappings are too many.
     pub(crate) fn place_for(&self, more: usize) -> Option<u8>
         ensures full { is_none result ≡ is_full self.now.charmaps more }
         ensures place { IfSome result (λ place. least_place self.now.charmaps ≡ Some place) }
 
-        // So a charmap of so many mappings may be put there.
+        // So a charmap of `more` mappings may be put there.
         ensures within { IfSome result (λ place. place < CHARMAPS) }
         ensures free { IfSome result (λ place. charmap_at self.now.charmaps place ≡ None) }
         ensures few { IfSome result (λ _. mappings self.now.charmaps + more ≤ MOST_MAPPINGS) }
@@ -138,7 +138,7 @@ impl Uploads {
         Ok(Encoding::Charmap(Arc::try_clone(charmap)?))
     }
 
-    /// Puts a charmap at a place that is free.
+    /// Puts a charmap at a free place.
     pub(crate) fn put(
         &mut self,
         alloc: Global,
@@ -158,7 +158,7 @@ impl Uploads {
         Ok(())
     }
 
-    /// Gives up the charmap at a place.
+    /// Drops the charmap at a place.
     pub(crate) fn remove(&mut self, place: u8)
         requires { is_some (charmap_at self.old.charmaps place) ≡ true }
         ensures { self.new ≡ record self.old { charmaps = slice_set self.old.charmaps place None } }
@@ -181,7 +181,7 @@ impl Uploads {
         }
     }
 
-    /// Puts bytes behind the part.
+    /// Appends bytes to the part.
     pub(crate) fn append(&mut self, alloc: Global, bytes: &[u8]) -> Result<(), Memory>
         requires { length (self.old.part ++ bytes.now) ≤ MOST_PART }
         ensures ok { OnOk result (self.new ≡ record self.old { part = self.old.part ++ bytes.now }) }
@@ -191,7 +191,7 @@ impl Uploads {
         append(alloc, &mut self.store, bytes)
     }
 
-    /// Lets the part go.
+    /// Drops the part.
     pub(crate) fn clear_part(&mut self)
         ensures { self.new ≡ record self.old { part = [] } }
     {

@@ -45,7 +45,7 @@ number_back number n = ap Some (from_be_bytes-to_be_bytes_4 number n)
 
 -- ---- a body that is read was spelled so
 
--- the name at the front, and what follows it
+-- the name at the start, and what follows it
 name_only : (bytes name rest : List ℕ) → name_at bytes ≡ Some (name, rest) → bytes ≡ name_body name ++ rest
 name_only [] name rest e = absurd cc
 name_only (n ∷ bytes) name rest e =

@@ -1,4 +1,4 @@
--- What the front of a rest says: whether more bytes make a frame of it.
+-- What a rest begins with says whether more bytes make a frame of it.
 use Rattle.std.proofs.Common.{◌≡◌, ℕ, ◌+◌, ◌≤◌, Bool, true, false, ltb, List, ◌++◌, length, drop, refl, ap, arith, inl, inr, ◌⊎◌}
 use Rattle.std.specs.Prelude.{◌||◌, replicate}
 use Rattle.std.specs.Int.{w32, from_be_bytes}
@@ -16,7 +16,7 @@ is_bad k = ltb k 9 || ltb 1048576 k
 number_more : (bytes more : List ℕ) → 4 ≤ length bytes → number_at (bytes ++ more) ≡ number_at bytes
 number_more bytes more long = ap (from_be_bytes w32) (take-append-le 4 bytes more long)
 
--- Where the length is good more bytes make a whole frame.
+-- If the length is good, more bytes make a whole frame.
 good_can : (bytes : List ℕ) → 4 ≤ length bytes → is_bad (number_at bytes) ≡ false → CanBeWhole bytes
 good_can bytes long good =
     let k : ℕ = number_at bytes in
@@ -30,7 +30,7 @@ good_can bytes long good =
           (omega (arith, length-append bytes more, length-replicate {A = ℕ} (4 + k) 0));
     }
 
--- A bad length stands at the front whatever follows.
+-- A bad length is at the start, whatever follows.
 bad_front : (bytes : List ℕ) (k : ℕ) → number_at bytes ≡ k → 4 ≤ length bytes → is_bad k ≡ true → front_of bytes ≡ Bad k
 unfolding front_of
 bad_front bytes k is long bad =
@@ -55,7 +55,7 @@ good_front bytes long ends good =
       | false ↦ λ (s : ltb (length bytes) (4 + k) ≡ false). absurd (ends (message_at k (drop 4 bytes)) (4 + k) (front_by bytes k refl (ltb-false _ _ g.0) (ltb-false _ _ g.1) (ltb-false _ _ s)))
     ]) refl
 
--- what the front of a rest is, by its length
+-- what a rest begins with, by its length
 by_length : (bytes : List ℕ) → 4 ≤ length bytes → IsRest bytes
     → ((front_of bytes ≡ Partial) × CanBeWhole bytes) ⊎ ((n : ℕ) × (front_of bytes ≡ Bad n) × ¬ CanBeWhole bytes)
 by_length bytes long ends =

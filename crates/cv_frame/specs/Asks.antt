@@ -3,20 +3,20 @@ use Rattle.std.specs.Prelude.{ℕ, ◌≤◌, List, [], length}
 use Rattle.cv_frame.specs.Message.{Message}
 use Rattle.cv_frame.specs.Bodies.{name_body, open_body, conv_body, number_body, reset_body}
 use Rattle.cv_frame.specs.declared.ask.Ask.{Ask}
-use Rattle.cv_frame.specs.declared.ops.TheConstants.{PUT, DROP, OPEN, CONV, RESET, CLOSE, BYE, PART}
-use Rattle.cv_frame.specs.declared.sizes.TheConstants.{MOST_BODY}
+use Rattle.cv_frame.specs.Ops.{op_put, op_drop, op_open, op_conv, op_reset, op_close, op_bye, op_part}
+use Rattle.cv_frame.specs.Sizes.{most_body}
 use Rattle.cv_frame.specs.declared.ask.Ask.TheVariants.{Put, DropMap, Open, Conv, Reset, Close, Bye, Part, Raw}
 
 -- the number of its op
 abbrev pub ask_code : Ask → ℕ
-ask_code (Put text) = PUT
-ask_code (DropMap name) = DROP
-ask_code (Open to from policy) = OPEN
-ask_code (Conv number room input) = CONV
-ask_code (Reset number room) = RESET
-ask_code (Close number) = CLOSE
-ask_code Bye = BYE
-ask_code (Part bytes) = PART
+ask_code (Put text) = op_put
+ask_code (DropMap name) = op_drop
+ask_code (Open to from policy) = op_open
+ask_code (Conv number room input) = op_conv
+ask_code (Reset number room) = op_reset
+ask_code (Close number) = op_close
+ask_code Bye = op_bye
+ask_code (Part bytes) = op_part
 ask_code (Raw op body) = op
 
 -- its body
@@ -50,4 +50,4 @@ NamesFit (Raw op body) = Unit {0}
 -- It has a frame: each name has at most 255 bytes, and the body at most 1,048,567.
 pub record AskFits (ask : Ask) : Type 0 where
   pub names : NamesFit ask
-  pub body : length (ask_body ask) ≤ MOST_BODY
+  pub body : length (ask_body ask) ≤ most_body

@@ -6,13 +6,13 @@ use Rattle.cv_base.specs.declared.policy.Policy.{Policy}
 use Rattle.cv_base.specs.declared.policy.Policy.TheVariants.{Substitute, Strict}
 use Rattle.cv_frame.specs.Cut.{number_at, IsBytes}
 
--- ---- how bodies are spelled
+-- ---- how bodies are encoded
 
--- A name is a byte that tells its length, and then the name.
+-- A name is a byte that is its length, and then the name.
 abbrev pub name_body : List ℕ → List ℕ
 name_body name = length name ∷ name
 
--- A strict policy is a byte 1, and the other is told by nothing.
+-- A strict policy is a byte 1, and the other is no byte.
 abbrev pub policy_body : Policy → List ℕ
 policy_body Substitute = []
 policy_body Strict = 1 ∷ []
@@ -33,14 +33,14 @@ reset_body number room = to_be_bytes w32 number ++ to_be_bytes w32 room
 abbrev pub number_body : ℕ → List ℕ
 number_body number = to_be_bytes w32 number
 
--- ---- how they are read: none where the body isn't exactly of the form
+-- ---- how they are read: none if the body isn't exactly of the form
 
--- the name at the front, and what follows it
+-- the name at the start, and what follows it
 abbrev pub name_at : List ℕ → Option (List ℕ × List ℕ)
 name_at [] = None
 name_at (n ∷ bytes) = if nat_lt (length bytes) n then None else Some (take n bytes, drop n bytes)
 
--- a name behind which nothing stands
+-- a name that nothing follows
 abbrev pub name_alone : List ℕ × List ℕ → Option (List ℕ)
 name_alone (name, []) = Some name
 name_alone (name, b ∷ bytes) = None
@@ -49,7 +49,7 @@ name_alone (name, b ∷ bytes) = None
 abbrev pub drop_of : List ℕ → Option (List ℕ)
 drop_of body = option_and_then name_alone (name_at body)
 
--- the policy, of what stands behind the names: a byte 0 says what nothing says
+-- the policy, by what follows the names: a byte 0 means the same as no byte
 abbrev pub policy_of : List ℕ → Option Policy
 policy_of [] = Some Substitute
 policy_of (b ∷ []) = if b == 0 then Some Substitute else if b == 1 then Some Strict else None
@@ -80,7 +80,7 @@ number_of body = if length body == 4 then Some (number_at body) else None
 
 -- ---- what is spelled is read, and nothing else
 
--- The body is that of this OPEN. Where the policy substitutes a byte 0 may say so.
+-- The body is that of this OPEN. If the policy substitutes, a byte 0 may say so.
 abbrev pub IsOpenBody : Opening → List ℕ → Type 0
 IsOpenBody o body = (body ≡ open_body o.to o.from o.policy) ⊎ ((o.policy ≡ Substitute) × (body ≡ name_body o.to ++ (name_body o.from ++ 0 ∷ [])))
 

@@ -1,19 +1,19 @@
--- The one cut of a byte string: whole frames, and then a rest. The format of frames is this project's own.
+-- The only cut of a byte string: whole frames, and then a rest. The format of frames is this project's own.
 use Rattle.std.specs.Prelude.{◌≡◌, ℕ, zero, suc, ◌+◌, ◌-◌, List, [], ◌∷◌, ◌++◌, length, take, drop, nat_lt, ◌||◌, slice_index, if◌then◌else◌, get_or, ◌<◌, ◌≤◌, ◌↔◌}
 use Rattle.std.specs.Int.{w32, from_be_bytes}
 use Rattle.std.specs.List.{AllByRecursion}
 use Rattle.cv_frame.specs.Message.{Message, joined, FitsFrame}
 use Rattle.cv_frame.specs.declared.reading.Frame.{Frame}
-use Rattle.cv_frame.specs.declared.sizes.TheConstants.{LEAST_LENGTH, MOST_LENGTH}
+use Rattle.cv_frame.specs.Sizes.{least_length, most_length}
 use Rattle.cv_frame.specs.declared.reading.Frame.TheVariants.{Whole, Partial, Bad}
 use Rattle.cv_frame.specs.declared.reading.ReplyFrame.{ReplyFrame}
 use Rattle.cv_frame.specs.declared.reading.ReplyFrame.TheVariants as reply
 
--- the number of 32 bits at the front
+-- the number of 32 bits at the start
 abbrev pub number_at : List ℕ → ℕ
 number_at bytes = from_be_bytes w32 (take 4 bytes)
 
--- The message that stands behind a length n: four bytes of the caller, four of the tag, the code, and what is left of n.
+-- The message after a length n: four bytes of the caller, four of the tag, the code, and what is left of n.
 abbrev pub message_at : ℕ → List ℕ → Message
 message_at n bytes = record {
   caller = number_at bytes;
@@ -22,21 +22,21 @@ message_at n bytes = record {
   body = take (n - 9) (drop 9 bytes);
 }
 
--- What stands at the front. A length is good from 9 to 1,048,576. Fewer than four bytes, or fewer than a good length tells, are a part of a frame.
+-- What the bytes begin with. A length is good from 9 to 1,048,576. Fewer than four bytes, or fewer than a good length says, are a part of a frame.
 unfoldable pub front_of : List ℕ → Frame
 front_of bytes =
     if nat_lt (length bytes) 4 then Partial else
-    if nat_lt (number_at bytes) LEAST_LENGTH || nat_lt MOST_LENGTH (number_at bytes) then Bad (number_at bytes) else
+    if nat_lt (number_at bytes) least_length || nat_lt most_length (number_at bytes) then Bad (number_at bytes) else
     if nat_lt (length bytes) (4 + number_at bytes) then Partial else
     Whole (message_at (number_at bytes) (drop 4 bytes)) (4 + number_at bytes)
 
--- What stands at the front of replies is seen as that of requests, the status in the op's place.
+-- What replies begin with is seen as what requests begin with, with the status in the place of the op.
 abbrev pub front_of_reply : ReplyFrame → Frame
 front_of_reply (reply.Whole caller tag status body n) = Whole (record { caller = caller; tag = tag; code = status; body = body.now }) n
 front_of_reply reply.Partial = Partial
 front_of_reply (reply.Bad length) = Bad length
 
--- whole frames, and the rest that stands after them
+-- whole frames, and the rest after them
 pub record Cut : Type 0 where
   pub messages : List Message
   pub rest : List ℕ
@@ -45,7 +45,7 @@ pub record Cut : Type 0 where
 abbrev pub no_frames : List ℕ → Cut
 no_frames bytes = record { messages = []; rest = bytes }
 
--- one more frame in front
+-- one more frame before others
 abbrev pub with_first : Message → Cut → Cut
 with_first m cut = record { messages = m ∷ cut.messages; rest = cut.rest }
 
@@ -68,15 +68,15 @@ cut_of bytes = cut_within (length bytes) bytes
 abbrev pub messages_of : List ℕ → List Message
 messages_of bytes = (cut_of bytes).messages
 
--- what stands after the whole frames
+-- what follows the whole frames
 abbrev pub rest_of : List ℕ → List ℕ
 rest_of bytes = (cut_of bytes).rest
 
--- No whole frame stands at the front: there are no bytes, or a part of a frame, or a bad length.
+-- No whole frame is at the start: there are no bytes, or a part of a frame, or a bad length.
 abbrev pub IsRest : List ℕ → Type 0
 IsRest bytes = (m : Message) (n : ℕ) → front_of bytes ≡ Whole m n → ⊥
 
--- These messages, spelled, and this rest are all of the bytes, and no whole frame stands at the front of the rest.
+-- These messages, spelled, and this rest are all of the bytes, and no whole frame is at the start of the rest.
 pub record IsCut (bytes : List ℕ) (messages : List Message) (rest : List ℕ) : Type 0 where
   pub whole : bytes ≡ joined messages ++ rest
   pub fits : AllByRecursion FitsFrame messages
@@ -93,14 +93,14 @@ pub record CanBeWhole (bytes : List ℕ) : Type 0 where
   pub n : ℕ
   pub is_whole : front_of (bytes ++ more) ≡ Whole message n
 
--- What the front of a rest is. Fewer than four bytes are a part of a frame. Four have its length: a part is what more bytes make whole, and a length is bad
--- where none do.
+-- What a rest begins with. Fewer than four bytes are a part of a frame. Four have its length: a part is what more bytes make whole, and a length is bad
+-- if none do.
 pub record IsFrontOfRest (bytes : List ℕ) : Type 0 where
   pub short : length bytes < 4 → front_of bytes ≡ Partial
   pub part : 4 ≤ length bytes → (front_of bytes ≡ Partial) ↔ CanBeWhole bytes
   pub bad : 4 ≤ length bytes → ((n : ℕ) × (front_of bytes ≡ Bad n)) ↔ ¬ CanBeWhole bytes
 
--- Every byte string has a cut, and no other one; and what the front of its rest is says whether more bytes make a frame of it.
+-- Every byte string has a cut, and no other one; and what its rest begins with says whether more bytes make a frame of it.
 pub record OneCut : Type 0 where
   pub some : (bytes : List ℕ) → IsBytes bytes → IsCut bytes (messages_of bytes) (rest_of bytes)
   pub one : (bytes : List ℕ) (messages : List Message) (rest : List ℕ) → IsCut bytes messages rest → (messages_of bytes ≡ messages) × (rest_of bytes ≡ rest)

@@ -1,3 +1,5 @@
+pub mod Ops
+pub mod Sizes
 pub mod Message
 pub mod Status
 pub mod Cut

@@ -2,7 +2,7 @@
 use Rattle.std.specs.Prelude.{ℕ, ◌+◌, ◌<◌, ◌≤◌, ◌^◌, List, ◌∷◌, ◌++◌, length}
 use Rattle.std.specs.List.{flat_map}
 use Rattle.std.specs.Int.{w32, to_be_bytes}
-use Rattle.cv_frame.specs.declared.sizes.TheConstants.{MOST_BODY}
+use Rattle.cv_frame.specs.Sizes.{most_body}
 
 -- A request or a reply. The code is the op of a request, or the number of a reply's status.
 pub record Message : Type 0 where
@@ -28,4 +28,4 @@ pub record FitsFrame (m : Message) : Type 0 where
   pub caller : m.caller < 2 ^ 32
   pub tag : m.tag < 2 ^ 32
   pub code : m.code < 256
-  pub body : length m.body ≤ MOST_BODY
+  pub body : length m.body ≤ most_body

@@ -4,7 +4,7 @@ use Rattle.std.specs.Prelude.{ℕ, List, codes}
 use Rattle.cv_frame.specs.declared.status.Status.{Status}
 use Rattle.cv_frame.specs.declared.status.Status.TheVariants as status
 
--- the number that stands for a status in a reply
+-- the number of a status in a reply
 abbrev pub status_number : Status → ℕ
 status_number status.Ok = 0
 status_number status.TooBig = 1

@@ -4,9 +4,9 @@ use cv_base::Policy;
 /// What a client asks of the service.
 #[derive(Clone, Copy, Debug)]
 pub enum Ask<'a> {
-    /// Compiles this text of a charmap, behind the part that is held, and keeps the charmap.
+    /// Compiles this text of a charmap, after the part that is held, and keeps the charmap.
     Put(&'a [u8]),
-    /// Gives back the charmap of this name.
+    /// Drops the charmap of this name.
     DropMap(&'a [u8]),
     /// Opens a descriptor that converts to one encoding from another, both by name, under a policy.
     Open {
@@ -27,11 +27,11 @@ pub enum Ask<'a> {
     },
     /// Closes the descriptor of this number.
     Close(u32),
-    /// Gives back all that the caller has.
+    /// Frees everything that the caller has.
     Bye,
-    /// Holds these bytes as a further part of a charmap's text. No bytes at all let go of the part that is held.
+    /// Holds these bytes as a further part of a charmap's text. If there are none, the part that is held is dropped.
     Part(&'a [u8]),
-    /// Any op with any body, also those that the service refuses.
+    /// Any op with any body, including those that the service refuses.
     Raw {
         op: u8,
         body: &'a [u8],

@@ -1,4 +1,4 @@
-//! Reading the bodies of requests. `None` says that the body isn't exactly of the form, which is answered by
+//! Reading the bodies of requests. `None` says that the body isn't exactly of the form, and the answer is
 //! `Status::BadRequest`.
 
 ghost use Rattle.std.specs.Prelude.{◌≡◌, ◌≤◌, ◌+◌, IfSome, length};
@@ -19,7 +19,7 @@ pub struct OpenBody<'a> {
     pub policy: Policy,
 }
 
-/// A name, and what stands behind it.
+/// A name, and what follows it.
 fn read_name_at(bytes: &[u8]) -> Option<(&[u8], &[u8])>
     ensures { option_map (λ p. (p.0.now, p.1.now)) result ≡ name_at bytes.now }
 {
@@ -39,7 +39,7 @@ pub fn read_name(body: &[u8]) -> Option<&[u8]>
     if rest.is_empty() { Some(name) } else { None }
 }
 
-/// The policy that stands behind the names of an OPEN.
+/// The policy after the names of an OPEN.
 fn read_policy(bytes: &[u8]) -> Option<Policy>
     ensures { result ≡ policy_of bytes.now }
 {
@@ -50,8 +50,8 @@ fn read_policy(bytes: &[u8]) -> Option<Policy>
     }
 }
 
-/// The body of an OPEN: the target's name, then the source's. Nothing behind them, or a byte 0, says that `?` is written for what the
-/// target lacks, and a byte 1 that the descriptor stops before it.
+/// The body of an OPEN: the target's name, then the source's. Nothing after them, or a byte 0, means that `?` is written for what the
+/// target lacks, and a byte 1 means that the descriptor stops before it.
 #[tactic(auto, unfolding(crate::specs::Bodies::open_of))]
 pub fn read_open(body: &[u8]) -> Option<OpenBody<'_>>
     ensures { option_map (λ o. record { to = o.to.now; from = o.from.now; policy = o.policy }) result

@@ -3,8 +3,8 @@
 ghost use Rattle.cv_frame.specs.Cut.{OneCut, CutOfJoined};
 ghost use Rattle.cv_frame.specs.Bodies.{ReadBack};
 
-/// Every byte string has one cut: whole frames, and then a rest that begins with none. The rest is a part of a frame where more bytes
-/// make it whole, and begins with a bad length where none do.
+/// Every byte string has one cut: whole frames, and then a rest that begins with none. The rest is a part of a frame if more bytes
+/// make it whole, and begins with a bad length if none do.
 pub fn one_cut()
     ensures { OneCut }
 {
@@ -19,7 +19,7 @@ pub fn cut_of_joined()
     // The contract is the law; nothing runs.
 }
 
-/// The bodies that `write_request` writes are read by the body readers as what was asked, and they read no others.
+/// The body readers read each body that `write_request` writes as what was asked, and read no other body.
 #[tactic(auto, using(crate::proofs::ReadBack::read_back))]
 pub fn read_back()
     ensures { ReadBack }

@@ -1,4 +1,4 @@
-//! Frames: how requests and replies stand in bytes.
+//! Frames: the bytes of requests and replies.
 #![tactic(auto)]
 
 mod ask;

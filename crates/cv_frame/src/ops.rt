@@ -3,7 +3,7 @@
 /// Compiles a charmap, and keeps it under its name.
 pub const PUT: u8 = 1;
 
-/// Gives a charmap back.
+/// Drops a charmap.
 pub const DROP: u8 = 2;
 
 /// Opens a descriptor.
@@ -15,10 +15,10 @@ pub const CONV: u8 = 4;
 /// Takes a descriptor back to its start.
 pub const RESET: u8 = 5;
 
-/// Gives a descriptor back.
+/// Closes a descriptor.
 pub const CLOSE: u8 = 6;
 
-/// Gives back all that a caller has.
+/// Frees everything that a caller has.
 pub const BYE: u8 = 7;
 
 /// Holds a part of a charmap's text, which the next `PUT` ends.

@@ -6,18 +6,18 @@ ghost use Rattle.cv_frame.specs.Cut.{front_of, front_of_reply, number_at};
 use crate::request::Request;
 use crate::sizes::{LEAST_LENGTH, MOST_LENGTH};
 
-/// What stands at the front of bytes that a client sent.
+/// What bytes that a client sent begin with.
 #[derive(Debug, Drop)]
 pub enum Frame<'a> {
     /// A request, and how many bytes its whole frame has.
     Whole { request: Request<'a>, n: usize },
     /// Less than a frame: more bytes may make it whole.
     Partial,
-    /// A length that no frame has: below 9 or above 1,048,576. No bytes that follow mend it.
+    /// A length that no frame has: below 9 or above 1,048,576. No bytes that follow can correct it.
     Bad { length: u32 },
 }
 
-/// What stands at the front of bytes that the service sent.
+/// What bytes that the service sent begin with.
 #[derive(Debug, Drop)]
 pub enum ReplyFrame<'a> {
     /// A reply, and how many bytes its whole frame has. The status is as it came, known or not.
@@ -30,7 +30,7 @@ pub enum ReplyFrame<'a> {
     },
     /// Less than a frame: more bytes may make it whole.
     Partial,
-    /// A length that no frame has: below 9 or above 1,048,576. No bytes that follow mend it.
+    /// A length that no frame has: below 9 or above 1,048,576. No bytes that follow can correct it.
     Bad {
         length: u32,
     },
@@ -44,7 +44,7 @@ pub(crate) fn number(bytes: &[u8]) -> u32
     u32::from_be_bytes([bytes[0], bytes[1], bytes[2], bytes[3]])
 }
 
-/// What stands at the front of the bytes, which are requests one after another.
+/// What the bytes begin with, which are requests one after another.
 #[tactic(auto, unfolding(crate::specs::Cut::front_of))]
 pub fn next_request(bytes: &[u8]) -> Frame<'_>
     ensures { result ≡ front_of bytes.now }
@@ -69,7 +69,7 @@ pub fn next_request(bytes: &[u8]) -> Frame<'_>
     Frame::Whole { request, n }
 }
 
-/// What stands at the front of the bytes, which are replies one after another. A reply's frame is a request's with the
+/// What the bytes begin with, which are replies one after another. A reply's frame is a request's with the
 /// status in the place of the op.
 pub fn next_reply(bytes: &[u8]) -> ReplyFrame<'_>
     ensures { front_of_reply result ≡ front_of bytes.now }

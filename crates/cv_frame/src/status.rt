@@ -8,19 +8,19 @@ use std::fmt;
 /// How a request was answered. It prints as its name.
 #[derive(Clone, Copy, Debug, PartialEq, Eq)]
 pub enum Status {
-    /// It was done.
+    /// The request was done.
     Ok,
-    /// The room didn't suffice.
+    /// The room was too small.
     TooBig,
-    /// The input has bytes that are no character.
+    /// The input has bytes that are not a character.
     Ill,
     /// The input ends within a character.
     Incomplete,
-    /// The number is no open descriptor of the caller.
+    /// The number is not an open descriptor of the caller.
     BadDescriptor,
     /// The caller has as many descriptors as it may.
     TooManyDescriptors,
-    /// No memory was to be had.
+    /// An allocation failed.
     NoMemory,
     /// A name names no encoding.
     Unsupported,
@@ -36,14 +36,14 @@ pub enum Status {
     Busy,
     /// The caller's charmaps have as many mappings as they may.
     Quota,
-    /// The room is more than any reply may take.
+    /// The room is more than any reply may have.
     Room,
     /// The target lacks the next character, and the descriptor is strict.
     Lacking,
 }
 
 impl Status {
-    /// The number that stands for it in a reply.
+    /// Its number in a reply.
     pub fn number(self) -> u8
         ensures { result ≡ status_number self }
     {
@@ -67,7 +67,7 @@ impl Status {
         }
     }
 
-    /// Its name, in capital letters. Where POSIX has an error of this meaning, it is that error's name.
+    /// Its name, in capital letters. If POSIX has an error of this meaning, it is that error's name.
     pub fn name(self) -> &'static str
         ensures { result.now ≡ status_name self }
     {

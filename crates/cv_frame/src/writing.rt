@@ -21,7 +21,7 @@ fn append(out: &mut Vec<u8>, bytes: &[u8])
     out.extend_from_slice(bytes).unwrap()
 }
 
-/// Appends a name, behind the byte that tells its length.
+/// Appends a name, after the byte that is its length.
 fn append_name(out: &mut Vec<u8>, name: &[u8])
     requires byte { length name.now ≤ 255 }
     requires fits { vec_len out.old + 1 + length name.now ≤ vec_capacity out.old }
@@ -33,7 +33,7 @@ fn append_name(out: &mut Vec<u8>, name: &[u8])
     append(out, name);
 }
 
-/// What stands behind the names of an OPEN.
+/// What follows the names of an OPEN.
 fn policy_bytes(policy: Policy) -> &'static [u8]
     ensures { result.now ≡ policy_body policy }
 {
@@ -43,7 +43,7 @@ fn policy_bytes(policy: Policy) -> &'static [u8]
     }
 }
 
-/// Begins a frame: makes room for all of it, and appends what stands before its body of n bytes.
+/// Begins a frame: makes room for all of it, and appends what precedes its body of n bytes.
 fn begin_frame(out: &mut Vec<u8>, caller: u32, tag: u32, code: u8, n: usize) -> Result<(), Memory>
     requires { n ≤ MOST_BODY }
     ensures begins { OnOk result ((body : List ℕ) → length body ≡ n → out.new.items ++ body ≡ out.old.items ++
@@ -60,7 +60,7 @@ fn begin_frame(out: &mut Vec<u8>, caller: u32, tag: u32, code: u8, n: usize) -> 
     Ok(())
 }
 
-/// Appends the frame of a reply. Where memory lacks the buffer is as it was.
+/// Appends the frame of a reply. If an allocation fails, the buffer is unchanged.
 pub fn write_reply(out: &mut Vec<u8>, reply: &Reply) -> Result<(), Memory>
     ensures ok { OnOk result (out.new.items ≡ out.old.items ++ spelling reply.now) }
     ensures err { OnErr result (out.new.items ≡ out.old.items) }
@@ -140,7 +140,7 @@ fn append_body(out: &mut Vec<u8>, ask: &Ask<'_>)
 }
 
 /// Appends the frame of a request. Names have at most 255 bytes and the body at most 1,048,567, so the input of a
-/// `Conv` at most 1,048,559. Where memory lacks the buffer is as it was.
+/// `Conv` at most 1,048,559. If an allocation fails, the buffer is unchanged.
 pub fn write_request(out: &mut Vec<u8>, caller: u32, tag: u32, ask: &Ask<'_>) -> Result<(), Memory>
     requires { AskFits ask.now }
     ensures ok { OnOk result (out.new.items ≡ out.old.items ++ spelling (request_of caller tag ask.now)) }

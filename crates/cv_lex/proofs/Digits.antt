@@ -26,11 +26,11 @@ fits base number d n low digit small few =
     let most : 16 ^ suc n ≤ 16 ^ 8 = pow-le-pow_right {n = 16} (omega arith) {i = suc n} {j = 8} (omega arith) in
     omega arith
 
--- a front that is cut off at the end of the text has the same digits
+-- a prefix that is cut off at the end of the text has the same digits
 pub front_digits : (p : ℕ → Bool) (most : ℕ) (text : List ℕ) → take (prefix_len p (take (min most (length text)) text)) (take (min most (length text)) text) ≡ take_while p (take most text)
 front_digits p most text = ap (take_while p) (take_min most text)
 
--- what is taken from the front while a test holds passes it
+-- what is taken from the start while a test holds passes it
 pub all_digits : (p : ℕ → Bool) (text : List ℕ) → list_all p (take_while p text) ≡ true
 all_digits p text = list_all-from_AllPass p (take_while p text) (λ k d lt.
     let low : k < prefix_len p text = omega (arith, length-take (prefix_len p text) text) in

@@ -114,6 +114,6 @@ module _ (escape : ℕ) (kind : Kind) (text rest piece : List ℕ) (count : ℕ)
       let high : ltb 8 (length own.numbers) ≡ true = lt-ltb _ _ (own.many big) in
       ap bytes_by (ended none) ∙ (rw high refl)
 
-  -- where no constant stands next there are no bytes
+  -- if no constant is next, there are no bytes
   pub no_constant : constant_at escape kind rest ≡ None → 0 < length rest → bytes_by (numbers_within (length text) escape kind text) ≡ Err Constant
   no_constant e h = ap bytes_by (own.so_far ∙ ap (prepend own.numbers) (stops escape kind rest e h))

@@ -13,7 +13,7 @@ use Rattle.cv_lex.specs.Mappings.{Mapping, One, Range, ◌>>=◌, name_at, encod
 use Rattle.cv_lex.specs.declared.cause.Cause.{Cause}
 use Rattle.cv_lex.specs.declared.cause.Cause.TheVariants.{Length, Syntax, NotScalar}
 use Rattle.cv_lex.specs.declared.encoding.Kind.{Kind}
-use Rattle.cv_lex.specs.declared.symbols.TheConstants.{SYMBOLS}
+use Rattle.cv_lex.specs.Symbols.{symbols}
 
 -- ---- bytes
 
@@ -68,7 +68,7 @@ symbol_scalar (b ∷ []) c e = letter (is_ascii_alphabetic b) refl e
     letter : (t : Bool) → is_ascii_alphabetic b ≡ t → cond t (Some b) None ≡ Some c → is_scalar c ≡ true
     letter true is h = let same : b ≡ c = cc in subst (λ (n : ℕ). is_scalar n ≡ true) same (letter_scalar b is)
     letter false is h = absurd (cc)
-symbol_scalar (b ∷ d ∷ name) c e = listed_scalar (bytes_eq (b ∷ d ∷ name)) (map (λ s. (s.0.now, s.1)) SYMBOLS) c refl e
+symbol_scalar (b ∷ d ∷ name) c e = listed_scalar (bytes_eq (b ∷ d ∷ name)) symbols c refl e
 
 -- a name means a scalar value
 pub character_scalar : (name : List ℕ) (c : ℕ) → character_of name ≡ Ok c → is_scalar c ≡ true
@@ -86,7 +86,7 @@ character_scalar name c e = by (digits_of name) (symbol_of name) refl e
 
 -- ---- mappings
 
--- the step before one that isn't faulty isn't, either
+-- if a step isn't faulty, neither is the one before it
 bind_ok : {A B : Type 0} (r : Result A Cause) (f : A → Result B Cause) (y : B) → r >>= f ≡ Ok y → (x : A) × (r ≡ Ok x) × (f x ≡ Ok y)
 bind_ok (Ok x) f y e = (x, refl, e)
 bind_ok (Err cause) f y e = absurd (cc)

@@ -19,7 +19,7 @@ module _ (escape : ℕ) (text : List ℕ) (n : ℕ) (lt : n < length text) (esca
       so_far ∙ ap (λ (x : List ℕ). prepend (take n text) (name_from escape escaped x)) (drop_more text n 0 lt) ∙ ap (prepend (take n text)) e ∙ move (take n text) (get_or text n 0) (name_from escape next (drop (n + 1) text))
       ∙ ap (λ (x : List ℕ). prepend x (name_from escape next (drop (n + 1) text))) (sym (take_more text n 0 lt))
 
-  -- past a byte behind an escape character
+  -- past a byte after an escape character
   pub name_goes_escaped : escaped ≡ true → r ≡ prepend (take (n + 1) text) (name_from escape false (drop (n + 1) text))
   name_goes_escaped is = step false (rw is refl)
 

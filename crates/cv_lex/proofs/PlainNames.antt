@@ -1,5 +1,5 @@
 -- Names without escape characters, and names that are too long to mean anything.
-use Rattle.std.proofs.Common.{◌≡◌, ℕ, ◌<◌, Bool, true, false, List, [], ◌∷◌, length, map, Option, Some, None, refl, ◌∙◌, ap, arith}
+use Rattle.std.proofs.Common.{◌≡◌, ℕ, ◌<◌, Bool, true, false, List, [], ◌∷◌, length, Option, Some, None, refl, ◌∙◌, ap, arith}
 use Rattle.std.specs.Prelude.{◌==◌, ◌&&◌, nat_le, bytes_eq, Err, ok_or}
 use Rattle.std.specs.Map.{lookup}
 use Rattle.std.specs.List.{list_any, list_all}
@@ -8,7 +8,7 @@ use Rattle.cv_lex.specs.Mappings.{plain}
 use Rattle.cv_lex.specs.Words.{are_digits}
 use Rattle.cv_lex.specs.Names.{digits_of, symbol_of, character_of, range_of, range_by, base_of, meaning_by}
 use Rattle.cv_lex.specs.declared.cause.Cause.TheVariants.{UnknownName, Range}
-use Rattle.cv_lex.specs.declared.symbols.TheConstants.{SYMBOLS}
+use Rattle.cv_lex.specs.Symbols.{symbols}
 
 -- a name without escape characters is what it stands for
 pub no_escape : (escape : ℕ) (name : List ℕ) → list_any (λ b. b == escape) name ≡ false → plain escape name ≡ name
@@ -42,7 +42,7 @@ no_symbol : (name : List ℕ) → 64 < length name → symbol_of name ≡ None
 unfolding symbol_of
 no_symbol [] long = absurd (omega arith)
 no_symbol (b ∷ []) long = absurd (omega arith)
-no_symbol (b ∷ c ∷ name) long = absent (b ∷ c ∷ name) 64 long (map (λ s. (s.0.now, s.1)) SYMBOLS) refl
+no_symbol (b ∷ c ∷ name) long = absent (b ∷ c ∷ name) 64 long symbols refl
 
 -- a name of more than 64 bytes is unknown
 pub long_name : (name : List ℕ) → 64 < length name → character_of name ≡ Err UnknownName

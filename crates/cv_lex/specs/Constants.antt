@@ -7,7 +7,7 @@ use Rattle.cv_lex.specs.declared.cause.Cause.TheVariants.{Constant, Length}
 use Rattle.cv_lex.specs.declared.encoding.Kind.{Kind}
 use Rattle.cv_lex.specs.declared.encoding.Kind.TheVariants.{Decimal, Hexadecimal, Octal}
 
--- the letter behind the escape character
+-- the letter after the escape character
 abbrev pub letter_of : Kind → List ℕ
 letter_of Decimal = codes "d"
 letter_of Hexadecimal = codes "x"
@@ -25,12 +25,12 @@ most_digits Decimal = 3
 most_digits Hexadecimal = 2
 most_digits Octal = 3
 
--- the type of the constant whose escape character stands before the text
+-- the type of the constant whose escape character precedes the text
 abbrev pub kind_of : List ℕ → Kind
 kind_of text =
     if begins text (codes "d") then Decimal else if begins text (codes "x") then Hexadecimal else Octal
 
--- the digits at the front, as many as there may be
+-- the digits at the start, as many as there may be
 abbrev pub digits_at : Kind → List ℕ → List ℕ
 digits_at kind text = take_while (λ b. is_digit b (base_of_kind kind)) (take (most_digits kind) text)
 
@@ -41,17 +41,17 @@ number_at kind text =
     let number : ℕ = numeral (base_of_kind kind) digits in
     if nat_le 2 (length digits) && nat_le number 255 then Some (number, drop (length digits) text) else None
 
--- what stands behind an escape character and the letter of a type
+-- what follows an escape character and the letter of a type
 abbrev pub behind_head : ℕ → Kind → List ℕ → Option (List ℕ)
 behind_head escape kind text =
     let head : List ℕ = escape ∷ letter_of kind in
     if begins text head then Some (drop (length head) text) else None
 
--- the constant of a type at the front: its number, and what follows it
+-- the constant of a type at the start: its number, and what follows it
 unfoldable pub constant_at : ℕ → Kind → List ℕ → Option (ℕ × List ℕ)
 constant_at escape kind text = option_and_then (number_at kind) (behind_head escape kind text)
 
--- the numbers of constants of one type, one behind another to the end, at most so many
+-- the numbers of constants of one type, one after another to the end, if there are at most as many as given
 abbrev pub numbers_within : ℕ → ℕ → Kind → List ℕ → Option (List ℕ)
 numbers_within most escape kind [] = Some []
 numbers_within zero escape kind (b ∷ text) = None

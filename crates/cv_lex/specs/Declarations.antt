@@ -15,7 +15,7 @@ pub data Declared : Type 0 where
   Comment : ℕ → Declared
   Other : Declared
 
--- a value without the one pair of quotation marks round it
+-- a value without the one pair of quotation marks around it
 abbrev pub unquoted : List ℕ → List ℕ
 unquoted value =
     let size : ℕ = length value in

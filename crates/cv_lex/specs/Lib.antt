@@ -1,6 +1,7 @@
 pub mod Lines
 pub mod Words
 pub mod Causes
+pub mod Symbols
 pub mod Names
 pub mod Constants
 pub mod Declarations

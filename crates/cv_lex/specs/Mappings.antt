@@ -10,7 +10,7 @@ use Rattle.cv_lex.specs.declared.cause.Cause.TheVariants.{Syntax}
 abbrev pub with_byte : ℕ → Option (List ℕ × List ℕ) → Option (List ℕ × List ℕ)
 with_byte b found = option_map (λ p. (b ∷ p.0, p.1)) found
 
--- A name up to the first `>` that no escape character stands before, and what follows it. The flag says whether one stands before the text.
+-- A name up to the first `>` that no escape character precedes, and what follows it. The flag says whether an escape character precedes the text.
 abbrev pub name_from : ℕ → Bool → List ℕ → Option (List ℕ × List ℕ)
 name_from escape escaped [] = None
 name_from escape true (b ∷ text) = with_byte b (name_from escape false text)
@@ -18,12 +18,12 @@ name_from escape false (b ∷ text) =
     if b == escape then with_byte b (name_from escape true text) else
     if b == 62 then Some ([], text) else with_byte b (name_from escape false text)
 
--- the name that stands at the front in angle brackets, and what follows it
+-- the name at the start in angle brackets, and what follows it
 abbrev pub name_at : ℕ → List ℕ → Option (List ℕ × List ℕ)
 name_at escape [] = None
 name_at escape (b ∷ text) = if b == 60 then name_from escape false text else None
 
--- A name without its escape characters: the byte behind each stands for itself. The flag is that of `name_from`.
+-- A name without its escape characters: the byte after each stands for itself. The flag is that of `name_from`.
 abbrev pub without_escapes : ℕ → Bool → List ℕ → List ℕ
 without_escapes escape escaped [] = []
 without_escapes escape true (b ∷ name) = b ∷ without_escapes escape false name
@@ -34,7 +34,7 @@ without_escapes escape false (b ∷ name) =
 abbrev pub plain : ℕ → List ℕ → List ℕ
 plain escape name = without_escapes escape false name
 
--- the encoding behind blanks, if there is one; what follows it is ignored
+-- the encoding after blanks, if there is one; what follows it is ignored
 abbrev pub encoding_at : List ℕ → Option (List ℕ)
 encoding_at text = if nat_lt 0 (length (value_behind text)) then Some (value_behind text) else None
 
@@ -43,13 +43,13 @@ pub data Mapping : Type 0 where
   One : ℕ → List ℕ → Mapping
   Range : ℕ → ℕ → Bool → List ℕ → Mapping
 
--- one step after another, as far as none is faulty
+-- one step after another, until one is faulty
 infixl 10 ◌>>=◌
 abbrev pub ◌>>=◌ : {A B : Type 0} → Result A Cause → (A → Result B Cause) → Result B Cause
 Ok x >>= f = f x
 Err cause >>= f = Err cause
 
--- what a mapping says behind a single name
+-- what a mapping says after a single name
 unfoldable pub single_by : ℕ → List ℕ → List ℕ → Result Mapping Cause
 single_by escape name rest = do
   encoding ← ok_or (encoding_at rest) Syntax
@@ -57,7 +57,7 @@ single_by escape name rest = do
   bytes ← bytes_of escape encoding
   Ok (One character bytes)
 
--- what a mapping says behind the first name of a range
+-- what a mapping says after the first name of a range
 unfoldable pub ranged_by : ℕ → Bool → List ℕ → List ℕ → Result Mapping Cause
 ranged_by escape hex first rest = do
   last ← ok_or (name_at escape rest) Syntax
@@ -66,7 +66,7 @@ ranged_by escape hex first rest = do
   bytes ← bytes_of escape encoding
   Ok (Range ends.0 ends.1 hex bytes)
 
--- What a mapping line says: a name, behind which `...` or `..` makes it a range, and an encoding. Blanks before it are left out.
+-- What a mapping line says: a name, which `...` or `..` after it makes a range, and an encoding. Blanks before it are ignored.
 unfoldable pub mapping_of : ℕ → List ℕ → Result Mapping Cause
 mapping_of escape line = do
   first ← ok_or (name_at escape (after_blanks line)) Syntax

@@ -1,11 +1,11 @@
 -- What the name of a character means (XBD 6.4, symbolic names). Which names are read is the project's own.
-use Rattle.std.specs.Prelude.{ℕ, Bool, ◌&&◌, ◌||◌, List, [], ◌∷◌, length, map, nat_lt, nat_le, ◌==◌, if◌then◌else◌, bytes_eq, Option, Some, None, ok_or, Result, Ok, Err}
+use Rattle.std.specs.Prelude.{ℕ, Bool, ◌&&◌, ◌||◌, List, [], ◌∷◌, length, nat_lt, nat_le, ◌==◌, if◌then◌else◌, bytes_eq, Option, Some, None, ok_or, Result, Ok, Err}
 use Rattle.std.specs.Char.{is_ascii_alphabetic}
 use Rattle.std.specs.Map.{lookup}
 use Rattle.cv_lex.specs.Words.{are_digits, numeral}
 use Rattle.cv_lex.specs.declared.cause.Cause.{Cause}
 use Rattle.cv_lex.specs.declared.cause.Cause.TheVariants.{UnknownName, NotScalar, Range}
-use Rattle.cv_lex.specs.declared.symbols.TheConstants.{SYMBOLS}
+use Rattle.cv_lex.specs.Symbols.{symbols}
 
 -- whether a number is a Unicode scalar value (Unicode 3.9, D76)
 abbrev pub is_scalar : ℕ → Bool
@@ -19,11 +19,11 @@ digits_of (b ∷ digits) =
     then Some digits
     else None
 
--- the character of a listed name: a letter's is its own, and the others stand in the table
+-- the character of a listed name: a letter's is its own, and the others are in the table
 unfoldable pub symbol_of : List ℕ → Option ℕ
 symbol_of [] = None
 symbol_of (b ∷ []) = if is_ascii_alphabetic b then Some b else None
-symbol_of (b ∷ c ∷ name) = lookup (bytes_eq (b ∷ c ∷ name)) (map (λ s. (s.0.now, s.1)) SYMBOLS)
+symbol_of (b ∷ c ∷ name) = lookup (bytes_eq (b ∷ c ∷ name)) symbols
 
 -- the character of a number
 abbrev pub scalar_of : ℕ → Result ℕ Cause

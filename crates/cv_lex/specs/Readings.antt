@@ -20,21 +20,21 @@ abbrev pub is_comment : Marks → List ℕ → Bool
 is_comment marks [] = false
 is_comment marks (b ∷ line) = not (b == 60) && (b == marks.comment || (not marks.inside && b == 37))
 
--- whether a line is skipped: it is a comment, or has blanks alone
+-- whether a line is skipped: it is a comment, or has only blanks
 abbrev pub is_skipped : Marks → List ℕ → Bool
 is_skipped marks line = list_all is_blank line || is_comment marks line
 
--- whether a line begins the mappings: `CHARMAP`, and blanks alone behind it
+-- whether a line begins the mappings: `CHARMAP`, and only blanks after it
 abbrev pub is_begin : List ℕ → Bool
 is_begin line = begins line (codes "CHARMAP") && list_all is_blank (drop 7 line)
 
--- whether a line ends the mappings: `END`, blanks, `CHARMAP`, and blanks alone behind it
+-- whether a line ends the mappings: `END`, blanks, `CHARMAP`, and only blanks after it
 abbrev pub is_finish : List ℕ → Bool
 is_finish line =
     begins line (codes "END") && nat_lt 0 (prefix_len is_blank (drop 3 line))
     && is_begin (after_blanks (drop 3 line))
 
--- What a line says under the marks that hold for it: whether it is skipped is asked first.
+-- What a line says under the marks that hold for it. Whether it is skipped is tested first.
 unfoldable pub reading_of : Marks → List ℕ → Result Reading Cause
 reading_of marks line =
     if is_skipped marks line then Ok Skip else

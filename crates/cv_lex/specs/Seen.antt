@@ -1,4 +1,4 @@
--- How the readings of lines stand in the code.
+-- How the code represents the readings of lines.
 use Rattle.std.specs.Prelude.{◌<◌, length, Result, Ok, Err}
 use Rattle.cv_lex.specs.Declarations as says
 use Rattle.cv_lex.specs.Declarations.{Declared}

@@ -11,11 +11,11 @@ is_blank b = b == 32 || b == 9
 abbrev pub begins : List ℕ → List ℕ → Bool
 begins text bytes = starts_with nat_eq text bytes
 
--- what stands behind the blanks at the front
+-- what follows the blanks at the start
 abbrev pub after_blanks : List ℕ → List ℕ
 after_blanks text = drop (prefix_len is_blank text) text
 
--- The value behind blanks: the bytes up to the next blank or the end. Where no blank stands before it, it is empty.
+-- The value after blanks: the bytes up to the next blank or the end. If no blank precedes it, it is empty.
 abbrev pub value_behind : List ℕ → List ℕ
 value_behind text =
     if nat_lt 0 (prefix_len is_blank text) then before_first is_blank (after_blanks text) else []

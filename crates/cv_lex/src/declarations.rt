@@ -10,7 +10,7 @@ use crate::cause::Cause;
 use crate::line::Setting;
 use crate::words::{are_graphic, is, value_behind};
 
-/// Where the first `>` stands.
+/// The index of the first `>`.
 fn close_at(text: &[u8]) -> Option<usize>
     ensures { MatchOption result (list_any spec.is_close text.now ≡ false) (λ n.
         (list_any spec.is_close text.now ≡ true)
@@ -27,7 +27,7 @@ fn close_at(text: &[u8]) -> Option<usize>
     None
 }
 
-/// A value without the one pair of quotation marks round it.
+/// A value without the one pair of quotation marks around it.
 fn unquoted(value: &[u8]) -> &[u8]
     ensures { result.now ≡ spec.unquoted value.now }
 {

@@ -33,7 +33,7 @@ fn name_from(escape: u8, text: &[u8]) -> Option<(&[u8], &[u8])>
     None
 }
 
-/// The name that stands at the front in angle brackets, and what follows it.
+/// The name at the start in angle brackets, and what follows it.
 fn name_at(escape: u8, text: &[u8]) -> Option<(&[u8], &[u8])>
     ensures { option_map (λ p. (p.0.now, p.1.now)) result ≡ spec.name_at escape text.now }
 {
@@ -47,7 +47,7 @@ fn name_at(escape: u8, text: &[u8]) -> Option<(&[u8], &[u8])>
     }
 }
 
-/// A name without its escape characters, if that has at most 64 bytes, as each name has that means a character.
+/// A name without its escape characters, if that has at most 64 bytes. No longer name means a character.
 fn unescaped(escape: u8, name: &[u8]) -> Option<ArrayVec<u8, 64>>
     ensures some { IfSome result (λ v. v.items ≡ spec.plain escape name.now) }
     ensures none { IfNone result (64 < length (spec.plain escape name.now)) }
@@ -106,7 +106,7 @@ fn ends(escape: u8, hex: bool, first: &[u8], last: &[u8]) -> Result<(u32, u32), 
     range_of(hex, first.as_slice(), last.as_slice())
 }
 
-/// The encoding behind blanks.
+/// The encoding after blanks.
 fn encoding_at(text: &[u8]) -> Result<&[u8], Cause>
     ensures { bytes_read result ≡ ok_or (spec.encoding_at text.now) Cause.Syntax }
 {
@@ -118,7 +118,7 @@ fn encoding_at(text: &[u8]) -> Result<&[u8], Cause>
     }
 }
 
-/// What a mapping says behind a single name.
+/// What a mapping says after a single name.
 #[tactic(auto, unfolding(crate::specs::Mappings::single_by))]
 fn read_single<'a>(escape: u8, name: &[u8], rest: &[u8]) -> Result<Line<'a>, Cause>
     ensures { line_read result ≡ mapping_read (spec.single_by escape name.now rest.now) }
@@ -129,7 +129,7 @@ fn read_single<'a>(escape: u8, name: &[u8], rest: &[u8]) -> Result<Line<'a>, Cau
     Ok(Line::One { c, bytes })
 }
 
-/// What a mapping says behind the first name of a range.
+/// What a mapping says after the first name of a range.
 #[tactic(auto, unfolding(crate::specs::Mappings::ranged_by))]
 fn read_ranged<'a>(escape: u8, hex: bool, name: &[u8], rest: &[u8]) -> Result<Line<'a>, Cause>
     ensures { line_read result ≡ mapping_read (spec.ranged_by escape hex name.now rest.now) }

@@ -1,7 +1,7 @@
 -- What a caller has uploaded.
 use Rattle.std.specs.Prelude.{◌≤◌, ℕ, List, [], length, None, replicate}
 use Rattle.cv_caller.specs.Tables.{Charmaps, AreCharmaps}
-use Rattle.cv_caller.specs.declared.limits.TheConstants.{CHARMAPS, MOST_PART}
+use Rattle.cv_caller.specs.Limits.{most_charmaps, most_part}
 
 -- What contracts see of it: charmaps, and the part of one.
 pub record Uploaded : Type 0 where
@@ -10,9 +10,9 @@ pub record Uploaded : Type 0 where
 
 -- nothing was uploaded
 abbrev pub no_uploads : Uploaded
-no_uploads = record { charmaps = replicate CHARMAPS None; part = [] }
+no_uploads = record { charmaps = replicate most_charmaps None; part = [] }
 
 -- It is within its limits.
 pub record IsUploaded (uploaded : Uploaded) : Type 0 where
   pub charmaps : AreCharmaps uploaded.charmaps
-  pub part : length uploaded.part ≤ MOST_PART
+  pub part : length uploaded.part ≤ most_part

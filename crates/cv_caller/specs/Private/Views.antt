@@ -10,7 +10,7 @@ use Rattle.cv_caller.specs.Private.Uploaded.{Uploaded, no_uploads}
 use Rattle.cv_caller.specs.declared.place.Place.{Place}
 use Rattle.cv_caller.specs.declared.store.Store.{Store}
 
--- charmaps at their places, without who else shares them
+-- charmaps at their places; who else shares them does not count
 abbrev pub charmaps_of : List (Option (Arc Charmap Global)) → Charmaps
 charmaps_of places = map (option_map arc_value) places
 
@@ -19,11 +19,11 @@ abbrev pub part_of : Option (Vec ℕ) → List ℕ
 part_of (Some bytes) = bytes.items
 part_of None = []
 
--- what stands in a store
+-- what is in a store
 abbrev pub stored_in : Store → Uploaded
 stored_in store = record { charmaps = charmaps_of store.charmaps; part = part_of store.part }
 
--- uploads, by where they are stored; no store is as good as an empty one
+-- uploads, by their storage; no store is as good as an empty one
 abbrev pub uploaded_of : Option (Box Store) → Uploaded
 uploaded_of (Some store) = stored_in store.value
 uploaded_of None = no_uploads

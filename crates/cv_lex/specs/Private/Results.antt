@@ -1,4 +1,4 @@
--- What the parts of a line come to in the code: contracts of private functions cite it.
+-- The results of reading the parts of a line in the code: contracts of private functions cite them.
 use Rattle.std.specs.Prelude.{ℕ, List, Result, Ok, Err}
 use Rattle.cv_lex.specs.Declarations.{Declared}
 use Rattle.cv_lex.specs.Mappings.{Mapping, ◌>>=◌}
@@ -17,7 +17,7 @@ setting_read (Err cause) = Err cause
 abbrev pub mapping_read : Result Mapping Cause → Result Reading Cause
 mapping_read said = said >>= λ m. Ok (Maps m)
 
--- bytes that were lent, or a cause
+-- bytes that were borrowed, or a cause
 abbrev pub bytes_read : Result (Bor (List ℕ)) Cause → Result (List ℕ) Cause
 bytes_read (Ok bytes) = Ok bytes.now
 bytes_read (Err cause) = Err cause

@@ -1,5 +1,5 @@
 //! Compiled charmaps.
-ghost use Rattle.std.specs.Prelude.{◌≡◌, length, IfOk};
+ghost use Rattle.std.specs.Prelude.{◌≡◌, ◌≤◌, ◌*◌, length, IfOk};
 ghost use Rattle.cv_charmap.specs.Maps.{IsMap};
 ghost use Rattle.cv_trie.specs.Charmaps.{map_reads, map_writes, map_closes};
 
@@ -21,6 +21,9 @@ use cv_charmap::Pairs;
 use cv_pages::Pages;
 use std::alloc::Global;
 use std::marker::Model;
+
+/// How many bytes a cell of a table takes.
+const CELL: usize = 4;
 
 /// A charmap that is read and written. Contracts see its name and its list of pairs.
 #[derive(Drop)]
@@ -99,6 +102,19 @@ impl Charmap {
         ensures map { IsMap self.now.pairs }
     {
         self.trie.len()
+    }
+
+    /// How many bytes it takes: those of its name, of its pairs and their trie, and of its tables, with the room that is left for more.
+    pub fn size(&self) -> usize
+        ensures { 16 * length self.now.pairs ≤ result }
+    {
+        let found = self.trie.size().saturating_add(self.fours.size());
+        let starts = self.ones.capacity().saturating_add(self.starts.capacity());
+        let cells = starts
+            .saturating_add(self.twos.capacity())
+            .saturating_mul(CELL);
+        let written = self.pages.size().saturating_add(self.name.capacity());
+        found.saturating_add(cells).saturating_add(written)
     }
 }
 

@@ -17,6 +17,9 @@ use cv_byte_trie::{ByteTrie, Entry};
 use cv_pages::NOWHERE;
 use std::alloc::{AllocError, Global};
 
+/// How many bytes a cell takes.
+const CELL: usize = 4;
+
 /// How many cells a block has: for each third byte one for each value of the last four bits of the fourth.
 const BLOCK: u32 = 4096;
 
@@ -121,6 +124,11 @@ fn fill_blocks(
 }
 
 impl Fours {
+    /// How many bytes they take.
+    pub(crate) fn size(&self) -> usize {
+        self.cells.capacity().saturating_mul(CELL)
+    }
+
     /// The blocks of entries. The rows then say where each begins.
     pub(crate) fn of(
         alloc: Global,

@@ -1,0 +1,24 @@
+-- What the hash of a text is.
+use Rattle.std.specs.Prelude.{ℕ, ◌+◌, ◌-◌, ◌*◌, ◌/◌, ◌%◌, ◌^◌, bit_and, bit_xor}
+use Rattle.cv_cache.specs.declared.text_hasher.HashKeys.{HashKeys}
+use Rattle.cv_cache.specs.declared.text_hasher.TextHasher.{TextHasher}
+
+-- no byte was hashed
+abbrev pub begun : HashKeys → TextHasher
+begun keys = record { keys = keys; place = 0; total = 0 }
+
+-- the two halves of a product of 128 bits, joined
+unfoldable pub folded : ℕ → ℕ → ℕ
+folded a b = bit_xor (bit_and (a * b) (2 ^ 64 - 1)) (a * b / 2 ^ 64)
+
+-- One byte more: what it and its place are mixed to is added.
+unfoldable pub with_byte : TextHasher → ℕ → TextHasher
+with_byte hasher byte = record {
+  keys = hasher.keys;
+  place = (hasher.place + 256) % 2 ^ 64;
+  total = (hasher.total + folded (bit_xor hasher.keys.seed ((hasher.place + byte) % 2 ^ 64)) hasher.keys.factor) % 2 ^ 64;
+}
+
+-- the hash of what was hashed
+abbrev pub hash_of : TextHasher → ℕ
+hash_of hasher = folded (bit_xor hasher.total hasher.keys.seed) hasher.keys.factor

@@ -1,0 +1,104 @@
+//! A keyed hash of long texts.
+ghost use Rattle.std.specs.Prelude.{◌≡◌};
+ghost use Rattle.std.specs.List.{fold};
+ghost use Rattle.cv_cache.specs.Hashes.{begun, folded, with_byte, hash_of};
+
+use std::hash::{BuildHasher, Hasher};
+use std::random::RandomSource;
+
+/// What a cache mixes into the hashes of its texts. Clients choose the texts, and a map tells its entries apart by few bits of their
+/// hashes: who doesn't know the keys can't find texts that meet.
+#[derive(Clone, Copy)]
+pub struct HashKeys {
+    /// What each byte and its place are mixed with.
+    seed: u64,
+    /// What they are multiplied by.
+    factor: u64,
+}
+
+impl HashKeys {
+    /// Keys that everybody knows: of pi and of the golden ratio.
+    pub fn known() -> HashKeys {
+        HashKeys {
+            seed: 0x243f_6a88_85a3_08d3,
+            factor: 0x9e37_79b9_7f4a_7c15,
+        }
+    }
+
+    /// Keys by chance. Where the system gives none they are the known ones: a cache is right by any keys.
+    pub fn drawn<R: RandomSource>(rt: &R) -> HashKeys {
+        let mut bytes = [0u8; 16];
+        if rt.fill_bytes(&mut bytes).is_err() {
+            return HashKeys::known();
+        }
+        let drawn = u128::from_le_bytes(bytes);
+        HashKeys {
+            seed: (drawn >> 64) as u64,
+            factor: (drawn & 0xFFFF_FFFF_FFFF_FFFF) as u64 | 1,
+        }
+    }
+}
+
+impl BuildHasher for HashKeys {
+    type Hasher = TextHasher;
+
+    ghost build_hasher = { begun };
+
+    fn build_hasher(&self) -> TextHasher {
+        TextHasher {
+            keys: *self,
+            place: 0,
+            total: 0,
+        }
+    }
+}
+
+/// Hashes a text by a sum over its bytes, each mixed with its place and with keys. A slice gives its bytes one by one, and in a sum none
+/// waits for the one before it.
+#[derive(Clone, Copy)]
+pub struct TextHasher {
+    keys: HashKeys,
+    /// 256 for each byte so far.
+    place: u64,
+    total: u64,
+}
+
+/// The two halves of a product, joined.
+fn folded(a: u64, b: u64) -> u64
+    ensures { result ≡ folded a b }
+{
+    let product = a as u128 * b as u128;
+    (product & 0xFFFF_FFFF_FFFF_FFFF) as u64 ^ (product >> 64) as u64
+}
+
+impl TextHasher {
+    /// The hasher after one more byte.
+    fn with(self, byte: u8) -> TextHasher
+        ensures { result ≡ with_byte self byte }
+    {
+        let placed = self.keys.seed ^ self.place.wrapping_add(u64::from(byte));
+        TextHasher {
+            keys: self.keys,
+            place: self.place.wrapping_add(256),
+            total: self.total.wrapping_add(folded(placed, self.keys.factor)),
+        }
+    }
+}
+
+impl Hasher for TextHasher {
+    ghost write = { fold with_byte };
+
+    ghost finish = { hash_of };
+
+    fn finish(&self) -> u64 {
+        folded(self.total ^ self.keys.seed, self.keys.factor)
+    }
+
+    fn write(&mut self, bytes: &[u8]) {
+        let mut hasher = *self;
+        for byte in bytes {
+            hasher = hasher.with(*byte);
+        }
+        *self = hasher;
+    }
+}

@@ -1,4 +1,4 @@
--- Tables of which one caller's alone may have changed.
+-- Tables of which only one caller's may have changed.
 use Rattle.std.proofs.Common.{◌≡◌, ℕ, Bool, true, false, eqb, refl, ap}
 use Rattle.std.proofs.Math.Path.{fun_ext}
 use Rattle.std.proofs.lemmas.Bool.{eqb-true}

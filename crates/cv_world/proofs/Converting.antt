@@ -25,7 +25,7 @@ conv_none T n room input h = rw h (refl, refl)
 pub conv_room : (T : Table) (n room : ℕ) (input : List ℕ) (d : Descriptor) → descriptor_at T n ≡ Some d → most_room < room → Acts T (Conv n room input) T (answers.Refused status.Room)
 conv_room T n room input d h l = let t : nat_lt most_room room ≡ true = grind (arith, nat_tests, l) in rw (h, t) (refl, refl)
 
--- CONV for which memory lacks leaves the table
+-- CONV for which an allocation fails leaves the table
 pub conv_lacks : (T next : Table) (n room : ℕ) (input : List ℕ) (d : Descriptor) → descriptor_at T n ≡ Some d → room ≤ most_room → next ≡ T → Acts T (Conv n room input) next (answers.Refused status.NoMemory)
 conv_lacks T next n room input d h l e = let t : nat_lt most_room room ≡ false = grind (arith, nat_tests, l) in rw (h, t) (inr (e, refl))
 

@@ -14,7 +14,7 @@ use Rattle.cv_pivot.specs.declared.outcome.Stop.TheVariants as stop
 use Rattle.cv_pivot.proofs.EncodingLaws.{form_readable}
 use Rattle.cv_pivot.proofs.Progress.{output_of-count}
 use Rattle.cv_frame.specs.Status.{status_number}
-use Rattle.cv_frame.specs.declared.sizes.TheConstants.{MOST_BODY}
+use Rattle.cv_frame.specs.Sizes.{most_body}
 use Rattle.cv_caller.specs.Tables.{Charmaps, Table, Descriptor, form_in, descriptor_at, with_descriptor}
 use Rattle.cv_world.specs.Answers.{stop_status, answer_code, answer_body}
 use Rattle.cv_world.specs.Feeds.{stop_of, states_of, call_of}
@@ -30,7 +30,7 @@ pub record IsFedBy (charmaps : Charmaps) (d : Descriptor) (calls : List Call) : 
   pub feed : IsFeed (form_reads (form_in charmaps d.from)) (form_writes (form_in charmaps d.to)) d.policy start calls
   pub states : (total start calls).states ≡ d.states
 
--- Where the number is open they are so.
+-- If the number is open, this holds of its calls and its descriptor.
 abbrev pub Keeps : Table → ℕ → List Call → Type 0
 Keeps table number calls = IfSome (descriptor_at table number) (λ d. IsFedBy table.charmaps d calls)
 
@@ -38,7 +38,7 @@ Keeps table number calls = IfSome (descriptor_at table number) (λ d. IsFedBy ta
 pub none_fed : (charmaps : Charmaps) (d : Descriptor) → d.states ≡ start → IsFedBy charmaps d []
 none_fed charmaps d e = record { feed = tt; states = sym e }
 
--- with charmaps by which the encodings come to the same
+-- with charmaps by which the encodings have the same forms
 pub same_forms : (charmaps others : Charmaps) (d : Descriptor) (calls : List Call) → form_in others d.from ≡ form_in charmaps d.from → form_in others d.to ≡ form_in charmaps d.to → IsFedBy charmaps d calls → IsFedBy others d calls
 same_forms charmaps others d calls e f p = record { feed = rw (e, f) p.feed; states = p.states }
 
@@ -72,7 +72,7 @@ one_more charmaps d calls call p q = record {
 
 -- ---- what is read of its reply
 
--- the number of a stop's status tells the stop
+-- the number of a stop's status determines the stop
 pub stop_back : (s : Stop) → stop_of (status_number (stop_status s)) ≡ Some s
 stop_back stop.Done = refl
 stop_back stop.TooBig = refl
@@ -85,11 +85,11 @@ same_call : (input : List ℕ) (room left count : ℕ) (why : Stop) (output : Li
 same_call input room left count why output states came e f g h i = rw (e, f, g, h, i) refl
 
 -- the numbers of a conversion are of 32 bits, if its input fits a frame
-left_fits : (reads : ItemRelation) (writes : Writing) (policy : Policy) (from : States) (input : List ℕ) (room : ℕ) (came : Converted) → length input ≤ MOST_BODY
+left_fits : (reads : ItemRelation) (writes : Writing) (policy : Policy) (from : States) (input : List ℕ) (room : ℕ) (came : Converted) → length input ≤ most_body
     → IsConverted reads writes policy from input room came → came.left < 2 ^ 32
 left_fits reads writes policy from input room came few p = omega (arith, few, p.left)
 
-count_fits : (reads : ItemRelation) (writes : Writing) (policy : Policy) (from : States) (input : List ℕ) (room : ℕ) (came : Converted) → IsReadable reads → length input ≤ MOST_BODY
+count_fits : (reads : ItemRelation) (writes : Writing) (policy : Policy) (from : States) (input : List ℕ) (room : ℕ) (came : Converted) → IsReadable reads → length input ≤ most_body
     → IsConverted reads writes policy from input room came → came.count < 2 ^ 32
 count_fits reads writes policy from input room came r few p =
     omega (arith, few, p.left, p.count, output_of-count reads writes r from.reading from.writing input p.chain p.longest.is_chain)
@@ -99,7 +99,7 @@ abbrev pub answer_of : Converted → Answer
 answer_of came = answers.Converted came.stop came.left came.count came.output
 
 -- The call that is read of the reply is the conversion.
-pub call_back : (table : Table) (number room : ℕ) (input : List ℕ) (d : Descriptor) (next : Table) (answer : Answer) → descriptor_at table number ≡ Some d → length input ≤ MOST_BODY
+pub call_back : (table : Table) (number room : ℕ) (input : List ℕ) (d : Descriptor) (next : Table) (answer : Answer) → descriptor_at table number ≡ Some d → length input ≤ most_body
     → (c : IsConversion table number d room input next answer)
     → call_of number room input c.came.stop (record { next = with_states table number d c.came.states; code = answer_code (answer_of c.came); body = answer_body (answer_of c.came) })
     ≡ record { input = input; room = room; came = c.came }

@@ -14,12 +14,12 @@ use Rattle.cv_pivot.specs.Cuts.{Call}
 use Rattle.cv_pivot.specs.Encodings.{form_closes}
 use Rattle.cv_pivot.specs.declared.outcome.Stop.{Stop}
 use Rattle.cv_frame.specs.Bodies.{number_of}
-use Rattle.cv_frame.specs.declared.sizes.TheConstants.{MOST_BODY}
+use Rattle.cv_frame.specs.Sizes.{most_body}
 use Rattle.cv_frame.proofs.ReadBack.{read_back}
 use Rattle.cv_machine.specs.Machine.{Outcome}
 use Rattle.cv_caller.specs.Tables.{Charmaps, Table, Named, Descriptor, form_in, charmap_at, named_of, place_of, least_place, least_free, descriptor_at, uses, with_descriptor, with_charmap, with_part}
 use Rattle.cv_caller.specs.Results.{is_taken, is_full}
-use Rattle.cv_caller.specs.declared.limits.TheConstants.{MOST_PART}
+use Rattle.cv_caller.specs.Limits.{most_part}
 use Rattle.cv_caller.proofs.Standing.{found_free}
 use Rattle.cv_world.specs.Actions.{Action, Put, DropMap, Open, Conv, Reset, Close, Bye, Part, Bad}
 use Rattle.cv_world.specs.Answers.{answer_code, answer_body, most_room}
@@ -32,11 +32,11 @@ use Rattle.cv_world.proofs.FormsStay.{put_stays, drop_stays}
 use Rattle.cv_world.proofs.FedCalls.{IsFedBy, Keeps, answer_of, none_fed, same_forms, other_number, this_number, one_more, stop_back, call_back}
 use Rattle.cv_world.proofs.KeepsTables.{by_test, either, none_standing, none_uses}
 
--- the outcome of an action that came to this table and this answer
+-- the outcome of an action that gave this table and this answer
 abbrev pub came_to : Table → Answer → Outcome Table
 came_to next answer = record { next = next; code = answer_code answer; body = answer_body answer }
 
--- An action that came to this table and this answer keeps the feed.
+-- An action that gave this table and this answer keeps the feed.
 abbrev pub KeepsBy : ℕ → List Call → Action → Table → Answer → Type 0
 KeepsBy number calls action next answer = Keeps next number (calls_after number calls action (came_to next answer))
 
@@ -54,7 +54,7 @@ other n number e = grind (arith, nat_tests, e)
 
 -- ---- charmaps
 
--- with charmaps by which the encodings of the descriptor come to the same
+-- with charmaps by which the encodings of the descriptor have the same forms
 with_forms : (charmaps others : Charmaps) (calls : List Call) (o : Option Descriptor)
     → IfSome o (λ d. (form_in others d.from ≡ form_in charmaps d.from) × (form_in others d.to ≡ form_in charmaps d.to))
     → IfSome o (λ d. IsFedBy charmaps d calls) → IfSome o (λ d. IsFedBy others d calls)
@@ -91,7 +91,7 @@ step_put table is number calls kept asked (Read charmap) t a d =
 step_part : (table : Table) (number : ℕ) (calls : List Call) → Keeps table number calls → (asked bytes : List ℕ) (t : Table) (a : Answer) → Parts table bytes t a → KeepsBy number calls (Part asked) t a
 step_part table number calls kept asked [] t a d = does number calls (Part asked) (with_part table []) _ kept t a d
 step_part table number calls kept asked (b ∷ bytes) t a d =
-    by_test (nat_lt MOST_PART (length (table.part ++ b ∷ bytes))) _ _ _ (does number calls (Part asked) table _ kept t a) (λ _.
+    by_test (nat_lt most_part (length (table.part ++ b ∷ bytes))) _ _ _ (does number calls (Part asked) table _ kept t a) (λ _.
     either _ _ _ (does number calls (Part asked) (with_part table (table.part ++ b ∷ bytes)) _ kept t a) (does number calls (Part asked) table _ kept t a)) d
 
 step_drop : (table : Table) (number : ℕ) (calls : List Call) → Keeps table number calls → (name : List ℕ) (place : Option ℕ) (t : Table) (a : Answer) → Drops table place t a → KeepsBy number calls (DropMap name) t a
@@ -136,7 +136,7 @@ refused : (number n : ℕ) (table : Table) (calls : List Call) → Keeps table n
 refused number n table calls kept = named (n == number) (Keeps table number) calls calls (λ _. kept) (λ _. kept)
 
 -- the call that a conversion which stopped adds to those of its own number
-called : (table : Table) (n : ℕ) (calls : List Call) → Keeps table n calls → (room : ℕ) (input : List ℕ) → length input ≤ MOST_BODY → (d : Descriptor) → descriptor_at table n ≡ Some d
+called : (table : Table) (n : ℕ) (calls : List Call) → Keeps table n calls → (room : ℕ) (input : List ℕ) → length input ≤ most_body → (d : Descriptor) → descriptor_at table n ≡ Some d
     → (t : Table) (a : Answer) (c : IsConversion table n d room input t a)
     → Keeps (with_states table n d c.came.states) n (calls ++ call_of n room input c.came.stop (came_to (with_states table n d c.came.states) (answer_of c.came)) ∷ [])
 called table n calls kept room input few d is_open t a c =
@@ -147,7 +147,7 @@ called table n calls kept room input few d is_open t a c =
     subst (λ (x : Call). Keeps next n (calls ++ x ∷ [])) (sym (call_back table n room input d t a is_open few c)) more
 
 -- a conversion that stopped, of whatever number
-converted : (table : Table) (number : ℕ) (calls : List Call) → Keeps table number calls → (n room : ℕ) (input : List ℕ) → length input ≤ MOST_BODY → (d : Descriptor) → descriptor_at table n ≡ Some d
+converted : (table : Table) (number : ℕ) (calls : List Call) → Keeps table number calls → (n room : ℕ) (input : List ℕ) → length input ≤ most_body → (d : Descriptor) → descriptor_at table n ≡ Some d
     → (t : Table) (a : Answer) (c : IsConversion table n d room input t a) → KeepsBy number calls (Conv n room input) (with_states table n d c.came.states) (answer_of c.came)
 converted table number calls kept n room input few d is_open t a c =
     let next : Table = with_states table n d c.came.states in
@@ -160,7 +160,7 @@ converted table number calls kept n room input few d is_open t a c =
     subst (λ (why : Option Stop). Keeps next number (if n == number then with_stop number room input calls outcome why else calls)) (sym (stop_back c.came.stop))
     (named (n == number) (Keeps next number) (calls ++ call_of number room input c.came.stop outcome ∷ []) calls this differs)
 
-step_conv : (table : Table) (number : ℕ) (calls : List Call) → Keeps table number calls → (n room : ℕ) (input : List ℕ) → length input ≤ MOST_BODY → (o : Option Descriptor) → descriptor_at table n ≡ o
+step_conv : (table : Table) (number : ℕ) (calls : List Call) → Keeps table number calls → (n room : ℕ) (input : List ℕ) → length input ≤ most_body → (o : Option Descriptor) → descriptor_at table n ≡ o
     → (t : Table) (a : Answer) → Convs table n o room input t a → KeepsBy number calls (Conv n room input) t a
 step_conv table number calls kept n room input few None is_open t a d = does number calls (Conv n room input) table _ (refused number n table calls kept) t a d
 step_conv table number calls kept n room input few (Some o) is_open t a d =
@@ -196,10 +196,10 @@ step_close table number calls kept n (Some o) t a d =
 
 -- The input of a CONV is no longer than the body of a frame.
 abbrev pub InputFits : Action → Type 0
-InputFits (Conv n room input) = length input ≤ MOST_BODY
+InputFits (Conv n room input) = length input ≤ most_body
 InputFits others = Unit {0}
 
--- What an action may come to keeps a feed.
+-- Whatever an action gives keeps a feed.
 pub step : (table : Table) → IsSound table → (number : ℕ) (calls : List Call) → Keeps table number calls → (action : Action) → InputFits action → (t : Table) (a : Answer) → Acts table action t a → KeepsBy number calls action t a
 step table is number calls kept (Put came) few t a d = step_put table is number calls kept came came t a d
 step table is number calls kept (DropMap name) few t a d = step_drop table number calls kept name (place_of table.charmaps name) t a d

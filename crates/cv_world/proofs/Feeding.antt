@@ -1,4 +1,4 @@
--- Along every run a feed is kept, whatever stands between its calls; so what comes of it doesn't depend on the cuts.
+-- Along every run a feed is kept, whatever is between its calls; so its result doesn't depend on the cuts.
 use Rattle.std.proofs.Common.{◌≡◌, ◌≤◌, ◌==◌, ℕ, Bool, true, false, cond, eqb, List, [], ◌∷◌, length, drop, nat_lt, Option, Some, None, refl, sym, ap, subst, ◌∙◌, arith, length-drop}
 use Rattle.std.specs.Prelude.{IfSome, if◌then◌else◌}
 use Rattle.std.proofs.lemmas.Bool.{eqb-true}
@@ -10,8 +10,8 @@ use Rattle.cv_pivot.specs.Encodings.{Form, form_reads, form_writes}
 use Rattle.cv_pivot.proofs.CutLaws.{cuts}
 use Rattle.cv_pivot.proofs.EncodingLaws.{form_readable}
 use Rattle.cv_frame.specs.Bodies.{Opening, drop_of, open_of, conv_of, reset_of, number_of}
-use Rattle.cv_frame.specs.declared.ops.TheConstants.{PUT, DROP, OPEN, CONV, RESET, CLOSE, BYE, PART}
-use Rattle.cv_frame.specs.declared.sizes.TheConstants.{MOST_BODY}
+use Rattle.cv_frame.specs.Ops.{op_put, op_drop, op_open, op_conv, op_reset, op_close, op_bye, op_part}
+use Rattle.cv_frame.specs.Sizes.{most_body}
 use Rattle.cv_machine.specs.Machine.{Outcome, Event, When, events_of, after_all}
 use Rattle.cv_machine.proofs.Isolation.{own_table, after_own, IsOwnRun, own_events}
 use Rattle.cv_machine.proofs.Outcomes.{same_outcome}
@@ -37,11 +37,11 @@ open_fits : (o : Option Opening) → InputFits (open_action o)
 open_fits (Some o) = tt
 open_fits None = tt
 
-input_fits : (b : Bool) (number room : ℕ) (input : List ℕ) → length input ≤ MOST_BODY → InputFits (conv_action (if b then None else Some (number, room, input)))
+input_fits : (b : Bool) (number room : ℕ) (input : List ℕ) → length input ≤ most_body → InputFits (conv_action (if b then None else Some (number, room, input)))
 input_fits true number room input few = tt
 input_fits false number room input few = few
 
-conv_fits : (body : List ℕ) → length body ≤ MOST_BODY → InputFits (conv_action (conv_of body))
+conv_fits : (body : List ℕ) → length body ≤ most_body → InputFits (conv_action (conv_of body))
 unfolding conv_of
 conv_fits body few = input_fits (nat_lt (length body) 8) _ _ (drop 8 body) (omega (arith, few, length-drop 8 body))
 
@@ -61,37 +61,37 @@ one_fits : (b : Bool) (x y : Action) → InputFits x → InputFits y → InputFi
 one_fits true x y p q = p
 one_fits false x y p q = q
 
-action_fits : (code : ℕ) (body : List ℕ) → length body ≤ MOST_BODY → InputFits (action_of code body)
+action_fits : (code : ℕ) (body : List ℕ) → length body ≤ most_body → InputFits (action_of code body)
 action_fits code body few =
-    one_fits (code == DROP) _ _ (drop_fits (drop_of body)) (
-    one_fits (code == OPEN) _ _ (open_fits (open_of body)) (
-    one_fits (code == CONV) _ _ (conv_fits body few) (
-    one_fits (code == RESET) _ _ (reset_fits (reset_of body)) (
-    one_fits (code == CLOSE) _ _ (close_fits (number_of body)) (
-    one_fits (code == BYE) _ _ (bye_fits body) (
-    one_fits (code == PART) _ _ tt tt))))))
+    one_fits (code == op_drop) _ _ (drop_fits (drop_of body)) (
+    one_fits (code == op_open) _ _ (open_fits (open_of body)) (
+    one_fits (code == op_conv) _ _ (conv_fits body few) (
+    one_fits (code == op_reset) _ _ (reset_fits (reset_of body)) (
+    one_fits (code == op_close) _ _ (close_fits (number_of body)) (
+    one_fits (code == op_bye) _ _ (bye_fits body) (
+    one_fits (code == op_part) _ _ tt tt))))))
 
 asked_fits : (t : Bool) (text : List ℕ) (action other : Action) → When t (AsksPut text action) (action ≡ other) → InputFits other → InputFits action
 asked_fits true text action other p fits = subst InputFits (sym p.is) tt
 asked_fits false text action other p fits = subst InputFits (sym p) fits
 
 -- A PUT leaves the calls, as what its op and its body are read as does.
-asked_calls : (number : ℕ) (calls : List Call) (code : ℕ) (body text : List ℕ) (action : Action) (o : Outcome Table) (t : Bool) → (code == PUT) ≡ t → When t (AsksPut text action) (action ≡ action_of code body)
+asked_calls : (number : ℕ) (calls : List Call) (code : ℕ) (body text : List ℕ) (action : Action) (o : Outcome Table) (t : Bool) → (code == op_put) ≡ t → When t (AsksPut text action) (action ≡ action_of code body)
     → calls_after number calls action o ≡ calls_after number calls (action_of code body) o
 asked_calls number calls code body text action o true e p =
-    ap (λ (a : Action). calls_after number calls a o) p.is ∙ sym (ap (λ (c : ℕ). calls_after number calls (action_of c body) o) (eqb-true code PUT e))
+    ap (λ (a : Action). calls_after number calls a o) p.is ∙ sym (ap (λ (c : ℕ). calls_after number calls (action_of c body) o) (eqb-true code op_put e))
 asked_calls number calls code body text action o false e p = ap (λ (a : Action). calls_after number calls a o) p
 
 -- ---- one event, and those of a run
 
-event : (table : Table) → IsSound table → (number : ℕ) (calls : List Call) → Keeps table number calls → (code : ℕ) (body : List ℕ) (outcome : Outcome Table) → length body ≤ MOST_BODY → MayTurn table code body outcome
+event : (table : Table) → IsSound table → (number : ℕ) (calls : List Call) → Keeps table number calls → (code : ℕ) (body : List ℕ) (outcome : Outcome Table) → length body ≤ most_body → MayTurn table code body outcome
     → Keeps outcome.next number (calls_after number calls (action_of code body) outcome)
 event table is number calls kept code body outcome few m =
-    let fits : InputFits m.action = asked_fits (code == PUT) _ m.action (action_of code body) m.asks (action_fits code body few) in
+    let fits : InputFits m.action = asked_fits (code == op_put) _ m.action (action_of code body) m.asks (action_fits code body few) in
     let done : KeepsBy number calls m.action outcome.next m.answer = step table is number calls kept m.action fits outcome.next m.answer m.acts in
     let came : outcome ≡ came_to outcome.next m.answer = same_outcome outcome (came_to outcome.next m.answer) refl m.code_is m.body_is in
     let read : Keeps outcome.next number (calls_after number calls m.action outcome) = subst (λ (o : Outcome Table). Keeps outcome.next number (calls_after number calls m.action o)) (sym came) done in
-    subst (Keeps outcome.next number) (asked_calls number calls code body _ m.action outcome (code == PUT) refl m.asks) read
+    subst (Keeps outcome.next number) (asked_calls number calls code body _ m.action outcome (code == op_put) refl m.asks) read
 
 along : (table : Table) → IsSound table → (number : ℕ) (calls : List Call) → Keeps table number calls → (events : List (Event Table)) → IsOwnRun turn table events → BodiesFit events
     → Keeps (own_table table events) number (calls_along number calls events)
@@ -117,7 +117,7 @@ kept_feed feed =
 
 -- ---- the law
 
--- one item stands next in what a feed reads
+-- one item is next in what a feed reads
 readable : (feed : Feed) → IsReadable (form_reads (source_of feed))
 readable feed =
     let table : Table = after_all no_tables feed.events feed.caller in
@@ -136,7 +136,7 @@ same_feed from to source target policy other calls e f g p = rw (e, f, g) p
 alike : (a b : Feed) → AreAlike a b → IsFeed (form_reads (source_of a)) (form_writes (target_of a)) a.descriptor.policy start (calls_of b)
 alike a b h = same_feed (source_of a) (target_of a) (source_of b) (target_of b) a.descriptor.policy b.descriptor.policy (calls_of b) h.source h.target h.policy (kept_feed b).feed
 
--- What comes of feeds doesn't depend on the cuts.
+-- The result of feeds doesn't depend on the cuts.
 pub feeds : Feeds
 feeds = record {
   conversions = λ feed. (kept_feed feed).feed;

@@ -8,15 +8,15 @@ use Rattle.cv_frame.specs.Message.{Message}
 use Rattle.cv_frame.specs.Cut.{Cut, number_at, message_at, front_of, cut_from, cut_within, cut_of, messages_of}
 use Rattle.cv_frame.specs.declared.reading.Frame.{Frame}
 use Rattle.cv_frame.specs.declared.reading.Frame.TheVariants.{Whole, Partial, Bad}
-use Rattle.cv_frame.specs.declared.sizes.TheConstants.{MOST_BODY}
+use Rattle.cv_frame.specs.Sizes.{most_body}
 use Rattle.cv_frame.proofs.Cuts.{chosen}
 use Rattle.cv_world.specs.Feeds.{BodiesFit}
 
 -- Their bodies are no longer than the most.
 abbrev AreShort : List Message → Type 0
-AreShort ms = AllByRecursion (λ m. length m.body ≤ MOST_BODY) ms
+AreShort ms = AllByRecursion (λ m. length m.body ≤ most_body) ms
 
-front_short : (bytes : List ℕ) (m : Message) (n : ℕ) → front_of bytes ≡ Whole m n → length m.body ≤ MOST_BODY
+front_short : (bytes : List ℕ) (m : Message) (n : ℕ) → front_of bytes ≡ Whole m n → length m.body ≤ most_body
 unfolding front_of
 front_short bytes m n e =
     let k : ℕ = number_at bytes in
@@ -29,15 +29,15 @@ front_short bytes m n e =
           | inr d ↦
               let low : k ≤ 1048576 = ltb-false _ _ ((or_parts (ltb k 9) (ltb 1048576 k) b.0).1) in
               let whole : Message = message_at k (drop 4 bytes) in
-              let few : length whole.body ≤ MOST_BODY = omega (arith, low, length-take (k - 9) (drop 9 (drop 4 bytes))) in
+              let few : length whole.body ≤ most_body = omega (arith, low, length-take (k - 9) (drop 9 (drop 4 bytes))) in
               let h : Whole whole (4 + k) ≡ Whole m n = d.1 in
               let is : whole ≡ m = cc in
-              subst (λ (x : Message). length x.body ≤ MOST_BODY) is few
+              subst (λ (x : Message). length x.body ≤ most_body) is few
         ]
       ]
     ]
 
-by_front : (front : Frame) (bytes : List ℕ) (others : ℕ → Cut) → ((m : Message) (n : ℕ) → front ≡ Whole m n → length m.body ≤ MOST_BODY) → ((n : ℕ) → AreShort (others n).messages) → AreShort (cut_from front bytes others).messages
+by_front : (front : Frame) (bytes : List ℕ) (others : ℕ → Cut) → ((m : Message) (n : ℕ) → front ≡ Whole m n → length m.body ≤ most_body) → ((n : ℕ) → AreShort (others n).messages) → AreShort (cut_from front bytes others).messages
 by_front (Whole m n) bytes others short rest = (short m n refl, rest n)
 by_front Partial bytes others short rest = tt
 by_front (Bad n) bytes others short rest = tt

@@ -6,11 +6,11 @@ use Rattle.cv_machine.specs.Machine.{Outcome, When}
 use Rattle.cv_frame.specs.declared.status.Status.TheVariants as status
 use Rattle.cv_caller.specs.Tables.{Table, least_place, with_part}
 use Rattle.cv_caller.specs.Results.{is_taken, is_full}
-use Rattle.cv_caller.specs.declared.limits.TheConstants.{MOST_PART}
+use Rattle.cv_caller.specs.Limits.{most_part}
 use Rattle.cv_world.specs.Actions.{Action, Part}
 use Rattle.cv_world.specs.Answers.{answer_code}
 use Rattle.cv_world.specs.Laws.{JoinsParts}
-use Rattle.cv_frame.specs.declared.ops.TheConstants.{PUT, PART}
+use Rattle.cv_frame.specs.Ops.{op_put, op_part}
 use Rattle.cv_world.specs.Requests.{AsksPut, MayTurn, turn}
 use Rattle.cv_world.specs.Turn.{Does, Refuses, Holds, Puts, Parts, Acts}
 use Rattle.cv_world.specs.declared.answer.Answer.{Answer}
@@ -24,7 +24,7 @@ by_test : (b : Bool) (A B C D : Type 0) → (A → C) → (B → D) → When b A
 by_test true A B C D f g h = f h
 by_test false A B C D f g h = g h
 
--- Where it is held the part doesn't matter.
+-- If it is held, the part doesn't matter.
 holds : (table : Table) (p q : List ℕ) (charmap : Charmap) (place : Option ℕ) (t : Table) (a : Answer) → answer_code a ≡ 0 → Holds (with_part table p) charmap place t a → Holds (with_part table q) charmap place t a
 holds table p q charmap None t a ok h = refused _ _ _ (λ e. absurd cc) t a ok h
 holds table p q charmap (Some place) t a ok h = elim h [ inl x ↦ inl x | inr x ↦ refused _ _ _ (λ e. absurd cc) t a ok x ]
@@ -42,7 +42,7 @@ put table p q text action t a asks ok h =
 
 -- ---- parts
 
--- A part that was taken stands behind what was sent before.
+-- A part that was taken is appended to what was sent before.
 taken_by : (x : Bool) (table : Table) (bytes : List ℕ) (t : Table) (a : Answer) → answer_code a ≡ 0
     → When x (Refuses table t a status.Quota) (Does t a (with_part table bytes) (answers.Count (length bytes)) ⊎ Refuses table t a status.NoMemory)
     → (x ≡ false) × (t ≡ with_part table bytes) × (a ≡ answers.Count (length bytes))
@@ -50,27 +50,27 @@ taken_by true table bytes t a ok h = refused _ _ _ (λ e. absurd cc) t a ok h
 taken_by false table bytes t a ok h = elim h [ inl y ↦ (refl, y.0, y.1) | inr y ↦ refused _ _ _ (λ e. absurd cc) t a ok y ]
 
 taken : (table : Table) (bytes : List ℕ) → bytes ≢ [] → (t : Table) (a : Answer) → answer_code a ≡ 0 → Parts table bytes t a
-    → (nat_lt MOST_PART (length (table.part ++ bytes)) ≡ false) × (t ≡ with_part table (table.part ++ bytes)) × (a ≡ answers.Count (length (table.part ++ bytes)))
+    → (nat_lt most_part (length (table.part ++ bytes)) ≡ false) × (t ≡ with_part table (table.part ++ bytes)) × (a ≡ answers.Count (length (table.part ++ bytes)))
 taken table [] some t a ok h = absurd (some refl)
 taken table (b ∷ bytes) some t a ok h = taken_by _ table (table.part ++ b ∷ bytes) t a ok h
 
-takes : (table : Table) (bytes all : List ℕ) → all ≡ table.part ++ bytes → bytes ≢ [] → (t : Table) (a : Answer) → nat_lt MOST_PART (length all) ≡ false → t ≡ with_part table all → a ≡ answers.Count (length all)
+takes : (table : Table) (bytes all : List ℕ) → all ≡ table.part ++ bytes → bytes ≢ [] → (t : Table) (a : Answer) → nat_lt most_part (length all) ≡ false → t ≡ with_part table all → a ≡ answers.Count (length all)
     → Parts table bytes t a
 takes table [] all e some t a few is told = absurd (some refl)
 takes table (b ∷ bytes) all e some t a few is told =
-    let fits : nat_lt MOST_PART (length (table.part ++ b ∷ bytes)) ≡ false = ap (λ (x : List ℕ). nat_lt MOST_PART (length x)) (sym e) ∙ few in
+    let fits : nat_lt most_part (length (table.part ++ b ∷ bytes)) ≡ false = ap (λ (x : List ℕ). nat_lt most_part (length x)) (sym e) ∙ few in
     rw fits (inl (is ∙ ap (with_part table) e, told ∙ ap (λ (x : List ℕ). answers.Count (length x)) e))
 
 some_more : (xs ys : List ℕ) → xs ≢ [] → xs ++ ys ≢ []
 some_more [] ys some e = some refl
 some_more (x ∷ xs) ys some e = absurd cc
 
--- What a PART came to, by its bytes.
-parted : (table : Table) (bytes : List ℕ) (outcome : Outcome Table) (m : MayTurn table PART bytes outcome) → Parts table bytes outcome.next m.answer
+-- The result of a PART, by its bytes.
+parted : (table : Table) (bytes : List ℕ) (outcome : Outcome Table) (m : MayTurn table op_part bytes outcome) → Parts table bytes outcome.next m.answer
 parted table bytes outcome m = subst (λ (x : Action). Acts table x outcome.next m.answer) m.asks m.acts
 
 two_parts : (table : Table) (first second : List ℕ) (between after : Outcome Table) → first ≢ [] → second ≢ [] → between.code ≡ 0 → after.code ≡ 0
-    → turn table PART first between → turn between.next PART second after → turn table PART (first ++ second) after
+    → turn table op_part first between → turn between.next op_part second after → turn table op_part (first ++ second) after
 two_parts table first second between after some more ok fine p q =
     let one = taken table first some between.next p.answer (sym p.code_is ∙ ok) (parted table first between p) in
     let then : Parts (with_part table (table.part ++ first)) second after.next q.answer = subst (λ (x : Table). Parts x second after.next q.answer) one.1 (parted between.next second after q) in
@@ -87,7 +87,7 @@ two_parts table first second between after some more ok fine p q =
 -- ---- both
 
 whole_put : (table : Table) (p q text : List ℕ) (outcome : Outcome Table) → outcome.code ≡ 0 → (body other : List ℕ) → text ≡ p ++ body → text ≡ q ++ other
-    → turn (with_part table p) PUT body outcome → turn (with_part table q) PUT other outcome
+    → turn (with_part table p) op_put body outcome → turn (with_part table q) op_put other outcome
 whole_put table p q text outcome ok body other e f m =
     let asks : AsksPut text m.action = subst (λ (x : List ℕ). AsksPut x m.action) (sym e) m.asks in
     record {
@@ -99,7 +99,7 @@ whole_put table p q text outcome ok body other e f m =
       body_is = m.body_is;
     }
 
--- Parts that were taken one after the other are one part, and the text of a PUT is what stands after it.
+-- Parts that were taken one after the other are one part, and the text of a PUT is what follows it.
 pub joins_parts : JoinsParts
 joins_parts = record {
   parts = two_parts;

@@ -16,12 +16,12 @@ use Rattle.cv_pivot.specs.Encodings.{Builtin, builtin_of, form_closes}
 use Rattle.cv_machine.specs.Machine.{Event, When, IsRun, tables_after, after_all}
 use Rattle.cv_caller.specs.Tables.{Charmaps, Table, Named, BuiltIn, Held, Descriptor, empty_table, charmap_at, pairs_in, form_in, named_by, named_of, place_of, has_name, least_place, mappings, least_free, descriptor_at, uses, is_held, with_descriptor, with_charmap, with_part}
 use Rattle.cv_caller.specs.Results.{is_taken, is_full}
-use Rattle.cv_caller.specs.declared.limits.TheConstants.{MOST_MAPPINGS, MOST_PART}
+use Rattle.cv_caller.specs.Limits.{most_mappings, most_part}
 use Rattle.cv_caller.proofs.Standing.{at_set, named_there}
 use Rattle.cv_world.specs.Actions.{Action, Put, DropMap, Open, Conv, Reset, Close, Bye, Part, Bad}
 use Rattle.cv_world.specs.Answers.{most_room}
 use Rattle.cv_world.specs.Laws.{IsThere, AreThere, IsSound, KeepsTables, RunsKeepTables}
-use Rattle.cv_frame.specs.declared.ops.TheConstants.{PUT}
+use Rattle.cv_frame.specs.Ops.{op_put}
 use Rattle.cv_world.specs.Requests.{AsksPut, action_of, turn}
 use Rattle.cv_world.specs.Turn.{Does, Holds, Puts, Parts, Drops, Binds, Opens, Convs, Resets, Closes, Acts}
 use Rattle.cv_world.specs.Worlds.{no_tables}
@@ -30,7 +30,7 @@ use Rattle.cv_world.proofs.OtherOps.{not_put}
 
 -- ---- the empty table
 
--- where nothing stands, each that stands has any property
+-- if all places are free, whatever is there has any property
 pub none_standing : {X : Type 0} (P : X → Type 0) (n place : ℕ) → IfSome (get_or (let xs : List (Option X) = replicate n None in xs) place None) P
 none_standing P zero place = tt
 none_standing P (suc n) zero = tt
@@ -45,7 +45,7 @@ begins = record {
 -- ---- a part
 
 -- with a part that is short enough
-with_bytes : (table : Table) → IsSound table → (bytes : List ℕ) → length bytes ≤ MOST_PART → IsSound (with_part table bytes)
+with_bytes : (table : Table) → IsSound table → (bytes : List ℕ) → length bytes ≤ most_part → IsSound (with_part table bytes)
 with_bytes table is bytes few = record { is_table = record { charmaps = is.is_table.charmaps; numbers = is.is_table.numbers; part = few }; there = is.there }
 
 -- ---- a descriptor
@@ -68,18 +68,18 @@ name_there charmaps name = found_there charmaps name (place_of charmaps name) re
 
 -- ---- charmaps
 
-few_with : (charmaps : Charmaps) (place : ℕ) (charmap : Charmap) → place < length charmaps → is_full charmaps (length charmap.pairs) ≡ false → mappings (set charmaps place (Some charmap)) ≤ MOST_MAPPINGS
+few_with : (charmaps : Charmaps) (place : ℕ) (charmap : Charmap) → place < length charmaps → is_full charmaps (length charmap.pairs) ≡ false → mappings (set charmaps place (Some charmap)) ≤ most_mappings
 few_with charmaps place charmap lt room =
     let e = sum_by-set (λ (c : Option Charmap). length (pairs_in c)) charmaps place (Some charmap) None lt in
-    let small : nat_lt MOST_MAPPINGS (mappings charmaps + length charmap.pairs) ≡ false = (or_parts _ _ room).0 in
+    let small : nat_lt most_mappings (mappings charmaps + length charmap.pairs) ≡ false = (or_parts _ _ room).0 in
     grind (arith, nat_tests, e, small)
 
-few_without : (charmaps : Charmaps) (place : ℕ) → place < length charmaps → mappings charmaps ≤ MOST_MAPPINGS → mappings (set charmaps place None) ≤ MOST_MAPPINGS
+few_without : (charmaps : Charmaps) (place : ℕ) → place < length charmaps → mappings charmaps ≤ most_mappings → mappings (set charmaps place None) ≤ most_mappings
 few_without charmaps place lt few =
     let e = sum_by-set (λ (c : Option Charmap). length (pairs_in c)) charmaps place None None lt in
     omega (arith, e, few)
 
--- a charmap that is held stays so where one is put at a place
+-- a charmap that is held stays held if one is put at a place
 stays_held : (charmaps : Charmaps) (place : ℕ) (charmap : Charmap) (named : Named) → IsThere charmaps named → IsThere (set charmaps place (Some charmap)) named
 stays_held charmaps place charmap (BuiltIn builtin) h = tt
 stays_held [] place charmap (Held other) h = h
@@ -88,7 +88,7 @@ stays_held (c ∷ charmaps) zero charmap (Held (suc other)) h = h
 stays_held (c ∷ charmaps) (suc place) charmap (Held zero) h = h
 stays_held (c ∷ charmaps) (suc place) charmap (Held (suc other)) h = stays_held charmaps place charmap (Held other) h
 
--- and where another place is free again
+-- and it stays held if another place becomes free
 stays_other : (charmaps : Charmaps) (place other : ℕ) → (other == place) ≡ false → is_some (charmap_at charmaps other) ≡ true → is_some (charmap_at (set charmaps place None) other) ≡ true
 stays_other [] place other a h = h
 stays_other (c ∷ charmaps) zero zero a h = absurd cc
@@ -108,7 +108,7 @@ all_unused : (charmaps : Charmaps) (place : ℕ) (d : Option Descriptor) → use
 all_unused charmaps place None a h = tt
 all_unused charmaps place (Some d) a h = (stays_unused charmaps place d.to ((or_parts _ _ a).0) h.0, stays_unused charmaps place d.from ((or_parts _ _ a).1) h.1)
 
--- where no descriptor uses a charmap, the one at a number doesn't
+-- if no descriptor uses a charmap, the descriptor of a number doesn't
 pub none_uses : (place : ℕ) (ds : List (Option Descriptor)) → list_any (uses place) ds ≡ false → (number : ℕ) → uses place (get_or ds number None) ≡ false
 none_uses place [] h number = refl
 none_uses place (d ∷ ds) h zero = (or_parts (uses place d) (list_any (uses place) ds) h).0
@@ -129,7 +129,7 @@ with_map table is place charmap map lt room = record {
   there = λ number. all_held table.charmaps place charmap (descriptor_at table number) (is.there number);
 }
 
--- without the charmap at a place, where no descriptor uses it
+-- without the charmap at a place, if no descriptor uses it
 without_map : (table : Table) → IsSound table → (place : ℕ) → place < length table.charmaps → list_any (uses place) table.descriptors ≡ false → IsSound (with_charmap table place None)
 without_map table is place lt idle = record {
   is_table = record {
@@ -173,13 +173,13 @@ kept_put table is (Read charmap) map t a d =
     by_test (is_full table.charmaps (length charmap.pairs)) _ _ _ (does table _ is t a) (λ room.
     kept_hold table is charmap (map charmap refl) room (least_place table.charmaps) refl t a)) d
 
-short_part : (n : ℕ) → nat_lt MOST_PART n ≡ false → n ≤ MOST_PART
+short_part : (n : ℕ) → nat_lt most_part n ≡ false → n ≤ most_part
 short_part n h = grind (arith, nat_tests, h)
 
 kept_part : (table : Table) → IsSound table → (bytes : List ℕ) (t : Table) (a : Answer) → Parts table bytes t a → IsSound t
 kept_part table is [] t a d = does _ _ (with_bytes table is [] (omega arith)) t a d
 kept_part table is (b ∷ bytes) t a d =
-    by_test (nat_lt MOST_PART (length (table.part ++ b ∷ bytes))) _ _ _ (does table _ is t a) (λ few.
+    by_test (nat_lt most_part (length (table.part ++ b ∷ bytes))) _ _ _ (does table _ is t a) (λ few.
     either _ _ _ (does _ _ (with_bytes table is (table.part ++ b ∷ bytes) (short_part _ few)) t a) (does table _ is t a)) d
 
 kept_drop : (table : Table) → IsSound table → (name : List ℕ) (place : Option ℕ) → place ≡ place_of table.charmaps name → (t : Table) (a : Answer) → Drops table place t a → IsSound t
@@ -242,7 +242,7 @@ pub keeps_tables : KeepsTables
 keeps_tables = record {
   begins = begins;
   keeps = λ table code body outcome is turned.
-      kept_act table is turned.action (put_map (code == PUT) (table.part ++ body) (action_of code body) turned.action turned.asks (not_put code body)) outcome.next turned.answer turned.acts;
+      kept_act table is turned.action (put_map (code == op_put) (table.part ++ body) (action_of code body) turned.action turned.asks (not_put code body)) outcome.next turned.answer turned.acts;
 }
 
 -- ---- runs

@@ -1,4 +1,4 @@
--- Parts of uploads, and callers who leave.
+-- Parts of uploads, and callers that leave.
 use Rattle.std.proofs.Common.{◌≡◌, ◌≢◌, inl, inr, ◌+◌, ◌<◌, ℕ, zero, suc, true, false, eqb, List, [], ◌∷◌, ◌++◌, length, get_or, set, Option, Some, None, IsSome, Result, Ok, Err, refl, sym, ◌∙◌, ap, subst, arith}
 use Rattle.std.specs.Prelude.{nat_lt}
 use Rattle.std.proofs.lemmas.Bool.{cases_eq}
@@ -11,7 +11,7 @@ use Rattle.cv_machine.specs.Machine.{with_table}
 use Rattle.cv_caller.specs.Tables.{Charmaps, Table, Descriptor, empty_table, descriptor_at}
 use Rattle.cv_caller.specs.Keyed.{Keyed, no_keys, place_at, table_of, Fits}
 use Rattle.cv_caller.specs.Results.{IsPart}
-use Rattle.cv_caller.specs.declared.limits.TheConstants.{MOST_PART}
+use Rattle.cv_caller.specs.Limits.{most_part}
 use Rattle.cv_caller.specs.declared.place.Place.{Place}
 use Rattle.cv_caller.specs.declared.faults.PartFault.{PartFault}
 use Rattle.cv_caller.specs.declared.faults.PartFault.TheVariants as fault
@@ -30,20 +30,20 @@ use Rattle.cv_world.proofs.Stepping.{seen, others_seen, some_value, open_at, non
 pub part_done : (G : ℕ → Option Conversion) (k k2 : Keyed) (bytes : List ℕ) (r : Result ℕ PartFault) → IsPart k bytes r k2 → Acts (table_of G k) (Part bytes) (table_of G k2) (part_answer r)
 part_done G k k2 [] r h = (ap (table_of G) h.1, ap part_answer h.0)
 part_done G k k2 (b ∷ bytes) (Ok n) h =
-    let t : nat_lt MOST_PART (length (k.part ++ b ∷ bytes)) ≡ false = grind (arith, nat_tests, h.0) in rw t (inl (ap (table_of G) h.2, ap answers.Count h.1))
+    let t : nat_lt most_part (length (k.part ++ b ∷ bytes)) ≡ false = grind (arith, nat_tests, h.0) in rw t (inl (ap (table_of G) h.2, ap answers.Count h.1))
 part_done G k k2 (b ∷ bytes) (Err fault.Quota) h =
-    let t : nat_lt MOST_PART (length (k.part ++ b ∷ bytes)) ≡ true = grind (arith, nat_tests, h.0) in rw t (ap (table_of G) h.1, refl)
+    let t : nat_lt most_part (length (k.part ++ b ∷ bytes)) ≡ true = grind (arith, nat_tests, h.0) in rw t (ap (table_of G) h.1, refl)
 part_done G k k2 (b ∷ bytes) (Err fault.Memory) h =
-    let t : nat_lt MOST_PART (length (k.part ++ b ∷ bytes)) ≡ false = grind (arith, nat_tests, h.0) in rw t (inr (ap (table_of G) h.1, refl))
+    let t : nat_lt most_part (length (k.part ++ b ∷ bytes)) ≡ false = grind (arith, nat_tests, h.0) in rw t (inr (ap (table_of G) h.1, refl))
 
--- a part leaves what numbers and places stand for
+-- a part does not change what numbers and places stand for
 part_keeps : (k k2 : Keyed) (bytes : List ℕ) (r : Result ℕ PartFault) → IsPart k bytes r k2 → (k2.places ≡ k.places) × (k2.charmaps ≡ k.charmaps)
 part_keeps k k2 [] r h = (ap (λ (x : Keyed). x.places) h.1, ap (λ (x : Keyed). x.charmaps) h.1)
 part_keeps k k2 (b ∷ bytes) (Ok n) h = (ap (λ (x : Keyed). x.places) h.2, ap (λ (x : Keyed). x.charmaps) h.2)
 part_keeps k k2 (b ∷ bytes) (Err fault.Quota) h = (ap (λ (x : Keyed). x.places) h.1, ap (λ (x : Keyed). x.charmaps) h.1)
 part_keeps k k2 (b ∷ bytes) (Err fault.Memory) h = (ap (λ (x : Keyed). x.places) h.1, ap (λ (x : Keyed). x.charmaps) h.1)
 
--- what is kept where numbers and places stand for what they stood for
+-- what is kept if numbers and places stand for the same as before
 alike_world : (K K2 : ℕ → Keyed) (G : ℕ → Option Conversion) → ((d : ℕ) → ((K2 d).places ≡ (K d).places) × ((K2 d).charmaps ≡ (K d).charmaps)) → IsWorld K G → IsWorld K2 G
 alike_world K K2 G same own =
     let back : (d n : ℕ) → place_at (K2 d) n ≡ place_at (K d) n = λ d n. ap (λ (ps : List (Option Place)). get_or ps n None) (same d).0 in
@@ -54,7 +54,7 @@ alike_world K K2 G same own =
       fits = λ d n p v h g. subst (λ (y : Charmaps). Fits y p v) (sym (same d).1) (own.fits d n p v (sym (back d n) ∙ h) g);
     }
 
--- a world stays one where a part was kept
+-- a world stays a world if a part was kept
 pub part_world : (K K2 : ℕ → Keyed) (G : ℕ → Option Conversion) (c : ℕ) (bytes : List ℕ) (r : Result ℕ PartFault) → IsPart (K c) bytes r (K2 c) → ((d : ℕ) → d ≢ c → K2 d ≡ K d) → IsWorld K G → IsWorld K2 G
 part_world K K2 G c bytes r h others own =
     let kept = part_keeps (K c) (K2 c) bytes r h in
@@ -116,9 +116,9 @@ leaves_empty s t c h =
     let own : t c ≡ empty_table = ap (λ (f : ℕ → Table). f c) h ∙ own_of_table s c empty_table in
     (own, h ∙ ap (with_table s c) (sym own))
 
--- ---- a caller of whom no number is bound, and who goes
+-- ---- a caller without a bound number, which leaves
 
--- where no descriptor is open, no place is bound
+-- if no descriptor is open, no place is bound
 pub unbound : (G : ℕ → Option Conversion) (k : Keyed) → ((n : ℕ) (p : Place) → place_at k n ≡ Some p → IsSome (G p.key)) → ((n : ℕ) → descriptor_at (table_of G k) n ≡ None) → (n : ℕ) → place_at k n ≡ None
 unbound G k live free n =
     (elim (place_at k n) as (λ (o : Option Place). place_at k n ≡ o → o ≡ None) [
@@ -128,7 +128,7 @@ unbound G k live free n =
           absurd (let bad = sym (free n) ∙ open_at G k n p v.0 h v.1 in cc)
     ]) refl
 
--- a world stays one where a caller with no conversions leaves
+-- a world stays a world if a caller with no conversions leaves
 pub gone_world : (K K2 : ℕ → Keyed) (G : ℕ → Option Conversion) (c : ℕ) → SetsKeyed K K2 c no_keys → ((n : ℕ) → place_at (K c) n ≡ None) → IsWorld K G → IsWorld K2 G
 gone_world K K2 G c sets free own =
     let apart : (d n : ℕ) (p : Place) → place_at (K2 d) n ≡ Some p → d ≢ c = λ d n p h e.
@@ -150,7 +150,7 @@ gone_seen callers callers2 s v c is sets =
     let own : world_tables (tables_in callers2.entries s) c ≡ empty_table = seen callers2 s c ∙ ap (table_of (slab.get s)) sets.own in
     others_seen callers callers2 s s v c is (λ d a. ap (table_of (slab.get s)) (sets.others d a)) ∙ ap (with_table (world_tables v) c) own
 
--- ---- a caller who is forgotten, since nothing is left
+-- ---- a caller that is forgotten because it has nothing left
 
 -- a world of the same callers is one
 pub same_world : (K K2 : ℕ → Keyed) (G : ℕ → Option Conversion) → ((d : ℕ) → K2 d ≡ K d) → IsWorld K G → IsWorld K2 G
@@ -162,7 +162,7 @@ pub same_seen : (callers callers2 : BTreeMap ℕ Keyed) (s : slab.Slab Conversio
 same_seen callers callers2 s v is same =
     fun_ext (λ d. seen callers2 s d ∙ ap (table_of (slab.get s)) (same d) ∙ sym (seen callers s d) ∙ ap (λ (x : List (ℕ × Table)). world_tables x d) is)
 
--- what is done to a table is done where the tables after it are the same
+-- what is done to a table is done if the tables after it are the same
 pub acts_same : (s t u : ℕ → Table) (c : ℕ) (action : Action) (a : Answer) → u ≡ t → Acts (s c) action (t c) a → Acts (s c) action (u c) a
 acts_same s t u c action a e h = subst (λ (f : ℕ → Table). Acts (s c) action (f c) a) (sym e) h
 

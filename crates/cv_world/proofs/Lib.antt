@@ -8,6 +8,7 @@ pub mod OpeningSteps
 pub mod Leaving
 pub mod Answered
 mod OneAnswer
+mod Retried
 mod SomeAnswer
 mod OtherOps
 mod KeepsTables

@@ -1,4 +1,4 @@
--- Want of memory is an outcome only of requests that take memory.
+-- An allocation failure is an outcome only of requests that take memory.
 use Rattle.std.proofs.Common.{◌≡◌, ◌≢◌, ◌||◌, ◌&&◌, ◌==◌, ℕ, Bool, true, false, List, [], ◌∷◌, ◌++◌, length, nat_lt, Option, Some, None, refl, sym, ap, ◌∙◌, arith}
 use Rattle.std.specs.Prelude.{if◌then◌else◌}
 use Rattle.std.specs.List.{list_any}
@@ -7,7 +7,7 @@ use Rattle.std.proofs.lemmas.Bool.Decides.{nat_tests}
 use Rattle.cv_pivot.specs.Encodings.{form_closes}
 use Rattle.cv_machine.specs.Machine.{When, no_memory}
 use Rattle.cv_frame.specs.Bodies.{reset_of, number_of, drop_of}
-use Rattle.cv_frame.specs.declared.ops.TheConstants.{OPEN, CONV, RESET, CLOSE, PUT, DROP, BYE, PART}
+use Rattle.cv_frame.specs.Ops.{op_open, op_conv, op_reset, op_close, op_put, op_drop, op_bye, op_part}
 use Rattle.cv_caller.specs.Tables.{Table, Descriptor, form_in, place_of, descriptor_at, uses}
 use Rattle.cv_world.specs.Actions.{Action, Put, DropMap, Open, Conv, Reset, Close, Bye, Part, Bad}
 use Rattle.cv_world.specs.Answers.{answer_code, most_room}
@@ -28,7 +28,7 @@ takes Bye = false
 takes (Part bytes) = nat_lt 0 (length bytes)
 takes Bad = false
 
--- ---- what an action may come to
+-- ---- what an action may give
 
 does : (next : Table) (answer : Answer) → answer_code answer ≢ no_memory → (t : Table) (a : Answer) → Does t a next answer → answer_code a ≢ no_memory
 does next answer other t a d e = other (ap answer_code (sym d.1) ∙ e)
@@ -86,22 +86,22 @@ bye_takes : (body : List ℕ) → takes (bye_action body) ≢ true
 bye_takes [] e = absurd cc
 bye_takes (b ∷ body) e = absurd cc
 
-other_takes : (code : ℕ) (body : List ℕ) → takes (action_of code body) ≡ true → (code == OPEN || (code == CONV || (code == PART && nat_lt 0 (length body)))) ≡ true
+other_takes : (code : ℕ) (body : List ℕ) → takes (action_of code body) ≡ true → (code == op_open || (code == op_conv || (code == op_part && nat_lt 0 (length body)))) ≡ true
 other_takes code body =
-    choose (code == DROP) _ _ _ (λ _ h. absurd (drop_takes (drop_of body) h)) (
-    choose (code == OPEN) _ _ _ (λ is _. or_left _ _ is) (
-    choose (code == CONV) _ _ _ (λ is _. or_right _ _ (or_left _ _ is)) (
-    choose (code == RESET) _ _ _ (λ _ h. absurd (reset_takes (reset_of body) h)) (
-    choose (code == CLOSE) _ _ _ (λ _ h. absurd (close_takes (number_of body) h)) (
-    choose (code == BYE) _ _ _ (λ _ h. absurd (bye_takes body h)) (
-    choose (code == PART) _ _ _ (λ is h. or_right _ _ (or_right _ _ (and_from _ _ is h))) (λ h. absurd cc)))))))
+    choose (code == op_drop) _ _ _ (λ _ h. absurd (drop_takes (drop_of body) h)) (
+    choose (code == op_open) _ _ _ (λ is _. or_left _ _ is) (
+    choose (code == op_conv) _ _ _ (λ is _. or_right _ _ (or_left _ _ is)) (
+    choose (code == op_reset) _ _ _ (λ _ h. absurd (reset_takes (reset_of body) h)) (
+    choose (code == op_close) _ _ _ (λ _ h. absurd (close_takes (number_of body) h)) (
+    choose (code == op_bye) _ _ _ (λ _ h. absurd (bye_takes body h)) (
+    choose (code == op_part) _ _ _ (λ is h. or_right _ _ (or_right _ _ (and_from _ _ is h))) (λ h. absurd cc)))))))
 
 asks_takes : (t : Bool) (text : List ℕ) (other action : Action) (rest : Bool) → When t (AsksPut text action) (action ≡ other) → (takes other ≡ true → rest ≡ true) → takes action ≡ true → (t || rest) ≡ true
 asks_takes true text other action rest p f h = refl
 asks_takes false text other action rest p f h = f (ap takes (sym p) ∙ h)
 
--- Want of memory is an outcome only of requests that take memory.
+-- An allocation failure is an outcome only of requests that take memory.
 pub lacks_where_taken : LacksWhereTaken
 lacks_where_taken table code body outcome turned e =
-    asks_takes (code == PUT) (table.part ++ body) (action_of code body) turned.action _ turned.asks (other_takes code body)
+    asks_takes (code == op_put) (table.part ++ body) (action_of code body) turned.action _ turned.asks (other_takes code body)
     (acts table turned.action outcome.next turned.answer turned.acts (sym turned.code_is ∙ e))

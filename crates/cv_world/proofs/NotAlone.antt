@@ -1,4 +1,4 @@
--- At a sound table want of memory is never all that a request may come to.
+-- At a sound table, an allocation failure is never the only outcome that a request may have.
 use Rattle.std.proofs.Common.{◌≡◌, ◌≢◌, ◌<◌, ◌≤◌, ◌⊎◌, inl, ◌+◌, ◌-◌, ◌==◌, ℕ, zero, suc, Bool, true, false, List, [], ◌∷◌, ◌++◌, length, drop, nat_lt, Option, Some, None, refl, arith, Result, Ok, Err}
 use Rattle.std.specs.Prelude.{is_some, IfSome}
 use Rattle.std.specs.List.{list_any}
@@ -26,11 +26,11 @@ use Rattle.cv_machine.specs.Machine.{When, no_memory}
 use Rattle.cv_frame.specs.declared.status.Status.TheVariants as status
 use Rattle.cv_caller.specs.Tables.{Table, Named, BuiltIn, Held, Descriptor, charmap_at, pairs_in, form_in, named_of, place_of, least_place, least_free, descriptor_at, uses}
 use Rattle.cv_caller.specs.Results.{is_taken, is_full}
-use Rattle.cv_caller.specs.declared.limits.TheConstants.{MOST_PART}
+use Rattle.cv_caller.specs.Limits.{most_part}
 use Rattle.cv_world.specs.Actions.{Action, Put, DropMap, Open, Conv, Reset, Close, Bye, Part, Bad}
 use Rattle.cv_world.specs.Answers.{answer_code, answer_body, most_room}
 use Rattle.cv_world.specs.Laws.{IsThere, AreThere, IsSound, NeverLacksAlone}
-use Rattle.cv_frame.specs.declared.ops.TheConstants.{PUT}
+use Rattle.cv_frame.specs.Ops.{op_put}
 use Rattle.cv_world.specs.Requests.{AsksPut, action_of}
 use Rattle.cv_world.specs.Turn.{Does, Holds, Puts, Parts, Drops, Binds, Opens, IsConversion, Convs, Resets, Closes, Acts}
 use Rattle.cv_world.specs.declared.answer.Answer.{Answer}
@@ -84,13 +84,13 @@ allowed_none : (policy : Policy) (writes : Writing) (from : States) → Allows p
 allowed_none policies.Substitute writes from = tt
 allowed_none policies.Strict writes from = refl
 
--- It can't be that there is no longest conversion.
+-- It is impossible that no longest conversion exists.
 converts : (reads : ItemRelation) (writes : Writing) (policy : Policy) → IsReadable reads → (from : States) (text : List ℕ) (room : ℕ) → ((c : Converted) → IsConverted reads writes policy from text room c → ⊥) → ⊥
 converts reads writes policy r from text room none = no_chain reads writes policy r from text room none (length text + 1) [] tt (omega arith) (allowed_none policy writes from) (omega arith)
 
 -- ---- each action
 
--- What meets a claim can't be want of memory alone.
+-- An allocation failure can't be all that meets a claim.
 abbrev pub NotAlone : (Table → Answer → Type 0) → Type 0
 NotAlone May = ((t : Table) (a : Answer) → May t a → answer_code a ≡ no_memory) → ⊥
 
@@ -117,7 +117,7 @@ puts table (Read charmap) other =
 
 parts : (table : Table) (bytes : List ℕ) → NotAlone (Parts table bytes)
 parts table [] = does _ _ (λ e. absurd cc)
-parts table (b ∷ bytes) = by_test (nat_lt MOST_PART (length (table.part ++ b ∷ bytes))) _ _ (does _ _ (λ e. absurd cc)) (beside table _ (does _ _ (λ e. absurd cc)))
+parts table (b ∷ bytes) = by_test (nat_lt most_part (length (table.part ++ b ∷ bytes))) _ _ (does _ _ (λ e. absurd cc)) (beside table _ (does _ _ (λ e. absurd cc)))
 
 drops : (table : Table) (place : Option ℕ) → NotAlone (Drops table place)
 drops table None = does _ _ (λ e. absurd cc)
@@ -175,7 +175,7 @@ acts table is Bad other = does _ _ (λ e. absurd cc)
 
 -- ---- and each request
 
--- A text may be compiled to more than want of memory.
+-- An allocation failure is not the only result of compiling a text.
 compiles : (text : List ℕ) (r : Result Charmap MapFault) → meaning text ≡ r → (came : Compiled) × MayCompile text came × (came ≢ Lacking)
 compiles text (Ok charmap) e = (Read charmap, e, λ h. absurd cc)
 compiles text (Err fault) e = (Faulty fault, e, λ h. absurd cc)
@@ -189,9 +189,9 @@ asks true text other h =
     (Put came.0, record { charmap = came.0; may = came.1; is = refl }, other_put came.0 came.2)
 asks false text other h = (other, refl, h)
 
--- At a sound table want of memory is never all that a request may come to.
+-- At a sound table, an allocation failure is never the only outcome that a request may have.
 pub never_lacks_alone : NeverLacksAlone
 never_lacks_alone table code body is all =
-    let asked = asks (code == PUT) (table.part ++ body) (action_of code body) (not_put code body Lacking) in
+    let asked = asks (code == op_put) (table.part ++ body) (action_of code body) (not_put code body Lacking) in
     acts table is asked.0 asked.2 (λ t a h.
     all (record { next = t; code = answer_code a; body = answer_body a }) (record { action = asked.0; asks = asked.1; answer = a; acts = h; code_is = refl; body_is = refl }))

@@ -1,4 +1,4 @@
--- Each request has one answer, and want of memory beside it at most.
+-- Each request has one answer at most, besides an allocation failure.
 use Rattle.std.proofs.Common.{◌≡◌, ◌≢◌, ◌⊎◌, inl, inr, ◌==◌, ℕ, Bool, true, false, List, [], ◌∷◌, ◌++◌, length, nat_lt, Option, Some, None, refl, sym, ap, subst, ◌∙◌}
 use Rattle.std.specs.List.{list_any}
 use Rattle.cv_base.specs.declared.policy.Policy.{Policy}
@@ -16,35 +16,35 @@ use Rattle.cv_frame.specs.declared.status.Status.TheVariants as status
 use Rattle.cv_machine.proofs.Outcomes.{same_outcome}
 use Rattle.cv_caller.specs.Tables.{Table, Named, Descriptor, form_in, named_of, place_of, least_place, least_free, descriptor_at, uses}
 use Rattle.cv_caller.specs.Results.{is_taken, is_full}
-use Rattle.cv_caller.specs.declared.limits.TheConstants.{MOST_PART}
+use Rattle.cv_caller.specs.Limits.{most_part}
 use Rattle.cv_world.specs.Actions.{Action, Put, DropMap, Open, Conv, Reset, Close, Bye, Part, Bad}
 use Rattle.cv_world.specs.Answers.{answer_code, answer_body, stop_status, most_room}
-use Rattle.cv_frame.specs.declared.ops.TheConstants.{PUT}
+use Rattle.cv_frame.specs.Ops.{op_put}
 use Rattle.cv_world.specs.Requests.{AsksPut, MayTurn, action_of, turn}
 use Rattle.cv_world.specs.Turn.{Does, Holds, Puts, Parts, Drops, Binds, Opens, IsConversion, Convs, Resets, Closes, Acts, with_states}
 use Rattle.cv_world.specs.declared.answer.Answer.{Answer}
 use Rattle.cv_world.specs.declared.answer.Answer.TheVariants as answers
 
--- Of a claim about tables and answers: at most one of them meets it, and want of memory beside it.
+-- Of a claim about tables and answers: at most one pair of them meets it, besides an allocation failure.
 pub record HasOneAct (table : Table) (May : Table → Answer → Type 0) : Type 0 where
   pub one : (t u : Table) (a b : Answer) → May t a → May u b → answer_code a ≢ no_memory → answer_code b ≢ no_memory → (t ≡ u) × (a ≡ b)
   pub lacks : (t : Table) (a : Answer) → May t a → answer_code a ≡ no_memory → (t ≡ table) × (answer_body a ≡ [])
 
--- one answer, which is no want of memory
+-- one answer, which is not an allocation failure
 one_does : (table next : Table) (answer : Answer) → answer_code answer ≢ no_memory → HasOneAct table (λ t a. Does t a next answer)
 one_does table next answer other = record {
   one = λ t u a b p q m n. (p.0 ∙ sym q.0, p.1 ∙ sym q.1);
   lacks = λ t a p e. absurd (other (ap answer_code (sym p.1) ∙ e));
 }
 
--- want of memory alone
+-- an allocation failure alone
 one_lack : (table : Table) → HasOneAct table (λ t a. Does t a table (answers.Refused status.NoMemory))
 one_lack table = record {
   one = λ t u a b p q m n. absurd (m (ap answer_code p.1));
   lacks = λ t a p e. (p.0, ap answer_body p.1);
 }
 
--- or want of memory
+-- or an allocation failure
 one_or : (table : Table) (May : Table → Answer → Type 0) → HasOneAct table May → HasOneAct table (λ t a. May t a ⊎ Does t a table (answers.Refused status.NoMemory))
 one_or table May h = record {
   one = λ t u a b p q m n. elim p [
@@ -73,7 +73,7 @@ one_put table (Read charmap) =
 one_part : (table : Table) (bytes : List ℕ) → HasOneAct table (Parts table bytes)
 one_part table [] = one_does table _ _ (λ e. absurd cc)
 one_part table (b ∷ bytes) =
-    one_when table (nat_lt MOST_PART (length (table.part ++ b ∷ bytes))) _ _ (one_does table _ _ (λ e. absurd cc)) (one_or table _ (one_does table _ _ (λ e. absurd cc)))
+    one_when table (nat_lt most_part (length (table.part ++ b ∷ bytes))) _ _ (one_does table _ _ (λ e. absurd cc)) (one_or table _ (one_does table _ _ (λ e. absurd cc)))
 
 one_drop : (table : Table) (place : Option ℕ) → HasOneAct table (Drops table place)
 one_drop table None = one_does table _ _ (λ e. absurd cc)
@@ -88,7 +88,7 @@ one_open : (table : Table) (number : Option ℕ) (to from : List ℕ) (policy : 
 one_open table None to from policy = one_does table _ _ (λ e. absurd cc)
 one_open table (Some number) to from policy = one_bind table number policy (named_of table.charmaps to) (named_of table.charmaps from)
 
--- no stop has the status of want of memory
+-- no stop has the status of an allocation failure
 pub other_code : (s : Stop) → status_number (stop_status s) ≢ no_memory
 other_code stop.Done e = absurd cc
 other_code stop.TooBig e = absurd cc
@@ -96,7 +96,7 @@ other_code stop.Lacking e = absurd cc
 other_code stop.Ill e = absurd cc
 other_code stop.Incomplete e = absurd cc
 
--- The longest conversion is one.
+-- There is one longest conversion.
 one_convert : (table : Table) (number : ℕ) (d : Descriptor) (room : ℕ) (input : List ℕ) → HasOneAct table (IsConversion table number d room input)
 one_convert table number d room input = record {
   one = λ t u a b p q m n.
@@ -122,7 +122,7 @@ one_close : (table : Table) (number : ℕ) (d : Option Descriptor) → HasOneAct
 one_close table number None = one_does table _ _ (λ e. absurd cc)
 one_close table number (Some d) = one_does table _ _ (λ e. absurd cc)
 
--- What an action may come to is one, and want of memory beside it.
+-- An action has one result at most, besides an allocation failure.
 pub one_act : (table : Table) (action : Action) → HasOneAct table (Acts table action)
 one_act table (Put came) = one_put table came
 one_act table (DropMap name) = one_drop table (place_of table.charmaps name)
@@ -134,7 +134,7 @@ one_act table Bye = one_does table _ _ (λ e. absurd cc)
 one_act table (Part bytes) = one_part table bytes
 one_act table Bad = one_does table _ _ (λ e. absurd cc)
 
--- ---- what a request asks for is one, unless memory lacked
+-- ---- a request asks for one thing, unless an allocation failed
 
 one_compiled : (text : List ℕ) (a b : Compiled) → MayCompile text a → MayCompile text b → a ≢ Lacking → b ≢ Lacking → a ≡ b
 one_compiled text (Read m) (Read n) p q h k = let e = sym p ∙ q in cc
@@ -155,11 +155,11 @@ not_lacking table code body o p h e =
     let acts : Acts table (Put Lacking) o.next p.answer = subst (λ (x : Action). Acts table x o.next p.answer) e p.acts in
     h (p.code_is ∙ ap answer_code acts.1)
 
--- Each request has one answer, and want of memory beside it at most.
+-- Each request has one answer at most, besides an allocation failure.
 pub one_answer : IsOneAnswer turn
 one_answer table code body = record {
   one = λ a b p q m n.
-      let same : p.action ≡ q.action = one_asked (code == PUT) (table.part ++ body) (action_of code body) p.action q.action p.asks q.asks (not_lacking table code body a p m) (not_lacking table code body b q n) in
+      let same : p.action ≡ q.action = one_asked (code == op_put) (table.part ++ body) (action_of code body) p.action q.action p.asks q.asks (not_lacking table code body a p m) (not_lacking table code body b q n) in
       let there : Acts table p.action b.next q.answer = subst (λ (x : Action). Acts table x b.next q.answer) (sym same) q.acts in
       let e = (one_act table p.action).one a.next b.next p.answer q.answer p.acts there (λ h. m (p.code_is ∙ h)) (λ h. n (q.code_is ∙ h)) in
       same_outcome a b e.0 (p.code_is ∙ ap answer_code e.1 ∙ sym q.code_is) (p.body_is ∙ ap answer_body e.1 ∙ sym q.body_is);

@@ -33,7 +33,7 @@ declined T (Some n) to from policy s h = declined_bind T n policy (named_of T.ch
 pub open_declined : (G : ℕ → Option Conversion) (k : Keyed) (to from : List ℕ) (policy : Policy) (s : Status) → ((n : ℕ) (p : Place) → place_at k n ≡ Some p → IsSome (G p.key)) → DeclinesOpen k to from s → Acts (table_of G k) (Open to from policy) (table_of G k) (answers.Refused s)
 open_declined G k to from policy s live h = rw (least_free_seen G k live) (declined (table_of G k) (position is_none k.places) to from policy s h)
 
--- OPEN for which memory lacks leaves the table
+-- OPEN for which an allocation fails leaves the table
 pub open_lacks : (G : ℕ → Option Conversion) (k : Keyed) (to from : List ℕ) (policy : Policy) (o : Opening) (next : Table) → ((n : ℕ) (p : Place) → place_at k n ≡ Some p → IsSome (G p.key)) → IsOpening k to from policy o → next ≡ table_of G k → Acts (table_of G k) (Open to from policy) next (answers.Refused status.NoMemory)
 open_lacks G k to from policy o next live is e = rw (least_free_seen G k live, is.number, is.to_named, is.from_named) (inr (e, refl))
 
@@ -52,7 +52,7 @@ position_within p xs k =
       | false ↦ λ (t : nat_lt (position_or_len p xs) (length xs) ≡ false) h. absurd cc
     ]) refl
 
--- ---- after all growths
+-- ---- after all allocations
 
 module _ (K0 K1 K2 : ℕ → Keyed) (G0 G1 G2 : ℕ → Option Conversion) (c key : ℕ) (to from : List ℕ) (policy : Policy) (o : Opening) (keyed : K1 ≡ K0) (held : G1 ≡ G0) (own : IsWorld K0 G0) (is : IsOpening (K0 c) to from policy o)
     (sets : SetsKeyed K1 K2 c (with_place (K1 c) o.number (Some (record { key = key; to = o.to; from = o.from })))) (vacant : G1 key ≡ None) (now : G2 key ≡ Some o.conversion) (others : (k : ℕ) → k ≢ key → G2 k ≡ G1 k) where

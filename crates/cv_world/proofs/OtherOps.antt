@@ -1,9 +1,9 @@
--- PUT alone asks that a charmap be held.
+-- Only PUT asks to hold a charmap.
 use Rattle.std.proofs.Common.{◌≢◌, ◌==◌, ℕ, Bool, true, false, List, [], ◌∷◌, Option, Some, None}
 use Rattle.std.specs.Prelude.{if◌then◌else◌}
 use Rattle.cv_cache.specs.Compiled.{Compiled}
 use Rattle.cv_frame.specs.Bodies.{Opening, open_of, conv_of, reset_of, number_of, drop_of}
-use Rattle.cv_frame.specs.declared.ops.TheConstants.{OPEN, CONV, RESET, CLOSE, DROP, BYE, PART}
+use Rattle.cv_frame.specs.Ops.{op_open, op_conv, op_reset, op_close, op_drop, op_bye, op_part}
 use Rattle.cv_world.specs.Actions.{Action, Put}
 use Rattle.cv_world.specs.Requests.{action_of, drop_action, open_action, conv_action, reset_action, close_action, bye_action}
 
@@ -38,10 +38,10 @@ by_test false x y c p q = q
 -- no other op asks for it
 pub not_put : (code : ℕ) (body : List ℕ) (c : Compiled) → action_of code body ≢ Put c
 not_put code body c =
-    by_test (code == DROP) _ _ c (drop_other (drop_of body) c) (
-    by_test (code == OPEN) _ _ c (open_other (open_of body) c) (
-    by_test (code == CONV) _ _ c (conv_other (conv_of body) c) (
-    by_test (code == RESET) _ _ c (reset_other (reset_of body) c) (
-    by_test (code == CLOSE) _ _ c (close_other (number_of body) c) (
-    by_test (code == BYE) _ _ c (bye_other body c) (
-    by_test (code == PART) _ _ c (λ e. absurd cc) (λ e. absurd cc)))))))
+    by_test (code == op_drop) _ _ c (drop_other (drop_of body) c) (
+    by_test (code == op_open) _ _ c (open_other (open_of body) c) (
+    by_test (code == op_conv) _ _ c (conv_other (conv_of body) c) (
+    by_test (code == op_reset) _ _ c (reset_other (reset_of body) c) (
+    by_test (code == op_close) _ _ c (close_other (number_of body) c) (
+    by_test (code == op_bye) _ _ c (bye_other body c) (
+    by_test (code == op_part) _ _ c (λ e. absurd cc) (λ e. absurd cc)))))))

@@ -1,4 +1,4 @@
--- What becomes of tables and of what a world keeps, where one number or the conversion under one key changes.
+-- How tables, and what a world keeps, change with one number or with the conversion under one key.
 use Rattle.std.proofs.Common.{◌≡◌, ◌≢◌, ◌⊎◌, inl, inr, ◌<◌, ℕ, zero, suc, Bool, true, false, List, [], ◌∷◌, length, map, get_or, set, Option, Some, None, IsSome, refl, sym, ◌∙◌, ap, subst, eq-eqb}
 use Rattle.std.specs.Prelude.{is_some, is_none}
 use Rattle.std.specs.List.{position, list_any}
@@ -20,7 +20,7 @@ use Rattle.cv_world.specs.Worlds.{IsWorld}
 
 -- ---- tables
 
--- a place's descriptor, where its key has what it had
+-- a place's descriptor, if its key has what it had
 same_at : (G G2 : ℕ → Option Conversion) (o : Option Place) → ((p : Place) → o ≡ Some p → G2 p.key ≡ G p.key) → option_and_then (descriptor_of G2) o ≡ option_and_then (descriptor_of G) o
 same_at G G2 None h = refl
 same_at G G2 (Some p) h = rw (h p refl) refl
@@ -29,7 +29,7 @@ map_kept : {X Y : Type 0} (f g : X → Y) (xs : List X) (d : X) → ((m : ℕ) �
 map_kept f g [] d h = refl
 map_kept f g (x ∷ xs) d h = rw (h 0, map_kept f g xs d (λ m. h (suc m))) refl
 
--- where all but one place is seen alike
+-- if all places except one are seen alike
 map_set : {X Y : Type 0} (f g : X → Y) (xs : List X) (n : ℕ) (y d : X) → ((m : ℕ) → m ≢ n → g (get_or xs m d) ≡ f (get_or xs m d)) → map g (set xs n y) ≡ set (map f xs) n (g y)
 map_set f g [] n y d h = refl
 map_set {X} {Y} f g (x ∷ xs) zero y d h = ap (λ (l : List Y). g y ∷ l) (map_kept f g xs d (λ m. h (suc m) (λ e. absurd cc)))
@@ -52,11 +52,11 @@ changed_table G G2 k n o h =
 pub descriptor_seen : (G : ℕ → Option Conversion) (k : Keyed) (n : ℕ) → descriptor_at (table_of G k) n ≡ option_and_then (descriptor_of G) (place_at k n)
 descriptor_seen G k n = get_or-map (option_and_then (descriptor_of G)) k.places n None
 
--- a number written as it was
+-- a number that is written with the value that it had
 place_kept : (k : Keyed) (n : ℕ) (p : Place) → place_at k n ≡ Some p → with_place k n (Some p) ≡ k
 place_kept k n p h = ap (λ (ps : List (Option Place)). let t : Keyed = record { charmaps = k.charmaps; places = ps; part = k.part } in t) (ap (λ (o : Option Place). set k.places n o) (sym h) ∙ set-get_or k.places n None)
 
--- where one conversion changes, its descriptor alone does
+-- if one conversion changes, its descriptor alone does
 pub written_table : (G G2 : ℕ → Option Conversion) (k : Keyed) (n : ℕ) (p : Place) → place_at k n ≡ Some p → ((m : ℕ) (q : Place) → m ≢ n → place_at k m ≡ Some q → G2 q.key ≡ G q.key)
     → table_of G2 k ≡ with_descriptor (table_of G k) n (descriptor_of G2 p)
 written_table G G2 k n p h others = ap (table_of G2) (sym (place_kept k n p h)) ∙ changed_table G G2 k n (Some p) others
@@ -104,7 +104,7 @@ uses_seen : (G : ℕ → Option Conversion) (place : ℕ) (o : Option Place) →
 uses_seen G place None live = refl
 uses_seen G place (Some p) live = uses_by place p (G p.key) (live p refl)
 
--- a charmap is used by a descriptor where a place refers to it
+-- a charmap is used by a descriptor if a place refers to it
 pub busy_seen : (G : ℕ → Option Conversion) (k : Keyed) (place : ℕ) → ((n : ℕ) (p : Place) → place_at k n ≡ Some p → IsSome (G p.key)) → list_any (uses place) (table_of G k).descriptors ≡ list_any (refers place) k.places
 busy_seen G k place live = any_seen (uses place) (refers place) (option_and_then (descriptor_of G)) k.places None (λ m. uses_seen G place (get_or k.places m None) (live m))
 
@@ -264,7 +264,7 @@ module _ (K K2 : ℕ → Keyed) (c place : ℕ) (m : Option Charmap) (places : (
         ];
   }
 
--- no charmap that is named stands at a place that is free
+-- no charmap that is named is at a place that is free
 free_held : (charmaps : Charmaps) (place : ℕ) (o : Option ℕ) → charmap_at charmaps place ≡ None → IsHeld charmaps o → o ≢ Some place
 free_held charmaps place None free h e = absurd cc
 free_held charmaps place (Some q) free h e =
@@ -293,7 +293,7 @@ idle_unused k place h n p e =
 
 -- ---- all tables after a change
 
--- a world stays one where a conversion's states change
+-- a world stays a world if a conversion's states change
 pub written : (K : ℕ → Keyed) (G G2 : ℕ → Option Conversion) (c n : ℕ) (p : Place) (v w : Conversion) → IsWorld K G → place_at (K c) n ≡ Some p → G2 p.key ≡ Some w → w.to ≡ v.to → w.from ≡ v.from → w.policy ≡ v.policy
     → ((o : ℕ) → o ≢ p.key → G2 o ≡ G o)
     → (table_of G2 (K c) ≡ with_descriptor (table_of G (K c)) n (Some (record { to = named p.to v.to; from = named p.from v.from; policy = v.policy; states = w.states }))) × ((d : ℕ) → d ≢ c → table_of G2 (K d) ≡ table_of G (K d))
@@ -302,7 +302,7 @@ written K G G2 c n p v w own h is t f y others = (
   λ d a. kept_table G G2 (K d) (λ m q i. others q.key (λ e. a (own.one d m c n q p i h e).0)),
 )
 
--- a world stays one where a descriptor is opened
+-- a world stays a world if a descriptor is opened
 pub opened : (K K2 : ℕ → Keyed) (G G2 : ℕ → Option Conversion) (c n : ℕ) (p : Place) (v : Conversion) → SetsKeyed K K2 c (with_place (K c) n (Some p)) → IsWorld K G → G p.key ≡ None → G2 p.key ≡ Some v
     → ((o : ℕ) → o ≢ p.key → G2 o ≡ G o)
     → (table_of G2 (K2 c) ≡ with_descriptor (table_of G (K c)) n (Some (record { to = named p.to v.to; from = named p.from v.from; policy = v.policy; states = v.states }))) × ((d : ℕ) → d ≢ c → table_of G2 (K2 d) ≡ table_of G (K d))
@@ -312,7 +312,7 @@ opened K K2 G G2 c n p v sets own vacant now others =
       λ d a. ap (table_of G2) (sets.others d a) ∙ kept_table G G2 (K d) (λ m q i. others q.key (apart d m q i)),
     )
 
--- a world stays one where a descriptor is closed
+-- a world stays a world if a descriptor is closed
 pub closed : (K K2 : ℕ → Keyed) (G G2 : ℕ → Option Conversion) (c n : ℕ) (p : Place) → SetsKeyed K K2 c (with_place (K c) n None) → IsWorld K G → place_at (K c) n ≡ Some p → ((o : ℕ) → o ≢ p.key → G2 o ≡ G o)
     → (table_of G2 (K2 c) ≡ with_descriptor (table_of G (K c)) n None) × ((d : ℕ) → d ≢ c → table_of G2 (K2 d) ≡ table_of G (K d))
 closed K K2 G G2 c n p sets own mine others = (

@@ -1,4 +1,4 @@
--- Each request has some answer: where it takes memory, want of it is one.
+-- Each request has some answer. If it takes memory, an allocation failure is one.
 use Rattle.std.proofs.Common.{◌≡◌, ◌⊎◌, inr, ◌==◌, ℕ, Bool, true, false, List, [], ◌∷◌, ◌++◌, length, nat_lt, Option, Some, None, refl}
 use Rattle.std.specs.List.{list_any}
 use Rattle.cv_base.specs.declared.policy.Policy.{Policy}
@@ -9,10 +9,10 @@ use Rattle.cv_machine.specs.Machine.{IsSomeAnswer, When}
 use Rattle.cv_frame.specs.declared.status.Status.TheVariants as status
 use Rattle.cv_caller.specs.Tables.{Table, Named, Descriptor, form_in, named_of, place_of, least_place, least_free, descriptor_at, uses}
 use Rattle.cv_caller.specs.Results.{is_taken, is_full}
-use Rattle.cv_caller.specs.declared.limits.TheConstants.{MOST_PART}
+use Rattle.cv_caller.specs.Limits.{most_part}
 use Rattle.cv_world.specs.Actions.{Action, Put, DropMap, Open, Conv, Reset, Close, Bye, Part, Bad}
 use Rattle.cv_world.specs.Answers.{answer_code, answer_body, most_room}
-use Rattle.cv_frame.specs.declared.ops.TheConstants.{PUT}
+use Rattle.cv_frame.specs.Ops.{op_put}
 use Rattle.cv_world.specs.Requests.{AsksPut, action_of, turn}
 use Rattle.cv_world.specs.Turn.{Does, Holds, Puts, Parts, Drops, Binds, Opens, Convs, Resets, Closes, Acts}
 use Rattle.cv_world.specs.declared.answer.Answer.{Answer}
@@ -29,7 +29,7 @@ some_when : (b : Bool) (May Else : Table → Answer → Type 0) → HasSomeAct M
 some_when true May Else p q = p
 some_when false May Else p q = q
 
--- memory lacks
+-- an allocation fails
 lacks : (table : Table) (May : Table → Answer → Type 0) → HasSomeAct (λ t a. May t a ⊎ Does t a table (answers.Refused status.NoMemory))
 lacks table May = (table, answers.Refused status.NoMemory, inr (refl, refl))
 
@@ -46,7 +46,7 @@ some_put table (Read charmap) =
 
 some_part : (table : Table) (bytes : List ℕ) → HasSomeAct (Parts table bytes)
 some_part table [] = does _ _
-some_part table (b ∷ bytes) = some_when (nat_lt MOST_PART (length (table.part ++ b ∷ bytes))) _ _ (does _ _) (lacks table _)
+some_part table (b ∷ bytes) = some_when (nat_lt most_part (length (table.part ++ b ∷ bytes))) _ _ (does _ _) (lacks table _)
 
 some_drop : (table : Table) (place : Option ℕ) → HasSomeAct (Drops table place)
 some_drop table None = does _ _
@@ -95,7 +95,7 @@ some_asked false text other = (other, refl)
 -- Each request has some answer.
 pub some_answer : IsSomeAnswer turn
 some_answer table code body =
-    let asked = some_asked (code == PUT) (table.part ++ body) (action_of code body) in
+    let asked = some_asked (code == op_put) (table.part ++ body) (action_of code body) in
     let did = some_act table asked.0 in (
       record { next = did.0; code = answer_code did.1; body = answer_body did.1 },
       record { action = asked.0; asks = asked.1; answer = did.1; acts = did.2; code_is = refl; body_is = refl },

@@ -72,7 +72,7 @@ some_value None h = absurd cc
 abbrev pub described : Place → Conversion → Descriptor
 described p v = record { to = named p.to v.to; from = named p.from v.from; policy = v.policy; states = v.states }
 
--- a place that is bound is an open descriptor
+-- a place that is bound is that of an open descriptor
 pub open_at : (G : ℕ → Option Conversion) (k : Keyed) (n : ℕ) (p : Place) (v : Conversion) → place_at k n ≡ Some p → G p.key ≡ Some v → descriptor_at (table_of G k) n ≡ Some (described p v)
 open_at G k n p v h g = descriptor_seen G k n ∙ ap (option_and_then (descriptor_of G)) h ∙ ap (option_map (λ (c : Conversion). described p c)) g
 
@@ -90,7 +90,7 @@ close_none T n h = rw h (refl, refl)
 pub close_done : (T next : Table) (n : ℕ) (d : Descriptor) → descriptor_at T n ≡ Some d → next ≡ with_descriptor T n None → Acts T (Close n) next answers.Empty
 close_done T next n d h e = rw h (e, refl)
 
--- ---- where nothing changes
+-- ---- if nothing changes
 
 -- what leaves callers and conversions leaves the tables
 pub acts_still : (callers : BTreeMap ℕ Keyed) (s : slab.Slab Conversion) (v : List (ℕ × Table)) (c : ℕ) (action : Action) (a : Answer) → tables_in callers.entries s ≡ v
@@ -109,7 +109,7 @@ within (x ∷ xs) (suc n) p h = let l = within xs n p h in omega (arith, l)
 
 -- ---- nothing yet
 
--- of places that are all free each is
+-- if all places are free, each is
 pub none_of : (m n : ℕ) → get_or (let xs : List (Option Place) = replicate m None in xs) n None ≡ None
 none_of zero n = refl
 none_of (suc m) zero = refl
@@ -140,7 +140,7 @@ drop_done G k k2 name (Err drop.Busy) live h = rw (h.1, busy_seen G k h.0 live, 
 pub all_keyed : (K K2 : ℕ → Keyed) (c : ℕ) → K2 c ≡ K c → ((d : ℕ) → d ≢ c → K2 d ≡ K d) → K2 ≡ K
 all_keyed K K2 c same others = fun_ext (λ d. elim (cases_eq d c) [ inl e ↦ ap K2 e ∙ same ∙ ap K (sym e) | inr a ↦ others d a ])
 
--- a world stays one where a charmap was dropped
+-- a world stays a world if a charmap was dropped
 pub drop_world : (K K2 : ℕ → Keyed) (G : ℕ → Option Conversion) (c : ℕ) (name : List ℕ) (r : Result (Unit {0}) DropFault) → IsDropped (K c) name r (K2 c) → ((d : ℕ) → d ≢ c → K2 d ≡ K d) → IsWorld K G → IsWorld K2 G
 drop_world K K2 G c name (Ok u) h others own = mapped_world K K2 c h.0 None (ap (λ (k : Keyed). k.places) h.3) (ap (λ (k : Keyed). k.charmaps) h.3) others G (idle_unused (K c) h.0 h.2) own
 drop_world K K2 G c name (Err drop.NoName) h others own = subst (λ (F : ℕ → Keyed). IsWorld F G) (sym (all_keyed K K2 c h.1 others)) own
@@ -159,7 +159,7 @@ put_done G k k2 m (Err add.Exists) h = rw h.0 (ap (table_of G) h.1, refl)
 put_done G k k2 m (Err add.Quota) h = rw (h.0, h.1) (ap (table_of G) h.2, refl)
 put_done G k k2 m (Err add.Memory) h = rw (h.0, h.1) (holds_lacks (table_of G k) (table_of G k2) m (least_place k.charmaps) ((or_parts _ _ h.1).1) (ap (table_of G) h.2))
 
--- a world stays one where a charmap was put
+-- a world stays a world if a charmap was put
 pub put_world : (K K2 : ℕ → Keyed) (G : ℕ → Option Conversion) (c : ℕ) (m : Charmap) (r : Result (Unit {0}) AddFault) → ArePlaces (K c).charmaps (K c).places → IsPut (K c) m r (K2 c) → ((d : ℕ) → d ≢ c → K2 d ≡ K d) → IsWorld K G → IsWorld K2 G
 put_world K K2 G c m (Ok u) are h others own =
     mapped_world K K2 c h.1.2 (Some m) (ap (λ (k : Keyed). k.places) h.2 ∙ ap (λ (k : Keyed). k.places) h.1.4) (ap (λ (k : Keyed). k.charmaps) h.2 ∙ ap (λ (k : Keyed). k.charmaps) h.1.4) others G

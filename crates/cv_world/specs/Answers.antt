@@ -1,4 +1,4 @@
--- How an answer is spelled in a reply.
+-- How a reply encodes an answer.
 use Rattle.std.specs.Prelude.{ℕ, ◌≤◌, List, [], ◌∷◌, ◌++◌, length}
 use Rattle.std.specs.Int.{w32, to_be_bytes}
 use Rattle.cv_pivot.specs.declared.outcome.Stop.{Stop}
@@ -36,7 +36,7 @@ answer_status (Refused s) = s
 abbrev pub answer_code : Answer → ℕ
 answer_code answer = status_number (answer_status answer)
 
--- The body of an answer. That of a conversion is what is left, for how many characters `?` stands, and the output.
+-- The body of an answer. That of a conversion is what is left, how many characters `?` replaces, and the output.
 abbrev pub answer_body : Answer → List ℕ
 answer_body Empty = []
 answer_body (Number n) = to_be_bytes w32 n

@@ -1,4 +1,4 @@
--- Feeds: the calls by which a number of a caller was fed along a run, since it was opened or reset; and that what comes of them doesn't depend on how the text
+-- Feeds: the calls that fed a number of a caller along a run, since it was opened or reset; and the law that their result doesn't depend on how the text
 -- and the room were cut (POSIX iconv()).
 use Rattle.std.specs.Prelude.{◌≡◌, ◌==◌, ◌&&◌, ◌⊎◌, ◌≤◌, ℕ, Bool, false, List, [], ◌∷◌, ◌++◌, length, drop, Option, Some, None, if◌then◌else◌}
 use Rattle.std.specs.List.{AllByRecursion}
@@ -13,7 +13,7 @@ use Rattle.cv_machine.specs.Machine.{Outcome, Event, requests, events_of, after_
 use Rattle.cv_frame.specs.Cut.{number_at, messages_of}
 use Rattle.cv_frame.specs.Bodies.{number_of}
 use Rattle.cv_frame.specs.Status.{status_number}
-use Rattle.cv_frame.specs.declared.sizes.TheConstants.{MOST_BODY}
+use Rattle.cv_frame.specs.Sizes.{most_body}
 use Rattle.cv_frame.specs.declared.status.Status.TheVariants as status
 use Rattle.cv_world.specs.Actions.{Action, Open, Conv, Reset, Close, Bye}
 use Rattle.cv_world.specs.Answers.{stop_status}
@@ -39,7 +39,7 @@ stop_of code =
     if is_stop stop.Incomplete code then Some stop.Incomplete else
     if is_stop stop.Lacking code then Some stop.Lacking else None
 
--- whether the number that stands there is this one
+-- whether the number that is there is this one
 abbrev pub is_number : ℕ → Option ℕ → Bool
 is_number number (Some other) = other == number
 is_number number None = false
@@ -49,7 +49,7 @@ abbrev pub states_of : Option Descriptor → States
 states_of (Some descriptor) = descriptor.states
 states_of None = start
 
--- A call: what was asked; and by the body of the reply what is left, for how many characters `?` stands, and the output; and the states of the number then.
+-- A call: what was asked; by the body of the reply, what is left, how many characters `?` replaces, and the output; and the states of the number then.
 abbrev pub call_of : ℕ → ℕ → List ℕ → Stop → Outcome Table → Call
 call_of number room input why outcome = record {
   input = input;
@@ -65,13 +65,13 @@ call_of number room input why outcome = record {
 
 -- ---- feeds
 
--- A conversion that stopped is one call more.
+-- A conversion that stopped adds one call.
 abbrev pub with_stop : ℕ → ℕ → List ℕ → List Call → Outcome Table → Option Stop → List Call
 with_stop number room input calls outcome (Some why) = calls ++ call_of number room input why outcome ∷ []
 with_stop number room input calls outcome None = calls
 
 -- The calls of a number after one request more of its caller. An OPEN that answers the number, a RESET or a CLOSE of it and a BYE that are OK empty them; a CONV
--- of it that stopped is one more; every other request and every other answer leaves them.
+-- of it that stopped adds one; every other request and every other answer leaves them unchanged.
 abbrev pub calls_after : ℕ → List Call → Action → Outcome Table → List Call
 calls_after number calls (Open to from policy) outcome = if is_ok outcome && is_number number (number_of outcome.body) then [] else calls
 calls_after number calls (Conv n room input) outcome = if n == number then with_stop number room input calls outcome (stop_of outcome.code) else calls
@@ -87,7 +87,7 @@ calls_along number calls (e ∷ events) = calls_along number (calls_after number
 
 -- The body of each request fits a frame.
 abbrev pub BodiesFit : List (Event Table) → Type 0
-BodiesFit events = AllByRecursion (λ e. length e.request.body ≤ MOST_BODY) events
+BodiesFit events = AllByRecursion (λ e. length e.request.body ≤ most_body) events
 
 -- A feed: after a run from the start, of requests that fit frames, a number of a caller stands for a descriptor.
 pub record Feed : Type 0 where
@@ -99,15 +99,15 @@ pub record Feed : Type 0 where
   pub descriptor : Descriptor
   pub is_open : descriptor_at (after_all no_tables events caller) number ≡ Some descriptor
 
--- its calls: those of its number along its caller's events, whatever stands between these
+-- its calls: those of its number along its caller's events, whatever events are between these
 abbrev pub calls_of : Feed → List Call
 calls_of feed = calls_along feed.number [] (events_of feed.caller feed.events)
 
--- what its calls came to together
+-- the combined result of its calls
 abbrev pub came_of : Feed → Total
 came_of feed = total start (calls_of feed)
 
--- what an encoding of its caller comes to after the run
+-- the form of an encoding of its caller after the run
 abbrev pub form_after : Feed → Named → Form
 form_after feed named = form_in (after_all no_tables feed.events feed.caller).charmaps named
 
@@ -126,8 +126,8 @@ pub record AreAlike (a b : Feed) : Type 0 where
   pub policy : a.descriptor.policy ≡ b.descriptor.policy
 
 -- Each call of a feed is a conversion from the states that the one before left, and the last left those of the descriptor. So a feed that is fed one text is the
--- first items of it; two that are alike and used as many bytes of one text came to the same, of whatever callers, numbers and runs they are; and two that are
--- alike and ended at ill-formed bytes, or at a character that the target lacks, used as many. The requests of a stream's whole frames fit frames.
+-- first items of it; two that are alike and used the same number of bytes of one text have the same result, of whatever callers, numbers and runs they are; and two that are
+-- alike and ended at ill-formed bytes, or at a character that the target lacks, used the same number of bytes. The requests of a stream's whole frames fit frames.
 pub record Feeds : Type 0 where
   pub conversions : (feed : Feed) → IsFeed (form_reads (source_of feed)) (form_writes (target_of feed)) feed.descriptor.policy start (calls_of feed)
   pub states : (feed : Feed) → (came_of feed).states ≡ feed.descriptor.states

@@ -1,10 +1,10 @@
--- What a request asks for, by its op and its body, and what it may come to. The numbers of the ops and the forms of the bodies are this project's own.
+-- What a request asks for, by its op and its body, and which outcomes it may have. The numbers of the ops and the forms of the bodies are this project's own.
 use Rattle.std.specs.Prelude.{◌≡◌, ℕ, List, [], ◌∷◌, ◌++◌, ◌==◌, Option, Some, None, if◌then◌else◌}
 use Rattle.cv_cache.specs.Compiled.{Compiled, MayCompile}
 use Rattle.cv_caller.specs.Tables.{Table}
 use Rattle.cv_machine.specs.Machine.{Outcome, When, Turn}
 use Rattle.cv_frame.specs.Bodies.{Opening, drop_of, open_of, conv_of, reset_of, number_of}
-use Rattle.cv_frame.specs.declared.ops.TheConstants.{PUT, DROP, OPEN, CONV, RESET, CLOSE, BYE, PART}
+use Rattle.cv_frame.specs.Ops.{op_put, op_drop, op_open, op_conv, op_reset, op_close, op_bye, op_part}
 use Rattle.cv_world.specs.Actions.{Action, Put, DropMap, Open, Conv, Reset, Close, Bye, Part, Bad}
 use Rattle.cv_world.specs.Answers.{answer_code, answer_body}
 use Rattle.cv_world.specs.Turn.{Acts}
@@ -45,28 +45,28 @@ bye_action (b ∷ body) = Bad
 -- what the op and the body of a request other than PUT ask for
 abbrev pub action_of : ℕ → List ℕ → Action
 action_of code body =
-    if code == DROP then drop_action (drop_of body) else
-    if code == OPEN then open_action (open_of body) else
-    if code == CONV then conv_action (conv_of body) else
-    if code == RESET then reset_action (reset_of body) else
-    if code == CLOSE then close_action (number_of body) else
-    if code == BYE then bye_action body else
-    if code == PART then Part body else Bad
+    if code == op_drop then drop_action (drop_of body) else
+    if code == op_open then open_action (open_of body) else
+    if code == op_conv then conv_action (conv_of body) else
+    if code == op_reset then reset_action (reset_of body) else
+    if code == op_close then close_action (number_of body) else
+    if code == op_bye then bye_action body else
+    if code == op_part then Part body else Bad
 
--- PUT asks that the charmap be held which a text may be compiled to.
+-- PUT asks to hold a charmap that the text may be compiled to.
 pub record AsksPut (text : List ℕ) (action : Action) : Type 0 where
   pub charmap : Compiled
   pub may : MayCompile text charmap
   pub is : action ≡ Put charmap
 
--- What a request asks for, where its caller has sent this part of an upload before: the text of a PUT is the part, and then its body.
+-- What a request asks for, if its caller has sent this part of an upload before: the text of a PUT is the part, and then its body.
 abbrev pub Asks : List ℕ → ℕ → List ℕ → Action → Type 0
-Asks part code body action = When (code == PUT) (AsksPut (part ++ body) action) (action ≡ action_of code body)
+Asks part code body action = When (code == op_put) (AsksPut (part ++ body) action) (action ≡ action_of code body)
 
--- ---- what a request may come to
+-- ---- the outcomes that a request may have
 
--- An action that it asks for came to this table and to an answer, and the outcome spells the answer. This is said of each table, also of those that no run
--- leaves: there a conversion from a charmap that isn't held comes to want of memory alone.
+-- An action that it asks for may give this table and an answer, and the outcome encodes the answer. This is said of each table, also of those that no run
+-- leaves: there the only outcome of a conversion from a charmap that isn't held is an allocation failure.
 pub record MayTurn (table : Table) (code : ℕ) (body : List ℕ) (outcome : Outcome Table) : Type 0 where
   pub action : Action
   pub asks : Asks table.part code body action

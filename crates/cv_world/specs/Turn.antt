@@ -6,7 +6,7 @@ use Rattle.cv_base.specs.declared.policy.Policy.{Policy}
 use Rattle.cv_cache.specs.Compiled.{Compiled, Read, Faulty, Lacking}
 use Rattle.cv_caller.specs.Tables.{Table, Named, Descriptor, empty_table, form_in, named_of, place_of, least_place, least_free, descriptor_at, uses, with_descriptor, with_charmap, with_part}
 use Rattle.cv_caller.specs.Results.{is_taken, is_full}
-use Rattle.cv_caller.specs.declared.limits.TheConstants.{MOST_PART}
+use Rattle.cv_caller.specs.Limits.{most_part}
 use Rattle.cv_charmap.specs.Meaning.{Charmap}
 use Rattle.cv_pivot.specs.Conversions.{start, Converted, IsConverted}
 use Rattle.cv_pivot.specs.Encodings.{form_reads, form_writes, form_closes, IsForm}
@@ -29,7 +29,7 @@ Refuses table next answer s = Does next answer table (answers.Refused s)
 
 -- ---- PUT
 
--- A charmap is held at a place, and the part of the upload is done with.
+-- A charmap is held at a place, and the part of the upload is dropped.
 abbrev pub Holds : Table → Charmap → Option ℕ → Table → Answer → Type 0
 Holds table charmap None next answer = Refuses table next answer status.Quota
 Holds table charmap (Some place) next answer =
@@ -47,11 +47,11 @@ Puts table (Read charmap) next answer =
 
 -- ---- PART
 
--- An empty part takes back what was sent; another stands behind it, if they are not too long.
+-- An empty part drops what was sent; another is appended to it, if they are not too long together.
 abbrev pub Parts : Table → List ℕ → Table → Answer → Type 0
 Parts table [] next answer = Does next answer (with_part table []) (answers.Count 0)
 Parts table (b ∷ bytes) next answer =
-    When (nat_lt MOST_PART (length (table.part ++ b ∷ bytes))) (Refuses table next answer status.Quota) (
+    When (nat_lt most_part (length (table.part ++ b ∷ bytes))) (Refuses table next answer status.Quota) (
     Does next answer (with_part table (table.part ++ b ∷ bytes)) (answers.Count (length (table.part ++ b ∷ bytes)))
     ⊎ Refuses table next answer status.NoMemory)
 
@@ -84,7 +84,7 @@ Opens table (Some number) to from policy next answer = Binds table number policy
 abbrev pub with_states : Table → ℕ → Descriptor → States → Table
 with_states table number d states = with_descriptor table number (Some (record d { states = states }))
 
--- The longest conversion is answered, and its states are kept. A charmap that is read is one, so that one item stands next.
+-- The answer is the longest conversion, and its states are kept. A charmap that is read is a valid one, so that one item is next.
 pub record IsConversion (table : Table) (number : ℕ) (d : Descriptor) (room : ℕ) (input : List ℕ) (next : Table) (answer : Answer) : Type 0 where
   pub is_form : IsForm (form_in table.charmaps d.from)
   pub came : Converted
@@ -100,7 +100,7 @@ Convs table number (Some d) room input next answer =
 
 -- ---- RESET
 
--- Both states go to their start. With room 0 nothing is written, else what closes the target's shift, if it fits.
+-- Both states go to their start. With room 0 nothing is written; otherwise what closes the target's shift is written, if it fits.
 abbrev pub Restarts : Table → ℕ → Descriptor → ℕ → List ℕ → Table → Answer → Type 0
 Restarts table number d room closing next answer =
     When (room == 0) (Does next answer (with_states table number d start) (answers.Written [])) (
@@ -123,7 +123,7 @@ Closes table number (Some d) next answer = Does next answer (with_descriptor tab
 
 -- ---- all of them
 
--- What an action may come to: the table after it, and the answer.
+-- What an action may give: the table after it, and the answer.
 abbrev pub Acts : Table → Action → Table → Answer → Type 0
 Acts table (Put charmap) next answer = Puts table charmap next answer
 Acts table (DropMap name) next answer = Drops table (place_of table.charmaps name) next answer

@@ -1,4 +1,4 @@
--- The tables of all callers of a world, whose conversions stand in one slab.
+-- The tables of all callers of a world, whose conversions are in one slab.
 use Rattle.std.specs.Prelude.{◌≡◌, ℕ, List, map, Option, Some, IsSome, unwrap_or}
 use Rattle.std.specs.Ordering.{nat_cmp}
 use Rattle.std.specs.BTreeMap.{BTreeMap, get, is_at}
@@ -25,7 +25,7 @@ keyed_in callers = λ caller. unwrap_or (get nat_cmp callers caller) no_keys
 abbrev pub tables_in : List (ℕ × Keyed) → slab.Slab Conversion → List (ℕ × Table)
 tables_in callers conversions = map (λ e. (e.0, table_of (slab.get conversions) e.1)) callers
 
--- What every world keeps: each number that is bound has a key under which a conversion stands, each such key is that of a number, and of one alone; and each
+-- What every world keeps: each number that is bound has a key under which there is a conversion, each such key is that of exactly one number; and each
 -- conversion is by the encodings that its place names.
 pub record IsWorld (keyed : ℕ → Keyed) (has : ℕ → Option Conversion) : Type 0 where
   pub live : (c n : ℕ) (p : Place) → place_at (keyed c) n ≡ Some p → IsSome (has p.key)

@@ -14,14 +14,13 @@ use std::alloc::Global;
 /// What an op answers.
 #[derive(Debug, Drop)]
 pub enum Answer {
-    /// It is done.
+    /// The request is done.
     Empty,
     /// The number of a new descriptor.
     Number(u32),
     /// How many mappings a charmap has, or how many bytes a part.
     Count(u32),
-    /// What was converted: why it stopped, the bytes of the input that are left, for how many characters `?`
-    /// stands, and the output.
+    /// What was converted: why it stopped, the bytes of the input that are left, how many characters `?` replaces, and the output.
     Converted {
         stop: Stop,
         left: u32,

@@ -39,7 +39,7 @@ pub(crate) fn assert_keyed(callers: &BTreeMap<u32, Kept>, caller: u32)
     }
 }
 
-/// What a caller's OPEN needs, or why there is none. Nothing changes.
+/// What a caller's OPEN needs, or why it is refused. Nothing changes.
 pub(crate) fn prepare_in(
     callers: &BTreeMap<u32, Kept>,
     caller: u32,
@@ -56,7 +56,7 @@ pub(crate) fn prepare_in(
     }
 }
 
-/// Makes an empty table where the caller has none.
+/// Makes an empty table if the caller has none.
 pub(crate) fn make_room(
     callers: &mut BTreeMap<u32, Kept>,
     alloc: Global,
@@ -86,7 +86,7 @@ pub(crate) fn bind_in(callers: &mut BTreeMap<u32, Kept>, caller: u32, number: u3
     }
 }
 
-/// Gives a number back.
+/// Frees a number.
 pub(crate) fn unbind_in(callers: &mut BTreeMap<u32, Kept>, caller: u32, number: u32)
     requires there { HasTable callers.old caller }
     ensures { SetsKeyed (keyed_in callers.old) (keyed_in callers.new) caller (with_place (keyed_in callers.old caller) number None) }
@@ -96,7 +96,7 @@ pub(crate) fn unbind_in(callers: &mut BTreeMap<u32, Kept>, caller: u32, number: 
     }
 }
 
-/// Holds a charmap, and is done with the part of the upload. One that is refused is dropped.
+/// Holds a charmap, and drops the part of the upload. A charmap that is refused is dropped.
 fn put(table: &mut Table, alloc: Global, charmap: Arc<Charmap>) -> Result<(), AddFault>
     ensures { IsPut table.old (arc_value charmap) result table.new }
 {
@@ -124,7 +124,7 @@ fn keep(
     Ok(())
 }
 
-/// Holds a charmap for a caller. A first table is made whole before it takes its place, so that want of memory comes last.
+/// Holds a charmap for a caller. A caller's first table is complete before it is inserted, so that an allocation failure comes last.
 pub(crate) fn put_in(
     callers: &mut BTreeMap<u32, Kept>,
     alloc: Global,
@@ -147,7 +147,7 @@ pub(crate) fn put_in(
     }
 }
 
-/// Gives a caller's charmap up.
+/// Drops a caller's charmap.
 pub(crate) fn drop_in(
     callers: &mut BTreeMap<u32, Kept>,
     caller: u32,
@@ -162,8 +162,8 @@ pub(crate) fn drop_in(
     }
 }
 
-/// Takes a part of an upload. A first table is made whole before it takes its place, so that want of memory comes last; an empty part
-/// takes none.
+/// Takes a part of an upload. A caller's first table is complete before it is inserted, so that an allocation failure comes last; an empty
+/// part takes no memory.
 pub(crate) fn part_in(
     callers: &mut BTreeMap<u32, Kept>,
     alloc: Global,
@@ -196,7 +196,7 @@ pub(crate) fn remove_in(callers: &mut BTreeMap<u32, Kept>, caller: u32)
     callers.remove(&caller);
 }
 
-/// Gives the memory back of a caller whose table is empty.
+/// Frees the memory of a caller whose table is empty.
 pub(crate) fn forget_empty(callers: &mut BTreeMap<u32, Kept>, caller: u32)
     ensures { (c : ℕ) → keyed_in callers.new c ≡ keyed_in callers.old c }
 {

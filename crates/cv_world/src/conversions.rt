@@ -11,7 +11,7 @@ use cv_pivot::{Conversion, Outcome, States, TooBig};
 use slab::Slab;
 use std::alloc::Global;
 
-/// Makes room for one conversion more, under a key of 32 bits.
+/// Makes room for one more conversion, under a key of 32 bits.
 pub(crate) fn reserve_one(conversions: &mut Slab<Conversion>) -> Result<(), Memory>
     ensures rest_kept { conversions.new ≡ record conversions.old { capacity = conversions.new.capacity } }
     ensures room { OnOk result (HasRoomFor conversions.new 1) }
@@ -24,7 +24,7 @@ pub(crate) fn reserve_one(conversions: &mut Slab<Conversion>) -> Result<(), Memo
     Ok(())
 }
 
-/// What a conversion came to, with its output.
+/// The result of a conversion, with its output.
 #[derive(Drop)]
 pub(crate) struct Output {
     pub(crate) outcome: Outcome,

@@ -13,7 +13,7 @@ use cv_frame::Status;
 use std::alloc::Global;
 
 impl World {
-    /// One event: what the op asks is done to the caller's table, and no other caller's changes. A refusal leaves every table as it was.
+    /// One event: what the op asks for is done to the caller's table, and no other caller's changes. A refusal leaves every table unchanged.
     pub fn step(&mut self, alloc: Global, caller: u32, op: Op<'_>) -> Answer
         requires { InputFits op }
         ensures acts { Acts (world_tables self.old caller) (asked op.entry) (world_tables self.new caller) result }

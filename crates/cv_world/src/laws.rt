@@ -7,7 +7,7 @@ ghost use Rattle.cv_world.specs.Requests.{turn};
 
 pub use cv_machine::laws::{merges, one_service, one_writing, schedules, two_worlds};
 
-/// Each request has one answer, and want of memory beside it at most.
+/// Each request has one answer at most, besides an allocation failure.
 #[tactic(auto, using(crate::proofs::OneAnswer::one_answer))]
 pub fn one_answer()
     ensures { IsOneAnswer turn }
@@ -15,7 +15,7 @@ pub fn one_answer()
     // The contract is the law; nothing runs.
 }
 
-/// Each request has some answer: where it takes memory, want of it is one.
+/// Each request has some answer. If it takes memory, an allocation failure is one.
 #[tactic(auto, using(crate::proofs::SomeAnswer::some_answer))]
 pub fn some_answer()
     ensures { IsSomeAnswer turn }
@@ -23,7 +23,7 @@ pub fn some_answer()
     // The contract is the law; nothing runs.
 }
 
-/// A table that is sound stays so, whatever is asked.
+/// A sound table stays sound, whatever is asked.
 #[tactic(auto, using(crate::proofs::KeepsTables::keeps_tables))]
 pub fn keeps_tables()
     ensures { KeepsTables }
@@ -38,14 +38,14 @@ pub fn runs_keep_tables()
     // The contract is the law; nothing runs.
 }
 
-/// At a sound table a request that may want memory may come to something else too: there is always a longest conversion.
+/// At a sound table, a request that may run out of memory has another outcome too: there is always a longest conversion.
 pub fn never_lacks_alone()
     ensures { NeverLacksAlone }
 {
     // The contract is the law; nothing runs.
 }
 
-/// Only a PUT, an OPEN, a CONV and a PART that isn't empty may be answered that memory lacks.
+/// Only a PUT, an OPEN, a CONV and a PART that isn't empty may be answered that an allocation fails.
 pub fn lacks_where_taken()
     ensures { LacksWhereTaken }
 {

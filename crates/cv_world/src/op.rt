@@ -16,7 +16,7 @@ use std::sync::Arc;
 pub enum Op<'a> {
     /// A charmap held, as its text was compiled.
     Put(Result<Arc<Charmap>, CompileFault>),
-    /// A charmap given up, by its name.
+    /// A charmap dropped, by its name.
     DropMap(&'a [u8]),
     /// A descriptor to an encoding from another, by their names, under a policy.
     Open {
@@ -24,29 +24,29 @@ pub enum Op<'a> {
         from: &'a [u8],
         policy: Policy,
     },
-    /// A descriptor's conversion of an input into so many bytes of room.
+    /// A descriptor's conversion of an input into a room of this many bytes.
     Conv {
         number: u32,
         room: u32,
         input: &'a [u8],
     },
-    /// Both states of a descriptor at their start, with so many bytes of room for what closes a shift.
+    /// Both states of a descriptor at their start, with a room of this many bytes for what closes a shift.
     Reset {
         number: u32,
         room: u32,
     },
-    /// A descriptor given back.
+    /// A descriptor closed.
     Close(u32),
-    /// All that the caller has given back.
+    /// All that the caller has is freed.
     Bye,
-    /// More of the part of an upload, or, where it is empty, none of it.
+    /// More of the part of an upload; if it is empty, the part is dropped.
     Part(&'a [u8]),
-    /// Nothing that there is.
+    /// An unknown request.
     Bad,
 }
 
 impl<'a> Op<'a> {
-    /// What a request of this op and body asks for. A PUT is none here, since its text has to be compiled.
+    /// What a request of this op and body asks for. A PUT is not read here, because its text has to be compiled.
     pub(crate) fn read(op: u8, body: &'a [u8]) -> Op<'a>
         ensures asks { asked result ≡ action_of op body.now }
         ensures fits { length body.now ≤ MOST_BODY → InputFits result }

@@ -33,7 +33,7 @@ fn take_found(table: &Table, found: Found) -> Result<(Option<u8>, Encoding), Mem
     }
 }
 
-/// What an OPEN needs, or why there is none. Nothing changes.
+/// What an OPEN needs, or why it is refused. Nothing changes.
 pub(crate) fn prepare(
     table: &Table,
     to: &[u8],

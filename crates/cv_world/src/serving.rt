@@ -12,7 +12,7 @@ use crate::world::World;
 use cv_cache::Compiler;
 use cv_charmap::CompileFault;
 use cv_frame::ops::PUT;
-use cv_frame::{Reply, Request};
+use cv_frame::{Reply, Request, Status};
 use cv_trie::Charmap;
 use std::alloc::Global;
 use std::sync::Arc;
@@ -57,8 +57,8 @@ fn read<'a, R, C: Compiler<R>>(
 }
 
 impl World {
-    /// The reply to one request.
-    pub fn answer<R, C: Compiler<R>>(
+    /// The reply to one request, tried once.
+    fn reply<R, C: Compiler<R>>(
         &mut self,
         compiler: &C,
         rt: &R,
@@ -79,5 +79,24 @@ impl World {
         );
         let answer = self.step(alloc, request.caller, op);
         answer.reply(alloc, request.caller, request.tag)
+    }
+
+    /// The reply to one request. Where memory was refused, which changes nothing, the compiler gives up what it keeps, and the request is tried
+    /// once more.
+    pub fn answer<R, C: Compiler<R>>(
+        &mut self,
+        compiler: &C,
+        rt: &R,
+        alloc: Global,
+        request: &Request,
+    ) -> Reply
+        requires { C.ready compiler.now }
+        ensures { Steps turn (world_tables self.old) request.now result (world_tables self.new) }
+    {
+        let reply = self.reply(compiler, rt, alloc, request);
+        match reply.status {
+            Status::NoMemory if compiler.give_up(rt) => self.reply(compiler, rt, alloc, request),
+            _ => reply,
+        }
     }
 }

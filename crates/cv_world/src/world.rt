@@ -35,7 +35,7 @@ use std::sync::Arc;
 /// The most room that a request may ask for, in bytes.
 const MOST_ROOM: u32 = 1_000_000;
 
-/// The callers of a shard, each with its own table; their conversions stand in one slab. Contracts see each caller's table.
+/// The callers of a shard, each with its own table; their conversions are in one slab. Contracts see each caller's table.
 #[derive(Drop)]
 pub struct World {
     callers: BTreeMap<u32, Kept>,
@@ -94,7 +94,7 @@ impl World {
         gather_in(alloc, &self.callers, caller, body)
     }
 
-    /// OPEN. All growths come before anything changes.
+    /// OPEN. Every allocation is made before anything changes.
     pub(crate) fn open(
         &mut self,
         alloc: Global,
@@ -244,7 +244,7 @@ impl World {
         part_answer(parted)
     }
 
-    /// Gives all numbers of a caller back.
+    /// Frees all numbers of a caller.
     fn close_all(&mut self, caller: u32)
         ensures closed { (number : ℕ) → descriptor_at (world_tables self.new caller) number ≡ None }
         ensures others { world_tables self.new ≡ with_table (world_tables self.old) caller (world_tables self.new caller) }
@@ -252,11 +252,11 @@ impl World {
         for number in 0..DESCRIPTORS as u32 {
             let _ = self.close(caller, number);
         }
-        // There are no numbers beyond these.
+        // There are no other numbers.
         self.assert_table(caller);
     }
 
-    /// Gives back the memory of a caller of whom no number is bound.
+    /// Frees the memory of a caller that has no bound number.
     fn forget(&mut self, caller: u32)
         requires { (number : ℕ) → descriptor_at (world_tables self.old caller) number ≡ None }
         ensures { world_tables self.new ≡ with_table (world_tables self.old) caller empty_table }
@@ -275,7 +275,7 @@ impl World {
         Answer::Empty
     }
 
-    /// Gives back the memory of a caller who has nothing left.
+    /// Frees the memory of a caller that has nothing left.
     pub(crate) fn forget_empty(&mut self, caller: u32)
         ensures { world_tables self.new ≡ world_tables self.old }
     {

@@ -1,4 +1,4 @@
--- What becomes of one caller's keyed table, and what it is answered.
+-- How one caller's keyed table changes, and what is answered.
 use Rattle.std.specs.Prelude.{◌≡◌, ◌≢◌, ℕ, [], IsSome, Result, Ok, Err}
 use Rattle.std.specs.Ordering.{nat_cmp}
 use Rattle.std.specs.BTreeMap.{BTreeMap, get}
@@ -24,25 +24,25 @@ pub record SetsKeyed (old new : ℕ → Keyed) (caller : ℕ) (keyed : Keyed) : 
   pub own : new caller ≡ keyed
   pub others : (other : ℕ) → other ≢ caller → new other ≡ old other
 
--- What came of a charmap that was put: where it is held, the part of the upload is done with.
+-- The result of a charmap that was put: if it is held, the part of the upload is dropped.
 abbrev pub IsPut : Keyed → Charmap → Result Unit AddFault → Keyed → Type 0
 IsPut old charmap (Ok u) new = (held : Keyed) × IsAdded old charmap (Ok u) held × (new ≡ keyed_with_part held [])
 IsPut old charmap (Err fault) new = IsAdded old charmap (Err fault) new
 
--- what a charmap that was put is answered
+-- the answer to a charmap that was put
 abbrev pub add_answer : ℕ → Result Unit AddFault → Answer
 add_answer count (Ok u) = answers.Count count
 add_answer count (Err add.Exists) = answers.Refused status.Exists
 add_answer count (Err add.Quota) = answers.Refused status.Quota
 add_answer count (Err add.Memory) = answers.Refused status.NoMemory
 
--- what a charmap that was to go is answered
+-- the answer to dropping a charmap
 abbrev pub drop_answer : Result Unit DropFault → Answer
 drop_answer (Ok u) = answers.Empty
 drop_answer (Err drop.NoName) = answers.Refused status.NoName
 drop_answer (Err drop.Busy) = answers.Refused status.Busy
 
--- what a part that was sent is answered
+-- the answer to a part that was sent
 abbrev pub part_answer : Result ℕ PartFault → Answer
 part_answer (Ok count) = answers.Count count
 part_answer (Err part.Quota) = answers.Refused status.Quota

@@ -7,7 +7,7 @@ use Rattle.cv_frame.specs.declared.status.Status.{Status}
 use Rattle.cv_frame.specs.declared.status.Status.TheVariants as status
 use Rattle.cv_caller.specs.Tables.{Named, named_of}
 use Rattle.cv_caller.specs.Keyed.{Keyed, named, place_at, AreHeld, Fits}
-use Rattle.cv_caller.specs.declared.limits.TheConstants.{DESCRIPTORS}
+use Rattle.cv_caller.specs.Limits.{most_descriptors}
 use Rattle.cv_world.specs.declared.opening.Opening.{Opening}
 
 -- Why there is no descriptor.
@@ -17,14 +17,14 @@ Declines (Some number) (Some to) (Some from) s = s ≡ status.NoMemory
 Declines (Some number) (Some to) None s = s ≡ status.Unsupported
 Declines (Some number) None from s = s ≡ status.Unsupported
 
--- Why there is none of these names at a caller's table.
+-- Why there is no descriptor for these names at a caller's table.
 abbrev pub DeclinesOpen : Keyed → List ℕ → List ℕ → Status → Type 0
 DeclinesOpen keyed to from s = Declines (position is_none keyed.places) (named_of keyed.charmaps to) (named_of keyed.charmaps from) s
 
 -- The least number that is free, and a new conversion between the encodings of the names.
 pub record IsOpening (keyed : Keyed) (to from : List ℕ) (policy : Policy) (opening : Opening) : Type 0 where
   pub number : position is_none keyed.places ≡ Some opening.number
-  pub within : opening.number < DESCRIPTORS
+  pub within : opening.number < most_descriptors
   pub free : place_at keyed opening.number ≡ None
   pub to_named : named_of keyed.charmaps to ≡ Some (named opening.to opening.conversion.to)
   pub from_named : named_of keyed.charmaps from ≡ Some (named opening.from opening.conversion.from)

@@ -40,7 +40,7 @@ fn drain_batch<R, E: Engine<R>, W: Sink>(
     ensures err { IfErr result (λ f. Stopped E.turn f (E.tables engine.old) (W.held writer.old) (W.held writer.new) bytes.now
         (E.tables engine.new) counts.old.written (W.has_failed writer.new)) }
 {
-    let batch = next_batch(alloc, bytes)?;
+    let batch = next_batch(alloc, bytes, engine.uploads_at_once())?;
     let n = batch.requests.len() as u64;
     answer(
         engine,
@@ -80,7 +80,7 @@ pub fn drain<R, E: Engine<R>, W: Sink>(
         let (n, end) = drain_batch(engine, rt, alloc, writer, &bytes[used..], replies, counts)?;
         used += n;
         match end {
-            End::Full => {}
+            End::More => {}
             End::Partial => return Ok(used),
             End::Bad { length } => return Err(ServeFault::BadLength { length }),
         }

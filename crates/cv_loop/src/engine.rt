@@ -1,6 +1,6 @@
 //! What answers requests.
 
-ghost use Rattle.std.specs.Prelude.{◌≡◌, IfOk, OnErr};
+ghost use Rattle.std.specs.Prelude.{◌≡◌, ◌<◌, IfOk, OnErr};
 ghost use Rattle.cv_machine.specs.Machine.{Runs};
 
 use cv_base::Memory;
@@ -19,4 +19,12 @@ pub trait Engine<R>: Machine {
         ensures ready { ready self.new }
         ensures runs { IfOk result (λ replies. Runs Self.turn (Self.tables self.old) requests.now replies.items (Self.tables self.new)) }
         ensures err { OnErr result (Self.tables self.new ≡ Self.tables self.old) };
+
+    /// How many uploads one batch may have. Compiling is what costs, so they are as many as the engine compiles at once: no reply
+    /// waits for more.
+    fn uploads_at_once(&self) -> usize
+        ensures { 0 < result }
+    {
+        1
+    }
 }

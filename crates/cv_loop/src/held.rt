@@ -1,8 +1,10 @@
 //! The bytes of a stream that were read and are not answered yet.
 
-ghost use Rattle.std.specs.Prelude.{◌≡◌, ◌≤◌, ◌<◌, ◌+◌, ◌-◌, ◌^◌, ◌==◌, [], ℕ, List, true, false, IfOk, IfErr, OnOk, vec_len, length, take, drop, slice_range};
+ghost use Rattle.std.specs.Prelude.{◌≡◌, ◌≤◌, ◌<◌, ◌+◌, ◌-◌, ◌*◌, ◌^◌, ◌==◌, nat_lt, [], ℕ, List, true, false, IfOk, IfErr, OnOk, vec_len, length, min, take, drop, slice_range, if◌then◌else◌};
 ghost use Rattle.std.specs.Io.KnownBytes.{Consumes, IsAtEnd};
+ghost use Rattle.cv_loop.specs.Private.Buffers.{MakesRoom};
 ghost use Rattle.cv_loop.specs.Private.Draining.{ReadsMore};
+ghost use Rattle.cv_loop.specs.declared.held.TheConstants.{MOST_READ};
 
 use crate::ends::Source;
 use crate::fault::ServeFault;
@@ -11,46 +13,85 @@ use std::alloc::Global;
 use std::marker::Model;
 
 /// How many bytes one read takes at most.
-const READ_SIZE: usize = 65_536;
+const MOST_READ: usize = 65_536;
 
-/// Bytes that were read and are not answered yet. They stand in a buffer into whose tail the next read goes, so that a byte that was read
-/// is copied only where it is moved to the front with the frame that it belongs to.
+/// How many bytes the first read of a stream takes at most. Reads that bring all that they may grow from there, so a stream that asks
+/// little takes little memory.
+const FIRST_READ: usize = 4_096;
+
+/// Bytes that were read and are not answered yet. They stand in a buffer into whose tail the next read goes. The buffer at least doubles
+/// where it grows, and bytes move to its front only where as many have been answered: so reading costs what is read, however it is cut.
 #[derive(Drop)]
 pub struct Held {
     buffer: Vec<u8>,
     start: usize,
     end: usize,
+    /// How many bytes the next read takes at most.
+    room: usize,
 }
 
 impl Model for Held {
-    ghost use Rattle.std.specs.Prelude.{◌≤◌, ℕ, List, vec_len, slice_range};
+    ghost use Rattle.std.specs.Prelude.{◌≤◌, ◌<◌, ℕ, List, vec_len, slice_range};
+    ghost use Rattle.cv_loop.specs.declared.held.TheConstants.{MOST_READ};
 
     ghost Value = { List ℕ };
 
     ghost view = { λ h. slice_range h.buffer.items h.start h.end };
 
-    ghost invariant = { λ h. (h.start ≤ h.end) × (h.end ≤ vec_len h.buffer) };
+    ghost invariant = { λ h. (h.start ≤ h.end) × (h.end ≤ vec_len h.buffer) × (0 < h.room) × (h.room ≤ MOST_READ) };
 }
 
-/// Makes room for a read behind the bytes that are held. They move to the front if the room is short.
-fn make_room(buffer: &mut Vec<u8>, start: &mut usize, end: &mut usize) -> Result<(), Memory>
+/// Moves so many bytes from a place on to the front. No byte is copied onto another of them, so it is one copy of memory.
+fn move_to_front(buffer: &mut [u8], start: usize, count: usize)
+    requires apart { count ≤ start }
+    requires within { start + count ≤ length buffer.old }
+    ensures same { slice_range buffer.new 0 count ≡ slice_range buffer.old start (start + count) }
+{
+    let (front, back) = buffer.split_at_mut(start);
+    front[..count].copy_from_slice(&back[..count]);
+}
+
+/// Makes room for a read of so many bytes behind those that are held: at the front of the buffer, if none are.
+fn make_room(
+    buffer: &mut Vec<u8>,
+    start: &mut usize,
+    end: &mut usize,
+    room: usize,
+) -> Result<(), Memory>
     requires start { start.old ≤ end.old }
     requires end { end.old ≤ vec_len buffer.old }
+    requires room { room ≤ MOST_READ }
     ensures start { start.new ≤ end.new }
     ensures end { end.new ≤ vec_len buffer.new }
     ensures same { slice_range buffer.new.items start.new end.new ≡ slice_range buffer.old.items start.old end.old }
-    ensures room { OnOk result (end.new + READ_SIZE ≤ vec_len buffer.new) }
+    ensures room { OnOk result (end.new + room ≤ vec_len buffer.new) }
+    ensures cost { OnOk result (MakesRoom room start.old end.old (vec_len buffer.old) start.new (vec_len buffer.new)) }
 {
-    if buffer.len() - *end >= READ_SIZE {
+    let held = *end - *start;
+    if held > 0 && buffer.len() - *end >= room {
         return Ok(());
     }
-    buffer.copy_within(*start..*end, 0);
-    *end -= *start;
-    *start = 0;
-    if buffer.len() - *end < READ_SIZE {
-        buffer.resize(*end + READ_SIZE, 0)?;
+    if held <= *start && room <= buffer.len() - held {
+        move_to_front(buffer, *start, held);
+        *start = 0;
+        *end = held;
+        return Ok(());
     }
+    let size = (2 * buffer.len()).max(*end + room);
+    buffer.resize(size, 0)?;
     Ok(())
+}
+
+/// How many bytes the next read takes at most, where a read of so many at most brought so many: twice as many if it brought all.
+fn next_room(room: usize, came: usize) -> usize
+    requires { room ≤ MOST_READ }
+    ensures { result ≡ (if nat_lt came room then room else min (2 * room) MOST_READ) }
+{
+    if came < room {
+        room
+    } else {
+        (2 * room).min(MOST_READ)
+    }
 }
 
 /// Reads once, and says how many bytes came: 0 at the end.
@@ -82,6 +123,7 @@ impl Held {
             buffer: Vec::new(alloc),
             start: 0,
             end: 0,
+            room: FIRST_READ,
         }
     }
 
@@ -111,9 +153,11 @@ impl Held {
         ensures pulls { S.pulls reader.new ≤ S.pulls reader.old + 1 }
         ensures counts { OnOk result (S.pulls reader.new ≡ S.pulls reader.old + 1) }
     {
-        make_room(&mut self.buffer, &mut self.start, &mut self.end)?;
-        let n = read_once(reader, &mut self.buffer[self.end..self.end + READ_SIZE])?;
+        let room = self.room;
+        make_room(&mut self.buffer, &mut self.start, &mut self.end, room)?;
+        let n = read_once(reader, &mut self.buffer[self.end..self.end + room])?;
         self.end += n;
+        self.room = next_room(room, n);
         Ok(n > 0)
     }
 }

@@ -56,8 +56,8 @@ fn serve_stream<R, E: Engine<R>, S: Source, W: Sink>(
     Err(ServeFault::TooManyReads)
 }
 
-/// Serves the frames that a source gives, and writes the replies to a sink, in batches of 64 requests at most. It makes at
-/// most `max_reads` reads, of 65,536 bytes at most.
+/// Serves the frames that a source gives, and writes the replies to a sink, in batches of 64 requests at most. Uploads stand in
+/// batches of their own, as many as the engine runs at once. It makes at most `max_reads` reads, of 65,536 bytes at most.
 ///
 /// After a fault the engine is where the requests so far left it, and the replies before the fault have been written.
 pub fn serve<R, E: Engine<R>, S: Source, W: Sink>(

@@ -29,12 +29,28 @@ impl<C, G> Machine for Pool<C, G> {
     }
 }
 
-// No type parameter of an engine may be sent to a thread within a trait's method, so this is said of the pool that the program uses;
-// `Pool::batch` says the same of every compiler and gate.
+// No type parameter of an engine may be sent to a thread within a trait's method, so this is said of pools with a cache of their own and
+// of those that share one with others, as the program's do; `Pool::batch` says the same of every compiler and gate.
 impl<R: Threads + Wait + Sync> Engine<R> for Pool<Cached, Open> {
     ghost ready = { λ _. IsSync R.row };
 
     fn batch(&mut self, rt: &R, alloc: Global, requests: &[Request]) -> Result<Vec<Reply>, Memory> {
         self.batch(rt, alloc, requests)
+    }
+
+    fn uploads_at_once(&self) -> usize {
+        self.workers()
+    }
+}
+
+impl<R: Threads + Wait + Sync> Engine<R> for Pool<&Cached, Open> {
+    ghost ready = { λ _. IsSync R.row };
+
+    fn batch(&mut self, rt: &R, alloc: Global, requests: &[Request]) -> Result<Vec<Reply>, Memory> {
+        self.batch(rt, alloc, requests)
+    }
+
+    fn uploads_at_once(&self) -> usize {
+        self.workers()
     }
 }

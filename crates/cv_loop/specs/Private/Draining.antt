@@ -14,7 +14,7 @@ use Rattle.cv_loop.specs.declared.batch.End.TheVariants as ends
 
 -- why a batch ended, by what stands after it
 abbrev pub EndsBatch : End → ℕ → List ℕ → Type 0
-EndsBatch ends.Full used rest = 0 < used
+EndsBatch ends.More used rest = 0 < used
 EndsBatch ends.Partial used rest = front_of rest ≡ front.Partial
 EndsBatch (ends.Bad n) used rest = front_of rest ≡ front.Bad n
 

@@ -1,0 +1,36 @@
+-- Which requests one batch has.
+use Rattle.std.specs.Prelude.{◌≡◌, ℕ, min, Bool, true, false, not, ◌==◌, List, [], ◌∷◌, take, take_while}
+use Rattle.cv_frame.specs.Cut.{front_of}
+use Rattle.cv_frame.specs.Message.{Message}
+use Rattle.cv_frame.specs.declared.reading.Frame.TheVariants.{Whole, Partial, Bad}
+use Rattle.cv_loop.specs.declared.batch.End.{End}
+use Rattle.cv_loop.specs.declared.batch.End.TheVariants as ends
+
+-- An upload is a PUT, whose number is 1.
+abbrev pub is_upload : Message → Bool
+is_upload m = m.code == 1
+
+-- Whether a request is of a kind: an upload, or any other.
+abbrev pub is_of_kind : Bool → Message → Bool
+is_of_kind true m = is_upload m
+is_of_kind false m = not (is_upload m)
+
+-- How many requests of a kind one batch has at most, for an engine that runs so many uploads at once.
+abbrev pub most_of_kind : Bool → ℕ → ℕ
+most_of_kind true at_once = min at_once 64
+most_of_kind false at_once = 64
+
+-- Of what kind the first request is.
+abbrev pub first_kind : List Message → Bool
+first_kind [] = false
+first_kind (m ∷ ms) = is_upload m
+
+-- The requests of the next batch, of those that are held whole: from the front on those of the first one's kind, and no more than a batch of this kind has.
+abbrev pub next_requests : ℕ → List Message → List Message
+next_requests at_once ms = take (most_of_kind (first_kind ms) at_once) (take_while (is_of_kind (first_kind ms)) ms)
+
+-- Why a batch of a kind ends before what stands there: a request of the other kind, less than a frame, or a bad length.
+abbrev pub EndsBefore : Bool → End → List ℕ → Type 0
+EndsBefore kind ends.More rest = (m : Message) × (n : ℕ) × (Whole m n ≡ front_of rest) × (is_of_kind kind m ≡ false)
+EndsBefore kind ends.Partial rest = front_of rest ≡ Partial
+EndsBefore kind (ends.Bad n) rest = front_of rest ≡ Bad n

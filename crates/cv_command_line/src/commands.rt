@@ -2,6 +2,7 @@
 ghost use Rattle.std.specs.Prelude.{◌≡◌, ◌≢◌, ◌≤◌, IfErr, OnOk};
 ghost use Rattle.clap.specs.Values.{kind_of};
 ghost use Rattle.cv_commands.specs.Status.{status_of};
+ghost use Rattle.cv_tcp.specs.Ends.{call_status_of};
 
 use crate::job::{Job, Options};
 use crate::usage::{options, usage_status};
@@ -9,14 +10,16 @@ use crate::words::arguments;
 use clap::Error;
 use clap::error::ErrorKind;
 use cv_commands::{RunFault, ask, checkmap, pipe, read_all, run, show, status, write_all};
-use cv_tcp::{FaultLines, listen};
+use cv_tcp::{CallFault, LogLines, Terms, call_status, listen};
 use std::alloc::Global;
 use std::fs::Files;
 use std::io;
 use std::net::{Net, TcpListener, TcpStream};
+use std::random::RandomSource;
 use std::rt::Env;
 use std::sync::Wait;
 use std::thread::Threads;
+use std::time::Clock;
 
 /// The exit status of a command. A fault is said on standard error, if that can be; the status doesn't depend on it.
 fn conclude<R: Eprint>(rt: &R, done: Result<(), RunFault>) -> u8
@@ -32,38 +35,72 @@ fn conclude<R: Eprint>(rt: &R, done: Result<(), RunFault>) -> u8
     }
 }
 
+/// The exit status of `call`. A fault is said on standard error, if that can be.
+fn conclude_call<R: Eprint>(rt: &R, done: Result<(), CallFault>) -> u8
+    ensures done { OnOk done (result ≡ 0) }
+    ensures fault { IfErr done (λ fault. result ≡ call_status_of fault) }
+{
+    match done {
+        Ok(()) => 0,
+        Err(fault) => {
+            let _ = eprintln!(rt; "iconvd: {fault}");
+            call_status(&fault)
+        }
+    }
+}
+
 /// `call`: asks a server at an address for the script, and prints the lines of its replies, also of those that came before a fault.
-fn call<R>(rt: &R, address: &str) -> Result<(), RunFault>
+fn call<R>(rt: &R, address: &str, timeout: Option<u32>) -> Result<(), CallFault>
 where
     R: Input + Print + AllocGlobal + Net<Listener = TcpListener, Stream = TcpStream>,
 {
     let alloc = rt.alloc();
-    let script = read_all(alloc, rt.reader())?;
+    let script = read_all(alloc, rt.reader()).map_err(CallFault::Run)?;
     let mut lines = Vec::new(alloc);
-    let called = cv_tcp::call(rt, alloc, address, &script, &mut lines);
+    let called = cv_tcp::call(rt, alloc, address, timeout, &script, &mut lines);
     let printed = write_all(io::writer(rt), &lines);
     // Where both failed, why there are no more lines is told.
     called?;
-    printed
+    printed.map_err(CallFault::Run)
+}
+
+/// `listen`: serves the streams that come in at an address.
+fn serve<R>(rt: &R, address: &str, said: Options<'_>) -> Result<(), RunFault>
+where
+    R: Files + Print + Eprint + AllocGlobal + Clock + RandomSource + Threads + Wait + Sync,
+    R: Net<Listener = TcpListener, Stream = TcpStream>,
+    requires workers { (1 ≤ said.workers) × (said.workers ≤ 16) }
+    requires at_once { 1 ≤ said.at_once }
+{
+    let log = LogLines {
+        rt,
+        level: said.level,
+        format: said.format,
+    };
+    let terms = Terms {
+        streams: said.streams,
+        at_once: said.at_once,
+        workers: said.workers,
+        idle: said.idle,
+    };
+    listen(rt, rt.alloc(), &log, address, terms)?;
+    Ok(())
 }
 
 fn perform<R>(rt: &R, said: Options<'_>) -> u8
 where
-    R: Files + Input + Print + Eprint + AllocGlobal + Threads + Wait + Sync,
+    R: Files + Input + Print + Eprint + AllocGlobal + Clock + RandomSource + Threads + Wait + Sync,
     R: Net<Listener = TcpListener, Stream = TcpStream>,
-    requires { (1 ≤ said.workers) × (said.workers ≤ 16) }
+    requires workers { (1 ≤ said.workers) × (said.workers ≤ 16) }
+    requires at_once { 1 ≤ said.at_once }
 {
     match said.job {
         Job::Run => conclude(rt, run(rt, said.workers)),
         Job::Ask => conclude(rt, ask(rt)),
         Job::Pipe => conclude(rt, pipe(rt, said.workers)),
         Job::Show => conclude(rt, show(rt)),
-        Job::Listen(address) => {
-            let log = FaultLines(rt);
-            let done = listen(rt, rt.alloc(), &log, address, said.streams, said.workers);
-            conclude(rt, done)
-        }
-        Job::Call(address) => conclude(rt, call(rt, address)),
+        Job::Listen(address) => conclude(rt, serve(rt, address, said)),
+        Job::Call(address) => conclude_call(rt, call(rt, address, said.timeout)),
         Job::CheckMap(file) => match checkmap(rt, file) {
             Ok(status) => status,
             Err(fault) => conclude(rt, Err(fault)),
@@ -101,7 +138,17 @@ pub fn explain<R: Print + Eprint>(rt: &R, alloc: Global, fault: &Error) -> u8
 
 fn obey<R>(rt: &R, alloc: Global) -> Result<u8, Error>
 where
-    R: Env + Files + Input + Print + Eprint + AllocGlobal + Threads + Wait + Sync,
+    R: Env
+        + Files
+        + Input
+        + Print
+        + Eprint
+        + AllocGlobal
+        + Clock
+        + RandomSource
+        + Threads
+        + Wait
+        + Sync,
     R: Net<Listener = TcpListener, Stream = TcpStream>,
 {
     let arguments = arguments(rt, alloc)?;
@@ -113,7 +160,17 @@ where
 /// Does what the command line says, and gives the exit status.
 pub fn program<R>(rt: &R) -> u8
 where
-    R: Env + Files + Input + Print + Eprint + AllocGlobal + Threads + Wait + Sync,
+    R: Env
+        + Files
+        + Input
+        + Print
+        + Eprint
+        + AllocGlobal
+        + Clock
+        + RandomSource
+        + Threads
+        + Wait
+        + Sync,
     R: Net<Listener = TcpListener, Stream = TcpStream>,
 {
     let alloc = rt.alloc();

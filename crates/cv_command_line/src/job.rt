@@ -1,5 +1,8 @@
 //! What the command line asks for.
 
+use cv_tcp::LogFormat;
+use log::LevelFilter;
+
 /// What the program is to do.
 #[derive(Clone, Copy, Debug, PartialEq, Eq)]
 pub enum Job<'a> {
@@ -27,4 +30,14 @@ pub struct Options<'a> {
     pub workers: u32,
     /// How many streams are served: 1 where the command has no such option.
     pub streams: u64,
+    /// How many of them at the same time: 1 where the command has no such option.
+    pub at_once: u32,
+    /// For how many seconds a stream waits for its client, if there is a limit.
+    pub idle: Option<u32>,
+    /// For how many seconds a call waits for its server, if there is a limit.
+    pub timeout: Option<u32>,
+    /// Which records a server logs: errors alone where the command has no such option.
+    pub level: LevelFilter,
+    /// How they are written: as text where the command has no such option.
+    pub format: LogFormat,
 }

@@ -11,13 +11,15 @@ use crate::input::MAX_READS;
 use crate::replies::show_replies;
 use crate::script::ask_script;
 use crate::server::new_pool;
+use cv_cache::{Cached, HashKeys};
 use cv_loop::serve_bytes;
 use std::alloc::Global;
+use std::random::RandomSource;
 use std::sync::Wait;
 use std::thread::Threads;
 
 /// Serves frames by a new pool of so many workers, and gives the replies. The frames are let go with it.
-fn serve_frames<R: Threads + Wait + Sync>(
+fn serve_frames<R: RandomSource + Threads + Wait + Sync>(
     rt: &R,
     alloc: Global,
     frames: Vec<u8>,
@@ -27,7 +29,8 @@ fn serve_frames<R: Threads + Wait + Sync>(
     ensures answered { IfOk result (λ replies. AnswersEach turn no_tables frames.items replies.items) }
     ensures err { IfErr result IsNoFailedWrite }
 {
-    let mut pool = new_pool(alloc, workers)?;
+    let cached = Cached::with_keys(alloc, HashKeys::drawn(rt))?;
+    let mut pool = new_pool(alloc, &cached, workers)?;
     let (served, replies) = serve_bytes(&mut pool, rt, alloc, &frames, MAX_READS);
     match served {
         Ok(_) => Ok(replies),
@@ -36,7 +39,7 @@ fn serve_frames<R: Threads + Wait + Sync>(
 }
 
 /// Serves a script by a new pool of so many workers, and gives the reply lines. They don't depend on how many there are.
-pub fn run_script<R: Threads + Wait + Sync>(
+pub fn run_script<R: RandomSource + Threads + Wait + Sync>(
     rt: &R,
     alloc: Global,
     script: &[u8],

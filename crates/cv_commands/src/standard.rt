@@ -4,17 +4,19 @@ ghost use Rattle.std.specs.Prelude.{◌≤◌};
 use crate::fault::RunFault;
 use crate::input::read_all;
 use crate::output::write_all;
+use crate::patient::Patient;
 use crate::replies::show_replies;
 use crate::script::ask_script;
 use crate::served_script::run_script;
 use crate::stream::serve_stream;
 use cv_loop::{FromReader, ToWriter};
 use std::io;
+use std::random::RandomSource;
 use std::sync::Wait;
 use std::thread::Threads;
 
 /// `run`: serves the script by a new pool of so many workers, and prints the reply lines.
-pub fn run<R: Input + Print + AllocGlobal + Threads + Wait + Sync>(
+pub fn run<R: Input + Print + AllocGlobal + RandomSource + Threads + Wait + Sync>(
     rt: &R,
     workers: u32,
 ) -> Result<(), RunFault>
@@ -35,16 +37,17 @@ pub fn ask<R: Input + Print + AllocGlobal>(rt: &R) -> Result<(), RunFault> {
 }
 
 /// `pipe`: serves request frames by a new pool of so many workers, and writes the reply frames. The replies to all whole frames that
-/// were read are written before it reads on.
-pub fn pipe<R: Input + Print + AllocGlobal + Threads + Wait + Sync>(
+/// were read are written before it reads on. The standard input and output may be non-blocking.
+pub fn pipe<R: Input + Print + AllocGlobal + RandomSource + Threads + Wait + Sync>(
     rt: &R,
     workers: u32,
 ) -> Result<(), RunFault>
     requires { (1 ≤ workers) × (workers ≤ 16) }
 {
-    let mut source = FromReader::new(rt.reader());
-    let mut sink = ToWriter::new(io::writer(rt));
-    serve_stream(rt, rt.alloc(), &mut source, &mut sink, workers)?;
+    let mut source = FromReader::new(Patient::input(rt.reader()));
+    let mut sink = ToWriter::new(Patient::output(io::writer(rt)));
+    let alloc = rt.alloc();
+    serve_stream(rt, alloc, &mut source, &mut sink, workers)?;
     Ok(())
 }
 

@@ -3,18 +3,21 @@ ghost use Rattle.std.specs.Prelude.{◌≡◌, ◌≢◌, ◌≤◌, ℕ, List, 
 ghost use Rattle.cv_world.specs.Requests.{turn};
 ghost use Rattle.cv_world.specs.Worlds.{no_tables};
 ghost use Rattle.cv_loop.specs.Serving.{Gave, Took, IsHeadline};
+ghost use Rattle.cv_commands.specs.Limits.{most_reads};
 ghost use Rattle.cv_commands.specs.Streams.{ServesNew, stream_ending};
 
 use crate::fault::RunFault;
 use crate::input::MAX_READS;
 use crate::server::new_pool;
+use cv_cache::{Cached, HashKeys};
 use cv_loop::{Served, Sink, Source, serve};
 use std::alloc::Global;
+use std::random::RandomSource;
 use std::sync::Wait;
 use std::thread::Threads;
 
-/// Serves the frames that a source gives by a new pool of so many workers, and writes the replies to a sink.
-pub fn serve_stream<R: Threads + Wait + Sync, S: Source, W: Sink>(
+/// Serves the frames that a source gives by a new pool of so many workers with a cache of its own, and writes the replies to a sink.
+pub fn serve_stream<R: RandomSource + Threads + Wait + Sync, S: Source, W: Sink>(
     rt: &R,
     alloc: Global,
     source: &mut S,
@@ -31,14 +34,46 @@ pub fn serve_stream<R: Threads + Wait + Sync, S: Source, W: Sink>(
     ensures headline { (given written : List ℕ) → Gave (S.left source.old) (S.left source.new) given
         → Took (W.held sink.old) (W.held sink.new) written → IsHeadline turn (stream_ending result) no_tables given written }
 
-    // `Memory` comes where the pool found none, before anything was read, and every other result from serving.
+    // `Memory` comes where the cache or the pool found none, before anything was read, and every other result from serving.
     ensures serves { result ≢ Err RunFault.Memory → ServesNew result (S.left source.old) (S.left source.new) (W.held sink.old)
-        (W.held sink.new) (S.pulls source.new) MAX_READS (S.met_end source.new) (S.has_failed source.new) (W.has_failed sink.new) }
+        (W.held sink.new) (S.pulls source.new) most_reads (S.met_end source.new) (S.has_failed source.new) (W.has_failed sink.new) }
     ensures unserved { result ≡ Err RunFault.Memory → (source.new ≡ source.old) × (sink.new ≡ sink.old) }
 
-    ensures reads { S.pulls source.new ≤ MAX_READS }
+    ensures reads { S.pulls source.new ≤ most_reads }
 {
-    let Ok(mut pool) = new_pool(alloc, workers) else {
+    let Ok(cached) = Cached::with_keys(alloc, HashKeys::drawn(rt)) else {
+        return Err(RunFault::Memory);
+    };
+    serve_stream_by(rt, alloc, &cached, source, sink, workers)
+}
+
+/// Serves a stream as `serve_stream` does, by a cache that other streams may share at the same time: no reply depends on it.
+pub fn serve_stream_by<R: Threads + Wait + Sync, S: Source, W: Sink>(
+    rt: &R,
+    alloc: Global,
+    cached: &Cached,
+    source: &mut S,
+    sink: &mut W,
+    workers: u32,
+) -> Result<Served, RunFault>
+    requires workers { (1 ≤ workers) × (workers ≤ 16) }
+    // No call was made yet on the source and the sink.
+    requires pulls { S.pulls source.old ≡ 0 }
+    requires fresh_source { (S.met_end source.old ≡ false) × (S.has_failed source.old ≡ false) }
+    requires fresh_sink { W.has_failed sink.old ≡ false }
+
+    // What was written answers what was given, and each caller for its frames alone.
+    ensures headline { (given written : List ℕ) → Gave (S.left source.old) (S.left source.new) given
+        → Took (W.held sink.old) (W.held sink.new) written → IsHeadline turn (stream_ending result) no_tables given written }
+
+    // `Memory` comes where the pool found none, before anything was read, and every other result from serving.
+    ensures serves { result ≢ Err RunFault.Memory → ServesNew result (S.left source.old) (S.left source.new) (W.held sink.old)
+        (W.held sink.new) (S.pulls source.new) most_reads (S.met_end source.new) (S.has_failed source.new) (W.has_failed sink.new) }
+    ensures unserved { result ≡ Err RunFault.Memory → (source.new ≡ source.old) × (sink.new ≡ sink.old) }
+
+    ensures reads { S.pulls source.new ≤ most_reads }
+{
+    let Ok(mut pool) = new_pool(alloc, cached, workers) else {
         return Err(RunFault::Memory);
     };
     match serve(&mut pool, rt, alloc, source, sink, MAX_READS) {

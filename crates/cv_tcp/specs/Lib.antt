@@ -1,2 +1,4 @@
+pub mod Accepting
 pub mod Calling
+pub mod Ends
 pub mod Faults

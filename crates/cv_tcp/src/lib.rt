@@ -1,14 +1,27 @@
-//! Serving and asking over TCP.
+//! Serving and asking over TCP and Unix sockets.
 #![tactic(auto)]
 
+mod accepting;
+mod address;
 mod calling;
-mod fault_lines;
+mod connection;
+mod fault;
+mod inlet;
 mod listening;
+mod log_lines;
+mod reply_count;
+mod report;
+mod socket_file;
 mod streams;
+mod terms;
+mod turns;
+mod watched;
 
 pub use calling::call;
-pub use fault_lines::FaultLines;
+pub use fault::{CallFault, call_status};
 pub use listening::listen;
+pub use log_lines::{LogFormat, LogLines};
+pub use terms::{MOST_AT_ONCE, Terms};
 
 #[cfg(test)]
 mod tests;

@@ -1,41 +1,60 @@
 //! Listening at an address.
-ghost use Rattle.std.specs.Prelude.{◌≤◌, IfErr};
+ghost use Rattle.std.specs.Prelude.{◌≡◌, ◌≤◌, IfOk, IfErr};
 ghost use Rattle.cv_tcp.specs.Faults.{IsOfListening};
 
-use crate::streams::serve_streams;
+use crate::address::Address;
+use crate::inlet::{Bound, Listener};
+use crate::socket_file;
+use crate::streams::{Service, serve_streams};
+use crate::terms::Terms;
 use cv_commands::{RunFault, write_all};
-use log::Log;
+use log::{Log, info};
 use std::alloc::Global;
+use std::fmt::Display;
+use std::fs::Files;
 use std::io;
-use std::net::{Net, SocketAddr, TcpListener, TcpStream};
+use std::net::{Net, TcpListener, TcpStream};
+use std::random::RandomSource;
 use std::sync::Wait;
 use std::thread::Threads;
+use std::time::Clock;
 
-/// Says where the program listens, in one write.
-fn announce<R: Print>(rt: &R, alloc: Global, address: SocketAddr) -> Result<(), RunFault>
+/// Prints where the program listens, in one write, and logs it.
+fn announce<R: Print, G: Log, D: Display + Drop>(
+    rt: &R,
+    alloc: Global,
+    log: &G,
+    address: D,
+) -> Result<(), RunFault>
     ensures { IfErr result IsOfListening }
 {
     let line = format!(in alloc; "listening {address}\n")?;
-    write_all(io::writer(rt), line.as_bytes())
+    write_all(io::writer(rt), line.as_bytes())?;
+    info!(log; address:% = address; "listening");
+    Ok(())
 }
 
-/// Listens at an address, says where on standard output, and serves so many streams one after the other, each by a new pool of so many
-/// workers. The fault of a stream goes to the log, and the next is served.
-pub fn listen<R, G>(
+/// Listens at a TCP port and serves the streams that come in there.
+pub(crate) fn listen_tcp<R, G>(
     rt: &R,
     alloc: Global,
     log: &G,
     address: &str,
-    streams: u64,
-    workers: u32,
-) -> Result<(), RunFault>
+    terms: Terms,
+) -> Result<u64, RunFault>
 where
-    R: Net<Listener = TcpListener, Stream = TcpStream> + Print + Threads + Wait + Sync,
-    G: Log,
-    requires { (1 ≤ workers) × (workers ≤ 16) }
-
-    // No fault of a stream is among these.
-    ensures { IfErr result IsOfListening }
+    R: Net<Listener = TcpListener, Stream = TcpStream>
+        + Print
+        + Clock
+        + RandomSource
+        + Threads
+        + Wait
+        + Sync,
+    G: Log + Sync,
+    requires at_once { 1 ≤ terms.at_once }
+    requires workers { (1 ≤ terms.workers) × (terms.workers ≤ 16) }
+    ensures served { IfOk result (λ n. n ≡ terms.streams) }
+    ensures err { IfErr result IsOfListening }
 {
     let Ok(listener) = TcpListener::bind(rt, address) else {
         return Err(RunFault::CannotListen);
@@ -43,6 +62,103 @@ where
     let Ok(bound) = listener.local_addr() else {
         return Err(RunFault::CannotListen);
     };
-    announce(rt, alloc, bound)?;
-    serve_streams(rt, alloc, log, &listener, streams, workers)
+    let Ok(inlet) = Bound::new(Listener::Tcp(listener)) else {
+        return Err(RunFault::CannotListen);
+    };
+    announce(rt, alloc, log, bound)?;
+    serve_streams(&Service {
+        rt,
+        alloc,
+        log,
+        inlet: &inlet,
+        terms,
+    })
+}
+
+/// Listens at a Unix socket and serves the streams that come in there. At the end the socket's file is removed.
+pub(crate) fn listen_unix<R, G>(
+    rt: &R,
+    alloc: Global,
+    log: &G,
+    path: &str,
+    terms: Terms,
+) -> Result<u64, RunFault>
+where
+    R: Net + Files + Print + Clock + RandomSource + Threads + Wait + Sync,
+    G: Log + Sync,
+    requires at_once { 1 ≤ terms.at_once }
+    requires workers { (1 ≤ terms.workers) × (terms.workers ≤ 16) }
+    ensures served { IfOk result (λ n. n ≡ terms.streams) }
+    ensures err { IfErr result IsOfListening }
+{
+    let Ok(listener) = socket_file::bind(rt, path) else {
+        return Err(RunFault::CannotListen);
+    };
+    let served = serve_unix(rt, alloc, log, Listener::Unix(listener), path, terms);
+    socket_file::remove(rt, path);
+    served
+}
+
+/// Serves the streams that come in at a Unix socket.
+pub(crate) fn serve_unix<R, G>(
+    rt: &R,
+    alloc: Global,
+    log: &G,
+    listener: Listener,
+    path: &str,
+    terms: Terms,
+) -> Result<u64, RunFault>
+where
+    R: Print + Clock + RandomSource + Threads + Wait + Sync,
+    G: Log + Sync,
+    requires at_once { 1 ≤ terms.at_once }
+    requires workers { (1 ≤ terms.workers) × (terms.workers ≤ 16) }
+    ensures served { IfOk result (λ n. n ≡ terms.streams) }
+    ensures err { IfErr result IsOfListening }
+{
+    let Ok(inlet) = Bound::new(listener) else {
+        return Err(RunFault::CannotListen);
+    };
+    announce(rt, alloc, log, format_args!("unix:{path}"))?;
+    serve_streams(&Service {
+        rt,
+        alloc,
+        log,
+        inlet: &inlet,
+        terms,
+    })
+}
+
+/// Listens at an address, prints it on standard output, and serves streams by these terms, each by a new pool of workers and all with one
+/// cache of compiled charmaps. The fault of a stream goes to the log, and the next is served.
+pub fn listen<R, G>(
+    rt: &R,
+    alloc: Global,
+    log: &G,
+    address: &str,
+    terms: Terms,
+) -> Result<u64, RunFault>
+where
+    R: Net<Listener = TcpListener, Stream = TcpStream>
+        + Files
+        + Print
+        + Clock
+        + RandomSource
+        + Threads
+        + Wait
+        + Sync,
+    G: Log + Sync,
+    requires at_once { 1 ≤ terms.at_once }
+    requires workers { (1 ≤ terms.workers) × (terms.workers ≤ 16) }
+
+    // All threads together took a turn for each stream that there was to be.
+    ensures served { IfOk result (λ n. n ≡ terms.streams) }
+
+    // No fault of a stream is among these.
+    ensures err { IfErr result IsOfListening }
+{
+    match Address::of(address) {
+        Address::Tcp(address) => listen_tcp(rt, alloc, log, address, terms),
+        Address::Unix(path) => listen_unix(rt, alloc, log, path, terms),
+    }
 }

@@ -1,56 +1,188 @@
-//! Serving TCP streams, one after the other.
-ghost use Rattle.std.specs.Prelude.{◌≡◌, ◌≤◌, IfErr};
+//! Serving streams, many at once.
+ghost use Rattle.std.specs.Prelude.{◌≡◌, ◌+◌, ◌≤◌, ◌⊎◌, IfOk, IfErr};
+ghost use Rattle.std.specs.Thread.{IsSync};
 
-use cv_commands::{RunFault, serve_stream};
-use cv_loop::{FromReader, Served, ToWriter};
-use log::{Log, debug, error};
+use crate::accepting::{Complaints, next_stream};
+use crate::connection::Connection;
+use crate::fault::end_of;
+use crate::inlet::Inlet;
+use crate::reply_count::CountsReplies;
+use crate::report::{Ended, Report};
+use crate::terms::Terms;
+use crate::turns::{Job, Slot, Turns, new_slots};
+use crate::watched::Watched;
+use cv_cache::{Cached, HashKeys};
+use cv_commands::{RunFault, serve_stream_by};
+use cv_loop::{FromReader, ToWriter};
+use log::{Log, error};
 use std::alloc::Global;
-use std::net::{OpenListener, TcpStream};
-use std::sync::Wait;
+use std::marker::Brand;
+use std::random::RandomSource;
+use std::sync::ledger::Blank;
+use std::sync::{Mutex, Wait};
+use std::thread;
 use std::thread::Threads;
+use std::time::Clock;
 
-/// Serves one stream by a new pool of so many workers: the source and the sink share it.
-pub(crate) fn serve_socket<R: Threads + Wait + Sync>(
-    rt: &R,
-    alloc: Global,
-    stream: &TcpStream,
-    workers: u32,
-) -> Result<Served, RunFault>
-    requires { (1 ≤ workers) × (workers ≤ 16) }
-{
-    // Where this is refused, replies only come later.
-    let _ = stream.set_nodelay(true);
-    let mut source = FromReader::new(stream);
-    let mut sink = ToWriter::new(stream);
-    serve_stream(rt, alloc, &mut source, &mut sink, workers)
+/// What the threads that serve streams share.
+#[derive(Drop)]
+pub(crate) struct Service<'a, R, G, L> {
+    pub(crate) rt: &'a R,
+    pub(crate) alloc: Global,
+    pub(crate) log: &'a G,
+    pub(crate) inlet: &'a L,
+    pub(crate) terms: Terms,
 }
 
-/// Serves the next streams of a listener, so many of them. What became of each goes to the log.
-pub(crate) fn serve_streams<R, G, L>(
+/// Serves one stream by a new pool of workers, and says what it came to. The source and the sink share the stream.
+pub(crate) fn serve_connection<R: Threads + Wait + Sync>(
     rt: &R,
     alloc: Global,
-    log: &G,
-    listener: &L,
-    streams: u64,
-    workers: u32,
-) -> Result<(), RunFault>
+    cached: &Cached,
+    stream: &Connection,
+    terms: Terms,
+) -> Ended
+    requires { (1 ≤ terms.workers) × (terms.workers ≤ 16) }
+{
+    stream.send_at_once();
+    // If the system refuses this, the stream has no limit.
+    let _ = stream.limit_waits(terms.idle);
+    let mut source = FromReader::new(Watched::new(stream));
+    let mut sink = ToWriter::new(Watched::new(CountsReplies::new(stream)));
+    let served = serve_stream_by(rt, alloc, cached, &mut source, &mut sink, terms.workers);
+    let (reader, writer) = (source.into_inner(), sink.into_inner());
+    Ended {
+        fault: match served {
+            Ok(_) => None,
+            Err(fault) => Some(end_of(fault, reader.is_late(), writer.is_late())),
+        },
+        requests: writer.inner().replies(),
+        read: reader.bytes(),
+        written: writer.bytes(),
+    }
+}
+
+/// Serves streams, one after the other, for as long as there are turns. What became of each goes to the log.
+fn serve_turns<R, G, L, J>(
+    service: &Service<'_, R, G, L>,
+    cached: &Cached,
+    complaints: &Mutex<Complaints>,
+    turns: &Mutex<Turns<J>>,
+    slot: &Mutex<Slot<J>>,
+)
 where
-    R: Threads + Wait + Sync,
+    R: Threads + Wait + Clock + Sync,
     G: Log,
-    L: OpenListener<Stream = TcpStream>,
-    requires { (1 ≤ workers) × (workers ≤ 16) }
+    L: Inlet,
+    J: Job,
+    requires { (1 ≤ service.now.terms.workers) × (service.now.terms.workers ≤ 16) }
+{
+    let rt = service.rt;
+    let mut slot = slot.lock(rt);
+    let slot = &mut *slot;
+    for _turn in 0..service.terms.streams {
+        if !turns.lock(rt).take(slot) {
+            return;
+        }
+        let stream = match next_stream(rt, service.log, service.inlet, complaints) {
+            Ok(stream) => stream,
+            Err(failure) => {
+                turns.lock(rt).close(slot, &failure);
+                service.inlet.shut();
+                return;
+            }
+        };
+        let begun = Report::begin(rt, service.log, &stream);
+        let ended = serve_connection(rt, service.alloc, cached, &stream, service.terms);
+        begun.end(rt, service.log, ended);
+    }
+}
+
+/// Serves by a thread for each slot, of which this one is the first. With fewer threads than slots it goes on.
+fn serve_slots<R, G, L, J>(
+    service: &Service<'_, R, G, L>,
+    cached: &Cached,
+    turns: &Mutex<Turns<J>>,
+    slots: &Vec<Mutex<Slot<J>>>,
+)
+where
+    R: Threads + Wait + Clock + Sync,
+    G: Log + Sync,
+    L: Inlet + Sync,
+    J: Job + Send + Sync,
+    requires { (1 ≤ service.now.terms.workers) × (service.now.terms.workers ≤ 16) }
+{
+    let complaints = Mutex::new(Complaints::new());
+    let complaints = &complaints;
+    thread::scope(
+        thread::scope_env(),
+        service.rt,
+        |scope|
+            requires { IsSync R.row × (1 ≤ service.now.terms.workers) × (service.now.terms.workers ≤ 16) }
+        {
+            for number in 1..slots.len() {
+                let slot = &slots[number];
+                let thread = scope.spawn(
+                    move ||
+                        requires { IsSync R.row × (1 ≤ service.now.terms.workers) × (service.now.terms.workers ≤ 16) }
+                    { serve_turns(service, cached, complaints, turns, slot) },
+                );
+                if thread.is_err() {
+                    error!(service.log; "only {number} streams at once: cannot start more threads");
+                    break;
+                }
+            }
+            if let Some(slot) = slots.first() {
+                serve_turns(service, cached, complaints, turns, slot);
+            }
+        },
+    );
+}
+
+/// Serves the streams of one job, by as many threads as there may be streams at once.
+fn serve_job<R, G, L, J>(service: &Service<'_, R, G, L>, blank: Blank) -> Result<u64, RunFault>
+where
+    R: Clock + RandomSource + Threads + Wait + Sync,
+    G: Log + Sync,
+    L: Inlet + Sync,
+    J: Job + Send + Sync,
+    requires name { blank.name ≡ J.name }
+    requires parts { blank.parts ≡ J.parts }
+    requires one_more { blank.parts ≡ service.now.terms.at_once + 1 }
+    requires streams { service.now.terms.streams ≡ J.streams }
+    requires at_once { 1 ≤ service.now.terms.at_once }
+    requires workers { (1 ≤ service.now.terms.workers) × (service.now.terms.workers ≤ 16) }
+    ensures served { IfOk result (λ n. n ≡ service.now.terms.streams) }
+    ensures err { IfErr result (λ fault. (fault ≡ RunFault.AcceptFailed) ⊎ (fault ≡ RunFault.Memory)) }
+{
+    let keys = HashKeys::drawn(service.rt);
+    let cached = Cached::with_keys(service.alloc, keys)?;
+    let (taken, mut all) = blank.open::<J>();
+    let slots = new_slots(service.alloc, service.terms.at_once, &mut all)?;
+    let turns = Mutex::new(Turns::new(service.terms.streams, taken));
+    serve_slots(service, &cached, &turns, &slots);
+    let mut turns = turns.into_inner();
+    match turns.total(slots, &mut all) {
+        Some(served) => Ok(served),
+        None => Err(RunFault::AcceptFailed),
+    }
+}
+
+/// Serves the next streams of an inlet. What became of each goes to the log.
+pub(crate) fn serve_streams<R, G, L>(service: &Service<'_, R, G, L>) -> Result<u64, RunFault>
+where
+    R: Clock + RandomSource + Threads + Wait + Sync,
+    G: Log + Sync,
+    L: Inlet + Sync,
+    requires at_once { 1 ≤ service.now.terms.at_once }
+    requires workers { (1 ≤ service.now.terms.workers) × (service.now.terms.workers ≤ 16) }
+
+    // All threads together take a turn for each stream that there is to be.
+    ensures served { IfOk result (λ n. n ≡ service.now.terms.streams) }
 
     // The fault of a stream ends that stream, and nothing else.
-    ensures { IfErr result (λ fault. fault ≡ RunFault.AcceptFailed) }
+    ensures err { IfErr result (λ fault. (fault ≡ RunFault.AcceptFailed) ⊎ (fault ≡ RunFault.Memory)) }
 {
-    for _stream in 0..streams {
-        let Ok((stream, _peer)) = listener.accept() else {
-            return Err(RunFault::AcceptFailed);
-        };
-        match serve_socket(rt, alloc, &stream, workers) {
-            Ok(served) => debug!(log; "requests: {}", served.requests),
-            Err(fault) => error!(log; "{fault}"),
-        }
-    }
-    Ok(())
+    let blank = Blank::new(u64::from(service.terms.at_once) + 1);
+    serve_job::<R, G, L, Brand>(service, blank)
 }

@@ -1,9 +1,11 @@
 //! Asking: replies that come, and peers that end.
-use super::{bound, connected};
-use crate::calling::{call, call_socket};
-use crate::streams::serve_socket;
-use cv_commands::{RunFault, status};
-use cv_loop::Served;
+use super::{bound, connected, terms};
+use crate::calling::{call, call_connection};
+use crate::connection::Connection;
+use crate::fault::{CallFault, call_status};
+use crate::streams::serve_connection;
+use cv_cache::Cached;
+use cv_commands::RunFault;
 use std::io::{self, Write};
 use std::net::{Net, Shutdown, TcpListener, TcpStream};
 use std::test::Fail;
@@ -17,25 +19,32 @@ const LINES: &[u8] = b"7 1 OK 00000000\n7 2 OK 0000000000000001413f42\n7 3 OK -\
 fn a_script_is_served_and_asked(rt: HostRuntime) -> Result<(), Fail> {
     let alloc = rt.alloc();
     let (listener, address) = bound(&rt)?;
-    let (rt, listener) = (&rt, &listener);
-    let (served, called) = thread::join(
+    let cached = Cached::new(alloc)?;
+    let (rt, listener, cached) = (&rt, &listener, &cached);
+    let (ended, called) = thread::join(
         rt,
         move || match listener.accept() {
-            Ok((stream, _peer)) => serve_socket(rt, alloc, &stream, 2),
-            Err(_) => Err(RunFault::AcceptFailed),
+            Ok((stream, _peer)) => {
+                let stream = Connection::Tcp(stream);
+                Some(serve_connection(rt, alloc, cached, &stream, terms(1, 1)))
+            }
+            Err(_) => None,
         },
         move || {
             let mut lines = Vec::new(alloc);
             match connected(rt, address) {
                 Ok(stream) => {
-                    let called = call_socket(alloc, SCRIPT, &stream, &mut lines);
+                    let stream = Connection::Tcp(stream);
+                    let called = call_connection(alloc, SCRIPT, &stream, &mut lines);
                     (called, lines)
                 }
-                Err(_) => (Err(RunFault::CannotConnect), lines),
+                Err(_) => (Err(CallFault::Run(RunFault::CannotConnect)), lines),
             }
         },
     );
-    assert_eq!(rt; served, Ok(Served { requests: 3 }));
+    let ended = ended.ok_or("no stream")?;
+    assert_eq!(rt; ended.fault, None);
+    assert_eq!(rt; (ended.requests, ended.read, ended.written), (3, 74, 54));
     let (called, lines) = called;
     assert_eq!(rt; called, Ok(()));
     assert!(rt; lines.as_slice() == LINES);
@@ -43,7 +52,7 @@ fn a_script_is_served_and_asked(rt: HostRuntime) -> Result<(), Fail> {
 }
 
 /// What asking comes to where the peer sends bytes and ends.
-fn answered<R>(rt: &R, bytes: &[u8]) -> io::Result<(Result<(), RunFault>, Vec<u8>)>
+fn answered<R>(rt: &R, bytes: &[u8]) -> io::Result<(Result<(), CallFault>, Vec<u8>)>
 where
     R: AllocGlobal + Net<Listener = TcpListener, Stream = TcpStream>,
 {
@@ -54,7 +63,7 @@ where
     peer.write_all(bytes)?;
     peer.shutdown(Shutdown::Write)?;
     let mut lines = Vec::new(alloc);
-    let called = call_socket(alloc, SCRIPT, &stream, &mut lines);
+    let called = call_connection(alloc, SCRIPT, &Connection::Tcp(stream), &mut lines);
     Ok((called, lines))
 }
 
@@ -78,8 +87,9 @@ fn asking_ends_as_the_peer_does(rt: HostRuntime) -> Result<(), Fail> {
     ];
     for (bytes, fault, text, shown) in cases {
         let (called, lines) = answered(&rt, bytes)?;
+        let fault = CallFault::Run(fault);
         assert_eq!(rt; called, Err(fault));
-        assert_eq!(rt; status(&fault), 1);
+        assert_eq!(rt; call_status(&fault), 1);
         let said = format!(in rt.alloc(); "{fault}")?;
         assert!(rt; said.as_str() == text, "{said}");
         assert!(rt; lines.as_slice() == shown, "{fault}");
@@ -93,13 +103,36 @@ fn a_script_at_fault_is_found_before_its_server(rt: HostRuntime) -> Result<(), F
     let (listener, address) = bound(&rt)?;
     let address = format!(in alloc; "{address}")?;
     let mut lines = Vec::new(alloc);
-    let called = call(&rt, alloc, &address, b"# nothing to ask\n", &mut lines);
+    let called = call(
+        &rt,
+        alloc,
+        &address,
+        None,
+        b"# nothing to ask\n",
+        &mut lines,
+    );
     assert_eq!(rt; called, Ok(()));
     drop(listener);
-    let called = call(&rt, alloc, &address, SCRIPT, &mut lines);
-    assert_eq!(rt; called, Err(RunFault::CannotConnect));
-    let called = call(&rt, alloc, &address, b"7", &mut lines);
-    assert_eq!(rt; called, Err(RunFault::Line(1)));
+    let called = call(&rt, alloc, &address, Some(5), SCRIPT, &mut lines);
+    assert_eq!(rt; called, Err(CallFault::Run(RunFault::CannotConnect)));
+    let called = call(&rt, alloc, &address, None, b"7", &mut lines);
+    assert_eq!(rt; called, Err(CallFault::Run(RunFault::Line(1))));
     assert!(rt; lines.is_empty());
+    Ok(())
+}
+
+#[test]
+fn a_silent_server_gives_no_reply(rt: HostRuntime) -> Result<(), Fail> {
+    let alloc = rt.alloc();
+    let (listener, address) = bound(&rt)?;
+    let address = format!(in alloc; "{address}")?;
+    let mut lines = Vec::new(alloc);
+    let called = call(&rt, alloc, &address, Some(1), SCRIPT, &mut lines);
+    assert_eq!(rt; called, Err(CallFault::NoReply));
+    assert!(rt; lines.is_empty());
+    drop(listener);
+    let said = format!(in alloc; "{}", CallFault::NoReply)?;
+    assert!(rt; said.as_str() == "no reply");
+    assert_eq!(rt; call_status(&CallFault::NoReply), 1);
     Ok(())
 }

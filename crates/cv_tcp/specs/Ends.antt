@@ -1,0 +1,27 @@
+-- Why a stream or a call ended.
+use Rattle.std.specs.Prelude.{ℕ, Bool, true}
+use Rattle.cv_loop.specs.declared.fault.ServeFault.TheVariants as serving
+use Rattle.cv_commands.specs.Status.{status_of}
+use Rattle.cv_commands.specs.declared.fault.RunFault.{RunFault}
+use Rattle.cv_commands.specs.declared.fault.RunFault.TheVariants.{Serve}
+use Rattle.cv_tcp.specs.declared.fault.StreamFault.{StreamFault}
+use Rattle.cv_tcp.specs.declared.fault.StreamFault.TheVariants.{Idle, Stalled, Run}
+use Rattle.cv_tcp.specs.declared.fault.CallFault.{CallFault}
+use Rattle.cv_tcp.specs.declared.fault.CallFault.TheVariants as calling
+
+-- A read that failed for want of time is an idle client, a write a stalled one; every other fault is serving's.
+abbrev pub end_of : RunFault → Bool → Bool → StreamFault
+end_of (Serve serving.Read) true late_write = Idle
+end_of (Serve (serving.Write n)) late_read true = Stalled
+end_of fault late_read late_write = Run fault
+
+-- A read or a write of a call that failed for want of time is no reply; every other fault is asking's.
+abbrev pub call_end_of : RunFault → Bool → Bool → CallFault
+call_end_of (Serve serving.Read) true late_write = calling.NoReply
+call_end_of (Serve (serving.Write n)) late_read true = calling.NoReply
+call_end_of fault late_read late_write = calling.Run fault
+
+-- The exit status of a call that ended so.
+abbrev pub call_status_of : CallFault → ℕ
+call_status_of calling.NoReply = 1
+call_status_of (calling.Run fault) = status_of fault

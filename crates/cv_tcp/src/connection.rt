@@ -1,0 +1,123 @@
+//! The stream between a server and a client.
+ghost use Rattle.std.specs.Io.{ReadsAtMost, WritesAtMost};
+
+use std::fmt::{self, Display, Formatter};
+use std::io::{self, Read, Write};
+use std::net::{SocketAddr, TcpStream};
+use std::os::unix::net::UnixStream;
+use std::time::Duration;
+
+/// A stream between a server and a client, over TCP or a Unix socket.
+#[derive(Drop)]
+pub(crate) enum Connection {
+    Tcp(TcpStream),
+    Unix(UnixStream),
+}
+
+impl Connection {
+    /// Sends what is written at once. If the system refuses this, bytes only arrive later.
+    pub(crate) fn send_at_once(&self) {
+        match self {
+            Connection::Tcp(stream) => {
+                let _ = stream.set_nodelay(true);
+            }
+            Connection::Unix(_) => {}
+        }
+    }
+
+    /// Limits how long a read or a write waits, if there is a limit.
+    pub(crate) fn limit_waits(&self, seconds: Option<u32>) -> io::Result<()> {
+        let limit = seconds.map(|seconds| Duration::from_secs(u64::from(seconds)));
+        match self {
+            Connection::Tcp(stream) => {
+                stream.set_read_timeout(limit)?;
+                stream.set_write_timeout(limit)
+            }
+            Connection::Unix(stream) => {
+                stream.set_read_timeout(limit)?;
+                stream.set_write_timeout(limit)
+            }
+        }
+    }
+
+    /// Reads once, into the front of `buf`.
+    fn read_once(&self, buf: &mut [u8]) -> io::Result<usize>
+        ensures { ReadsAtMost result buf.new }
+    {
+        match self {
+            Connection::Tcp(stream) => read_by(stream, buf),
+            Connection::Unix(stream) => read_by(stream, buf),
+        }
+    }
+
+    /// Writes once, from the front of `bytes`.
+    fn write_once(&self, bytes: &[u8]) -> io::Result<usize>
+        ensures { WritesAtMost result bytes.now }
+    {
+        match self {
+            Connection::Tcp(stream) => write_by(stream, bytes),
+            Connection::Unix(stream) => write_by(stream, bytes),
+        }
+    }
+
+    /// Who is at the other end.
+    pub(crate) fn peer(&self) -> Peer {
+        match self {
+            Connection::Tcp(stream) => match stream.peer_addr() {
+                Ok(address) => Peer::At(address),
+                Err(_) => Peer::Gone,
+            },
+            Connection::Unix(_) => Peer::Local,
+        }
+    }
+}
+
+/// Reads once by a reader that is lent.
+fn read_by<T: Read + Drop>(mut reader: T, buf: &mut [u8]) -> io::Result<usize>
+    ensures { ReadsAtMost result buf.new }
+{
+    reader.read(buf)
+}
+
+/// Writes once by a writer that is lent.
+fn write_by<T: Write + Drop>(mut writer: T, bytes: &[u8]) -> io::Result<usize>
+    ensures { WritesAtMost result bytes.now }
+{
+    writer.write(bytes)
+}
+
+/// Who is at the other end of a stream.
+#[derive(Clone, Copy, Debug, PartialEq, Eq)]
+pub(crate) enum Peer {
+    At(SocketAddr),
+    /// A process of this machine.
+    Local,
+    /// Nobody any more.
+    Gone,
+}
+
+impl Display for Peer {
+    fn fmt<W: fmt::Write>(&self, f: &mut Formatter<W>) -> fmt::Result {
+        match self {
+            Peer::At(address) => write!(f, "{address}"),
+            Peer::Local => f.write_str("unix"),
+            Peer::Gone => f.write_str("gone"),
+        }
+    }
+}
+
+impl Read for &Connection {
+    fn read(&mut self, buf: &mut [u8]) -> io::Result<usize> {
+        self.read_once(buf)
+    }
+}
+
+impl Write for &Connection {
+    fn write(&mut self, bytes: &[u8]) -> io::Result<usize> {
+        self.write_once(bytes)
+    }
+
+    fn flush(&mut self) -> io::Result<()> {
+        Ok(())
+    }
+}

@@ -1,0 +1,67 @@
+//! Where streams come in.
+use crate::connection::Connection;
+use std::io;
+use std::net::{Shutdown, TcpListener, TcpStream};
+use std::os::fd::OwnedFd;
+use std::os::unix::net::UnixListener;
+
+/// Where streams come in, for many threads at once.
+pub(crate) trait Inlet {
+    /// Waits for the next stream.
+    fn accept(&self) -> io::Result<Connection>;
+
+    /// Makes every `accept` fail from now on, also those that are waiting.
+    fn shut(&self);
+}
+
+/// A listener over TCP or a Unix socket.
+#[derive(Drop)]
+pub(crate) enum Listener {
+    Tcp(TcpListener),
+    Unix(UnixListener),
+}
+
+impl Listener {
+    /// A second descriptor of the socket. std can shut a socket only as a stream; the system makes no difference.
+    fn socket(&self) -> io::Result<TcpStream> {
+        let socket = match self {
+            Listener::Tcp(listener) => OwnedFd::from(listener.try_clone()?),
+            Listener::Unix(listener) => OwnedFd::from(listener.try_clone()?),
+        };
+        Ok(TcpStream::from(socket))
+    }
+}
+
+/// A listener, and a second descriptor of its socket, by which it is shut.
+#[derive(Drop)]
+pub(crate) struct Bound {
+    listener: Listener,
+    socket: TcpStream,
+}
+
+impl Bound {
+    /// Takes the second descriptor now: once it is needed, there may be none.
+    pub(crate) fn new(listener: Listener) -> io::Result<Bound> {
+        let socket = listener.socket()?;
+        Ok(Bound { listener, socket })
+    }
+}
+
+impl Inlet for Bound {
+    fn accept(&self) -> io::Result<Connection> {
+        match &self.listener {
+            Listener::Tcp(listener) => {
+                let (stream, _peer) = listener.accept()?;
+                Ok(Connection::Tcp(stream))
+            }
+            Listener::Unix(listener) => {
+                let (stream, _peer) = listener.accept()?;
+                Ok(Connection::Unix(stream))
+            }
+        }
+    }
+
+    fn shut(&self) {
+        let _ = self.socket.shutdown(Shutdown::Both);
+    }
+}

@@ -1,0 +1,62 @@
+//! What the log says of a stream.
+use crate::connection::{Connection, Peer};
+use crate::fault::StreamFault;
+use log::{Log, debug, error, info};
+use std::time::{Clock, Instant};
+
+/// What a stream came to.
+#[derive(Clone, Copy, Debug, PartialEq, Eq)]
+pub(crate) struct Ended {
+    /// Why it ended, unless its client ended it.
+    pub(crate) fault: Option<StreamFault>,
+    /// How many requests had their whole reply written.
+    pub(crate) requests: u64,
+    /// How many bytes came.
+    pub(crate) read: u64,
+    /// How many bytes went.
+    pub(crate) written: u64,
+}
+
+/// A stream that is being served, as the log sees it. It holds nothing of what its client sends.
+#[derive(Drop)]
+pub(crate) struct Report {
+    peer: Peer,
+    begun: Option<Instant>,
+}
+
+impl Report {
+    /// A stream begins.
+    pub(crate) fn begin<R: Clock, G: Log>(rt: &R, log: &G, stream: &Connection) -> Report {
+        let report = Report {
+            peer: stream.peer(),
+            begun: Instant::now(rt).ok(),
+        };
+        debug!(log; peer:% = report.peer; "client connected");
+        report
+    }
+
+    /// For how many seconds the stream has been there, if the clock can be read.
+    fn seconds<R: Clock>(&self, rt: &R) -> Option<f64> {
+        let lasted = self.begun?.elapsed(rt).ok()?;
+        Some(lasted.as_secs_f64())
+    }
+
+    /// The stream has ended: one record, an error if it ended by a fault.
+    pub(crate) fn end<R: Clock, G: Log>(&self, rt: &R, log: &G, ended: Ended) {
+        let seconds = self.seconds(rt);
+        let Ended {
+            fault,
+            requests,
+            read,
+            written,
+        } = ended;
+        match fault {
+            None => {
+                info!(log; peer:% = self.peer, requests, read, written, seconds; "client ended");
+            }
+            Some(fault) => {
+                error!(log; peer:% = self.peer, requests, read, written, seconds; "{fault}");
+            }
+        }
+    }
+}

@@ -1,0 +1,133 @@
+//! Turns at streams, which many threads take one after the other.
+ghost use Rattle.std.specs.Prelude.{◌≡◌, ℕ, ◌+◌, ◌^◌, ◌<◌, true, false, IfOk, IfSome, OnOk, vec_len};
+ghost use Rattle.std.specs.IoError.{raw_os_error};
+ghost use Rattle.cv_tcp.specs.Accepting.{is_lasting};
+
+use std::alloc::{AllocError, Global};
+use std::io;
+use std::marker::Brand;
+use std::sync::Mutex;
+use std::sync::ledger::{Book, Ledger, Share};
+
+/// How many streams there are to be. Nothing at run time: a name for the turns of one call.
+pub(crate) trait Job: Ledger {
+    ghost streams: { ℕ };
+}
+
+impl Job for Brand {
+    ghost streams = { 0 };
+}
+
+/// The turns that are left, for all threads. Those that were taken are counted with those who took them.
+#[derive(Drop)]
+pub(crate) struct Turns<J: Job> {
+    left: u64,
+    is_closed: bool,
+    taken: Book<J>,
+    ghost all: { left + taken.total ≡ J.streams },
+    ghost fits: { J.streams < 2 ^ 64 },
+}
+
+/// The turns that one thread took.
+#[derive(Drop)]
+pub(crate) struct Slot<J: Job> {
+    served: u64,
+    share: Share<J>,
+    ghost part: { share.parts ≡ 1 },
+    ghost counted: { share.amount ≡ served },
+}
+
+impl<J: Job> Turns<J> {
+    /// As many turns as there are to be streams.
+    pub(crate) fn new(streams: u64, taken: Book<J>) -> Turns<J>
+        requires streams { streams ≡ J.streams }
+        requires none { taken.total ≡ 0 }
+    {
+        Turns {
+            left: streams,
+            is_closed: false,
+            taken,
+        }
+    }
+
+    /// Takes a turn, where one is to be had.
+    pub(crate) fn take(&mut self, slot: &mut Slot<J>) -> bool
+        ensures yes { result ≡ true → slot.new.served ≡ slot.old.served + 1 }
+        ensures no { result ≡ false → slot.new.served ≡ slot.old.served }
+    {
+        if self.is_closed || self.left == 0 {
+            return false;
+        }
+        let Turns {
+            left,
+            is_closed: _,
+            taken,
+        } = self;
+        let Slot { served, share } = slot;
+        taken.audit(share);
+        taken.add(share, 1);
+        *left -= 1;
+        *served += 1;
+        true
+    }
+
+    /// Gives a turn back, and lets nobody take another: an accept has failed, and every other will.
+    pub(crate) fn close(&mut self, slot: &mut Slot<J>, failure: &io::Error)
+        requires taken { 0 < slot.old.served }
+        requires lasting { is_lasting (raw_os_error failure.now) ≡ true }
+        ensures { slot.new.served + 1 ≡ slot.old.served }
+    {
+        let Turns {
+            left,
+            is_closed,
+            taken,
+        } = self;
+        let Slot { served, share } = slot;
+        taken.audit(share);
+        taken.sub(share, 1);
+        *is_closed = true;
+        *left += 1;
+        *served -= 1;
+    }
+
+    /// How many turns all slots took: every turn, or some are left.
+    pub(crate) fn total(
+        &mut self,
+        mut slots: Vec<Mutex<Slot<J>>>,
+        all: &mut Share<J>,
+    ) -> Option<u64>
+        requires parts { all.old.parts + vec_len slots ≡ J.parts }
+        requires none { all.old.amount ≡ 0 }
+        ensures { IfSome result (λ n. n ≡ J.streams) }
+    {
+        let mut sum = 0;
+        while let Some(slot) = slots.pop() {
+            let Slot { served, share } = slot.into_inner();
+            all.merge(share);
+            self.taken.audit(all);
+            sum += served;
+        }
+        self.taken.audit(all);
+        if self.left == 0 { Some(sum) } else { None }
+    }
+}
+
+/// So many slots, which took no turn yet.
+pub(crate) fn new_slots<J: Job>(
+    alloc: Global,
+    count: u32,
+    all: &mut Share<J>,
+) -> Result<Vec<Mutex<Slot<J>>>, AllocError>
+    requires parts { count < all.old.parts }
+    requires none { all.old.amount ≡ 0 }
+    ensures len { IfOk result (λ slots. vec_len slots ≡ count) }
+    ensures parts { IfOk result (λ slots. vec_len slots + all.new.parts ≡ all.old.parts) }
+    ensures none { OnOk result (all.new.amount ≡ 0) }
+{
+    let mut slots = Vec::new(alloc);
+    for _slot in 0..count {
+        let share = all.split_off(1, 0);
+        slots.push(Mutex::new(Slot { served: 0, share }))?;
+    }
+    Ok(slots)
+}

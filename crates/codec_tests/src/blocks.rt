@@ -1,5 +1,5 @@
-//! Blocks by tables. A line of reading is `INPUT USED: CHARACTERS`, how many bytes of the input were read, and as what. A line of writing
-//! is `CHARACTERS: COUNT BYTES STATE`, for how many of them `?` was written, what all were written as, and where the writer is then; or
+//! Blocks by tables. A line of reading is `INPUT USED: CHARACTERS`: how many bytes of the input were read, and as what. A line of writing
+//! is `CHARACTERS: COUNT BYTES STATE`: for how many of them `?` was written, what all were written as, and the writer's state then; or
 //! `CHARACTERS: none`.
 use crate::words::{bytes_of, scalars_of, sides};
 use crate::writing::state_name;
@@ -50,7 +50,7 @@ pub fn write_blocks<R: Abort + AllocGlobal, C: BlockCodec>(
     Ok(())
 }
 
-/// Whether a block is written as it is to be written, and nothing around it.
+/// Whether a block is written as expected, and nothing around it.
 fn is_written<C: BlockCodec>(
     alloc: Global,
     codec: &C,

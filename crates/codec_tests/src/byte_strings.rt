@@ -1,11 +1,11 @@
-//! A byte trie whose nodes have one edge, a few and many, against what was added to it.
+//! A byte trie whose nodes have one edge, a few and many, compared with what was added to it.
 use crate::words::{bytes_of, sides};
 use cv_base::Scalar;
 use cv_byte_trie::{Added, ByteTrie, Found, NONE};
 use std::alloc::{AllocError, Global};
 use std::test::Fail;
 
-/// Adds a string, of which the trie takes one to eight bytes.
+/// Adds a string. The trie takes strings of one to eight bytes.
 fn add(trie: &mut ByteTrie, bytes: &[u8]) -> Result<Added, Fail> {
     if bytes.is_empty() || bytes.len() > 8 || trie.len() >= 1000 {
         return Err("a string that can't be added".into());
@@ -32,7 +32,7 @@ fn walked(trie: &ByteTrie, byte: u8) -> Option<usize> {
     }
 }
 
-/// Strings of two and three bytes: one behind 0, a few behind 1, and 256 behind each of 2 and 3.
+/// Strings of two and three bytes: one after 0, a few after 1, and 256 after each of 2 and 3.
 fn strings(alloc: Global) -> Result<Vec<Vec<u8>>, AllocError> {
     let mut strings = Vec::new(alloc);
     push(&mut strings, alloc, &[0, 7, 9])?;
@@ -72,7 +72,7 @@ fn strings_are_found_at_their_places(rt: HostRuntime) -> Result<(), Fail> {
     Ok(())
 }
 
-/// What is done with a string, and what comes of it.
+/// A call with a string, and its result.
 const MEETING: &str = r#"
 add "abc": Entered
 add "abd": Entered
@@ -86,7 +86,7 @@ find "ax": Nothing
 find "bb": Entry(2)
 "#;
 
-/// What comes of adding or finding a string, in the words of a line.
+/// The result of adding or finding a string, in the words of a line.
 fn told(alloc: Global, trie: &mut ByteTrie, line: &str) -> Result<String, Fail> {
     let (done, string) = sides(line, " ")?;
     let bytes = bytes_of(alloc, string)?;

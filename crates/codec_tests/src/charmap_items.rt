@@ -26,7 +26,7 @@ const MIXED: &str = r#"
 "?": ill
 "#;
 
-/// Reads the items of lines as those of a charmap. A charmap takes each state for the start.
+/// Reads the items of lines as those of a charmap. A charmap treats each state as the start.
 fn read_as<R: Abort + AllocGlobal>(rt: &R, name: &str, table: &str) -> Result<(), Fail> {
     let map = charmap(rt.alloc(), name)?;
     for state in [ReadState::Start, ReadState::Big] {

@@ -1,4 +1,4 @@
-//! The pairs of a small charmap, against a list made by hand.
+//! The pairs of a small charmap, compared with a list made by hand.
 use crate::words::{bytes_of, scalar_of, sides};
 use cv_byte_trie::Found;
 use cv_charmap::{CompileFault, Pairs, laws, read};

@@ -4,7 +4,7 @@ use cv_trie::Charmap;
 use std::alloc::Global;
 use std::test::Fail;
 
-/// Two-byte letters whose numbers are carried into the first byte.
+/// Two-byte letters whose numbers carry into the first byte.
 const TOY: &[u8] = b"<code_set_name> TOY\n\
     <mb_cur_max> 2\n\
     CHARMAP\n\

@@ -39,7 +39,7 @@ pub fn encoding(alloc: Global, name: &str) -> Result<Encoding, Fail> {
     Ok(Encoding::Charmap(shared))
 }
 
-/// Whether a call answers what it is to answer.
+/// Whether a call has the expected answer.
 fn answers(alloc: Global, conversion: &mut Conversion, call: &str) -> Result<bool, Fail> {
     let (given, wanted) = sides(call, " = ")?;
     let (input, room) = sides(given, " ")?;
@@ -51,7 +51,7 @@ fn answers(alloc: Global, conversion: &mut Conversion, call: &str) -> Result<boo
     }
 }
 
-/// Whether a reset writes the bytes that it is to write.
+/// Whether a reset writes the expected bytes.
 fn closes(
     alloc: Global,
     conversion: &mut Conversion,
@@ -67,7 +67,7 @@ fn closes(
     }
 }
 
-/// Whether input is converted to the bytes that it is to be converted to.
+/// Whether input is converted to the expected bytes.
 fn converts(
     alloc: Global,
     conversion: &mut Conversion,

@@ -1,5 +1,5 @@
-//! Items by tables. A line is `INPUT: ITEM, ITEM ..`, the items one after the other from the front of the input: `char NUMBER BYTES`,
-//! `shift BYTES`, `incomplete`, `ill` or `end`. `in STATE` behind one says where the reader is then.
+//! Items by tables. A line is `INPUT: ITEM, ITEM ..`, the items one after the other from the start of the input: `char NUMBER BYTES`,
+//! `shift BYTES`, `incomplete`, `ill` or `end`. `in STATE` after one is the reader's state then.
 use crate::words::{bytes_of, sides};
 use cv_base::{Codec, Item, ReadState};
 use std::alloc::{AllocError, Global};
@@ -22,7 +22,7 @@ pub fn read_items<R: Abort + AllocGlobal, C: Codec>(
     Ok(())
 }
 
-/// Whether these items stand in a text, one after the other.
+/// Whether these items are in a text, one after the other.
 fn are_read<C: Codec>(
     alloc: Global,
     codec: &C,
@@ -46,7 +46,7 @@ fn are_read<C: Codec>(
     Ok(true)
 }
 
-/// The text and the state behind an item. One that ends the text has nothing behind it.
+/// The text and the state after an item. One that ends the text has nothing after it.
 fn behind<'a>(item: &Item, text: &'a [u8]) -> (&'a [u8], ReadState) {
     match *item {
         Item::Char { n, next, .. } | Item::Shift { n, next } => (

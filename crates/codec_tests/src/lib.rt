@@ -1,5 +1,5 @@
-//! Tests of the encodings, of charmaps and of conversions. A crate with tests is proved twice, so those of the crates that many others
-//! stand on are here, and say what a client of these crates could. What is proved of a nested array costs much, so a table is a text:
+//! Tests of the encodings, of charmaps and of conversions. A crate with tests is proved twice, so the tests of the crates that many others
+//! use are here, and say what a client of these crates could say. Proofs about nested arrays are expensive, so a table is a text:
 //! `words` reads its words, and `items`, `writing`, `blocks` and `converting` make the calls of its lines.
 #![tactic(auto)]
 

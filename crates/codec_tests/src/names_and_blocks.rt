@@ -1,4 +1,4 @@
-//! Names, scalar values and blocks, against values from outside.
+//! Names, scalar values and blocks, compared with values from other sources.
 use crate::blocks::{read_blocks, write_blocks};
 use crate::words::{bytes_of, sides};
 use crate::writing::write_lines;
@@ -38,7 +38,7 @@ fn scalar_values_are_no_surrogates(rt: HostRuntime) -> Result<(), Fail> {
     Ok(())
 }
 
-/// How much at the front of texts of ISO-8859-1 is US-ASCII.
+/// How much at the start of texts of ISO-8859-1 is US-ASCII.
 const FRONTS: &str = r#"
 "" 0:
 "A"007f 3: 41 0 7f

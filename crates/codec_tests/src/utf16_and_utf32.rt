@@ -1,4 +1,4 @@
-//! Items and writing of UTF-16 and UTF-32 in their orders of bytes, and their forms of ASCII.
+//! Items and writing of UTF-16 and UTF-32 in their byte orders, and their forms of ASCII.
 use crate::items::read_items;
 use crate::writing::write_lines;
 use cv_base::{AsciiForm, Codec, Endian, ReadState, WriteState};

@@ -1,4 +1,4 @@
-//! Vectors of RFC 2152's form, and of where texts are cut or ill-formed.
+//! Vectors of RFC 2152's form, and of texts that are cut or ill-formed.
 use crate::items::read_items;
 use crate::writing::write_lines;
 use cv_base::{Codec, ReadState, WriteState};

@@ -3,7 +3,7 @@ use cv_base::Scalar;
 use std::alloc::Global;
 use std::test::Fail;
 
-/// The two sides of what stands on either side of a mark.
+/// What is on the two sides of a mark.
 pub fn sides<'a>(text: &'a str, mark: &str) -> Result<(&'a str, &'a str), Fail> {
     Ok(
         text.split_once(mark)
@@ -11,7 +11,7 @@ pub fn sides<'a>(text: &'a str, mark: &str) -> Result<(&'a str, &'a str), Fail> 
     )
 }
 
-/// The bytes of a word: hexadecimal digits, and characters between quotation marks. So `""` is no bytes.
+/// The bytes of a word: hexadecimal digits, and characters between quotation marks. So `""` means no bytes.
 pub fn bytes_of(alloc: Global, word: &str) -> Result<Vec<u8>, Fail> {
     let mut bytes = Vec::new(alloc);
     let mut quoted = false;

@@ -1,5 +1,5 @@
-//! Writing by tables. A line is `CHARACTERS: BYTES STATE CLOSING`: the numbers of characters, what they are written as, where the
-//! writer is then, and what closes the text. `CHARACTERS: lacking` is a line of which the encoding lacks a character.
+//! Writing by tables. A line is `CHARACTERS: BYTES STATE CLOSING`: the numbers of characters, what they are written as, the writer's
+//! state then, and what closes the text. In a line `CHARACTERS: lacking` the encoding lacks one of the characters.
 use crate::words::{bytes_of, scalar_of, sides};
 use cv_base::{Codec, Put, Scalar, WriteState};
 use std::alloc::Global;
@@ -21,7 +21,7 @@ pub fn write_lines<R: Abort + AllocGlobal, C: Codec>(
     Ok(())
 }
 
-/// Whether characters are written as they are to be written.
+/// Whether characters are written as expected.
 fn is_written<C: Codec>(
     alloc: Global,
     codec: &C,
@@ -48,7 +48,7 @@ fn is_written<C: Codec>(
     )
 }
 
-/// Adds the bytes of a character, and answers the state behind it, if both forms of writing agree on it.
+/// Adds the bytes of a character, and answers the state after it, if both forms of writing agree on it.
 fn written_both_ways<C: Codec>(
     codec: &C,
     state: WriteState,

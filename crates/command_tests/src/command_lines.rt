@@ -49,12 +49,44 @@ iconvd listen 127.0.0.1:0 --streams 0 => Listen("127.0.0.1:0") 1 0
 iconvd listen --streams 18446744073709551615 127.0.0.1:0 => Listen("127.0.0.1:0") 1 18446744073709551615
 iconvd listen 127.0.0.1:0 --workers 16 => Listen("127.0.0.1:0") 16 1
 iconvd listen --streams=2 --workers=3 127.0.0.1:0 => Listen("127.0.0.1:0") 3 2
+iconvd listen unix:/run/iconvd => Listen("unix:/run/iconvd") 1 1
+iconvd listen 127.0.0.1:0 --at-once 1 => Listen("127.0.0.1:0") 1 1
+iconvd listen 127.0.0.1:0 --at-once 2 => Listen("127.0.0.1:0") 1 18446744073709551615
+iconvd listen 127.0.0.1:0 --at-once 1000 --streams 50 => Listen("127.0.0.1:0") 1 50
 iconvd call 127.0.0.1:0 => Call("127.0.0.1:0") 1 1
+iconvd call unix:/run/iconvd --timeout 5 => Call("unix:/run/iconvd") 1 1
 "#;
 
 #[test]
 fn command_lines_are_read(rt: HostRuntime) -> Result<(), Fail> {
     check_lines(&rt, Call::Options, TAKEN)
+}
+
+/// Command lines of servers and clients, and what they say of streams at once, of waiting and of the log.
+const WAITING: &str = "
+iconvd listen 127.0.0.1:0 => 1 None None Error Text
+iconvd listen 127.0.0.1:0 --at-once 1000 --idle 604800 => 1000 Some(604800) None Error Text
+iconvd listen 127.0.0.1:0 --log error --log-format text => 1 None None Error Text
+iconvd listen 127.0.0.1:0 --log info --log-format json => 1 None None Info Json
+iconvd listen 127.0.0.1:0 --idle=1 --log=debug => 1 Some(1) None Debug Text
+iconvd call 127.0.0.1:0 => 1 None None Error Text
+iconvd call 127.0.0.1:0 --timeout 1 => 1 None Some(1) Error Text
+";
+
+#[test]
+fn waiting_and_logging_are_read(rt: HostRuntime) -> Result<(), Fail> {
+    let alloc = rt.alloc();
+    for line in WAITING.trim().lines() {
+        let (words, wanted) = sides(line, " => ")?;
+        let words = words_of(alloc, words)?;
+        let said = options(alloc, &words).map_err(|_| "refused")?;
+        let told = format!(in alloc;
+            "{} {:?} {:?} {:?} {:?}",
+            said.at_once, said.idle, said.timeout, said.level, said.format
+        )?;
+        assert!(rt; told.as_str() == wanted, "{line}");
+    }
+    Ok(())
 }
 
 /// Command lines that are refused, and what is named then.
@@ -74,8 +106,17 @@ iconvd listen 127.0.0.1:0 --streams -1 => -1
 iconvd listen 127.0.0.1:0 --streams=18446744073709551616 => '18446744073709551616'
 iconvd listen 127.0.0.1:0 --workers 0 => '0'
 iconvd listen 127.0.0.1:0 --workers 17 => '17'
+iconvd listen 127.0.0.1:0 --at-once 0 => '0'
+iconvd listen 127.0.0.1:0 --at-once 1001 => '1001'
+iconvd listen 127.0.0.1:0 --idle 0 => '0'
+iconvd listen 127.0.0.1:0 --idle 604801 => '604801'
+iconvd listen 127.0.0.1:0 --log all => 'all'
+iconvd listen 127.0.0.1:0 --log-format xml => 'xml'
+iconvd listen 127.0.0.1:0 --timeout 1 => '--timeout'
 iconvd call => ADDR
 iconvd call 127.0.0.1:0 --streams 2 => '--streams'
+iconvd call 127.0.0.1:0 --timeout 0 => '0'
+iconvd pipe --at-once 2 => '--at-once'
 "#;
 
 #[test]

@@ -5,6 +5,7 @@ use cv_commands::{RunFault, ask, pipe, show};
 use std::alloc::{Allocator, Global};
 use std::fmt::Display;
 use std::io::{self, BufRead, Lines};
+use std::random::RandomSource;
 use std::sync::{Mutex, Wait};
 use std::test::Fail;
 use std::thread::Threads;
@@ -38,6 +39,12 @@ impl<'a, R: AllocGlobal> Console<'a, R> {
 impl<'a, R: Wait> Wait for Console<'a, R> {}
 
 impl<'a, R: Threads> Threads for Console<'a, R> {}
+
+impl<'a, R: RandomSource> RandomSource for Console<'a, R> {
+    fn fill_bytes(&self, buf: &mut [u8]) -> io::Result<()> {
+        self.rt.fill_bytes(buf)
+    }
+}
 
 impl<'a, R> Alloc for Console<'a, R> {
     type A = Global;
@@ -81,7 +88,7 @@ impl<'a, R: Wait> Print for Console<'a, R> {
 }
 
 /// What `pipe` writes, and why it ended if it did by a fault.
-pub fn piped<R: AllocGlobal + Threads + Wait + Sync>(
+pub fn piped<R: AllocGlobal + RandomSource + Threads + Wait + Sync>(
     rt: &R,
     requests: &[u8],
     workers: u32,
@@ -94,7 +101,7 @@ pub fn piped<R: AllocGlobal + Threads + Wait + Sync>(
 }
 
 /// What `ask`, `pipe` and `show` print one after the other.
-pub fn chain<R: AllocGlobal + Threads + Wait + Sync>(
+pub fn chain<R: AllocGlobal + RandomSource + Threads + Wait + Sync>(
     rt: &R,
     script: &[u8],
     workers: u32,

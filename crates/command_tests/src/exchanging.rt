@@ -3,12 +3,13 @@
 use crate::words::written_out;
 use cv_commands::run_script;
 use std::alloc::Global;
+use std::random::RandomSource;
 use std::sync::Wait;
 use std::test::Fail;
 use std::thread::Threads;
 
 /// Serves the requests of a table in their order, by so many workers.
-pub fn exchange<R: AllocGlobal + Threads + Wait + Sync>(
+pub fn exchange<R: AllocGlobal + RandomSource + Threads + Wait + Sync>(
     rt: &R,
     workers: u32,
     table: &str,

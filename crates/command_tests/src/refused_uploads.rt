@@ -1,6 +1,7 @@
 //! Charmaps that are refused: the line that is at fault, and the cause's number. A `|` stands for the end of a line.
 use crate::exchanging::exchange;
 use crate::tables::{Call, check_lines};
+use std::random::RandomSource;
 use std::sync::Wait;
 use std::test::Fail;
 use std::thread::Threads;
@@ -43,7 +44,7 @@ CHARMAP|<question-mark> \x3F|END CHARMAP => 000000000e
 "#;
 
 /// Whether a text is answered by this body, and changes nothing. If not, `exchange` fails.
-pub fn is_answered<R: AllocGlobal + Threads + Wait + Sync>(
+pub fn is_answered<R: AllocGlobal + RandomSource + Threads + Wait + Sync>(
     rt: &R,
     text: &str,
     body: &str,

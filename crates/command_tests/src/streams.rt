@@ -5,6 +5,7 @@ use crate::tables::{Call, check_lines};
 use crate::words::{bytes_of, sides};
 use cv_commands::{RunFault, show, status};
 use std::alloc::{AllocError, Global};
+use std::random::RandomSource;
 use std::sync::Wait;
 use std::test::Fail;
 use std::thread::Threads;
@@ -38,7 +39,7 @@ fn stream_of(command: Command) -> &'static [u8] {
 }
 
 /// What a command writes, given a stream, and its fault.
-fn run<R: AllocGlobal + Threads + Wait + Sync>(
+fn run<R: AllocGlobal + RandomSource + Threads + Wait + Sync>(
     rt: &R,
     command: Command,
     stream: &[u8],
@@ -54,7 +55,7 @@ fn run<R: AllocGlobal + Threads + Wait + Sync>(
 }
 
 /// Whether a command comes to these words, given a stream. What it writes has to be a front of the replies.
-fn comes_to<R: AllocGlobal + Threads + Wait + Sync>(
+fn comes_to<R: AllocGlobal + RandomSource + Threads + Wait + Sync>(
     rt: &R,
     command: Command,
     stream: &[u8],
@@ -71,7 +72,7 @@ fn comes_to<R: AllocGlobal + Threads + Wait + Sync>(
 }
 
 /// Whether a command comes to these words, given so many bytes of its stream, or more, up to so many.
-pub fn cut_comes_to<R: AllocGlobal + Threads + Wait + Sync>(
+pub fn cut_comes_to<R: AllocGlobal + RandomSource + Threads + Wait + Sync>(
     rt: &R,
     command: Command,
     sizes: &str,
@@ -125,7 +126,7 @@ fn with_length(alloc: Global, stream: &[u8], start: &str) -> Result<Vec<u8>, Fai
 }
 
 /// Whether a command comes to these words, given so many bytes of its stream, the bytes of a length, and the stream once more.
-pub fn spoilt_comes_to<R: AllocGlobal + Threads + Wait + Sync>(
+pub fn spoilt_comes_to<R: AllocGlobal + RandomSource + Threads + Wait + Sync>(
     rt: &R,
     command: Command,
     start: &str,

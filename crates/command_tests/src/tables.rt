@@ -8,6 +8,7 @@ use crate::scripts::{gives, is_refused_at};
 use crate::streams::{Command, cut_comes_to, spoilt_comes_to};
 use crate::words::sides;
 use std::process::Abort;
+use std::random::RandomSource;
 use std::sync::Wait;
 use std::test::Fail;
 use std::thread::Threads;
@@ -36,7 +37,7 @@ pub enum Call {
 }
 
 /// Makes a call for each line.
-pub fn check_lines<R: Abort + AllocGlobal + Threads + Wait + Sync>(
+pub fn check_lines<R: Abort + AllocGlobal + RandomSource + Threads + Wait + Sync>(
     rt: &R,
     call: Call,
     table: &str,
@@ -53,7 +54,7 @@ pub fn check_lines<R: Abort + AllocGlobal + Threads + Wait + Sync>(
 }
 
 /// Whether a call comes to what it is to come to.
-fn comes_to<R: Abort + AllocGlobal + Threads + Wait + Sync>(
+fn comes_to<R: Abort + AllocGlobal + RandomSource + Threads + Wait + Sync>(
     rt: &R,
     call: Call,
     given: &str,

@@ -11,11 +11,12 @@ use cv_loop::{FromReader, ToWriter};
 use std::alloc::Global;
 use std::io;
 use std::process::ExitCode;
+use std::random::RandomSource;
 use std::sync::Wait;
 use std::thread::Threads;
 
 /// The reply lines of a script whose frames are served as a stream by so many workers.
-fn streamed<R: Threads + Wait + Sync>(
+fn streamed<R: RandomSource + Threads + Wait + Sync>(
     rt: &R,
     alloc: Global,
     script: &[u8],
@@ -31,7 +32,7 @@ fn streamed<R: Threads + Wait + Sync>(
 }
 
 /// Whether so many workers answer a script by these lines, at once and as a stream.
-fn answers<R: Threads + Wait + Sync>(
+fn answers<R: RandomSource + Threads + Wait + Sync>(
     rt: &R,
     alloc: Global,
     script: &[u8],
@@ -46,7 +47,7 @@ fn answers<R: Threads + Wait + Sync>(
 }
 
 /// What is printed of a script.
-fn told<R: Threads + Wait + Sync>(
+fn told<R: RandomSource + Threads + Wait + Sync>(
     rt: &R,
     alloc: Global,
     script: &str,
@@ -64,7 +65,9 @@ fn told<R: Threads + Wait + Sync>(
     Ok(told)
 }
 
-fn tell<R: Input + Print + AllocGlobal + Threads + Wait + Sync>(rt: &R) -> Result<(), RunFault> {
+fn tell<R: Input + Print + AllocGlobal + RandomSource + Threads + Wait + Sync>(
+    rt: &R,
+) -> Result<(), RunFault> {
     let alloc = rt.alloc();
     let text = read_all(alloc, rt.reader())?;
     let scripts = str::from_utf8(&text).unwrap_or("");

@@ -5,6 +5,7 @@ use crate::again::{Trouble, ample, has_refusal, say_lacking};
 use crate::texts::{FAULTY, WHOLE};
 use cv_commands::{ask_script, check_text, run_script, show_replies};
 use std::alloc::Global;
+use std::random::RandomSource;
 use std::sync::Wait;
 use std::thread::Threads;
 
@@ -24,7 +25,7 @@ const SCRIPT: &[u8] = b"7 1 part <code_set_name> TOY|CHARMAP|<question-mark> \\x
 
 /// The reply lines of the script, served by a new pool of so many workers. Where memory lacked, for all of it or for a request, all of it is
 /// served again.
-pub fn tell_run<R: Eprint + Threads + Wait + Sync>(
+pub fn tell_run<R: Eprint + RandomSource + Threads + Wait + Sync>(
     rt: &R,
     alloc: Global,
     workers: u32,

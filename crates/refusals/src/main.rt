@@ -39,6 +39,7 @@ use serving::Way;
 use std::alloc::Global;
 use std::io::{self, Write};
 use std::process::ExitCode;
+use std::random::RandomSource;
 use std::sync::Wait;
 use std::thread::Threads;
 
@@ -80,7 +81,7 @@ const LAYERS: [(Layer, &str); 15] = [
     (Layer::CheckText, "check_text"),
 ];
 
-fn tell<R: Eprint + Threads + Wait + Sync>(
+fn tell<R: Eprint + RandomSource + Threads + Wait + Sync>(
     rt: &R,
     alloc: Global,
     layer: Layer,
@@ -105,7 +106,7 @@ fn tell<R: Eprint + Threads + Wait + Sync>(
 }
 
 /// Prints what a layer comes to. Where memory lacked for what its calls are given, it is gone through anew.
-fn show<R: Print + Eprint + Threads + Wait + Sync>(
+fn show<R: Print + Eprint + RandomSource + Threads + Wait + Sync>(
     rt: &R,
     alloc: Global,
     layer: Layer,
@@ -123,7 +124,9 @@ fn show<R: Print + Eprint + Threads + Wait + Sync>(
     }
 }
 
-fn show_all<R: Print + Eprint + Threads + Wait + Sync + AllocGlobal>(rt: &R) -> io::Result<()> {
+fn show_all<R: Print + Eprint + RandomSource + Threads + Wait + Sync + AllocGlobal>(
+    rt: &R,
+) -> io::Result<()> {
     let alloc = rt.alloc();
     for (layer, name) in LAYERS {
         show(rt, alloc, layer, name)?;

@@ -1,7 +1,7 @@
 //! Charmaps compiled, and texts that are held.
 use crate::charmap_texts::{charmap_text, text_of_size};
 use crate::words::{sides, text_of};
-use cv_cache::{Cached, Compiler, LONGEST_TEXT, Maps, Plain};
+use cv_cache::{Cached, Compiler, HashKeys, Maps, Plain};
 use cv_charmap::CompileFault;
 use cv_trie::Charmap;
 use std::alloc::{AllocError, Global};
@@ -40,7 +40,7 @@ fn the_first_fault_is_told(rt: HostRuntime) -> Result<(), Fail> {
     Ok(())
 }
 
-/// Whether the fault of a line is told without the cache, and twice with it.
+/// Whether the fault of a line is reported without the cache, and twice with it.
 fn is_told<R: Wait>(rt: &R, alloc: Global, cached: &Cached, line: &str) -> Result<bool, Fail> {
     let (text, fault) = sides(line, " = ")?;
     let text = text_of(alloc, text.trim_matches('"'))?;
@@ -50,7 +50,7 @@ fn is_told<R: Wait>(rt: &R, alloc: Global, cached: &Cached, line: &str) -> Resul
     Ok(plain && first && again)
 }
 
-/// Whether a text was refused for a fault that is told so.
+/// Whether a text was refused for a fault that is reported so.
 fn has_fault(
     alloc: Global,
     compiled: Result<Arc<Charmap>, CompileFault>,
@@ -63,8 +63,9 @@ fn has_fault(
     Ok(told.as_str() == wanted)
 }
 
-/// How many other texts come between two compilations of one text, how many texts were found compiled then, how many share the charmap
-/// of the second (the cache, and the first where it is the same), and how many were found after a third.
+/// A line says how many other texts come between two compilations of one text, and how many texts were found compiled then. It says how
+/// many owners the charmap of the second compilation has: itself, the cache, and the first if it has the same charmap. Last it says how
+/// many texts were found after a third compilation.
 const OTHERS: &str = "
 0 others: 1 found, 3 owners, then 2 found
 1 others: 1 found, 3 owners, then 2 found
@@ -83,7 +84,7 @@ fn a_text_is_held_until_32_others_came(rt: HostRuntime) -> Result<(), Fail> {
     Ok(())
 }
 
-/// What comes of a text that is compiled before and behind so many others, in the words of a line.
+/// The result of a text that is compiled before and after `others` other texts, in the words of a line.
 fn told_behind<R: Wait>(rt: &R, alloc: Global, others: u32) -> Result<String, Fail> {
     let cached = Cached::new(alloc)?;
     let first = toy(rt, alloc, &cached)?;
@@ -109,7 +110,7 @@ fn toy<R: Wait>(rt: &R, alloc: Global, cached: &Cached) -> Result<Arc<Charmap>, 
     Ok(charmap)
 }
 
-/// Compiles so many other texts.
+/// Compiles this many other texts.
 fn compile_others<R: Wait>(
     rt: &R,
     alloc: Global,
@@ -135,14 +136,14 @@ fn compile_other<R: Wait>(rt: &R, alloc: Global, cached: &Cached, other: u32) ->
 #[test]
 fn long_texts_are_not_held(rt: HostRuntime) -> Result<(), Fail> {
     let cached = Cached::new(rt.alloc())?;
-    let found = found_of_size(&rt, rt.alloc(), &cached, LONGEST_TEXT + 1)?;
+    let found = found_of_size(&rt, rt.alloc(), &cached, 1_048_568)?;
     assert_eq!(rt; found, 0);
-    let found = found_of_size(&rt, rt.alloc(), &cached, LONGEST_TEXT)?;
+    let found = found_of_size(&rt, rt.alloc(), &cached, 1_048_567)?;
     assert_eq!(rt; found, 1);
     Ok(())
 }
 
-/// Compiles a text of so many bytes twice, and gives how many texts were found.
+/// Compiles a text of this many bytes twice, and returns how many texts were found.
 fn found_of_size<R: Wait>(
     rt: &R,
     alloc: Global,
@@ -156,6 +157,70 @@ fn found_of_size<R: Wait>(
         }
     }
     Ok(cached.found(rt))
+}
+
+/// Names of charmaps whose texts have one sum of bytes.
+const ONE_SUM: &str = "ABC ACB BAC BCA CAB CBA";
+
+#[test]
+fn texts_of_one_sum_are_told_apart(rt: HostRuntime) -> Result<(), Fail> {
+    let cached = Cached::with_keys(rt.alloc(), HashKeys::drawn(&rt))?;
+    for _ in 0..2 {
+        for name in ONE_SUM.split(' ') {
+            let text = charmap_text(rt.alloc(), name, "<U0100>...<U0103> \\x80")?;
+            let charmap = cached.compile(&rt, rt.alloc(), text.as_bytes())?;
+            assert_eq!(rt; charmap.name(), name.as_bytes());
+        }
+    }
+    assert_eq!(rt; cached.found(&rt), 6);
+    Ok(())
+}
+
+/// Mappings of 16,384 characters, each alone among 64: so few can take no more.
+fn wide_mappings(alloc: Global) -> Result<String, AllocError> {
+    let mut lines = String::new(alloc);
+    for place in 0..16_384u32 {
+        let character = 0x10000 + 64 * place;
+        let (high, low) = (place / 256, place % 256);
+        let line = format!(in alloc; "<U{character:08X}> \\x80\\x{high:02X}\\x{low:02X}\n")?;
+        lines.push_str(line.as_str())?;
+    }
+    Ok(lines)
+}
+
+/// Compiles the text of a charmap of this number with the mappings, and gives how many bytes the cache holds then.
+fn bytes_behind<R: Wait>(
+    rt: &R,
+    alloc: Global,
+    cached: &Cached,
+    number: u32,
+    mappings: &str,
+) -> Result<usize, Fail> {
+    let text = format!(in alloc;
+        "<code_set_name> WIDE{number}\n<mb_cur_max> 3\nCHARMAP\n<question-mark> \\x3F\n{mappings}END CHARMAP\n"
+    )?;
+    if cached.compile(rt, alloc, text.as_bytes())?.len() != 16_385 {
+        return Err("another charmap".into());
+    }
+    Ok(cached.bytes(rt))
+}
+
+/// Each of these charmaps takes some nine megabytes.
+#[test]
+fn texts_and_charmaps_have_64_mib_at_most(rt: HostRuntime) -> Result<(), Fail> {
+    let cached = Cached::new(rt.alloc())?;
+    let mappings = wide_mappings(rt.alloc())?;
+    for number in 0..8 {
+        let bytes = bytes_behind(&rt, rt.alloc(), &cached, number, mappings.as_str())?;
+        assert!(rt; bytes <= 67_108_864, "{bytes}");
+    }
+    // The last is held, and the first has gone.
+    let bytes = bytes_behind(&rt, rt.alloc(), &cached, 7, mappings.as_str())?;
+    assert!(rt; bytes > 50_331_648, "{bytes}");
+    assert_eq!(rt; cached.found(&rt), 1);
+    bytes_behind(&rt, rt.alloc(), &cached, 0, mappings.as_str())?;
+    assert_eq!(rt; cached.found(&rt), 1);
+    Ok(())
 }
 
 /// A text of the charmap A, with one mapping.
@@ -175,7 +240,7 @@ fn what_is_kept_is_found(rt: HostRuntime) -> Result<(), Fail> {
     Ok(())
 }
 
-/// Whatever growth is refused, the answer is want of memory, or the one with ample memory; and so the next time.
+/// Whatever growth is refused, the answer is out of memory, or the one with ample memory; and the same holds the next time.
 #[test]
 fn memory_lacks_or_it_is_compiled(rt: HostRuntime) -> Result<(), Fail> {
     let Ok(cached) = Cached::new(rt.alloc()) else {

@@ -1,6 +1,6 @@
 //! One caller's table, with ample memory. A line is `CALL = ANSWER`: a method and what it is given, and its answer as Rust prints it.
-//! `add_map NAME MAPPINGS` adds a charmap of such a line, `encoding NAME` tells how many mappings it has, `bind KEY TO FROM` binds the
-//! least free number, by the names of the encodings, and `add_part TIMES TEXT` adds a text so many times.
+//! `add_map NAME MAPPINGS` adds a charmap of such a line. `encoding NAME` answers how many mappings it has. `bind KEY TO FROM` binds the
+//! least free number, by the names of the encodings. `add_part TIMES TEXT` adds a text that many times.
 ghost use Rattle.cv_caller.specs.Keyed.{IsHeld};
 
 use crate::words::{first_word, sides};
@@ -99,7 +99,7 @@ fn bind_line(alloc: Global, table: &mut Table, rest: &str) -> Result<String, Fai
     printed(alloc, bind(table, key, to, from))
 }
 
-/// Binds the least free number to a key and to encodings. Gives the number, if that is what it stands for then.
+/// Binds the least free number to a key and to encodings. Returns the number, if it then stands for them.
 fn bind(table: &mut Table, key: u32, to: &str, from: &str) -> Option<u32> {
     let to = map(table, to);
     let from = map(table, from);

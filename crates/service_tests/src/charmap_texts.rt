@@ -8,7 +8,7 @@ pub fn charmap_text(alloc: Global, name: &str, line: &str) -> Result<String, All
     )
 }
 
-/// A text of so many bytes, which ends in a comment. Its charmap is TOY, and has `?` alone.
+/// A text of `size` bytes, which ends in a comment. Its charmap is TOY, and has only `?`.
 pub fn text_of_size(alloc: Global, size: usize) -> Result<Vec<u8>, AllocError> {
     let mut text = Vec::new(alloc);
     text.extend_from_slice(b"<code_set_name> TOY\nCHARMAP\n<question-mark> \\x3F\nEND CHARMAP\n")?;

@@ -140,7 +140,7 @@ fn bodies_are_read(rt: HostRuntime) -> Result<(), Fail> {
     Ok(())
 }
 
-/// Whether the body of a line reads as it is to be read.
+/// Whether the body of a line reads as expected.
 fn is_read(alloc: Global, line: &str) -> Result<bool, Fail> {
     let (given, wanted) = sides(line, " = ")?;
     let (op, body) = sides(given, " ")?;
@@ -235,7 +235,7 @@ fn lengths(rt: HostRuntime) {
     }
 }
 
-/// The names of the statuses from 0 on. No others have one.
+/// The names of the statuses from 0 on. No other number is a status.
 const NAMES: &str =
     "OK E2BIG EILSEQ EINVAL EBADF EMFILE ENOMEM UNSUPPORTED BADREQ BADMAP EXISTS NONAME BUSY QUOTA ROOM ENOCHAR";
 

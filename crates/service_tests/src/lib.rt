@@ -1,5 +1,5 @@
-//! Tests of frames, callers' tables, the cache and worlds. A crate with tests is proved twice, so those of the crates that others stand
-//! on are here, and say what a client of these crates could. What is proved of a nested array costs much, so a table is a text: `words`
+//! Tests of frames, callers' tables, the cache and worlds. A crate with tests is proved twice, so the tests of the crates that others use
+//! are here, and say what a client of these crates could say. Proofs about nested arrays are expensive, so a table is a text: `words`
 //! reads its words.
 #![tactic(auto)]
 
@@ -11,6 +11,8 @@ mod callers;
 mod charmap_texts;
 #[cfg(test)]
 mod frames;
+#[cfg(test)]
+mod giving_up;
 #[cfg(test)]
 mod words;
 #[cfg(test)]

@@ -1,5 +1,6 @@
 //! Pools, with ample memory.
 mod at_once;
+mod gates;
 mod in_order;
 mod uploads;
 

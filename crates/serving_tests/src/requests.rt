@@ -1,5 +1,6 @@
-//! Requests as engines take them.
+//! Requests as engines take them, and their frames.
 use cv_frame::{MOST_BODY, Request};
+use std::alloc::AllocError;
 
 /// A request with this body, or as much of it as a frame holds.
 pub fn request(caller: u32, tag: u32, op: u8, body: &[u8]) -> Request<'_> {
@@ -9,4 +10,22 @@ pub fn request(caller: u32, tag: u32, op: u8, body: &[u8]) -> Request<'_> {
         op,
         body: &body[..body.len().min(MOST_BODY)],
     }
+}
+
+/// Appends the frame of a request with this body, or as much of it as a frame holds.
+pub fn push_frame(
+    stream: &mut Vec<u8>,
+    caller: u32,
+    tag: u32,
+    op: u8,
+    body: &[u8],
+) -> Result<(), AllocError> {
+    let request = request(caller, tag, op, body);
+    let length = request.body.len().min(MOST_BODY) as u32 + 9;
+    stream.extend_from_slice(&length.to_be_bytes())?;
+    stream.extend_from_slice(&caller.to_be_bytes())?;
+    stream.extend_from_slice(&tag.to_be_bytes())?;
+    stream.push(op)?;
+    stream.extend_from_slice(request.body)?;
+    Ok(())
 }

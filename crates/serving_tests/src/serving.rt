@@ -1,5 +1,7 @@
 //! Streams that end in each way, and worlds as engines.
+mod batches;
 mod cut_readers;
+mod rooms;
 mod uploads;
 
 use crate::streams::{Narrow, Slow};

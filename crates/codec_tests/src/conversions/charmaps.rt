@@ -1,4 +1,4 @@
-//! Conversions from and to charmaps, against bytes from outside. Their texts are in `charmap_texts`.
+//! Conversions from and to charmaps, compared with bytes from other sources. Their texts are in `charmap_texts`.
 use crate::converting::{convert, encoding};
 use cv_base::Policy;
 use cv_pivot::{Conversion, Encoding, Outcome, Stop};

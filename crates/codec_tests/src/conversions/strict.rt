@@ -1,4 +1,4 @@
-//! Conversions under the strict policy, against bytes from outside.
+//! Conversions under the strict policy, compared with bytes from other sources.
 use crate::blocks::write_blocks;
 use crate::converting::{conversion, convert, encoding};
 use crate::words::sides;
@@ -73,12 +73,12 @@ fn encodings_write_the_blocks_that_they_have(rt: HostRuntime) -> Result<(), Fail
 /// How many characters a long text has.
 const LONG: usize = 200;
 
-/// The number of the character at a place of a long text whose characters are sixteen from `first` on by turns.
+/// The number of the character at a place of a long text that repeats the sixteen characters from `first` on.
 fn number_at(first: u16, place: usize) -> u16 {
     first.saturating_add((place % 16) as u16)
 }
 
-/// A long text as UTF-16BE in which another character stands at one place.
+/// A long text as UTF-16BE in which another character is at one place.
 fn text_with(alloc: Global, first: u16, place: usize, other: u16) -> Result<Vec<u8>, AllocError> {
     let mut text = Vec::new(alloc);
     for k in 0..LONG {
@@ -92,13 +92,13 @@ fn text_with(alloc: Global, first: u16, place: usize, other: u16) -> Result<Vec<
     Ok(text)
 }
 
-/// Whether the bytes are those of the first characters of a long text, each of which is one.
+/// Whether the bytes are those of the first characters of a long text, one byte each.
 fn are_bytes(bytes: &[u8], first: u16) -> bool {
     let mut places = bytes.iter().enumerate();
     places.all(|(place, byte)| u16::from(*byte) == number_at(first, place))
 }
 
-/// Whether what stands before a character that lacks is written into so much room, and the conversion stops there.
+/// Whether what precedes a character that the target lacks is written into so much room, and the conversion stops there.
 fn is_written_before(
     conversion: &mut Conversion,
     text: &[u8],

@@ -1,4 +1,4 @@
-//! One text, cut in each way and converted into rooms of several sizes, while another caller converts.
+//! One text, cut in each possible way and converted into rooms of several sizes, while another caller converts.
 use super::scripts::is_answered;
 use cv_pivot::Stop;
 use cv_world::{Answer, Op, World};
@@ -17,13 +17,13 @@ const OPENINGS: &str = "
 1 open UTF-7 UTF-8 strict = number 0
 ";
 
-/// What closes it.
+/// The request that closes it.
 const CLOSING: &str = r#"1 reset 0 2 = written "A-""#;
 
 /// The other caller's descriptor, which writes UTF-7 too.
 const OTHER: &str = "2 open UTF-7 ISO-8859-1 = number 0";
 
-/// The other caller's calls, one behind each piece.
+/// The other caller's calls, one after each piece.
 const OTHERS: &str = r#"
 2 conv 0 9 e9 = Done 0 0 "+AO"
 2 conv 0 9 e9 = Done 0 0 "kA6"
@@ -44,7 +44,7 @@ fn cuts_and_rooms_do_not_show(rt: HostRuntime) -> Result<(), Fail> {
     Ok(())
 }
 
-/// Whether a new world writes all of the text, and answers the other caller as ever.
+/// Whether a new world writes all of the text, and answers the other caller as it does alone.
 fn is_written(alloc: Global, opening: &str, ends: &str, room: u32) -> Result<bool, Fail> {
     let mut world = World::new(alloc);
     let mut written = Vec::new(alloc);
@@ -54,8 +54,8 @@ fn is_written(alloc: Global, opening: &str, ends: &str, room: u32) -> Result<boo
     Ok(opened && fed && closed && written.as_slice() == b"+2D3eA".as_slice())
 }
 
-/// Feeds the text in these pieces, each behind what the call before it left, and adds what is written. Whether the other caller was
-/// answered behind each.
+/// Feeds the text in these pieces, each after what the call before it left, and adds what is written. Answers whether the other caller was
+/// answered after each.
 fn feed(
     alloc: Global,
     world: &mut World,
@@ -74,7 +74,7 @@ fn feed(
     Ok(true)
 }
 
-/// Converts a piece, and adds what is written. Gives where the bytes begin that are left, of which the end of the text leaves none.
+/// Converts a piece, and adds what is written. Returns where the bytes that are left begin. At the end of the text none are left.
 fn feed_piece(
     alloc: Global,
     world: &mut World,

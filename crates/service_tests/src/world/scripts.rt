@@ -1,4 +1,4 @@
-//! Scripts that a world is asked. A line is `CALLER REQUEST = ANSWER`, and the request is as in scripts: in its text `|` stands for a line
+//! Scripts of requests to a world. A line is `CALLER REQUEST = ANSWER`, and the request is as in scripts: in its text `|` stands for a line
 //! feed. An answer is `empty`, `number NUMBER`, `count COUNT`, `STOP LEFT COUNT OUTPUT`, `written CLOSING`, `BADMAP LINE`, or the
 //! name of another status.
 use crate::words::{bytes_of, first_word, policy_of, sides, text_of};
@@ -9,7 +9,7 @@ use std::alloc::{AllocError, Global};
 use std::process::Abort;
 use std::test::Fail;
 
-/// Asks a new world what each line asks.
+/// Sends the request of each line to a new world.
 pub fn ask<R: Abort + AllocGlobal>(rt: &R, script: &str) -> Result<(), Fail> {
     let mut world = World::new(rt.alloc());
     for line in script.trim().lines() {
@@ -19,7 +19,7 @@ pub fn ask<R: Abort + AllocGlobal>(rt: &R, script: &str) -> Result<(), Fail> {
     Ok(())
 }
 
-/// Whether a world answers what a line wants.
+/// Whether a world's answer is the one of a line.
 pub fn is_answered(alloc: Global, world: &mut World, line: &str) -> Result<bool, Fail> {
     let (asked, wanted) = sides(line, " = ")?;
     let (caller, request) = sides(asked, " ")?;
@@ -133,7 +133,7 @@ fn output(answer: &Answer) -> Option<&[u8]> {
     }
 }
 
-/// Whether a text is what was told, and then the output.
+/// Whether a text is these words, and then the output.
 fn ends_in(alloc: Global, told: &str, output: &[u8], wanted: &str) -> Result<bool, Fail> {
     let Some((front, bytes)) = wanted.rsplit_once(' ') else {
         return Ok(false);

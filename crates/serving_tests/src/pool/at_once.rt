@@ -1,16 +1,17 @@
 //! Shards that wait for one another: a pool that ran them one after another, or under one lock, would be late.
 use crate::charmap_texts::text_of_size;
 use crate::requests::request;
+use crate::words::sides;
 use cv_cache::{Compiler, Plain};
 use cv_charmap::CompileFault;
 use cv_frame::ops::{CONV, PUT};
-use cv_pool::{Gate, Open, Pool};
+use cv_pool::{Gate, MOST_WORKERS, Open, Pool};
 use cv_trie::Charmap;
 use std::alloc::Global;
 use std::sync::Arc;
 use std::sync::atomic::{AtomicU64, Ordering};
 use std::test::Fail;
-use std::thread;
+use std::thread::{self, Threads};
 
 /// How long one waits for another.
 const MOST_LOOKS: u32 = 1_000_000;
@@ -45,25 +46,51 @@ impl Gate for Held<'_> {
     }
 }
 
+/// How many workers there are, and which two callers ask: neighbours, those at the ends, and two whose numbers are larger than the pool.
+const PAIRS: &str = "2 0 1, 3 1 2, 16 3 4, 16 0 15, 5 12 19";
+
 #[test]
 fn a_shard_runs_while_another_is_held(rt: HostRuntime) -> Result<(), Fail> {
-    let alloc = rt.alloc();
-    let body = vec![in alloc; 0u8; 200_000]?;
-    for held in [0, 1] {
-        let answered = AtomicU64::new(0);
-        let late = AtomicU64::new(0);
-        let gate = Held {
-            held,
-            answered: &answered,
-            late: &late,
-        };
-        let mut pool = Pool::new(alloc, 2, Plain, gate)?;
-        let requests = [request(0, 1, CONV, &body), request(1, 1, CONV, &body)];
-        let replies = pool.batch(&rt, alloc, &requests)?;
-        assert_eq!(rt; replies.len(), 2);
-        assert_eq!(rt; late.load(Ordering::SeqCst), 0, "{held}");
+    for pair in PAIRS.split(", ") {
+        let (workers, callers) = sides(pair, " ")?;
+        let (first, second) = sides(callers, " ")?;
+        let workers = workers.parse::<u32>()?;
+        let callers = [first.parse::<u32>()?, second.parse::<u32>()?];
+        for held in callers {
+            let late = is_late(&rt, rt.alloc(), workers, callers, held)?;
+            assert!(rt; !late, "{pair}: {held}");
+        }
     }
     Ok(())
+}
+
+/// Whether one of two callers waits in vain for the other, of a pool of so many workers. They ask as little as may be.
+fn is_late<R: Threads + Sync>(
+    rt: &R,
+    alloc: Global,
+    workers: u32,
+    callers: [u32; 2],
+    held: u32,
+) -> Result<bool, Fail> {
+    if workers == 0 || workers as usize > MOST_WORKERS {
+        return Err("no pool has so many workers".into());
+    }
+    let answered = AtomicU64::new(0);
+    let late = AtomicU64::new(0);
+    let gate = Held {
+        held: (held % workers) as usize,
+        answered: &answered,
+        late: &late,
+    };
+    let mut pool = Pool::new(alloc, workers, Plain, gate)?;
+    let [first, second] = callers;
+    let body = [0u8; 12];
+    let requests = [
+        request(first, 1, CONV, &body),
+        request(second, 1, CONV, &body),
+    ];
+    let replies = pool.batch(rt, alloc, &requests)?;
+    Ok(replies.len() != 2 || late.load(Ordering::SeqCst) != 0)
 }
 
 /// Compiles a text once another text is being compiled too.
@@ -89,8 +116,8 @@ impl<R> Compiler<R> for Meeting<'_> {
 
 #[test]
 fn texts_are_compiled_at_once(rt: HostRuntime) -> Result<(), Fail> {
-    let text = text_of_size(rt.alloc(), 100_000)?;
-    let longer = text_of_size(rt.alloc(), 100_001)?;
+    let text = text_of_size(rt.alloc(), 100)?;
+    let longer = text_of_size(rt.alloc(), 101)?;
     let even = AtomicU64::new(0);
     let odd = AtomicU64::new(0);
     let late = AtomicU64::new(0);

@@ -1,0 +1,66 @@
+//! Memory that is refused, and had again once the compiler has given up what it keeps.
+use cv_cache::{Compiler, Plain};
+use cv_charmap::CompileFault;
+use cv_frame::ops::PUT;
+use cv_frame::{Request, Status};
+use cv_trie::Charmap;
+use cv_world::World;
+use std::alloc::Global;
+use std::sync::{Arc, Mutex, Wait};
+use std::test::Fail;
+
+/// A compiler that has no memory until it has given up so many things, one each time that it is asked.
+#[derive(Drop)]
+struct Hoard {
+    kept: Mutex<u32>,
+}
+
+impl<R: Wait> Compiler<R> for Hoard {
+    fn compile(&self, rt: &R, alloc: Global, text: &[u8]) -> Result<Arc<Charmap>, CompileFault> {
+        if *self.kept.lock(rt) > 0 {
+            return Err(CompileFault::Memory);
+        }
+        Plain.compile(rt, alloc, text)
+    }
+
+    fn give_up(&self, rt: &R) -> bool {
+        let mut kept = self.kept.lock(rt);
+        let some = *kept > 0;
+        *kept = kept.saturating_sub(1);
+        some
+    }
+}
+
+/// A text of the charmap A, with one mapping.
+const SMALL: &[u8] = b"<code_set_name> A\nCHARMAP\n<question-mark> \\x6F\nEND CHARMAP\n";
+
+/// Asks for a charmap in a new world, and gives the status, and how many things the compiler keeps then.
+fn put<R: Wait>(rt: &R, alloc: Global, kept: u32) -> (Status, u32) {
+    let hoard = Hoard {
+        kept: Mutex::new(kept),
+    };
+    let request = Request {
+        caller: 1,
+        tag: 1,
+        op: PUT,
+        body: SMALL,
+    };
+    let mut world = World::new(alloc);
+    let reply = world.answer(&hoard, rt, alloc, &request);
+    (reply.status, hoard.kept.into_inner())
+}
+
+/// A request that finds no memory is tried once more, where something was given up, and no oftener.
+#[test]
+fn what_is_kept_is_given_up_before_memory_lacks(rt: HostRuntime) -> Result<(), Fail> {
+    let (status, kept) = put(&rt, rt.alloc(), 0);
+    assert!(rt; matches!(status, Status::Ok));
+    assert_eq!(rt; kept, 0);
+    let (status, kept) = put(&rt, rt.alloc(), 1);
+    assert!(rt; matches!(status, Status::Ok));
+    assert_eq!(rt; kept, 0);
+    let (status, kept) = put(&rt, rt.alloc(), 5);
+    assert!(rt; matches!(status, Status::NoMemory));
+    assert_eq!(rt; kept, 4);
+    Ok(())
+}

@@ -1,0 +1,71 @@
+//! What a gate is told where no thread is started.
+use crate::requests::request;
+use crate::words::sides;
+use cv_cache::Plain;
+use cv_frame::Request;
+use cv_frame::ops::CLOSE;
+use cv_pool::{Gate, MOST_WORKERS, Pool};
+use std::alloc::Global;
+use std::sync::atomic::{AtomicU64, Ordering};
+use std::test::Fail;
+use std::thread::Threads;
+
+/// Writes down what passes it, one pass behind another in decimal digits. Nothing waits at it, so no thread is started for little work.
+#[derive(Drop)]
+struct Noting<'a> {
+    passes: &'a AtomicU64,
+}
+
+impl Gate for Noting<'_> {
+    fn pass(&self, shard: usize, turn: usize) {
+        let pass = 10 * (shard as u64 % 10) + turn as u64 % 10;
+        let before = self.passes.load(Ordering::SeqCst) % 10_000_000_000_000_000;
+        self.passes.store(100 * before + pass, Ordering::SeqCst);
+    }
+
+    fn may_wait(&self) -> bool {
+        false
+    }
+}
+
+/// How many workers there are and whose requests a batch has, and the passes: of each the shard and the turn, behind a 9.
+const PASSES: &str = "
+1 5: 90001
+1 5 6 5: 900010203
+2 4 5 4: 90010010211
+3 8 8 3 2: 9202100220123
+";
+
+#[test]
+fn each_request_passes_the_gate(rt: HostRuntime) -> Result<(), Fail> {
+    for line in PASSES.trim().lines() {
+        let (asked, wanted) = sides(line, ": ")?;
+        let (workers, callers) = sides(asked, " ")?;
+        let passes = passes_of(&rt, rt.alloc(), workers.parse::<u32>()?, callers)?;
+        assert_eq!(rt; passes, wanted.parse::<u64>()?, "{line}");
+    }
+    Ok(())
+}
+
+/// What passes the gate of a pool of so many workers in a batch of these callers.
+fn passes_of<R: Threads + Sync>(
+    rt: &R,
+    alloc: Global,
+    workers: u32,
+    callers: &str,
+) -> Result<u64, Fail> {
+    if workers == 0 || workers as usize > MOST_WORKERS {
+        return Err("no pool has so many workers".into());
+    }
+    let passes = AtomicU64::new(9);
+    let mut pool = Pool::new(alloc, workers, Plain, Noting { passes: &passes })?;
+    let mut requests: Vec<Request> = Vec::new(alloc);
+    for caller in callers.split(' ') {
+        requests.push(request(caller.parse::<u32>()?, 1, CLOSE, b""))?;
+    }
+    let replies = pool.batch(rt, alloc, &requests)?;
+    if replies.len() != requests.len() {
+        return Err("not one reply for each request".into());
+    }
+    Ok(passes.load(Ordering::SeqCst))
+}

@@ -1,4 +1,4 @@
-//! How long conversions take. It gives figures only where it is asked for them; see `bench/run`.
+//! How long conversions take. It prints figures only if it is asked to; see `bench/run`.
 #![tactic(auto)]
 
 mod measure;

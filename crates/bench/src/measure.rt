@@ -1,4 +1,4 @@
-//! Converting a text over and over.
+//! Converting a text repeatedly.
 
 use cv_base::Policy;
 use cv_charmap::{CompileFault, read};
@@ -21,11 +21,11 @@ pub struct Asked<'a> {
     pub call: usize,
     /// How often the text is converted.
     pub rounds: u64,
-    /// How many bytes of standard input are the text of a charmap, in front of the text that is converted.
+    /// How many bytes of standard input are the text of a charmap, before the text that is converted.
     pub charmap: usize,
 }
 
-/// The encoding of a name: `charmap` is that of a charmap's text, and others are built in.
+/// The encoding of a name: `charmap` is that of a charmap's text, and all others are built in.
 fn encoding(alloc: Global, name: &str, charmap: &[u8]) -> io::Result<Option<Encoding>> {
     if name != "charmap" {
         return Ok(builtin(name.as_bytes()));
@@ -70,7 +70,7 @@ fn read_text<R: Input + AllocGlobal>(rt: &R, alloc: Global) -> io::Result<Vec<u8
     Ok(text)
 }
 
-/// The nanoseconds that the fastest round takes. `None`: an encoding isn't there.
+/// The nanoseconds that the fastest round takes. `None`: an encoding is unknown.
 pub fn measure<R: Clock + Input + AllocGlobal>(
     rt: &R,
     asked: &Asked<'_>,

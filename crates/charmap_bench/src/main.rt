@@ -1,4 +1,4 @@
-//! How long reading a charmap takes. It gives figures only where it is asked for them; see `bench/charmaps`.
+//! How long reading a charmap takes. It prints figures only if it is asked to; see `bench/charmaps`.
 #![tactic(auto)]
 
 use cv_charmap::read;
@@ -20,7 +20,7 @@ fn words_of(alloc: Global, owned: &[String]) -> Result<Vec<&str>, AllocError> {
     owned.iter().map(|word| word.as_str()).collect(alloc)
 }
 
-/// The nanoseconds that the fastest round takes, and what the text comes to.
+/// The nanoseconds that the fastest round takes, and the result of the text.
 fn measure<R: Clock + Input + Print + AllocGlobal>(rt: &R, rounds: u64) -> io::Result<()> {
     let alloc = rt.alloc();
     let mut text = Vec::new(alloc);

@@ -60,7 +60,7 @@ fn is_latin1(pairs: &Pairs) -> bool {
         })
 }
 
-/// Reads every form of every constant, and says how many say the bytes that they spell.
+/// Reads every form of every constant, and says how many are read as the bytes that they spell.
 pub fn read_each<R: Print + AllocGlobal>(rt: &R) -> io::Result<()> {
     let (text, count) = charmap(rt.alloc())?;
     match read(rt.alloc(), text.as_bytes()) {

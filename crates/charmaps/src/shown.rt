@@ -1,4 +1,4 @@
-//! What a charmap text comes to.
+//! The result of compiling a charmap text.
 
 use cv_byte_trie::Entry;
 use cv_charmap::{CompileFault, Pairs, read};
@@ -22,7 +22,7 @@ fn show_pairs<R: Print + AllocGlobal>(rt: &R, pairs: &Pairs) -> io::Result<()> {
     Ok(())
 }
 
-/// Prints the name of a charmap and its mappings, or the first fault of a text that is none.
+/// Prints the name of a charmap and its mappings, or the first fault of a text that is not a charmap.
 pub fn show<R: Print + AllocGlobal>(rt: &R, text: &[u8]) -> io::Result<()> {
     match read(rt.alloc(), text) {
         Ok(pairs) => show_pairs(rt, &pairs),

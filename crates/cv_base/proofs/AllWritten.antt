@@ -1,4 +1,4 @@
--- Characters that an encoding has: `?` stands for none of them, and every policy allows what is written for them.
+-- Characters that an encoding has: `?` replaces none of them, and every policy allows what is written for them.
 use Rattle.std.specs.Prelude.{IsSome}
 use Rattle.std.proofs.Common.{◌≡◌, ℕ, ◌+◌, ◌<◌, ◌≤◌, List, [], ◌∷◌, length, get_or, bit_or, refl, arith, Option, Some, None, inl, inr}
 use Rattle.std.proofs.lemmas.Bool.{cases_lt, lt-ltb, false≢true}
@@ -23,7 +23,7 @@ none_for : (t : WriteState) (a b : Option (List ℕ × WriteState)) → IsSome b
 none_for t a (Some (bytes, next)) s = refl
 none_for t a None s = absurd (false≢true s)
 
--- an output in which `?` stands for no character is allowed
+-- an output in which `?` replaces no character is allowed
 pub none_allowed : (policy : Policy) (o : Output) → o.count ≡ 0 → Allows policy o
 none_allowed Substitute o e = tt
 none_allowed Strict o e = e
@@ -34,7 +34,7 @@ none_in writes p (c ∷ characters) t =
     let first = written writes t (Some c) in
     omega (arith, none_for t (writes t question) (writes t c) (p t c), none_in writes p characters first.next)
 
--- what an encoding writes that has every character is allowed
+-- what an encoding with every character writes is allowed
 pub every_allowed : (writes : Writing) → ((t : WriteState) (c : ℕ) → IsSome (writes t c)) → (policy : Policy) (t : WriteState) (characters : List ℕ) → Allows policy (output_for writes t characters)
 every_allowed writes p policy t characters = none_allowed policy (output_for writes t characters) (none_in writes p characters t)
 
@@ -42,7 +42,7 @@ every_allowed writes p policy t characters = none_allowed policy (output_for wri
 pub below_written : (limit c : ℕ) → c < limit → written (byte_writes limit) write.Start (Some c) ≡ output (c ∷ []) 0 write.Start
 below_written limit c h = rw (lt-ltb c limit h) refl
 
--- one character more is no larger than the bits of all joined
+-- one more character is no larger than the joined bits of all
 pub joined_more : (characters : List ℕ) (k joined c : ℕ) → ((j : ℕ) → j < k → get_or characters j 0 ≤ joined) → c ≡ get_or characters k c → k < length characters
     → (j : ℕ) → j < k + 1 → get_or characters j 0 ≤ bit_or joined c
 joined_more characters k joined c p e l j h = elim (cases_lt j k) [

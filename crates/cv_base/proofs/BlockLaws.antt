@@ -34,7 +34,7 @@ pub used_for : (s : ReadState) (bytes_of : ℕ → List ℕ) (characters : List 
 used_for s bytes_of [] = refl
 used_for s bytes_of (c ∷ characters) = omega (arith, used_for s bytes_of characters, length-append (bytes_of c) (flat_map bytes_of characters))
 
--- behind them the state is as before
+-- after them the state is as before
 pub state_for : (s : ReadState) (bytes_of : ℕ → List ℕ) (characters : List ℕ) → read_state s (items_for s bytes_of characters) ≡ s
 state_for s bytes_of [] = refl
 state_for s bytes_of (c ∷ characters) = state_for s bytes_of characters

@@ -13,7 +13,7 @@ pub used_bytes-append : (a b : List Taken) → used_bytes (a ++ b) ≡ used_byte
 used_bytes-append [] b = sym (zero-add (used_bytes b))
 used_bytes-append (i ∷ a) b = ap (λ n. i.used + n) (used_bytes-append a b) ∙ sym (add_assoc i.used (used_bytes a) (used_bytes b))
 
--- the state behind two chains
+-- the state after two chains
 pub read_state-append : (s : ReadState) (a b : List Taken) → read_state s (a ++ b) ≡ read_state (read_state s a) b
 read_state-append s [] b = refl
 read_state-append s (i ∷ a) b = read_state-append i.next a b
@@ -23,7 +23,7 @@ pub characters_of-append : (a b : List Taken) → characters_of (a ++ b) ≡ cha
 characters_of-append [] b = refl
 characters_of-append (i ∷ a) b = ap (λ (x : List ℕ). option_to_list i.gives ++ x) (characters_of-append a b) ∙ sym (append_assoc (option_to_list i.gives) (characters_of a) (characters_of b))
 
--- outputs may be put together from either end
+-- joining outputs is associative
 pub followed_assoc : (x y z : Output) → followed (followed x y) z ≡ followed x (followed y z)
 followed_assoc x y z = ap (λ (p : List ℕ × ℕ). output p.0 p.1 z.next) (let e : ◌≡◌ {A = List ℕ × ℕ} ((x.bytes ++ y.bytes) ++ z.bytes, (x.count + y.count) + z.count) (x.bytes ++ (y.bytes ++ z.bytes), x.count + (y.count + z.count)) = (cc (append_assoc x.bytes y.bytes z.bytes, add_assoc x.count y.count z.count)) in e)
 
@@ -39,7 +39,7 @@ output_of-append writes t (i ∷ a) b =
     ap (followed w) (output_of-append writes w.next a b)
     ∙ sym (followed_assoc w (output_of writes w.next a) (output_of writes (output_of writes w.next a).next b))
 
--- what is written for characters and those behind them
+-- what is written for characters and those after them
 pub output_for-append : (writes : Writing) (t : WriteState) (a b : List ℕ) → output_for writes t (a ++ b) ≡ followed (output_for writes t a) (output_for writes (output_for writes t a).next b)
 output_for-append writes t [] b = ap (λ n. output (output_for writes t b).bytes n (output_for writes t b).next) (sym (zero-add (output_for writes t b).count))
 output_for-append writes t (c ∷ a) b =
@@ -63,7 +63,7 @@ pub output_of_characters : (writes : Writing) (t : WriteState) (chain : List Tak
 output_of_characters writes t [] = refl
 output_of_characters writes t (i ∷ chain) = given_output writes t i.gives chain (λ u. output_of_characters writes u chain)
 
--- a chain goes on by a chain
+-- a chain and a chain after it are a chain
 pub IsChain-append : (reads : ItemRelation) (s : ReadState) (text : List ℕ) (a b : List Taken) → IsChain reads s text a → IsChain reads (read_state s a) (drop (used_bytes a) text) b → IsChain reads s text (a ++ b)
 IsChain-append reads s text [] b p q = q
 IsChain-append reads s text (i ∷ a) b p q =

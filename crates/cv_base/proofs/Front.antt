@@ -1,4 +1,4 @@
--- What stands at the front of a text.
+-- What is at the start of a text.
 use Rattle.std.proofs.Common.{◌≡◌, ℕ, ◌-◌, ◌<◌, ◌≤◌, List, [], ◌∷◌, ◌++◌, length, get_or, take, drop, zero, suc, refl, sym, ◌∙◌, ap, arith, inl, inr}
 use Rattle.std.proofs.lemmas.Bool.{cases_lt}
 use Rattle.std.proofs.lemmas.List.{take_all, length-drop}
@@ -7,21 +7,21 @@ use Rattle.cv_base.specs.Codecs.{IsReadable, StaysWhenBytesFollow, OneIsNext, Us
 use Rattle.cv_base.specs.declared.state.ReadState.{ReadState}
 use Rattle.cv_base.specs.declared.item.Item.TheVariants as item
 
--- to begin goes on
+-- beginning is transitive
 pub Begins-trans : (a b c : List ℕ) → Begins a b → Begins b c → Begins a c
 Begins-trans [] b c p q = tt
 Begins-trans (x ∷ a) [] c p q = absurd p
 Begins-trans (x ∷ a) (y ∷ b) [] p q = absurd q
 Begins-trans (x ∷ a) (y ∷ b) (z ∷ c) p q = (p.0 ∙ q.0, Begins-trans a b c p.1 q.1)
 
--- of two that begin one text, one begins the other
+-- of two lists that begin one text, one begins the other
 pub Begins-meet : (a b c : List ℕ) → Begins a c → Begins b c → length a ≤ length b → Begins a b
 Begins-meet [] b c p q l = tt
 Begins-meet (x ∷ a) [] c p q l = absurd (omega arith)
 Begins-meet (x ∷ a) (y ∷ b) [] p q l = absurd p
 Begins-meet (x ∷ a) (y ∷ b) (z ∷ c) p q l = (p.0 ∙ sym q.0, Begins-meet a b c p.1 q.1 (omega arith))
 
--- two of one length that begin one text are the same
+-- two lists of one length that begin one text are the same
 pub Begins-same : (a b text : List ℕ) → Begins a text → Begins b text → length a ≡ length b → a ≡ b
 Begins-same [] [] text p q e = refl
 Begins-same [] (y ∷ b) text p q e = absurd (omega arith)
@@ -35,14 +35,14 @@ Begins-length [] b h = omega arith
 Begins-length (x ∷ a) [] h = absurd h
 Begins-length (x ∷ a) (y ∷ b) h = omega (arith, Begins-length a b h.1)
 
--- a list that begins another does so behind as many of their bytes
+-- a list that begins another still does so after as many bytes of both are dropped
 pub Begins-drop : (n : ℕ) (a b : List ℕ) → Begins a b → Begins (drop n a) (drop n b)
 Begins-drop zero a b p = p
 Begins-drop (suc n) [] b p = tt
 Begins-drop (suc n) (x ∷ a) [] p = absurd p
 Begins-drop (suc n) (x ∷ a) (y ∷ b) p = Begins-drop n a b p.1
 
--- the front of a text begins it
+-- a prefix of a text begins it
 pub Begins-take : (n : ℕ) (text : List ℕ) → Begins (take n text) text
 Begins-take zero text = tt
 Begins-take (suc n) [] = tt
@@ -54,19 +54,19 @@ Begins-join [] b text p q = q
 Begins-join (x ∷ a) b [] p q = absurd p
 Begins-join (x ∷ a) b (t ∷ text) p q = (p.0, Begins-join a b text p.1 q)
 
--- the front of what begins a text, and what follows it
+-- a prefix of what begins a text, and what follows it
 pub Begins-front : (a b text : List ℕ) → Begins (a ++ b) text → Begins a text
 Begins-front [] b text p = tt
 Begins-front (x ∷ a) b [] p = absurd p
 Begins-front (x ∷ a) b (t ∷ text) p = (p.0, Begins-front a b text p.1)
 
--- what follows the front stands behind it
+-- what follows the prefix is after it
 pub Begins-back : (a b text : List ℕ) → Begins (a ++ b) text → Begins b (drop (length a) text)
 Begins-back [] b text p = p
 Begins-back (x ∷ a) b [] p = absurd p
 Begins-back (x ∷ a) b (t ∷ text) p = Begins-back a b text p.1
 
--- a text is what begins it, and what is behind that
+-- a text is what begins it, and what follows that
 pub Begins-split : (a text : List ℕ) → Begins a text → text ≡ a ++ drop (length a) text
 Begins-split [] text p = refl
 Begins-split (x ∷ a) [] p = absurd p
@@ -77,7 +77,7 @@ pub Begins-refl : (a : List ℕ) → Begins a a
 Begins-refl [] = tt
 Begins-refl (x ∷ a) = (refl, Begins-refl a)
 
--- a list begins itself with more behind it
+-- a list begins itself with more after it
 pub Begins-append : (a b : List ℕ) → Begins a (a ++ b)
 Begins-append [] b = tt
 Begins-append (x ∷ a) b = (refl, Begins-append a b)
@@ -86,7 +86,7 @@ Begins-append (x ∷ a) b = (refl, Begins-append a b)
 pub rest_is : (used : ℕ) (text : List ℕ) → take (length text - used) (drop used text) ≡ drop used text
 rest_is used text = take_all (length text - used) (drop used text) (omega (arith, length-drop used text))
 
--- Two lists agree where both have a byte.
+-- Two lists agree at each index at which both have a byte.
 abbrev pub Agree : List ℕ → List ℕ → Type 0
 Agree w x = (k : ℕ) → k < length w → k < length x → get_or w k 0 ≡ get_or x k 0
 
@@ -112,22 +112,22 @@ none_stays reads s text more b none grow i p =
       | inr l ↦ grow (record { bytes = p.bytes; item = i; is_item = p.is_item; front = Begins-meet text p.bytes more b p.front l })
     ]
 
--- what stands next stays when bytes follow
+-- what is next stays when bytes follow
 pub stays : (reads : ItemRelation) → StaysWhenBytesFollow reads
 stays reads = record {
   item = item_stays reads;
   ill = λ s text more b p. (omega (arith, p.0, Begins-length text more b), none_stays reads s text more b p.1 p.2, λ g. p.2 (record { bytes = g.bytes; item = g.item; is_item = g.is_item; front = Begins-trans text more g.bytes b g.front }));
 }
 
--- one item stands
+-- at most one item is next
 pub same_item : (reads : ItemRelation) → IsReadable reads → (s : ReadState) (text : List ℕ) (i j : Taken) → Stands reads s text i → Stands reads s text j → i ≡ j
 same_item reads r s text i j p q = r.one_item s text p.bytes q.bytes i j p.is_item q.is_item p.front q.front
 
--- an item that stands uses some bytes, and not more than there are
+-- an item that is next uses some bytes, and not more than there are
 pub stands_within : (reads : ItemRelation) → IsReadable reads → UsesSome reads
 stands_within reads r s text i p = let u = r.uses s p.bytes i p.is_item in let l = Begins-length p.bytes text p.front in (u.0, omega (arith, u.1, l))
 
--- one thing stands next
+-- one thing is next
 pub one_next : (reads : ItemRelation) → IsReadable reads → OneIsNext reads
 one_next reads r s text (item.Char c n next) (item.Char d m then) p q = let e = same_item reads r s text _ _ p q in cc (ap (λ (t : Taken). t.used) e, ap (λ (t : Taken). t.gives) e, ap (λ (t : Taken). t.next) e)
 one_next reads r s text (item.Char c n next) (item.Shift m then) p q = let e = same_item reads r s text _ _ p q in cc (ap (λ (t : Taken). t.used) e, ap (λ (t : Taken). t.gives) e, ap (λ (t : Taken). t.next) e)

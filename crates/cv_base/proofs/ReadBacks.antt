@@ -1,4 +1,4 @@
--- A codec whose characters each read back, in states that go together, reads whole texts back.
+-- A codec whose characters each read back, in corresponding states, reads whole texts back.
 use Rattle.std.proofs.Common.{◌≡◌, ℕ, ◌≤◌, List, [], ◌∷◌, ◌++◌, length, drop, refl, ◌∙◌, ap, subst, arith, append_assoc, length-append, length-drop, Option, Some, None}
 use Rattle.std.proofs.Math.Seq.{drop-append_seam}
 use Rattle.std.proofs.lemmas.List.{drop-append-le}
@@ -14,11 +14,11 @@ use Rattle.cv_base.specs.declared.state.WriteState.TheVariants as write
 use Rattle.cv_base.proofs.Front.{Begins-refl, Begins-append, item_stays}
 use Rattle.cv_base.proofs.ChainLaws.{IsChain-append, used_bytes-append, read_state-append, characters_of-append}
 
--- Which reading states go with a writing state.
+-- Which reading states correspond to a writing state.
 abbrev pub Together : Type 1
 Together = WriteState → ReadState → Type 0
 
--- From a state these bytes are a chain that gives these characters, and the state after it is as said.
+-- From a state these bytes are a chain that gives these characters, and the state after it is the given one.
 pub record IsReadFrom (reads : ItemRelation) (s : ReadState) (bytes characters : List ℕ) (IsAfter : ReadState → Type 0) : Type 0 where
   pub chain : List Taken
   pub is_chain : IsChain reads s bytes chain
@@ -26,11 +26,11 @@ pub record IsReadFrom (reads : ItemRelation) (s : ReadState) (bytes characters :
   pub gives : characters_of chain ≡ characters
   pub after : IsAfter (read_state s chain)
 
--- What is written of a character is read as it from a state that goes with the writing state, and the states after it go together again.
+-- What is written for a character is read as it from a state that corresponds to the writing state, and the states after it correspond too.
 abbrev pub EachReadsBack : ItemRelation → Writing → Together → Type 0
 EachReadsBack reads writes Go = (t : WriteState) (s : ReadState) (c : ℕ) (bytes : List ℕ) (next : WriteState) → Go t s → IsScalar c → writes t c ≡ Some (bytes, next) → IsReadFrom reads s bytes (c ∷ []) (Go next)
 
--- What closes is read as no character from a state that goes with the writing state.
+-- The closing bytes are read as no character from a state that corresponds to the writing state.
 abbrev pub ClosesBack : ItemRelation → (WriteState → List ℕ) → Together → Type 0
 ClosesBack reads closes Go = (t : WriteState) (s : ReadState) → Go t s → IsReadFrom reads s (closes t) [] (λ next. Unit {0})
 
@@ -44,7 +44,7 @@ one_item reads s next bytes c IsAfter is after = record {
   after = after;
 }
 
--- a mark, and bytes that are one item behind it
+-- a mark, and bytes that are one item after it
 pub mark_and_item : (reads : ItemRelation) (s middle next : ReadState) (mark bytes : List ℕ) (c : ℕ) (IsAfter : ReadState → Type 0) → reads s mark (taken (length mark) None middle) → reads middle bytes (taken (length bytes) (Some c) next) → IsAfter next → IsReadFrom reads s (mark ++ bytes) (c ∷ []) IsAfter
 mark_and_item reads s middle next mark bytes c IsAfter is then after = record {
   chain = taken (length mark) None middle ∷ taken (length bytes) (Some c) next ∷ [];
@@ -88,7 +88,7 @@ IsChain-follow reads s front behind (i ∷ chain) p h =
     let within : i.used ≤ length front = omega arith in
     (item_stays reads s front (front ++ behind) i (Begins-append front behind) p.0, rw (drop-append-le i.used front behind within) (IsChain-follow reads i.next (drop i.used front) behind chain p.1 (omega (arith, length-drop i.used front))))
 
--- what is read goes on by what is read behind it
+-- what is read is continued by what is read after it
 pub read_on : (reads : ItemRelation) (s : ReadState) (front behind first then : List ℕ) (Middle IsAfter : ReadState → Type 0) → (p : IsReadFrom reads s front first Middle) → IsReadFrom reads (read_state s p.chain) behind then IsAfter → IsReadFrom reads s (front ++ behind) (first ++ then) IsAfter
 read_on reads s front behind first then Middle IsAfter p q =
     let there : drop (used_bytes p.chain) (front ++ behind) ≡ behind = rw p.whole (drop-append_seam front behind) in
@@ -106,7 +106,7 @@ is_written t a (Some (bytes, next)) e = refl
 is_written t (Some (bytes, next)) None e = absurd (omega arith)
 is_written t None None e = absurd (omega arith)
 
--- characters that are written from a state are read from a state that goes with it
+-- characters that are written from a state are read from a state that corresponds to it
 text_back : (reads : ItemRelation) (writes : Writing) (closes : WriteState → List ℕ) (Go : Together) → EachReadsBack reads writes Go → ClosesBack reads closes Go → (characters : List ℕ) (t : WriteState) (s : ReadState) → Go t s → AreScalars characters
     → (output_for writes t characters).count ≡ 0 → IsReadFrom reads s ((output_for writes t characters).bytes ++ closes (output_for writes t characters).next) characters (λ next. Unit {0})
 text_back reads writes closes Go each closing [] t s g scalars e = closing t s g
@@ -117,7 +117,7 @@ text_back reads writes closes Go each closing (c ∷ characters) t s g scalars e
     let rest = text_back reads writes closes Go each closing characters first.next (read_state s one.chain) one.after scalars.1 (omega arith) in
     rw (append_assoc first.bytes others.bytes (closes others.next)) (read_on reads s first.bytes (others.bytes ++ closes others.next) (c ∷ []) characters (Go first.next) (λ next. Unit {0}) one rest)
 
--- whole texts are read back where each character is, and what closes
+-- whole texts are read back if each character and the closing bytes are
 pub texts_back : (reads : ItemRelation) (writes : Writing) (closes : WriteState → List ℕ) (Go : Together) → EachReadsBack reads writes Go → ClosesBack reads closes Go → Go write.Start read.Start → ReadsBack reads writes closes
 texts_back reads writes closes Go each closing start characters scalars e =
     let text = text_back reads writes closes Go each closing characters write.Start read.Start start scalars e in

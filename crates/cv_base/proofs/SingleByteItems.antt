@@ -1,4 +1,4 @@
--- What stands next in the single-byte encodings.
+-- What is next in the single-byte encodings.
 use Rattle.std.proofs.Common.{◌≡◌, ℕ, ◌<◌, ◌≤◌, Bool, true, false, cond, nat_lt, List, [], ◌∷◌, length, get_or, refl, ap, arith, Option, Some, None}
 use Rattle.std.specs.Prelude.{IfSome}
 use Rattle.cv_base.specs.Items.{Taken, taken, Begins, Stands, IsNext}
@@ -10,7 +10,7 @@ use Rattle.cv_base.specs.declared.state.WriteState.TheVariants as write
 use Rattle.cv_base.specs.Codecs.{WritesAtMost}
 use Rattle.cv_base.specs.declared.item.Item.TheVariants.{Ill}
 
--- a byte below the limit stands
+-- a byte below the limit is the next item
 pub byte_stands : (limit : ℕ) (s : ReadState) (text : List ℕ) (c : ℕ) → c ≡ get_or text 0 0 → get_or text 0 0 < limit → 0 < length text → Stands (byte_reads limit) s text (taken 1 (Some c) read.Start)
 byte_stands limit s [] c e l h = absurd (omega arith)
 byte_stands limit s (t ∷ text) c e l h = record { bytes = t ∷ []; is_item = (l, ap (λ b. taken 1 (Some b) read.Start) e); front = (refl, tt) }

@@ -40,7 +40,7 @@ narrowed limit q (c ∷ characters) =
 abbrev below_all : ℕ → ℕ → List ℕ → List ℕ
 below_all n limit xs = zip2 (λ a b. cond (ltb a b) 0xffffffff 0) xs (replicate n limit)
 
--- the same, as a mask is read again before its lanes become bytes
+-- the same, when a mask is read again before its lanes become bytes
 abbrev pub small_all : ℕ → ℕ → List ℕ → List ℕ
 small_all n limit xs = zip2 (λ a b. cond (lt_z (to_z w32 a) (to_z w32 b)) 0xffffffff 0) (below_all n limit xs) (replicate n 0)
 
@@ -60,19 +60,19 @@ bytes_in n limit xs = sel_l (marks n limit xs) (map (λ a. a) (least_all n (limi
 abbrev small : Bool → ℕ
 small b = cond (lt_z (to_z w32 (cond b 0xffffffff 0)) (to_z w32 0)) 0xffffffff 0
 
--- it fits where it becomes a byte
+-- it fits a byte
 small_fits : (b : Bool) → SFits w8 (to_z w32 (small b))
 small_fits true = search rules
 small_fits false = search rules
 
--- the lanes of a mask fit where they become bytes
+-- the lanes of a mask fit bytes
 pub all_small : (n limit : ℕ) (xs : List ℕ) → length xs ≡ n → Each1 (λ a. SFits w8 (to_z w32 a)) (small_all n limit xs)
 all_small zero limit [] e = tt
 all_small zero limit (x ∷ xs) e = absurd (omega (arith, e))
 all_small (suc n) limit [] e = absurd (omega (arith, e))
 all_small (suc n) limit (x ∷ xs) e = (small_fits (ltb x limit), all_small n limit xs (omega (arith, e)))
 
--- and tells there whether it is set
+-- and as a byte it tells whether it is set
 small_is : (b : Bool) → top 7 (of_z w8 (to_z w32 (small b))) ≡ b
 small_is true = refl
 small_is false = refl

@@ -24,7 +24,7 @@ written_back : (writes : Writing) (s : ReadState) (t : WriteState) (bytes_of : �
 written_back writes s t bytes_of [] p = refl
 written_back writes s t bytes_of (c ∷ characters) p = rw p.0 (rw (written_back writes s t bytes_of characters p.1) refl)
 
--- characters whose bytes are the front of a text, and that are written as them
+-- characters whose bytes are a prefix of a text, and that are written as them
 pub unchanged_of : (reads : ItemRelation) (writes : Writing) (s : ReadState) (t : WriteState) (bytes_of : ℕ → List ℕ) (characters text : List ℕ) (n : ℕ) → AreRead reads s bytes_of characters → AreWrittenAs writes t bytes_of characters
     → flat_map bytes_of characters ≡ take n text → n ≤ length text → IsUnchanged reads writes s t text n
 unchanged_of reads writes s t bytes_of characters text n p q e h = record {

@@ -11,13 +11,13 @@ use Rattle.cv_base.specs.Blocks.{IsWrittenBlock}
 use Rattle.cv_base.specs.declared.state.WriteState.{WriteState}
 use Rattle.cv_base.proofs.ChainLaws.{output_for-append, output_for-one}
 
--- `?` stands for at most one character
+-- `?` replaces at most one character
 pub put_or-count : (t : WriteState) (a b : Option (List ℕ × WriteState)) → (put_or (substituted t a) b).count ≤ 1
 put_or-count t a (Some (x, y)) = omega arith
 put_or-count t (Some (x, y)) None = omega arith
 put_or-count t None None = omega arith
 
--- `?` stands for a character at most once
+-- `?` replaces a character at most once
 pub written-count : (writes : Writing) (t : WriteState) (c : ℕ) → (written writes t (Some c)).count ≤ 1
 written-count writes t c = put_or-count t (writes t question) (writes t c)
 
@@ -26,18 +26,18 @@ put_or-most most t a (Some (x, y)) p q = q
 put_or-most most t (Some (x, y)) None p q = p
 put_or-most most t None None p q = omega arith
 
--- what is written for a character has no more bytes than any
+-- what is written for a character has at most as many bytes as any character may have
 pub written-most : (most : ℕ) (writes : Writing) → WritesAtMost most writes → (t : WriteState) (c : ℕ) → length (written writes t (Some c)).bytes ≤ most
 written-most most writes m t c = put_or-most most t (writes t question) (writes t c) (m t question) (m t c)
 
--- what stands behind the output, after a write behind it
+-- what follows the output, after a write after it
 pub out_more : (b w before : List ℕ) (at : ℕ) → at ≡ length b → take at (b ++ drop at before) ++ w ++ drop (at + length w) (b ++ drop at before) ≡ (b ++ w) ++ drop (at + length w) before
 out_more b w before at e =
     let front : take at (b ++ drop at before) ≡ b = ap (λ k. take k (b ++ drop at before)) e ∙ take-append_seam b (drop at before) in
     let back : drop (at + length w) (b ++ drop at before) ≡ drop (at + length w) before = ap (λ k. drop (k + length w) (b ++ drop at before)) e ∙ drop-append-add b (drop at before) (length w) ∙ drop-drop (length w) at before in
     cc
 
--- The first characters are written behind a place.
+-- The first characters are written after a place.
 pub record WrittenSoFar (writes : Writing) (t : WriteState) (characters before : List ℕ) (at k end count : ℕ) (now : WriteState) (out : List ℕ) : Type 0 where
   pub wrote : end ≡ at + length (output_for writes t (take k characters)).bytes
   pub counts : count ≡ (output_for writes t (take k characters)).count

@@ -1,4 +1,4 @@
--- Where characters stand for themselves: each below a limit is one unit of the same form, and the state stays.
+-- Characters that stand for themselves: each below a limit is one unit of the same form, and the state stays.
 use Rattle.std.specs.Prelude.{◌≡◌, ℕ, ◌<◌, List, [], ◌∷◌, Some}
 use Rattle.cv_base.specs.Items.{taken, ItemRelation}
 use Rattle.cv_base.specs.Codecs.{Writing}

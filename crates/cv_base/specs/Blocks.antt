@@ -1,4 +1,4 @@
--- Blocks: characters that are read at once, and written at once. They serve speed: no contract of a conversion cites them.
+-- Blocks: characters that are read or written many at once. They exist for speed: no contract of a conversion cites them.
 use Rattle.std.specs.Prelude.{◌≡◌, ℕ, ◌≤◌, List, take, length, Option, Some, None}
 use Rattle.std.specs.List.{flat_map}
 use Rattle.cv_base.specs.Ascii.{AreBelow}
@@ -15,7 +15,7 @@ use Rattle.cv_base.specs.declared.policy.Policy.{Policy}
 use Rattle.cv_base.specs.declared.state.ReadState.{ReadState}
 use Rattle.cv_base.specs.declared.state.WriteState.{WriteState}
 
--- Items at the front of a text use the block's bytes and give its characters, which stand first in the buffer.
+-- Items at the start of a text use the block's bytes and give its characters, which are first in the buffer.
 pub record IsReadBlock (reads : ItemRelation) (s : ReadState) (text : List ℕ) (block : ReadBlock) (buffer : List ℕ) : Type 0 where
   pub chain : List Taken
   pub is_chain : IsChain reads s text chain
@@ -29,13 +29,13 @@ abbrev pub IsWrittenBlock : Writing → WriteState → List ℕ → List ℕ →
 IsWrittenBlock writes t characters before at block after =
     IsOutput (output_for writes t characters) before at block.wrote block.count block.next after
 
--- What came of writing characters at a place under a policy: a block that the policy allows, or nothing.
+-- The result of writing characters at a place under a policy: a block that the policy allows, or nothing.
 abbrev pub MayWriteBlock : Policy → Writing → WriteState → List ℕ → List ℕ → ℕ → Option WrittenBlock → List ℕ → Type 0
 MayWriteBlock policy writes t characters before at None after = after ≡ before
 MayWriteBlock policy writes t characters before at (Some block) after =
     Allows policy (output_for writes t characters) × IsWrittenBlock writes t characters before at block after
 
--- So many bytes at the front of a text are items that are written as those very bytes, and both states stay.
+-- The first n bytes of a text are items that are written as the same bytes, and both states stay.
 pub record IsUnchanged (reads : ItemRelation) (writes : Writing) (s : ReadState) (t : WriteState) (text : List ℕ) (n : ℕ) : Type 0 where
   pub chain : List Taken
   pub is_chain : IsChain reads s text chain
@@ -44,7 +44,8 @@ pub record IsUnchanged (reads : ItemRelation) (writes : Writing) (s : ReadState)
   pub stays : read_state s chain ≡ s
   pub output : output_of writes t chain ≡ output (take n text) 0 t
 
--- Units of one form at the front of a text are those of ASCII characters, each is written as the byte of its number in a state that stays, and these bytes were put at a place.
+-- Units of one form at the start of a text are those of ASCII characters. Each is written as the byte of its number in a state that stays, and these bytes
+-- were put at a place.
 pub record IsWrittenRun (writes : Writing) (t : WriteState) (form : AsciiForm) (text before : List ℕ) (at n : ℕ) (after : List ℕ) : Type 0 where
   pub characters : List ℕ
   pub small : AreBelow 128 characters

@@ -6,7 +6,7 @@ use Rattle.cv_base.specs.Codecs.{Writing}
 use Rattle.cv_base.specs.declared.state.ReadState.{ReadState}
 use Rattle.cv_base.specs.declared.state.WriteState.{WriteState}
 
--- Items of a text, one after the other: each stands where the used bytes of those before it end.
+-- Items of a text, one after the other: each begins where the used bytes of those before it end.
 abbrev pub IsChain : ItemRelation → ReadState → List ℕ → List Taken → Type 0
 IsChain reads s text [] = Unit {0}
 IsChain reads s text (item ∷ items) = Stands reads s text item × IsChain reads item.next (drop item.used text) items
@@ -26,7 +26,7 @@ abbrev pub characters_of : List Taken → List ℕ
 characters_of [] = []
 characters_of (item ∷ items) = option_to_list item.gives ++ characters_of items
 
--- What is written: the bytes, how many characters `?` stands for, and the writing state after it.
+-- What is written: the bytes, how many characters `?` replaces, and the writing state after it.
 pub record Output : Type 0 where
   pub bytes : List ℕ
   pub count : ℕ
@@ -41,7 +41,7 @@ abbrev pub substituted : WriteState → Option (List ℕ × WriteState) → Outp
 substituted t (Some (bytes, next)) = output bytes 1 next
 substituted t None = output [] 1 t
 
--- for a character, or where the target lacks it
+-- for a character, or the other output if the target lacks it
 abbrev pub put_or : Output → Option (List ℕ × WriteState) → Output
 put_or other (Some (bytes, next)) = output bytes 0 next
 put_or other None = other

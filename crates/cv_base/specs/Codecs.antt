@@ -7,11 +7,11 @@ use Rattle.cv_base.specs.declared.item.Item.TheVariants.{Ill}
 use Rattle.cv_base.specs.declared.state.ReadState.{ReadState}
 use Rattle.cv_base.specs.declared.state.WriteState.{WriteState}
 
--- How an encoding writes a character: its bytes and the state after them, or none where it lacks the character.
+-- How an encoding writes a character: its bytes and the state after them, or none if it lacks the character.
 abbrev pub Writing : Type 0
 Writing = WriteState → ℕ → Option (List ℕ × WriteState)
 
--- Of two items that begin one text both are the same, and an item uses some of its bytes.
+-- Two items that begin one text are the same, and an item uses some of its bytes.
 pub record IsReadable (reads : ItemRelation) : Type 0 where
   pub one_item : (s : ReadState) (text a b : List ℕ) (i j : Taken) → reads s a i → reads s b j → Begins a text → Begins b text → i ≡ j
   pub uses : (s : ReadState) (a : List ℕ) (i : Taken) → reads s a i → (0 < i.used) × (i.used ≤ length a)
@@ -20,19 +20,19 @@ pub record IsReadable (reads : ItemRelation) : Type 0 where
 abbrev pub CanSubstitute : Writing → Type 0
 CanSubstitute writes = (t : WriteState) → IsSome (writes t question)
 
--- A character is written as so many bytes at most.
+-- A character is written as at most this many bytes.
 abbrev pub WritesAtMost : ℕ → Writing → Type 0
 WritesAtMost most writes = (t : WriteState) (c : ℕ) → IfSome (writes t c) (λ p. length p.0 ≤ most)
 
--- What stands next stays when bytes follow, unless more bytes could change it.
+-- What is next stays when bytes follow, unless more bytes could change it.
 pub record StaysWhenBytesFollow (reads : ItemRelation) : Type 0 where
   pub item : (s : ReadState) (text more : List ℕ) (i : Taken) → Begins text more → Stands reads s text i → Stands reads s more i
   pub ill : (s : ReadState) (text more : List ℕ) → Begins text more → IsNext reads s text Ill → IsNext reads s more Ill
 
--- What stands next uses some bytes, and no more than there are.
+-- What is next uses some bytes, and no more than there are.
 abbrev pub UsesSome : ItemRelation → Type 0
 UsesSome reads = (s : ReadState) (text : List ℕ) (i : Taken) → Stands reads s text i → (0 < i.used) × (i.used ≤ length text)
 
--- One thing stands next.
+-- Only one thing is next.
 abbrev pub OneIsNext : ItemRelation → Type 0
 OneIsNext reads = (s : ReadState) (text : List ℕ) (a b : Item) → IsNext reads s text a → IsNext reads s text b → a ≡ b

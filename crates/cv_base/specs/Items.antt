@@ -1,10 +1,10 @@
--- The items of a text, and what stands next in it (POSIX iconv(); Unicode 3.9, code unit sequences).
+-- The items of a text, and what is next in it (POSIX iconv(); Unicode 3.9, code unit sequences).
 use Rattle.std.specs.Prelude.{◌≡◌, ℕ, ◌<◌, List, [], ◌∷◌, length, Option, Some, None}
 use Rattle.cv_base.specs.declared.state.ReadState.{ReadState}
 use Rattle.cv_base.specs.declared.item.Item.{Item}
 use Rattle.cv_base.specs.declared.item.Item.TheVariants.{Char, Shift, Incomplete, Ill, End}
 
--- What an item is: how many bytes it uses up, the character that it gives (a mark or a shift gives none), the state after it.
+-- What an item is: how many bytes it uses, the character that it gives (a mark or a shift gives none), the state after it.
 pub record Taken : Type 0 where
   pub used : ℕ
   pub gives : Option ℕ
@@ -24,13 +24,13 @@ Begins [] text = Unit {0}
 Begins (b ∷ bytes) [] = ⊥
 Begins (b ∷ bytes) (c ∷ text) = (b ≡ c) × Begins bytes text
 
--- An item stands at the front of the text.
+-- An item is at the start of the text.
 pub record Stands (reads : ItemRelation) (s : ReadState) (text : List ℕ) (item : Taken) : Type 0 where
   pub bytes : List ℕ
   pub is_item : reads s bytes item
   pub front : Begins bytes text
 
--- No item stands at the front of the text.
+-- No item is at the start of the text.
 abbrev pub NoneStands : ItemRelation → ReadState → List ℕ → Type 0
 NoneStands reads s text = (item : Taken) → Stands reads s text item → ⊥
 
@@ -41,7 +41,7 @@ pub record CanGrow (reads : ItemRelation) (s : ReadState) (text : List ℕ) : Ty
   pub is_item : reads s bytes item
   pub front : Begins text bytes
 
--- What stands next in a text: the next item.
+-- What is next in a text, as the code reports it.
 abbrev pub IsNext : ItemRelation → ReadState → List ℕ → Item → Type 0
 IsNext reads s text (Char c n next) = Stands reads s text (taken n (Some c) next)
 IsNext reads s text (Shift n next) = Stands reads s text (taken n None next)

@@ -8,14 +8,14 @@ use Rattle.cv_base.specs.declared.state.ReadState.TheVariants as read
 use Rattle.cv_base.specs.declared.state.WriteState.{WriteState}
 use Rattle.cv_base.specs.declared.state.WriteState.TheVariants as write
 
--- From the start a chain takes the whole text, and its items give just these characters.
+-- From the start a chain uses the whole text, and its items give exactly these characters.
 pub record IsReadAs (reads : ItemRelation) (text characters : List ℕ) : Type 0 where
   pub chain : List Taken
   pub is_chain : IsChain reads read.Start text chain
   pub whole : used_bytes chain ≡ length text
   pub gives : characters_of chain ≡ characters
 
--- What is written for characters from the start, and closed, is read from the start as those characters, where `?` stands for none of them.
+-- What is written for characters from the start, and closed, is read from the start as those characters, if `?` replaces none of them.
 abbrev pub ReadsBack : ItemRelation → Writing → (WriteState → List ℕ) → Type 0
 ReadsBack reads writes closes = (characters : List ℕ) → AreScalars characters
     → let o : Output = output_for writes write.Start characters in o.count ≡ 0 → IsReadAs reads (o.bytes ++ closes o.next) characters

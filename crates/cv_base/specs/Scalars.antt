@@ -10,6 +10,6 @@ abbrev pub AreScalars : List ℕ → Type 0
 AreScalars [] = Unit {0}
 AreScalars (c ∷ characters) = IsScalar c × AreScalars characters
 
--- `?`, which stands in for a character that the target lacks
+-- `?`, which replaces a character that the target lacks
 abbrev pub question : ℕ
 question = 0x3F

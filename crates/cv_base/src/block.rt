@@ -10,7 +10,7 @@ pub struct ReadBlock {
     pub n: usize,
     /// How many bytes of the text its items use.
     pub used: usize,
-    /// The state behind them.
+    /// The state after them.
     pub next: ReadState,
 }
 
@@ -21,7 +21,7 @@ pub struct WrittenBlock {
     pub wrote: usize,
     /// For how many characters `?` was written.
     pub count: usize,
-    /// The state behind it.
+    /// The state after it.
     pub next: WriteState,
 }
 

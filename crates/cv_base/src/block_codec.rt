@@ -12,15 +12,15 @@ use crate::state::{ReadState, WriteState};
 
 /// An encoding that reads and writes by blocks: several characters in one call.
 pub trait BlockCodec: Codec {
-    /// Reads characters at the front of a text into the front of a buffer, as many as go at once. It may read none also where one
-    /// stands next: that is for `item`.
+    /// Reads characters at the start of a text to the start of a buffer, as many as fit one call. It may read none even if one
+    /// is next: `item` reads that one.
     fn read_block(&self, state: ReadState, input: &[u8], buffer: &mut [Scalar]) -> ReadBlock
         ensures block { IsReadBlock (Self.reads self.now) state input.now result buffer.new }
         ensures size { length buffer.new ≡ length buffer.old };
 
-    /// Writes at most 256 characters at a place of a slice, or `?` for each that the encoding lacks, where the policy allows it.
-    /// Bytes of the slice around them stay. It may write none also where the policy allows all: the characters are put one by
-    /// one then.
+    /// Writes at most 256 characters at a place of a slice, or `?` for each that the encoding lacks, if the policy allows it.
+    /// Bytes of the slice around them stay. It may write none even if the policy allows all: then the characters are put one by
+    /// one.
     fn write_block(
         &self,
         policy: Policy,
@@ -34,8 +34,8 @@ pub trait BlockCodec: Codec {
         ensures { MayWriteBlock policy (Self.writes self.now) state characters.now
             out.old at result out.new };
 
-    /// How many bytes at the front of a text come out as they stand where it is converted to the encoding itself. It may be
-    /// fewer than could: what is behind them goes by blocks, or one by one.
+    /// How many bytes at the start of a text stay unchanged if it is converted to the encoding itself. It may be
+    /// fewer than possible: what follows them is converted by blocks, or one by one.
     #[inline]
     #[tactic(auto, using(crate::proofs::UnchangedLaws::none_unchanged))]
     fn unchanged(&self, _reading: ReadState, _writing: WriteState, _input: &[u8]) -> usize
@@ -45,9 +45,9 @@ pub trait BlockCodec: Codec {
         0
     }
 
-    /// Writes ASCII characters at the front of a text, whose units have this form, at a place of a slice, as long as each is written as
-    /// a byte of its number in this state, which stays. Answers how many they are. Bytes of the slice around them stay. It may be
-    /// fewer than could: what is behind them goes by blocks, or one by one.
+    /// Writes ASCII characters at the start of a text at a place of a slice. The text's units have this form. It writes each as the byte of
+    /// its number, up to one that is not written so in this state, which stays. Answers how many characters they are. Bytes of the slice
+    /// around them stay. It may be fewer than possible: what follows them is converted by blocks, or one by one.
     #[inline]
     fn write_ascii_run(
         &self,

@@ -13,7 +13,7 @@ use crate::scalar::Scalar;
 use crate::state::{ReadState, WriteState};
 use crate::substituting::{MANY, write_blocks};
 
-/// Puts the first bytes of a text into a buffer as the characters of their numbers. No byte is tested, so that the loop is done by blocks.
+/// Puts the first bytes of a text into a buffer as the characters of their numbers. No byte is tested, so that LLVM vectorizes the loop.
 #[inline(always)]
 fn widen(input: &[u8], n: usize, buffer: &mut [Scalar])
     requires text { n ≤ length input.now }
@@ -26,7 +26,7 @@ fn widen(input: &[u8], n: usize, buffer: &mut [Scalar])
     }
 }
 
-/// How many of the first `most` bytes of a text are below a limit, up to one that isn't. A text of US-ASCII is tested at once.
+/// How many of the first `most` bytes of a text are below a limit, up to one that isn't. A text that is all US-ASCII is tested in one pass.
 #[inline(always)]
 fn below(limit: u32, input: &[u8], most: usize) -> usize
     requires { most ≤ length input.now }
@@ -76,8 +76,8 @@ fn byte_of(limit: u32, c: Scalar) -> (u8, u32)
     }
 }
 
-/// Whether all characters are below a limit, which is a power of two. The bits of all are joined, so that the loop is done by
-/// blocks.
+/// Whether all characters are below a limit, which is a power of two. The bits of all are joined, so that LLVM vectorizes
+/// the loop.
 #[inline(always)]
 fn are_below(limit: u32, characters: &[Scalar]) -> bool
     ensures { IsTrue result → (k : ℕ) → k < length characters.now
@@ -90,7 +90,7 @@ fn are_below(limit: u32, characters: &[Scalar]) -> bool
     joined < limit
 }
 
-/// Writes characters that are all below a limit. None is tested, so that the loop is done by blocks.
+/// Writes characters that are all below a limit. None is tested, so that LLVM vectorizes the loop.
 #[inline(always)]
 fn narrow(_limit: u32, characters: &[Scalar], out: &mut [u8], at: usize) -> WrittenBlock
     requires below { (k : ℕ) → k < length characters.now → slice_index characters.now k < _limit }

@@ -29,7 +29,7 @@ pub trait Codec {
         ensures readable { IsReadable (reads self.now) }
         ensures substitutable { CanSubstitute (writes self.now) };
 
-    /// What stands next in the input.
+    /// The next item of the input.
     fn item(&self, state: ReadState, input: &[u8]) -> Item
         ensures { IsNext (reads self.now) state input.now result };
 
@@ -38,7 +38,7 @@ pub trait Codec {
         requires { at ≤ length out.old }
         ensures { PutsAt (writes self.now state c) out.old at result out.new };
 
-    /// The bytes of a character and the state after them, or `None` where the encoding lacks the character.
+    /// The bytes of a character and the state after them, or `None` if the encoding lacks the character.
     fn put(&self, state: WriteState, c: Scalar) -> Option<(Piece, WriteState)>
         ensures { result ≡ writes self.now state c }
     {
@@ -56,7 +56,7 @@ pub trait Codec {
     fn close(&self, state: WriteState) -> Piece
         ensures { result ≡ closes self.now state };
 
-    /// The most bytes that one character is written as, 8 at most.
+    /// The most bytes that one character is written as, at most 8.
     fn most_bytes(&self) -> usize
         ensures few { result ≤ 8 }
         ensures most { WritesAtMost result (writes self.now) };

@@ -1,6 +1,6 @@
-//! The order of the bytes of a unit.
+//! The byte order of a unit.
 
-/// Which byte of a unit stands first.
+/// Which byte of a unit is first.
 #[derive(Clone, Copy, Debug, PartialEq, Eq)]
 pub enum Endian {
     /// The highest.

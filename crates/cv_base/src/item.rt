@@ -1,25 +1,25 @@
-//! What stands next in a text.
+//! The next item of a text.
 ghost use Rattle.std.specs.Prelude.{◌≡◌};
 ghost use Rattle.cv_base.specs.Scalars.{IsScalar};
 
 use crate::scalar::Scalar;
 use crate::state::ReadState;
 
-/// What stands at the front of a text in a reading state.
+/// What a text begins with in a reading state.
 #[derive(Clone, Copy, Debug, PartialEq, Eq)]
 pub enum Item {
-    /// The character `c`, of which `n` bytes are used up.
+    /// The character `c`, which uses `n` bytes.
     Char {
         c: Scalar,
         n: usize,
         next: ReadState,
     },
-    /// A mark or a shift: `n` bytes are used up and give no character.
+    /// A mark or a shift: it uses `n` bytes and gives no character.
     Shift {
         n: usize,
         next: ReadState,
     },
-    /// The front of an item, whose other bytes are not there yet (POSIX: EINVAL).
+    /// A prefix of an item, whose other bytes have not arrived (POSIX: EINVAL).
     Incomplete,
     /// Bytes that begin no item, whatever follows (POSIX: EILSEQ).
     Ill,

@@ -3,7 +3,7 @@ ghost use Rattle.cv_base.specs.Codecs.{CanSubstitute, OneIsNext, StaysWhenBytesF
 
 use crate::codec::Codec;
 
-/// What stands next stays when bytes follow, nothing else stands there, and it uses some of the bytes; `?` can be written.
+/// What is next stays when bytes follow, nothing else is next, and it uses some of the bytes; `?` can be written.
 #[tactic(auto, using(crate::proofs::Front::stays, crate::proofs::Front::one_next))]
 pub fn next<C: Codec>(codec: &C)
     ensures stays { StaysWhenBytesFollow (C.reads codec.now) }

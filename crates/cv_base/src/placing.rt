@@ -13,10 +13,10 @@ use crate::policy::Policy;
 use crate::scalar::Scalar;
 use crate::state::WriteState;
 
-/// What came of writing what an item gives at a place.
+/// The result of writing what an item gives at a place.
 #[derive(Clone, Copy, Debug, PartialEq, Eq)]
 pub enum Placed {
-    /// So many bytes, and 1 where `?` was written for another character.
+    /// This many bytes, and 1 if `?` was written for another character.
     Wrote {
         n: usize,
         count: usize,
@@ -24,11 +24,11 @@ pub enum Placed {
     },
     /// There was no room for them.
     NoRoom,
-    /// The target lacks the character, and the policy is strict, whatever the room.
+    /// The target lacks the character, and the policy is strict. The room does not matter.
     Lacks,
 }
 
-/// Writes a character at a place; where the target lacks it, what the policy says: `?` or nothing.
+/// Writes a character at a place. If the target lacks it, writes what the policy says: `?` or nothing.
 #[inline(always)]
 pub fn place_character<T: Codec>(
     to: &T,

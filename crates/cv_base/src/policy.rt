@@ -1,19 +1,19 @@
-//! What becomes of characters that a target lacks.
+//! What to do with characters that a target lacks.
 ghost use Rattle.std.specs.Prelude.{◌≡◌, ◌↔◌, IsTrue};
 ghost use Rattle.cv_base.specs.Chains.{Output};
 ghost use Rattle.cv_base.specs.Policies.{Allows};
 
-/// What a conversion does where the target lacks a character (POSIX `iconv()` leaves it to the implementation).
+/// What a conversion does if the target lacks a character (POSIX `iconv()` leaves it to the implementation).
 #[derive(Clone, Copy, Debug, PartialEq, Eq)]
 pub enum Policy {
     /// It writes `?` in the character's place, and counts it.
     Substitute,
-    /// It stops in front of the character, and writes nothing for it.
+    /// It stops before the character, and writes nothing for it.
     Strict,
 }
 
 impl Policy {
-    /// Whether it allows an output in which `?` stands for so many characters.
+    /// Whether it allows an output in which `?` replaces `count` characters.
     #[inline]
     pub fn allows(self, count: usize) -> bool
         ensures { (o : Output) → o.count ≡ count → (IsTrue result ↔ Allows self o) }

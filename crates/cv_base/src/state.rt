@@ -1,4 +1,4 @@
-//! Where a conversion is between two items.
+//! The state of a conversion between two items.
 ghost use Rattle.std.specs.Prelude.{◌≡◌, ◌<◌, ◌≤◌, ◌^◌, ◌%◌};
 
 /// The bits of a shifted sequence that are pending (UTF-7, RFC 2152): 0, 2 or 4 of them.
@@ -6,32 +6,32 @@ ghost use Rattle.std.specs.Prelude.{◌≡◌, ◌<◌, ◌≤◌, ◌^◌, ◌%
 pub struct Bits {
     /// How many bits are pending.
     pub count: u8,
-    /// The number that they spell, the highest first.
+    /// The number that they spell, the highest bit first.
     pub value: u8,
     ghost few: { count ≤ 4 },
     ghost even: { count % 2 ≡ 0 },
     ghost in_range: { value < 2 ^ count },
 }
 
-/// Where a reader is. An encoding takes a state that it does not use for `Start`.
+/// The state of a reader. An encoding treats a state that it does not use as `Start`.
 #[derive(Clone, Copy, Debug, PartialEq, Eq)]
 pub enum ReadState {
     /// At the start of the text.
     Start,
-    /// Behind a big-endian mark, or a first character read without one.
+    /// After a big-endian mark, or a first character read without one.
     Big,
-    /// Behind a little-endian mark.
+    /// After a little-endian mark.
     Little,
     /// Inside a shifted sequence.
     Shifted(Bits),
 }
 
-/// Where a writer is. An encoding takes a state that it does not use for `Start`.
+/// The state of a writer. An encoding treats a state that it does not use as `Start`.
 #[derive(Clone, Copy, Debug, PartialEq, Eq)]
 pub enum WriteState {
     /// At the start of the text.
     Start,
-    /// Behind the byte order mark.
+    /// After the byte order mark.
     Marked,
     /// Inside a shifted sequence.
     Shifted(Bits),

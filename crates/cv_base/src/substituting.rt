@@ -1,4 +1,4 @@
-//! Characters that are written sixteen at once as one byte each, with `?` for those that an encoding lacks.
+//! Writing sixteen characters at once as one byte each, with `?` for those that an encoding lacks.
 ghost use Rattle.std.specs.Prelude.{◌≡◌, ◌≤◌, ◌<◌, ◌+◌, ◌*◌, length, take, drop};
 ghost use Rattle.cv_base.specs.Scalars.{question};
 ghost use Rattle.cv_base.specs.Chains.{output_for};
@@ -12,7 +12,7 @@ use std::simd::prelude::*;
 /// How many characters are written at once.
 pub(crate) const MANY: usize = 16;
 
-/// The numbers of sixteen characters. LLVM makes four loads of the loop.
+/// The numbers of sixteen characters. LLVM turns the loop into four loads.
 #[inline(always)]
 fn numbers_of(characters: &[Scalar], n: usize) -> [u32; MANY]
     requires { n + 16 ≤ length characters.now }
@@ -26,7 +26,7 @@ fn numbers_of(characters: &[Scalar], n: usize) -> [u32; MANY]
 }
 
 /// Writes sixteen characters, those below a limit as the bytes of their numbers and `?` for others, and answers how many others there
-/// are. The numbers are made bytes before one of the two is chosen: sixteen bytes are one vector, and sixteen numbers are four.
+/// are. The numbers become bytes before one of the two is chosen: sixteen bytes are one vector, and sixteen numbers are four.
 #[inline(always)]
 fn write_block(limit: u32, characters: &[Scalar], n: usize, out: &mut [u8], at: usize) -> u32
     requires stand { n + 16 ≤ length characters.now }
@@ -47,7 +47,7 @@ fn write_block(limit: u32, characters: &[Scalar], n: usize, out: &mut [u8], at: 
     MANY as u32 - small.to_bitmask().count_ones()
 }
 
-/// Writes so many blocks of sixteen characters, those below a limit as the bytes of their numbers and `?` for others, and answers how
+/// Writes `blocks` blocks of sixteen characters, those below a limit as the bytes of their numbers and `?` for others, and answers how
 /// many others there are. Bytes of the slice around them stay.
 #[inline(always)]
 pub(crate) fn write_blocks(

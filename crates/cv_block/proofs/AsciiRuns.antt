@@ -30,7 +30,7 @@ length-run form target text (suc n) =
     let more = ap length (units_of-more target (characters_in form text n) c) in
     omega (arith, more, length-append (units_of target (characters_in form text n)) (unit_of target c), length-unit_of target c, length-run form target text n, mul-suc (unit_size target) n)
 
--- a unit that stands at a place is that of its lowest byte
+-- a unit that is at a place is that of its lowest byte
 unit_at : (limit : ℕ) → limit ≤ 0x100 → (form : AsciiForm) (text : List ℕ) (at : ℕ) → IsBelowAt limit form text at → Begins (unit_of form (get_or text (at + offset form) 0)) (drop at text)
 unit_at limit few form text at p =
     let low = low_byte form text at p.c (record { few = byte_fits form p.c (omega (arith, p.small)); stands = p.stands }) in
@@ -81,14 +81,14 @@ joined_more form text at n place joined u e p q =
     (λ k h. below_weaker (joined + 1) (bit_or joined u + 1) form text (at + unit_size form * k) (omega (arith, le_or_l joined u)) (p k h))
     (below_at (bit_or joined u + 1) form text place u q (omega (arith, le_or_r joined u)))
 
--- a run, and one unit of a small character behind it
+-- a run, and one unit of a small character after it
 pub run_more : (limit : ℕ) (form : AsciiForm) (text : List ℕ) (n place : ℕ) → place ≡ unit_size form * n → IsRunBelow limit form text n → IsBelowAt limit form text place → IsRunBelow limit form text (n + 1)
 run_more limit form text n place e p q k h = elim (cases_lt k n) [
   | inl l ↦ p k l
   | inr l ↦ (let same : k ≡ n = omega arith in subst (λ (j : ℕ). IsBelowAt limit form text j) (e ∙ ap (λ (j : ℕ). unit_size form * j) (sym same)) q)
 ]
 
--- a run, and units of small characters behind it
+-- a run, and units of small characters after it
 pub runs_join : (limit : ℕ) (form : AsciiForm) (text : List ℕ) (at n m : ℕ) → at ≡ unit_size form * n → IsRunBelow limit form text n → ((k : ℕ) → k < m → IsBelowAt limit form text (at + unit_size form * k)) → IsRunBelow limit form text (n + m)
 runs_join limit form text at n m e p q k h = elim (cases_lt k n) [
   | inl l ↦ p k l
@@ -101,13 +101,13 @@ runs_join limit form text at n m e p q k h = elim (cases_lt k n) [
 pub unit_more : (form : AsciiForm) (n : ℕ) → unit_size form * (n + 1) ≡ unit_size form * n + unit_size form
 unit_more form n = ap (λ (k : ℕ). unit_size form * k) (omega arith) ∙ mul-suc (unit_size form) n ∙ omega arith
 
--- one unit more fits where all do
+-- one unit more fits if all do
 pub unit_fits : (form : AsciiForm) (k n : ℕ) → k < n → unit_size form * k + unit_size form ≤ unit_size form * n
 unit_fits form k n h =
     let m : unit_size form * (k + 1) ≤ unit_size form * n = mul-le-mul_left (unit_size form) (omega arith) in
     omega (arith, m, unit_more form k)
 
--- what stands in the buffer, once so many units of a run were written at a place
+-- what is in the buffer, once n units of a run were written at a place
 abbrev pub put_run : AsciiForm → AsciiForm → List ℕ → List ℕ → ℕ → ℕ → List ℕ
 put_run form target text before at n = take at before ++ units_of target (characters_in form text n) ++ drop (at + unit_size target * n) before
 
@@ -131,7 +131,7 @@ put_more form target text before at n end c now after fits e is p q =
     let units : front ++ unit_of target c ≡ take at before ++ units_of target (characters ++ c ∷ []) = append_assoc (take at before) (units_of target characters) (unit_of target c) ∙ ap (λ (x : List ℕ). take at before ++ x) (sym (units_of-more target characters c)) in
     wrote ∙ rw (units, places, is) refl
 
--- the lowest bytes of units, and of those behind them
+-- the lowest bytes of units, and of those after them
 pub characters_join : (form : AsciiForm) (text : List ℕ) (n m : ℕ) → characters_in form text (n + m) ≡ characters_in form text n ++ characters_in form (drop (unit_size form * n) text) m
 unfolding characters_in
 characters_join form text n zero = rw (add-zero, append-nil) refl
@@ -170,7 +170,7 @@ bytes_are text (suc n) h =
 pub sixteen_are : (text : List ℕ) → length text ≡ 16 → characters_in Byte text 16 ≡ text
 sixteen_are text h = bytes_are text 16 (omega (arith, h)) ∙ take_all 16 text (omega (arith, h))
 
--- a run behind a place is one of the whole text
+-- a run after a place is one of the whole text
 pub run_behind : (limit : ℕ) (form : AsciiForm) (text : List ℕ) (place m : ℕ) → IsRunBelow limit form (drop place text) m → (k : ℕ) → k < m → IsBelowAt limit form text (place + unit_size form * k)
 run_behind limit form text place m p k h =
     let q = p k h in

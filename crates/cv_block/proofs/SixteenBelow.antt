@@ -27,7 +27,7 @@ ascii_before bytes at front room e =
     let first : front ≡ prefix_len (λ x. not (is_other x)) xs = e ∙ ap (λ m. cond (eqb m 0) 16 (count_trailing_zeros 64 m)) (others_mask xs long) ∙ first_set_mask_l is_other xs 16 long (lit≤ tt) in
     (run_in_chunk_le is_other bytes at 16 front 0 room first, λ k h. leb-false 128 (get_or bytes (at + k) 0) (run_in_chunk_fails is_other bytes at 16 front 0 room first (at + k) (omega arith) (omega arith)))
 
--- where none of sixteen bytes is 128 at least, each is below
+-- if none of sixteen bytes is 128 at least, each is below
 pub all_below : (bytes : List ℕ) (at : ℕ) → at + 16 ≤ length bytes → 16 ≡ cond (eqb (others (take 16 (drop at bytes))) 0) 16 (count_trailing_zeros 64 (others (take 16 (drop at bytes)))) → (k : ℕ) → at ≤ k → k < at + 16 → get_or bytes k 0 < 128
 all_below bytes at room e k l m =
     let there : at + (k - at) ≡ k = omega arith in

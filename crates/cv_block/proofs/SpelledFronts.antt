@@ -1,4 +1,4 @@
--- How much of a text is characters, and that it stays where they are written as they were read.
+-- How much of a text is characters, and that it stays if they are written as they were read.
 use Rattle.std.proofs.Common.{◌≡◌, ℕ, ◌+◌, ◌*◌, List, [], ◌∷◌, ◌++◌, length, take, drop, refl, sym, ◌∙◌, ap, arith, length-append}
 use Rattle.std.proofs.lemmas.List.{take_all}
 use Rattle.std.proofs.lemmas.List.Concat.{flat_map-append}
@@ -18,7 +18,7 @@ use Rattle.cv_block.proofs.SpelledBlocks.{ReadsSpelled, WritesSpelled, scalars_r
 use Rattle.cv_block.proofs.SpelledRuns.{AreScalars-append}
 use Rattle.cv_block.proofs.UnitRuns.{begun, all_scalars}
 
--- what begins a text is its front
+-- what begins a text is its prefix
 begins_is_front : (a text : List ℕ) → Begins a text → a ≡ take (length a) text
 begins_is_front [] text p = refl
 begins_is_front (x ∷ a) [] p = absurd p
@@ -28,7 +28,7 @@ begins_is_front (x ∷ a) (t ∷ text) p = cc (p.0, begins_is_front a text p.1)
 pub none_spelled : (bytes_of : BytesOf) (text : List ℕ) → IsSpelledFront bytes_of text 0
 none_spelled bytes_of text = record { characters = []; scalars = tt; begins = tt; uses = refl }
 
--- more, behind those before
+-- more, after those before
 pub front_more : (bytes_of : BytesOf) (text : List ℕ) (n k : ℕ) → IsSpelledFront bytes_of text n → IsSpelledFront bytes_of (drop n text) k → IsSpelledFront bytes_of text (n + k)
 front_more bytes_of text n k p q =
     let all : flat_map bytes_of (p.characters ++ q.characters) ≡ flat_map bytes_of p.characters ++ flat_map bytes_of q.characters = flat_map-append bytes_of p.characters q.characters in

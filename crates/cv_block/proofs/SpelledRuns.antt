@@ -1,4 +1,4 @@
--- Characters that are spelled: more of them, one behind the other.
+-- Characters that are spelled: more of them, one after the other.
 use Rattle.std.proofs.Common.{◌≡◌, ℕ, ◌+◌, ◌*◌, ◌<◌, ◌≤◌, List, [], ◌∷◌, ◌++◌, length, take, drop, refl, sym, ◌∙◌, ap, arith, length-append, length-drop, length-take, append_assoc, append-nil, slice_set}
 use Rattle.std.proofs.Math.Seq.{take-add}
 use Rattle.std.specs.List.{flat_map}
@@ -9,11 +9,11 @@ use Rattle.cv_block.specs.Spelled.{BytesOf, HasFourAtMost, IsSpelledAt, IsReadSp
 use Rattle.cv_block.specs.declared.spelling.Spelled.{Spelled}
 use Rattle.cv_base.proofs.Front.{Begins-length, Begins-join}
 
--- so many characters that have so many bytes
+-- n characters that have used bytes
 abbrev pub spelled : ℕ → ℕ → Spelled
 spelled n used = record { n = n; used = used }
 
--- characters, and characters behind them
+-- characters, and characters after them
 pub AreScalars-append : (a b : List ℕ) → AreScalars a → AreScalars b → AreScalars (a ++ b)
 AreScalars-append [] b p q = q
 AreScalars-append (c ∷ a) b p q = (p.0, AreScalars-append a b p.1 q)
@@ -22,7 +22,7 @@ AreScalars-append (c ∷ a) b p q = (p.0, AreScalars-append a b p.1 q)
 pub read_within : (bytes_of : BytesOf) (text : List ℕ) (at : ℕ) (before : List ℕ) (n : ℕ) (run : Spelled) (after : List ℕ) → IsReadSpelled bytes_of text at before n run after → at ≤ length text → at + run.used ≤ length text
 read_within bytes_of text at before n run after p h = omega (arith, p.uses, Begins-length _ _ p.begins, length-drop at text)
 
--- more, behind what was read
+-- more, after what was read
 pub read_more : (bytes_of : BytesOf) (text : List ℕ) (at : ℕ) (before : List ℕ) (n m u : ℕ) (mid : List ℕ) (k v place behind : ℕ) (after : List ℕ) → IsReadSpelled bytes_of text at before n (spelled m u) mid
     → place ≡ at + u → behind ≡ n + m → IsReadSpelled bytes_of text place mid behind (spelled k v) after → IsReadSpelled bytes_of text at before n (spelled (m + k) (u + v)) after
 read_more bytes_of text at before n m u mid k v place behind after p e f q =
@@ -42,7 +42,7 @@ read_more bytes_of text at before n m u mid k v place behind after p e f q =
       size = q.size ∙ p.size;
     }
 
--- some, where none was read before them
+-- some, if none was read before them
 pub read_after_none : (bytes_of : BytesOf) (text : List ℕ) (at : ℕ) (before : List ℕ) (n : ℕ) (none : Spelled) (mid : List ℕ) (run : Spelled) (after : List ℕ) → none.n ≡ 0
     → IsReadSpelled bytes_of text at before n none mid → IsReadSpelled bytes_of text at mid n run after → IsReadSpelled bytes_of text at before n run after
 read_after_none bytes_of text at before n none mid run after z p q =
@@ -58,7 +58,7 @@ read_after_none bytes_of text at before n none mid run after z p q =
       size = q.size ∙ p.size;
     }
 
--- one more, behind what was read
+-- one more, after what was read
 pub read_one_more : (bytes_of : BytesOf) (text : List ℕ) (at : ℕ) (before : List ℕ) (n m u : ℕ) (mid : List ℕ) (c k : ℕ) → IsReadSpelled bytes_of text at before n (spelled m u) mid
     → n + m < length before → IsSpelledAt bytes_of text (at + u) c k → IsReadSpelled bytes_of text at before n (spelled (m + 1) (u + k)) (slice_set mid (n + m) c)
 read_one_more bytes_of text at before n m u mid c k p h q =
@@ -84,7 +84,7 @@ written_few bytes_of short characters n before at run after p =
     let front : List ℕ = take run.n (drop n characters) in
     omega (arith, p.uses, p.within, short_all bytes_of short front, length-take run.n (drop n characters), length-drop n characters)
 
--- more, behind what was written
+-- more, after what was written
 pub written_more : (bytes_of : BytesOf) (characters : List ℕ) (n : ℕ) (before : List ℕ) (at m u : ℕ) (mid : List ℕ) (k v place behind : ℕ) (after : List ℕ) → IsWrittenSpelled bytes_of characters n before at (spelled m u) mid
     → place ≡ at + u → behind ≡ n + m → IsWrittenSpelled bytes_of characters behind mid place (spelled k v) after → IsWrittenSpelled bytes_of characters n before at (spelled (m + k) (u + v)) after
 written_more bytes_of characters n before at m u mid k v place behind after p e f q =
@@ -101,7 +101,7 @@ written_more bytes_of characters n before at m u mid k v place behind after p e 
       size = q.size ∙ p.size;
     }
 
--- some, where none was written before them
+-- some, if none was written before them
 pub written_after_none : (bytes_of : BytesOf) (characters : List ℕ) (n : ℕ) (before : List ℕ) (at : ℕ) (none : Spelled) (mid : List ℕ) (run : Spelled) (after : List ℕ) → none.n ≡ 0
     → IsWrittenSpelled bytes_of characters n before at none mid → IsWrittenSpelled bytes_of characters n mid at run after → IsWrittenSpelled bytes_of characters n before at run after
 written_after_none bytes_of characters n before at none mid run after z p q =

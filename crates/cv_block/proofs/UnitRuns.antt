@@ -18,12 +18,12 @@ use Rattle.cv_block.proofs.UnitBytes.{length-unit_of}
 pub flat_map-more : (bytes_of : BytesOf) (characters : List ℕ) (c : ℕ) → flat_map bytes_of (characters ++ c ∷ []) ≡ flat_map bytes_of characters ++ bytes_of c
 flat_map-more bytes_of characters c = flat_map-append bytes_of characters (c ∷ []) ∙ ap (λ (x : List ℕ). flat_map bytes_of characters ++ x) (append-nil (bytes_of c))
 
--- The bytes of the first so many numbers begin a text, and each is one unit.
+-- The bytes of the first n numbers begin a text, and each is one unit.
 pub record Begun (bytes_of : BytesOf) (form : AsciiForm) (text numbers : List ℕ) (n : ℕ) : Type 0 where
   pub begins : Begins (flat_map bytes_of (take n numbers)) text
   pub uses : length (flat_map bytes_of (take n numbers)) ≡ unit_size form * n
 
--- units at the front of a text are the bytes of their characters
+-- units at the start of a text are the bytes of their characters
 pub begun : (bytes_of : BytesOf) (form : AsciiForm) → SpellsUnits form bytes_of → (text numbers : List ℕ) (n : ℕ) → n ≤ length numbers → AreUnits form text numbers n → Begun bytes_of form text numbers n
 begun bytes_of form spells text numbers zero h units = record { begins = tt; uses = sym (mul-zero (unit_size form)) }
 begun bytes_of form spells text numbers (suc n) h units =

@@ -19,17 +19,17 @@ offset (Two Little) = 0
 offset (Four Big) = 3
 offset (Four Little) = 0
 
--- The unit of a character below a limit stands at a place of a text.
+-- The unit of a character below a limit is at a place of a text.
 pub record IsBelowAt (limit : ℕ) (form : AsciiForm) (text : List ℕ) (at : ℕ) : Type 0 where
   pub c : ℕ
   pub small : c < limit
   pub stands : Begins (unit_of form c) (drop at text)
 
--- The first so many units of a text are of characters below a limit.
+-- The first n units of a text are of characters below a limit.
 abbrev pub IsRunBelow : ℕ → AsciiForm → List ℕ → ℕ → Type 0
 IsRunBelow limit form text n = (k : ℕ) → k < n → IsBelowAt limit form text (unit_size form * k)
 
--- the lowest bytes of the first so many units of a text: where each character is one byte, the characters
+-- the lowest bytes of the first n units of a text; if each character is one byte, these are the characters
 unfoldable pub characters_in : AsciiForm → List ℕ → ℕ → List ℕ
 characters_in form text zero = []
 characters_in form text (suc n) = characters_in form text n ++ get_or text (unit_size form * n + offset form) 0 ∷ []

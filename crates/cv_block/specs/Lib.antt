@@ -1,4 +1,4 @@
--- What encodings read and write many characters at once with. It serves speed: no contract of a codec cites it.
+-- How encodings read and write many characters at once. It exists for speed: no contract of a codec cites it.
 pub mod Spelled
 pub mod Surrogates
 pub mod Units

@@ -1,4 +1,4 @@
--- Spellings: encodings, or states of them, in which each character has its bytes whatever stands around it. They serve blocks.
+-- Spellings: encodings, or states of them, in which each character has its bytes whatever is around it. Blocks use them.
 use Rattle.std.specs.Prelude.{◌≡◌, ℕ, ◌+◌, ◌≤◌, List, ◌++◌, take, drop, length}
 use Rattle.std.specs.List.{flat_map}
 use Rattle.cv_base.specs.Scalars.{IsScalar, AreScalars}
@@ -19,11 +19,11 @@ BytesOf = ℕ → List ℕ
 abbrev pub HasFourAtMost : BytesOf → Type 0
 HasFourAtMost bytes_of = (c : ℕ) → length (bytes_of c) ≤ 4
 
--- The bytes of a character stand at a place of a text.
+-- The bytes of a character are at a place of a text.
 abbrev pub IsSpelledAt : BytesOf → List ℕ → ℕ → ℕ → ℕ → Type 0
 IsSpelledAt bytes_of text at c n = IsScalar c × Begins (bytes_of c) (drop at text) × (n ≡ length (bytes_of c))
 
--- Characters whose bytes stand at a place of a text were put into a buffer behind its first n; what is behind them may be anything.
+-- Characters whose bytes are at a place of a text were put into a buffer after its first n; what follows them may be anything.
 pub record IsReadSpelled (bytes_of : BytesOf) (text : List ℕ) (at : ℕ) (before : List ℕ) (n : ℕ) (run : Spelled) (after : List ℕ) : Type 0 where
   pub characters : List ℕ
   pub scalars : AreScalars characters
@@ -34,14 +34,14 @@ pub record IsReadSpelled (bytes_of : BytesOf) (text : List ℕ) (at : ℕ) (befo
   pub fits : n + run.n ≤ length before
   pub size : length after ≡ length before
 
--- So many bytes at the front of a text are those of characters, one after the other.
+-- The first n bytes of a text are those of characters, one after the other.
 pub record IsSpelledFront (bytes_of : BytesOf) (text : List ℕ) (n : ℕ) : Type 0 where
   pub characters : List ℕ
   pub scalars : AreScalars characters
   pub begins : Begins (flat_map bytes_of characters) text
   pub uses : n ≡ length (flat_map bytes_of characters)
 
--- The bytes of some characters behind the first n were put at a place; what is behind them may be anything.
+-- The bytes of some characters after the first n were put at a place; what follows them may be anything.
 pub record IsWrittenSpelled (bytes_of : BytesOf) (characters : List ℕ) (n : ℕ) (before : List ℕ) (at : ℕ) (run : Spelled) (after : List ℕ) : Type 0 where
   pub within : n + run.n ≤ length characters
   pub uses : run.used ≡ length (flat_map bytes_of (take run.n (drop n characters)))

@@ -1,4 +1,4 @@
--- Surrogates (Unicode 3.8, D71 to D75): code units that stand in pairs of a high and a low one.
+-- Surrogates (Unicode 3.8, D71 to D75): code units that come in pairs of a high and a low one.
 use Rattle.std.specs.Prelude.{◌≡◌, ℕ, ◌/◌, ◌≤◌, ◌<◌}
 use Rattle.cv_base.specs.Units.{high_unit, low_unit}
 

@@ -1,4 +1,4 @@
--- Units that stand in a text one after the other.
+-- Units that are in a text one after the other.
 use Rattle.std.specs.Prelude.{◌≡◌, ℕ, ◌*◌, ◌<◌, List, drop, get_or}
 use Rattle.cv_base.specs.Items.{Begins}
 use Rattle.cv_base.specs.Scalars.{IsScalar}
@@ -6,20 +6,20 @@ use Rattle.cv_base.specs.Units.{unit_of, unit_size, unit_limit}
 use Rattle.cv_base.specs.declared.ascii_form.AsciiForm.{AsciiForm}
 use Rattle.cv_block.specs.Spelled.{BytesOf}
 
--- The unit of a number stands at a place of a text.
+-- The unit of a number is at a place of a text.
 pub record IsUnitAt (form : AsciiForm) (text : List ℕ) (at number : ℕ) : Type 0 where
   pub few : number < unit_limit form
   pub stands : Begins (unit_of form number) (drop at text)
 
--- The numbers below a place are those of the units of a text, one after the other.
+-- The first n numbers are those of the units of a text, one after the other.
 abbrev pub AreUnits : AsciiForm → List ℕ → List ℕ → ℕ → Type 0
 AreUnits form text numbers n = (k : ℕ) → k < n → IsUnitAt form text (unit_size form * k) (get_or numbers k 0)
 
--- The numbers below a place are those of characters.
+-- The first n numbers are those of characters.
 abbrev pub AreScalarsBelow : List ℕ → ℕ → Type 0
 AreScalarsBelow numbers n = (k : ℕ) → k < n → IsScalar (get_or numbers k 0)
 
--- The numbers below a place are one unit each.
+-- The first n numbers are one unit each.
 abbrev pub AreSingle : AsciiForm → List ℕ → ℕ → Type 0
 AreSingle form numbers n = (k : ℕ) → k < n → get_or numbers k 0 < unit_limit form
 

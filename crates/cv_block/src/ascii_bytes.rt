@@ -8,7 +8,7 @@ use std::simd::prelude::*;
 /// How many bytes are tested at once.
 const BLOCK: usize = 16;
 
-/// How many bytes are tested and copied at once while so many of a run are left: four blocks with one branch.
+/// How many bytes are tested and copied at once while a run has that many left: four blocks with one branch.
 const LONG_BLOCK: usize = 64;
 
 /// Whether sixteen bytes are below 128.
@@ -21,8 +21,8 @@ pub fn is_ascii_block(bytes: &[u8], at: usize) -> bool
     lanes.simd_ge(u8x16::splat(128)).to_bitmask() == 0
 }
 
-/// Whether so many bytes are below 128, a multiple of sixteen that is known when the code is compiled. All are tested, so that one branch
-/// is taken for them.
+/// Whether `BYTES` bytes are below 128, a multiple of sixteen that is known at compile time. All are tested, so that one branch
+/// decides for all.
 #[inline(always)]
 fn are_ascii<const BYTES: usize>(bytes: &[u8], at: usize) -> bool
     requires { at + BYTES ≤ length bytes.now }
@@ -47,7 +47,7 @@ fn copy_sixteen(rest: &[u8], from: usize, out: &mut [u8], at: usize)
     lanes.copy_to_slice(&mut out[at..]);
 }
 
-/// Copies so many bytes, as many as `are_ascii` tests. Sixteen are loaded before they are stored: LLVM isn't told that both slices are apart.
+/// Copies as many bytes as `are_ascii` tests. Sixteen are loaded before they are stored: LLVM does not know that the slices are disjoint.
 #[inline(always)]
 fn copy_block<const BYTES: usize>(rest: &[u8], from: usize, out: &mut [u8], at: usize)
     requires stand { from + BYTES ≤ length rest.now }
@@ -61,7 +61,7 @@ fn copy_block<const BYTES: usize>(rest: &[u8], from: usize, out: &mut [u8], at: 
     }
 }
 
-/// Copies the blocks of ASCII of so many bytes at the front of a text, and answers how many bytes they are.
+/// Copies the blocks of ASCII of this many bytes at the start of a text, and answers how many bytes they are.
 #[inline(always)]
 fn copy_blocks<const BYTES: usize>(rest: &[u8], most: usize, out: &mut [u8], at: usize) -> usize
     requires some { 0 < BYTES }
@@ -80,7 +80,7 @@ fn copy_blocks<const BYTES: usize>(rest: &[u8], most: usize, out: &mut [u8], at:
     n
 }
 
-/// Copies the bytes of ASCII at the front of a text one by one, and answers how many they are.
+/// Copies the bytes of ASCII at the start of a text one by one, and answers how many they are.
 #[inline(always)]
 fn copy_few(rest: &[u8], most: usize, out: &mut [u8], at: usize) -> usize
     requires stand { most ≤ length rest.now }
@@ -97,7 +97,7 @@ fn copy_few(rest: &[u8], most: usize, out: &mut [u8], at: usize) -> usize
     n
 }
 
-/// Copies the blocks of ASCII at the front of a text, the long ones first, and answers how many bytes they are.
+/// Copies the blocks of ASCII at the start of a text, the long ones first, and answers how many bytes they are.
 #[inline(always)]
 fn copy_all_blocks(rest: &[u8], most: usize, out: &mut [u8], at: usize) -> usize
     requires stand { most ≤ length rest.now }
@@ -110,7 +110,7 @@ fn copy_all_blocks(rest: &[u8], most: usize, out: &mut [u8], at: usize) -> usize
     n + copy_blocks::<BLOCK>(&rest[n..], most - n, out, at + n)
 }
 
-/// Copies the bytes of ASCII at the front of a text, and answers how many they are. They may be none where they are fewer than a block and
+/// Copies the bytes of ASCII at the start of a text, and answers how many they are. It may copy none if they are fewer than a block and
 /// bytes for a block are there.
 #[inline(never)]
 pub(crate) fn copy_run(rest: &[u8], out: &mut [u8], at: usize) -> usize

@@ -10,7 +10,7 @@ use crate::small_units::{BLOCK, are_below, form_may_run, is_below};
 use crate::unit::{Byte, Four, Two, Unit};
 use cv_base::{AsciiForm, Endian};
 
-/// The character of the unit that stands here if it is one byte, and of another its lowest byte.
+/// The character of the unit here if it is one byte, and otherwise its lowest byte.
 #[inline(always)]
 #[tactic(auto, using(crate::proofs::UnitBytes::low_byte))]
 fn character<U: Unit>(bytes: &[u8], at: usize) -> u32
@@ -55,7 +55,7 @@ fn low_bytes<U: Unit>(units: &[u8]) -> [u8; BLOCK]
 }
 
 /// Writes the characters of a block of units of one form in another. They are copied into an array of their own before the first is
-/// written: LLVM is not told that two slices don't overlap, and would take them one after another.
+/// written: LLVM does not know that the slices are disjoint, and would process them one by one.
 #[inline(always)]
 fn write_block<From: Unit, To: Unit>(units: &[u8], out: &mut [u8], at: usize)
     requires stand { unit_size From.form * 16 ≤ length units.now }
@@ -68,7 +68,7 @@ fn write_block<From: Unit, To: Unit>(units: &[u8], out: &mut [u8], at: usize)
     write_units::<Byte, To>(&low, BLOCK, out, at);
 }
 
-/// Writes the blocks of a run's units that stand at the front in another form, of `most` units at most, and answers how many units they
+/// Writes the blocks of a run's units at the start in another form, of `most` units at most, and answers how many units they
 /// are. Each block is tested and written in one pass.
 #[inline(always)]
 fn take_blocks<R: Repertoire, From: Unit, To: Unit>(
@@ -97,7 +97,7 @@ fn take_blocks<R: Repertoire, From: Unit, To: Unit>(
     n
 }
 
-/// Writes the units of a run at the front of a text in another form one by one, `most` at most, and answers how many they are.
+/// Writes the units of a run at the start of a text in another form one by one, `most` at most, and answers how many they are.
 #[inline(always)]
 fn take_few<R: Repertoire, From: Unit, To: Unit>(
     rest: &[u8],
@@ -137,8 +137,8 @@ pub fn unit_bytes(form: AsciiForm) -> usize
     }
 }
 
-/// Writes the run of units that stands at the front in another form, as far as there is room, and answers how many they are. It may be
-/// none where the run is shorter than a block and units for a block are there.
+/// Writes the run of units at the start in another form, as far as there is room, and answers how many they are. It may be
+/// none if the run is shorter than a block and units for a block are there.
 #[inline(always)]
 fn take_in<R: Repertoire, From: Unit, To: Unit>(rest: &[u8], out: &mut [u8], at: usize) -> usize
     requires { at ≤ length out.old }
@@ -159,7 +159,7 @@ fn take_in<R: Repertoire, From: Unit, To: Unit>(rest: &[u8], out: &mut [u8], at:
     n + take_few::<R, From, To>(behind, most - n, out, at + To::size() * n)
 }
 
-/// Writes the run of units that stands at the front in a form, as `take_in`.
+/// Writes the run of units at the start in a form, as `take_in`.
 #[inline(always)]
 fn take_units<R: Repertoire, From: Unit>(
     target: AsciiForm,
@@ -185,7 +185,7 @@ fn take_units<R: Repertoire, From: Unit>(
     }
 }
 
-/// Writes the run that stands at the front in a form in another, as `take_run`. It stands apart, so that loops around it stay small.
+/// Writes the run at the start in a form in another, as `take_run`. Kept out of line, so that the callers' loops stay small.
 #[inline(never)]
 fn take_form<R: Repertoire>(
     form: AsciiForm,
@@ -214,8 +214,8 @@ fn take_form<R: Repertoire>(
     }
 }
 
-/// Writes the run that stands at the front in a form in another, as far as there is room, and answers how many units it has.
-/// It may be none where the run is shorter than a block and units for a block are there.
+/// Writes the run at the start in a form in another, as far as there is room, and answers how many units it has.
+/// It may be none if the run is shorter than a block and units for a block are there.
 #[inline(always)]
 pub(crate) fn take_run<R: Repertoire>(
     form: AsciiForm,

@@ -1,4 +1,4 @@
-//! Orders of bytes that are known when the code is compiled, so that each loop over units stands once and has a form for each.
+//! Byte orders that are known at compile time, so that each loop over units is written once and compiled for each.
 ghost use Rattle.std.specs.Prelude.{◌≡◌, ◌≤◌, ◌<◌, ◌+◌, ◌++◌, length, take, drop};
 ghost use Rattle.cv_base.specs.Units.{unit_of};
 ghost use Rattle.cv_base.specs.declared.ascii_form.AsciiForm.TheVariants.{Two, Four};
@@ -9,7 +9,7 @@ ghost use Rattle.cv_block.specs.Units.{IsUnitAt};
 use cv_base::Endian;
 use cv_base::place::write_slice;
 
-/// An order of the bytes of a unit.
+/// A byte order of a unit.
 pub trait ByteOrder {
     ghost endian: { Endian };
 
@@ -17,12 +17,12 @@ pub trait ByteOrder {
     fn order() -> Endian
         ensures { result ≡ endian };
 
-    /// The number of the two bytes that stand here.
+    /// The number of the two bytes here.
     fn two(bytes: &[u8], at: usize) -> u32
         requires { at + 2 ≤ length bytes.now }
         ensures { IsUnitAt (Two endian) bytes.now at result };
 
-    /// The number of the four bytes that stand here.
+    /// The number of the four bytes here.
     fn four(bytes: &[u8], at: usize) -> u32
         requires { at + 4 ≤ length bytes.now }
         ensures { IsUnitAt (Four endian) bytes.now at result };
@@ -52,7 +52,7 @@ impl ByteOrder for BigEndian {
         Endian::Big
     }
 
-    // Both are read with the lowest byte first and turned, so that LLVM reads all bytes at once.
+    // Both are read with the lowest byte first and swapped, so that LLVM loads all bytes at once.
     #[inline(always)]
     fn two(bytes: &[u8], at: usize) -> u32 {
         u16::from_le_bytes([bytes[at], bytes[at + 1]]).swap_bytes() as u32
@@ -94,7 +94,7 @@ impl ByteOrder for LittleEndian {
         Endian::Little
     }
 
-    // Both are inlined late, so that LLVM reads all bytes at once before it sees what of them is tested.
+    // Both are inlined late, so that LLVM loads all bytes at once before it sees which of them are tested.
     #[inline]
     fn two(bytes: &[u8], at: usize) -> u32 {
         u16::from_le_bytes([bytes[at], bytes[at + 1]]) as u32

@@ -1,4 +1,4 @@
-//! What encodings read and write many characters at once with: spellings and their loops, units and orders of bytes, surrogates, words
+//! How encodings read and write many characters at once: spellings and their loops, units and byte orders, surrogates, words
 //! and runs of small characters.
 #![tactic(auto)]
 

@@ -1,4 +1,4 @@
-//! Which characters a run has, known when the code is compiled, so that each loop over runs stands once.
+//! Which characters a run has, known at compile time, so that each loop over runs is written once.
 ghost use Rattle.std.specs.Prelude.{◌≡◌, ◌≤◌, ◌<◌, ◌+◌, ◌++◌, ℕ, length, take, drop, slice_index, IsTrue};
 ghost use Rattle.cv_base.specs.declared.ascii_form.AsciiForm.{AsciiForm};
 ghost use Rattle.cv_block.specs.AsciiRuns.{IsRunBelow};
@@ -10,12 +10,12 @@ use crate::ascii_bytes::is_ascii_block;
 pub(crate) trait Repertoire {
     ghost limit: { ℕ };
 
-    /// Below which number they are. Each is one byte.
+    /// The limit that they are below. Each is one byte.
     fn limit() -> u32
         ensures value { result ≡ limit }
         ensures few { limit ≤ 0x100 };
 
-    /// Whether many units are tested faster by their joined bits than each by itself. It decides speed alone.
+    /// Whether many units are tested faster by their joined bits than one by one. It affects speed only.
     const JOINS: bool;
 
     /// Whether sixteen bytes are of characters of the run.
@@ -23,7 +23,7 @@ pub(crate) trait Repertoire {
         requires { at + 16 ≤ length bytes.now }
         ensures { IsTrue result → (k : ℕ) → at ≤ k → k < at + 16 → slice_index bytes.now k < limit };
 
-    /// Copies the bytes of a run at the front of a text, and answers how many they are. It may be none where they are few.
+    /// Copies the bytes of a run at the start of a text, and answers how many they are. It may be none if they are few.
     fn copy_run(rest: &[u8], out: &mut [u8], at: usize) -> usize
         requires { at ≤ length out.old }
         ensures stand { result ≤ length rest.now }
@@ -40,7 +40,7 @@ pub(crate) struct OfAscii;
 impl Repertoire for OfAscii {
     ghost limit = { 128 };
 
-    // LLVM tests the bits of each where they stand, whatever the order of bytes.
+    // LLVM tests the bits of each in place, whatever the byte order.
     const JOINS: bool = false;
 
     #[inline(always)]

@@ -7,7 +7,7 @@ use crate::ascii_runs::take_run;
 use crate::repertoire::{OfAscii, OfLatin};
 use cv_base::AsciiForm;
 
-/// Writes the run of ASCII that stands at the front, as `take_run`.
+/// Writes the run of ASCII at the start, as `take_run`.
 #[inline(always)]
 pub fn take_ascii_run(
     form: AsciiForm,
@@ -28,7 +28,7 @@ pub fn take_ascii_run(
     take_run::<OfAscii>(form, target, rest, out, at)
 }
 
-/// Writes the run of characters below 256 that stands at the front, as `take_run`.
+/// Writes the run of characters below 256 at the start, as `take_run`.
 #[inline(always)]
 pub fn take_latin_run(
     form: AsciiForm,

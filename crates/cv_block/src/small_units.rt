@@ -11,7 +11,7 @@ use cv_base::{AsciiForm, Endian};
 /// How many units are tested at once.
 pub(crate) const BLOCK: usize = 16;
 
-/// Whether the unit of a character of the run stands here.
+/// Whether the unit here is that of a character of the run.
 #[inline(always)]
 #[tactic(auto, using(crate::proofs::UnitBytes::below_at))]
 pub(crate) fn is_below<R: Repertoire, U: Unit>(bytes: &[u8], at: usize) -> bool
@@ -21,7 +21,7 @@ pub(crate) fn is_below<R: Repertoire, U: Unit>(bytes: &[u8], at: usize) -> bool
     U::number(bytes, at) < R::limit()
 }
 
-/// Whether `n` units are of characters of the run. Each is tested, so that the loop is done by blocks.
+/// Whether `n` units are of characters of the run. No early exit, so that LLVM vectorizes the loop.
 #[inline(always)]
 fn each_below<R: Repertoire, U: Unit>(bytes: &[u8], at: usize, n: usize) -> bool
     requires { at + unit_size U.form * n ≤ length bytes.now }
@@ -69,8 +69,8 @@ pub(crate) fn are_below<R: Repertoire, U: Unit>(bytes: &[u8], at: usize) -> bool
     }
 }
 
-/// Whether a run may stand at the front: a block of its units, or in a text that is shorter than a block its first unit. It decides speed
-/// alone: in longer texts a test of fewer would often send for a run where there is none.
+/// Whether a run may be at the start: a block of its units, or in a text shorter than a block its first unit. It affects speed
+/// only: in longer texts a test of fewer units would often look for a run when there is none.
 #[inline(always)]
 fn begins<R: Repertoire, U: Unit>(rest: &[u8]) -> bool {
     if rest.len() >= U::size() * BLOCK {
@@ -80,7 +80,7 @@ fn begins<R: Repertoire, U: Unit>(rest: &[u8]) -> bool {
     }
 }
 
-/// Whether it is worth while to look for a run of units of a form. It decides speed alone.
+/// Whether it is worthwhile to look for a run of units of a form. It affects speed only.
 #[inline(always)]
 pub(crate) fn form_may_run<R: Repertoire>(form: AsciiForm, rest: &[u8]) -> bool {
     match form {

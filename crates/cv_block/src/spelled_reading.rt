@@ -5,7 +5,7 @@ ghost use Rattle.cv_block.specs.Spelled.{IsReadSpelled, IsSpelledRead};
 use crate::spelling::{MANY, Spelled, Spelling};
 use cv_base::{ReadBlock, ReadState, Scalar};
 
-/// Reads up to `most` characters one by one into a buffer, behind its first `n`, up to one of `last` bytes.
+/// Reads up to `most` characters one by one into a buffer, after its first `n`, up to one of `last` bytes.
 #[inline(always)]
 fn read_few<S: Spelling>(
     input: &[u8],
@@ -35,8 +35,8 @@ fn read_few<S: Spelling>(
     Spelled { n: more, used }
 }
 
-/// Reads some characters into a buffer, behind its first `n`: many at once, or else a few one by one, up to one behind which many may stand.
-/// Where there is not the room for many, no character has that size.
+/// Reads some characters into a buffer, after its first `n`: many at once, or else a few one by one, up to one after which many may follow.
+/// If there is no room for many, no character has that size.
 #[inline(always)]
 fn read_some<S: Spelling>(input: &[u8], at: usize, buffer: &mut [Scalar], n: usize) -> Spelled
     requires within { at ≤ length input.now }
@@ -54,8 +54,8 @@ fn read_some<S: Spelling>(input: &[u8], at: usize, buffer: &mut [Scalar], n: usi
     read_few::<S>(input, at, buffer, n, MANY, S::MANY_SIZE)
 }
 
-/// Reads the characters at the front of a text into the front of a buffer. Behind some it reads no more where there is not the room for
-/// many: few at once are left to the next buffer, which takes them with many others.
+/// Reads the characters at the start of a text to the start of a buffer. After some it reads no more if there is no room for
+/// many: the few are left to the next buffer, which takes them with many others.
 #[inline(never)]
 fn read_front<S: Spelling>(input: &[u8], buffer: &mut [Scalar]) -> Spelled
     ensures { IsReadSpelled S.bytes_of input.now 0 buffer.old 0 result buffer.new }

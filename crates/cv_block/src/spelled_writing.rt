@@ -28,7 +28,7 @@ fn write_few<S: Spelling>(
     used
 }
 
-/// How many characters are written one by one behind so many that were written at once.
+/// How many characters are written one by one after `many` that were written at once.
 #[inline(always)]
 fn behind(many: usize) -> usize
     requires { many < 16 }
@@ -38,7 +38,7 @@ fn behind(many: usize) -> usize
     if many == 0 { MANY } else { 1 }
 }
 
-/// Writes some characters from the `n`th on: many at once, and where they are fewer than many, the one behind them; or else many
+/// Writes some characters from the `n`th on: many at once, and if they are fewer than many, the one after them; or else many
 /// one by one.
 #[inline(always)]
 fn write_some<S: Spelling>(characters: &[Scalar], n: usize, out: &mut [u8], at: usize) -> Spelled
@@ -65,7 +65,7 @@ fn write_some<S: Spelling>(characters: &[Scalar], n: usize, out: &mut [u8], at: 
     }
 }
 
-/// Writes characters at the front of a slice, and answers how many bytes they have. It stands once for buffers of all sizes.
+/// Writes characters at the start of a slice, and answers how many bytes they have. It is compiled once for buffers of all sizes.
 #[inline(never)]
 fn write_front<S: Spelling>(characters: &[Scalar], out: &mut [u8]) -> usize
     requires { 4 * length characters.now ≤ length out.old }
@@ -84,7 +84,7 @@ fn write_front<S: Spelling>(characters: &[Scalar], out: &mut [u8]) -> usize
     used
 }
 
-/// Writes a block of characters in a spelling that the state keeps, by a buffer of so many bytes, which are cleared.
+/// Writes a block of characters in a spelling that the state keeps, by a buffer of `BYTES` bytes, which are cleared.
 #[inline(always)]
 fn write_by<S: Spelling, const BYTES: usize>(
     state: WriteState,

@@ -1,4 +1,4 @@
-//! Surrogates: the code units of UTF-16 that stand in pairs (Unicode 3.8, D71 to D75).
+//! Surrogates: the code units of UTF-16 that come in pairs (Unicode 3.8, D71 to D75).
 ghost use Rattle.std.specs.Prelude.{◌≡◌, ◌≤◌, ◌<◌, ◌↔◌, IsTrue};
 ghost use Rattle.cv_base.specs.Units.{high_unit, low_unit};
 ghost use Rattle.cv_block.specs.Surrogates.{IsSurrogate, IsHighUnit, IsLowUnit, IsPair};
@@ -27,7 +27,7 @@ pub fn is_low(unit: u32) -> bool
     unit / 0x400 == 0x37
 }
 
-/// The character of a high and a low surrogate. Of other units it is any number.
+/// The character of a high and a low surrogate. For other units it is any number.
 #[inline(always)]
 pub fn joined(high: u32, low: u32) -> u32
     ensures { IsHighUnit high → IsLowUnit low → IsPair high low result }
@@ -35,7 +35,7 @@ pub fn joined(high: u32, low: u32) -> u32
     0x1_0000 + (high % 0x400) * 0x400 + low % 0x400
 }
 
-/// The first unit of a character. Which it is takes no branch.
+/// The first unit of a character. Computed without a branch.
 #[inline(always)]
 pub fn first_of(value: u32) -> u32
     requires { value < 0x110000 }

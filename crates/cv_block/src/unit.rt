@@ -1,4 +1,4 @@
-//! Units whose form is known when the code is compiled, so that each loop over units stands once and has a form for each.
+//! Units whose form is known at compile time, so that each loop over units is written once and compiled for each.
 ghost use Rattle.std.specs.Prelude.{◌↔◌, ◌≡◌, ◌≤◌, ◌<◌, ◌+◌, ◌++◌, length, take, drop, IsTrue};
 ghost use Rattle.cv_base.specs.Units.{unit_of, unit_size, unit_limit};
 ghost use Rattle.cv_base.specs.declared.ascii_form.AsciiForm.{AsciiForm};
@@ -20,7 +20,7 @@ pub trait Unit {
     fn is_byte() -> bool
         ensures { IsTrue result → form ≡ AsciiForm.Byte };
 
-    /// The number of the unit that stands here.
+    /// The number of the unit here.
     fn number(bytes: &[u8], at: usize) -> u32
         requires { at + unit_size form ≤ length bytes.now }
         ensures { IsUnitAt form bytes.now at result };

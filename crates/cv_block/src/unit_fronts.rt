@@ -8,7 +8,7 @@ use crate::spelling::MANY;
 use crate::unit::Unit;
 use crate::unit_runs::{are_scalars, numbers_of};
 
-/// Whether many units that stand here are characters by themselves.
+/// Whether many units here are characters by themselves.
 #[inline(always)]
 fn are_characters<U: Unit>(input: &[u8], at: usize) -> bool
     requires { at + unit_size U.form * 16 ≤ length input.now }
@@ -18,7 +18,7 @@ fn are_characters<U: Unit>(input: &[u8], at: usize) -> bool
     are_scalars(&numbers_of::<U>(&input[at..]))
 }
 
-/// How many bytes at the front are characters of one unit each, by blocks of many, up to a block in which one isn't. It serves every
+/// How many bytes at the start are characters of one unit each, by blocks of many, up to a block in which one isn't. It serves every
 /// encoding in which such a character has the bytes of its unit.
 #[inline(never)]
 pub fn unit_front<U: Unit>(input: &[u8]) -> usize

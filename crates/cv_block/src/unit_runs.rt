@@ -10,7 +10,7 @@ use crate::spelling::{MANY, Spelled};
 use crate::unit::Unit;
 use cv_base::Scalar;
 
-/// Whether a number is that of a character. Both sides are tested, so that a loop over it is done by blocks.
+/// Whether a number is that of a character. Both sides are always tested, so that LLVM vectorizes a loop over it.
 #[inline(always)]
 fn is_scalar(number: u32) -> bool
     ensures { IsTrue result → IsScalar number }
@@ -18,7 +18,7 @@ fn is_scalar(number: u32) -> bool
     (number < 0xd800) | ((number >= 0xe000) & (number < 0x11_0000))
 }
 
-/// The numbers of the units at the front of a text. None is tested, so that the loop is done by blocks.
+/// The numbers of the units at the start of a text. None is tested, so that LLVM vectorizes the loop.
 #[inline(always)]
 pub(crate) fn numbers_of<U: Unit>(text: &[u8]) -> [u32; MANY]
     requires { unit_size U.form * 16 ≤ length text.now }
@@ -34,7 +34,7 @@ pub(crate) fn numbers_of<U: Unit>(text: &[u8]) -> [u32; MANY]
     numbers
 }
 
-/// Whether the numbers are those of characters. Each is tested, so that the loop is done by blocks.
+/// Whether the numbers are those of characters. No early exit, so that LLVM vectorizes the loop.
 #[inline(always)]
 pub(crate) fn are_scalars(numbers: &[u32; MANY]) -> bool
     ensures { IsTrue result → AreScalarsBelow numbers.now 16 }
@@ -46,7 +46,7 @@ pub(crate) fn are_scalars(numbers: &[u32; MANY]) -> bool
     all
 }
 
-/// Puts the characters of the numbers into a buffer, behind its first `n`.
+/// Puts the characters of the numbers into a buffer, after its first `n`.
 #[inline(always)]
 fn put_characters(numbers: &[u32; MANY], buffer: &mut [Scalar], n: usize)
     requires long { length numbers.now ≡ 16 }
@@ -60,7 +60,7 @@ fn put_characters(numbers: &[u32; MANY], buffer: &mut [Scalar], n: usize)
     }
 }
 
-/// Reads many units where all of them are characters by themselves, and otherwise none. It serves every encoding in which such a
+/// Reads many units if all of them are characters by themselves, and otherwise none. It serves every encoding in which such a
 /// character has the bytes of its unit.
 #[inline(always)]
 pub fn read_units<U: Unit>(input: &[u8], at: usize, buffer: &mut [Scalar], n: usize) -> Spelled
@@ -83,7 +83,7 @@ pub fn read_units<U: Unit>(input: &[u8], at: usize, buffer: &mut [Scalar], n: us
     Spelled { n: MANY, used }
 }
 
-/// The numbers of many characters, from the `n`th on. They are read before any is written, so that the writing is done by blocks.
+/// The numbers of many characters, from the `n`th on. All are read before any is written, so that LLVM vectorizes the writing.
 #[inline(always)]
 pub(crate) fn values_of(characters: &[Scalar], n: usize) -> [u32; MANY]
     requires { n + 16 ≤ length characters.now }
@@ -97,7 +97,7 @@ pub(crate) fn values_of(characters: &[Scalar], n: usize) -> [u32; MANY]
     values
 }
 
-/// Whether many characters are one unit each. Each is tested, so that the loop is done by blocks.
+/// Whether many characters are one unit each. No early exit, so that LLVM vectorizes the loop.
 #[inline(always)]
 fn are_single<U: Unit>(values: &[u32; MANY]) -> bool
     ensures { IsTrue result → AreSingle U.form values.now 16 }
@@ -109,7 +109,7 @@ fn are_single<U: Unit>(values: &[u32; MANY]) -> bool
     all
 }
 
-/// Writes many characters of one unit each. None is tested, so that the loop is done by blocks.
+/// Writes many characters of one unit each. None is tested, so that LLVM vectorizes the loop.
 #[inline(always)]
 fn put_units<U: Unit>(values: &[u32; MANY], out: &mut [u8], at: usize)
     requires long { length values.now ≡ 16 }
@@ -126,7 +126,7 @@ fn put_units<U: Unit>(values: &[u32; MANY], out: &mut [u8], at: usize)
     }
 }
 
-/// Writes many characters where each is one unit, and otherwise none. It serves every encoding in which such a character has the
+/// Writes many characters if each is one unit, and otherwise none. It serves every encoding in which such a character has the
 /// bytes of its unit.
 #[inline(always)]
 pub fn write_units<U: Unit>(characters: &[Scalar], n: usize, out: &mut [u8], at: usize) -> Spelled

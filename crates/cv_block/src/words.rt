@@ -1,4 +1,4 @@
-//! Characters whose bytes are the front of a word, many at once, whatever their sizes.
+//! Characters whose bytes are a prefix of a word, many at once, whatever their sizes.
 ghost use Rattle.std.specs.Prelude.{◌≡◌, ℕ, ◌+◌, ◌≤◌, ◌++◌, length, take};
 ghost use Rattle.std.specs.Int.{to_le_bytes, w32};
 ghost use Rattle.std.specs.List.{flat_map};
@@ -16,7 +16,7 @@ use cv_base::Scalar;
 pub trait Words {
     ghost bytes_of: { BytesOf };
 
-    /// The bytes of each character, as a number whose lowest byte is the first. What is behind them may be anything.
+    /// The bytes of each character, as a number whose lowest byte is the first. What follows them may be anything.
     fn words(values: &[u32; MANY]) -> [u32; MANY]
         requires long { length values.now ≡ 16 }
         requires scalars { AreScalarsBelow values.now 16 }
@@ -30,7 +30,7 @@ pub trait Words {
         ensures sizes { AreSizes bytes_of values.now result 16 };
 }
 
-/// Writes words one behind the other, each by its size, and answers how many bytes they have together. What is behind them may be
+/// Writes words one after the other, each by its size, and answers how many bytes they have together. What follows them may be
 /// anything.
 #[inline(always)]
 fn put_words<W: Words>(

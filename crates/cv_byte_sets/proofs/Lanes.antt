@@ -63,7 +63,7 @@ turned : (b : Bool) → cond {A = ℕ} b 1 0 ≡ cond {A = ℕ} (not b) 0 1
 turned true = refl
 turned false = refl
 
--- a bit is set where the byte is not in the set
+-- a bit is set if the byte is not in the set
 pub in_set : (set v xs ys : List ℕ) → length v ≡ 16 → xs ≡ map (λ b. get_or set (bit_and b 15) 0) v → ys ≡ map (λ b. get_or half_bits (b / 16) 0) v
     → (i : ℕ) → i < 16 → bit_at (mask_l (map (top 7) (zip2 (λ a b. cond (eqb a b) (2 ^ 8 - 1) 0) (zip2 bit_and xs ys) (replicate 16 0))) % 2 ^ 64) i ≡ cond (is_in set (get_or v i 0)) 0 1
 unfolding is_in
@@ -80,12 +80,12 @@ in_set set v xs ys long ex ey i l =
     let test : eqb (get_or (zip2 bit_and xs ys) i 0) 0 ≡ eqb (bit_and (get_or set (bit_and (get_or v i 0) 15) 0) (get_or half_bits (get_or v i 0 / 16) 0)) 0 = ap (λ z. eqb z 0) z_is in
     bit ∙ ap (λ b. cond b 1 0) (lane ∙ test) ∙ turned (eqb (bit_and (get_or set (bit_and (get_or v i 0) 15) 0) (get_or half_bits (get_or v i 0 / 16) 0)) 0)
 
--- where the bit of what is outside is not set, the byte is in the set
+-- if the bit of what is outside is not set, the byte is in the set
 not_outside : (b : Bool) → cond {A = ℕ} b 0 1 ≡ 0 → b ≡ true
 not_outside true e = refl
 not_outside false e = absurd (omega arith)
 
--- where it is set, it is not
+-- if it is set, it is not
 is_outside : (b : Bool) → cond {A = ℕ} b 0 1 ≡ 1 → b ≡ false
 is_outside true e = absurd (omega arith)
 is_outside false e = refl

@@ -1,4 +1,4 @@
--- The bits of sixteen bytes, of which one is set behind them, up to the first that is set.
+-- The bits of sixteen bytes, with one set after them, up to the first that is set.
 use Rattle.std.proofs.Common.{◌≡◌, ℕ, ◌/◌, ◌%◌, ◌^◌, inl, inr, ◌+◌, ◌-◌, ◌<◌, ◌≤◌, sym, ◌∙◌, ap, arith, w64, bit_or}
 use Rattle.std.proofs.lemmas.Nat.{pow-add}
 use Rattle.std.proofs.Math.Nat.{div-div-eq-div-mul, div-le_self}
@@ -6,15 +6,15 @@ use Rattle.std.specs.Int.{bit_at, trailing_zeros}
 use Rattle.std.proofs.lemmas.Nat.Bits.{bit_at-zero, bit_at-trailing_zeros, bit_at_or, bit_at-pow_same, bit_at-pow_other, bit_at-lt}
 use Rattle.std.proofs.lemmas.Bool.{cases_lt}
 
--- one bit behind sixteen is set
+-- one bit after sixteen is set
 pub one_behind : (stops : ℕ) → bit_at (bit_or stops 0x10000) 16 ≡ 1
 one_behind stops = omega (arith, bit_at_or stops 0x10000 16, bit_at-pow_same 16, bit_at-lt stops 16)
 
--- and the sixteen stay
+-- and the other sixteen bits stay
 pub others_stay : (stops i : ℕ) → i < 16 → bit_at (bit_or stops 0x10000) i ≡ bit_at stops i
 others_stay stops i l = omega (arith, bit_at_or stops 0x10000 i, bit_at-pow_other 16 i (λ e. omega (arith, e)))
 
--- a bit behind a place
+-- a bit after a place
 bit_on : (stops place i : ℕ) → bit_at stops (place + i) ≡ bit_at (stops / 2 ^ place) i
 bit_on stops place i =
     let e : stops / 2 ^ (place + i) ≡ stops / 2 ^ place / 2 ^ i = ap (λ (k : ℕ). stops / k) (pow-add 2 place i) ∙ sym (div-div-eq-div-mul stops (2 ^ place) (2 ^ i)) in
@@ -34,7 +34,7 @@ run_clear stops place l h set i k = bit_on stops place i ∙ (bit_at-trailing_ze
 pub run_ends : (stops place : ℕ) → stops < 2 ^ 64 → place ≤ 16 → bit_at stops 16 ≡ 1 → bit_at stops (place + trailing_zeros w64 (stops / 2 ^ place)) ≡ 1
 run_ends stops place l h set = bit_on stops place (trailing_zeros w64 (stops / 2 ^ place)) ∙ (bit_at-trailing_zeros w64 (stops / 2 ^ place) (omega (arith, some_on stops place h set)) (omega (arith, l, div-le_self stops (2 ^ place)))).1
 
--- it does not stand behind the one behind sixteen
+-- it is not after the one after sixteen
 pub run_within : (stops place : ℕ) → stops < 2 ^ 64 → place ≤ 16 → bit_at stops 16 ≡ 1 → place + trailing_zeros w64 (stops / 2 ^ place) ≤ 16
 run_within stops place l h set = elim (cases_lt (16 - place) (trailing_zeros w64 (stops / 2 ^ place))) [
   | inl k ↦ (

@@ -1,2 +1,2 @@
--- Sets of bytes. They serve speed: no contract of a codec cites them.
+-- Sets of bytes. They exist for speed: no contract of a codec cites them.
 pub mod ByteSets

@@ -1,11 +1,11 @@
-//! Sets of bytes, against which sixteen bytes are held at once: each is looked up by its two halves.
+//! Sets of bytes, against which sixteen bytes are tested at once: each is looked up by its two halves.
 ghost use Rattle.std.specs.Prelude.{◌≡◌, ◌≤◌, ◌<◌, ◌+◌, ◌/◌, ℕ, true, false, cond, map, length, get_or, bit_and};
 ghost use Rattle.std.specs.Int.{bit_at};
 ghost use Rattle.cv_byte_sets.specs.ByteSets.{half_bits, is_in};
 
 use std::simd::prelude::*;
 
-/// How many bytes are held against a set at once.
+/// How many bytes are tested against a set at once.
 pub const SIXTEEN: usize = 16;
 
 // The bit of each higher half. From 8 on a half has none.
@@ -30,7 +30,7 @@ fn by_higher_half(bytes: u8x16) -> u8x16
     u8x16::from_array(HALF_BITS).swizzle_dyn_within::<16>(bytes >> u8x16::splat(4))
 }
 
-/// A bit for each of sixteen bytes that is not in a set, the lowest for the first, and one behind them.
+/// A bit for each of sixteen bytes that is not in a set, the lowest for the first, and one after them.
 #[inline(always)]
 fn sixteen_outside(set: [u8; 16], bytes: u8x16) -> u64
     ensures outside { (i : ℕ) → i < 16 → bit_at result i ≡ cond (is_in set (get_or bytes i 0)) 0 1 }
@@ -40,7 +40,7 @@ fn sixteen_outside(set: [u8; 16], bytes: u8x16) -> u64
     found.simd_eq(u8x16::splat(0)).to_bitmask() | 1 << SIXTEEN
 }
 
-/// How many bits from a place on are not set, up to one behind sixteen, which is.
+/// How many bits from a place on are not set, up to the one after sixteen, which is.
 #[inline(always)]
 fn run_at(stops: u64, place: usize) -> usize
     requires place { place ≤ 16 }
@@ -53,7 +53,7 @@ fn run_at(stops: u64, place: usize) -> usize
 }
 
 /// How many bytes from a place of a text on are in a set, sixteen at most. A set has an entry for each lower half of a byte, from 0 to
-/// 15, and the entry has a bit for each higher half from 0 to 7: byte 16 * h + l is in the set where entry l has bit h. No byte from 80
+/// 15, and the entry has a bit for each higher half from 0 to 7: byte 16 * h + l is in the set if entry l has bit h. No byte from 80
 /// on is in a set.
 #[inline(always)]
 pub fn run_in(set: [u8; 16], bytes: &[u8], from: usize) -> usize
@@ -71,7 +71,7 @@ pub fn run_in(set: [u8; 16], bytes: &[u8], from: usize) -> usize
     run_at(stops, from - base)
 }
 
-/// How many bytes at the front are in a set, as far as whole sixteens of them go.
+/// How many bytes at the start are in a set, in whole blocks of sixteen.
 #[inline(always)]
 pub fn front_in(set: [u8; 16], bytes: &[u8]) -> usize
     ensures within { result ≤ length bytes.now }

@@ -1,4 +1,4 @@
-//! Sets of bytes, against which sixteen bytes are held at once.
+//! Sets of bytes, against which sixteen bytes are tested at once.
 #![tactic(auto)]
 
 mod byte_sets;

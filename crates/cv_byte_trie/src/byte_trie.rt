@@ -1,5 +1,5 @@
 //! Entries with a trie of them.
-ghost use Rattle.std.specs.Prelude.{◌≡◌, ◌≢◌, ◌<◌, ◌≤◌, ◌+◌, ◌^◌, ℕ, [], ◌∷◌, ◌++◌, length, take, slice_get, slice_index, OnOk, OnErr, IfOk};
+ghost use Rattle.std.specs.Prelude.{◌≡◌, ◌≢◌, ◌<◌, ◌≤◌, ◌+◌, ◌-◌, ◌*◌, ◌^◌, ℕ, min, [], ◌∷◌, ◌++◌, length, take, slice_get, slice_index, OnOk, OnErr, IfOk};
 ghost use Rattle.std.specs.Option.{option_copied};
 ghost use Rattle.cv_base.specs.Items.{Begins};
 ghost use Rattle.cv_byte_trie.specs.Entries.{bytes_at, AreEntries};
@@ -21,6 +21,9 @@ use crate::walking::{Reached, Tail, walk};
 use cv_base::{Memory, Scalar};
 use std::alloc::Global;
 use std::marker::Model;
+
+/// How many bytes an entry takes.
+const ENTRY: usize = 16;
 
 /// Entries in the order in which they were added, found by their bytes. Contracts see the list of them, and the steps of their trie.
 #[derive(Debug, Drop)]
@@ -167,6 +170,14 @@ impl ByteTrie {
         ensures entries { AreEntries self.now.entries }
     {
         self.entries.len()
+    }
+
+    /// How many bytes its entries and its steps take, with the room that is left for more.
+    pub fn size(&self) -> usize
+        ensures { min (16 * length self.now.entries) (2 ^ 64 - 1) ≤ result }
+    {
+        let entries = self.entries.capacity().saturating_mul(ENTRY);
+        entries.saturating_add(self.steps.size())
     }
 
     /// The entry at a place.

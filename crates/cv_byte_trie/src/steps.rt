@@ -8,6 +8,7 @@ ghost use Rattle.cv_byte_trie.specs.declared.node.Node.TheVariants.{Few};
 
 use crate::node::{Edge, Node};
 use std::alloc::{AllocError, Global};
+use std::mem::size_of;
 
 /// The code of the entry at place 0, where bytes of it are left. Those below it are the places of entries by their last byte.
 pub const TAIL: u32 = 0x4000_0000;
@@ -75,6 +76,14 @@ impl Steps {
         ensures edges { (b : ℕ) → b < 256 → slice_index result.now b ≡ edge_of self.now 0 b }
     {
         &self.tables[..256]
+    }
+
+    /// How many bytes they take, with the room that is left for more.
+    pub(crate) fn size(&self) -> usize {
+        let nodes = self.nodes.capacity().saturating_mul(size_of::<Node>());
+        let edges = self.edges.capacity().saturating_mul(size_of::<Edge>());
+        let tables = self.tables.capacity().saturating_mul(size_of::<u32>());
+        nodes.saturating_add(edges).saturating_add(tables)
     }
 
     /// A root with no edge.

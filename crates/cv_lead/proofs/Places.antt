@@ -12,12 +12,12 @@ use Rattle.cv_lead.proofs.Rows.{bit, begin_of, row_of, row_at}
 
 -- ---- places
 
--- the next character begins behind the one or two bytes of one
+-- the next character begins after the one or two bytes of one
 pub place_next : (text : List ℕ) (at k : ℕ) → place_of text at (k + 1) ≡ place_of text at k + (1 + cond (leads (get_or text (place_of text at k) 0)) 1 0)
 unfolding place_of
 place_next text at k = rw add-one refl
 
--- the first begins where all do
+-- the first begins where all of them begin
 pub place_first : (text : List ℕ) (at : ℕ) → place_of text at 0 ≡ at
 unfolding place_of
 place_first text at = refl
@@ -33,7 +33,7 @@ unfolding place_of
 place_le text at zero = omega arith
 place_le text at (suc k) = omega (arith, place_le text at k, one_or_two (leads (get_or text (place_of text at k) 0)))
 
--- behind some characters others begin
+-- after some characters others begin
 pub place_behind : (text : List ℕ) (at next j k : ℕ) → next ≡ place_of text at j → place_of text next k ≡ place_of text at (j + k)
 unfolding place_of
 place_behind text at next j zero e = e ∙ ap (place_of text at) (omega arith)
@@ -50,7 +50,7 @@ begin_le : (m k : ℕ) → begin_of m k ≤ 2 * k
 begin_le m zero = omega arith
 begin_le m (suc k) = omega (arith, begin_le m k, bit_le m (begin_of m k))
 
--- by the marks of eight bytes four characters begin where they do
+-- the marks of eight bytes tell where four characters begin
 pub begins_at : (text : List ℕ) (at marks k : ℕ) → AreMarked text at 8 marks → k ≤ 4 → place_of text at k ≡ at + begin_of marks k
 unfolding place_of
 begins_at text at marks zero marked h = omega arith
@@ -91,7 +91,7 @@ low_bits m (suc (suc (suc (suc (suc (suc (suc (suc i)))))))) h = absurd (omega a
 pub marked_low : (text : List ℕ) (at marks : ℕ) → AreMarked text at 16 marks → AreMarked text at 8 (marks % 256)
 marked_low text at marks marked i h = low_bits marks i h ∙ marked i (omega arith)
 
--- those behind some bytes, by the bits behind theirs
+-- those after some bytes, by the bits after theirs
 pub marked_behind : (text : List ℕ) (at marks size : ℕ) → size ≤ 8 → AreMarked text at 16 marks → AreMarked text (at + size) 8 (marks / 2 ^ size % 256)
 marked_behind text at marks size few marked i h =
     let there : at + (size + i) ≡ at + size + i = omega arith in
@@ -106,7 +106,7 @@ found_at xs ps m h long low =
     let place : 16 * ((0 + m) / 16) + get_or ps m 0 ≡ get_or ps m 0 = omega arith in
     get_or-swz_l w8 16 xs 0 ps m (omega arith) ∙ ap (λ (b : Bool). cond b 0 (get_or xs (16 * ((0 + m) / 16) + get_or ps m 0) 0)) small ∙ ap (λ (k : ℕ). get_or xs k 0) place
 
--- and at 128 stands a 0
+-- and index 128 gives a 0
 none_at : (xs ps : List ℕ) (m : ℕ) → m < 16 → length ps ≡ 16 → get_or ps m 0 ≡ 128 → get_or (swz_l w8 16 xs 0 ps) m 0 ≡ 0
 none_at xs ps m h long is =
     let large : leb 128 (get_or ps m 0) ≡ true = rw is refl in
@@ -154,7 +154,7 @@ size_by text at marks size few marked is = sym (begins_at text at marks 4 marked
 
 -- ---- two times four
 
--- four characters and the four behind them
+-- four characters and the four after them
 pub cut_joined : (text : List ℕ) (at next : ℕ) (first second pairs : List ℕ) → next ≡ place_of text at 4 → AreCut text at 4 first → AreCut text next 4 second → ((k : ℕ) → k < 8 → get_or pairs k 0 ≡ get_or first k 0) → ((k : ℕ) → k < 8 → get_or pairs (8 + k) 0 ≡ get_or second k 0) → AreCut text at 8 pairs
 cut_joined text at next first second pairs e a b low high = record {
   first = λ k h. elim (cases_lt k 4) [

@@ -1,4 +1,4 @@
--- Tables of how four characters are cut, held by computing against where each of them begins.
+-- Tables of how four characters are cut, checked by computing where each of them begins.
 use Rattle.std.proofs.Common.{◌≡◌, ℕ, ◌+◌, ◌*◌, ◌/◌, ◌%◌, ◌^◌, ◌<◌, ◌≤◌, Bool, true, cond, ◌&&◌, ◌||◌, T, List, [], ◌∷◌, length, get_or, refl, sym, subst, arith, zero, suc, w8}
 use Rattle.std.specs.Simd.Lanes.{Each1}
 use Rattle.std.proofs.Math.Dec.{eqb, leb, ltb}
@@ -16,7 +16,7 @@ abbrev pub begin_of : ℕ → ℕ → ℕ
 begin_of marks zero = 0
 begin_of marks (suc k) = begin_of marks k + (1 + bit marks (begin_of marks k))
 
--- where the second byte of a character stands, or 128 if it has none
+-- where the second byte of a character is, or 128 if it has none
 abbrev pub second_at : ℕ → ℕ → ℕ
 second_at marks k = cond (eqb (bit marks (begin_of marks k)) 1) (begin_of marks k + 1) 128
 

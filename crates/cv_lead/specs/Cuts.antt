@@ -5,20 +5,20 @@ use Rattle.std.specs.Prelude.{◌≡◌, ℕ, zero, suc, ◌+◌, ◌*◌, ◌/�
 abbrev pub leads : ℕ → Bool
 leads byte = nat_le 128 byte
 
--- where a character begins, behind so many others of which the first stands at a place
+-- where a character begins, after k others, the first of which is at a place
 unfoldable pub place_of : List ℕ → ℕ → ℕ → ℕ
 place_of text at zero = at
 place_of text at (suc k) = place_of text at k + (1 + cond (leads (slice_index text (place_of text at k))) 1 0)
 
--- the byte behind the first of a character, or 0 where that stands by itself
+-- the byte after the first of a character, or 0 if that is a character by itself
 abbrev pub second_of : List ℕ → ℕ → ℕ
 second_of text place = cond (leads (slice_index text place)) (slice_index text (place + 1)) 0
 
--- These are the two bytes of each of so many characters, of which the first stands at a place.
+-- These are the two bytes of each of n characters, the first of which is at a place.
 pub record AreCut (text : List ℕ) (at n : ℕ) (pairs : List ℕ) : Type 0 where
   pub first : (k : ℕ) → k < n → slice_index pairs (2 * k) ≡ slice_index text (place_of text at k)
   pub second : (k : ℕ) → k < n → slice_index pairs (2 * k + 1) ≡ second_of text (place_of text at k)
 
--- Bits say which of so many bytes from a place on are the first of two.
+-- The bits of marks say which of n bytes from a place on are the first of two.
 abbrev pub AreMarked : List ℕ → ℕ → ℕ → ℕ → Type 0
 AreMarked text at n marks = (i : ℕ) → i < n → marks / 2 ^ i % 2 ≡ cond (leads (slice_index text (at + i))) 1 0

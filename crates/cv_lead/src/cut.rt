@@ -5,7 +5,7 @@ ghost use Rattle.cv_lead.specs.Cuts.{place_of, AreCut, AreMarked};
 use crate::tables::{PATTERNS, PLACES, SIZES};
 use std::simd::prelude::*;
 
-/// How many bytes have to be there for eight characters to be cut, which have at most 16.
+/// How many bytes have to be there so that eight characters can be cut, which have at most 16.
 pub const WINDOW: usize = 24;
 
 /// How many of them one row of a table cuts.
@@ -14,7 +14,7 @@ const FOUR: usize = 4;
 /// The bytes of eight characters.
 #[derive(Clone, Copy, Debug)]
 pub struct Cut {
-    /// The first and the second byte of each, or a 0 as the second where it has but one.
+    /// The first and the second byte of each, or a 0 as the second if it has only one.
     pub pairs: [u8; 16],
     /// How many bytes the eight have.
     pub used: usize,
@@ -31,7 +31,7 @@ fn marks_of(text: &[u8], at: usize) -> u64
         .to_bitmask()
 }
 
-/// The bytes of four characters, where it is known which bytes are the first of two. Behind them are zeros.
+/// The bytes of four characters, given which bytes are the first of two. After them are zeros.
 #[inline(always)]
 fn cut_four(text: &[u8], at: usize, marks: u64) -> [u8; 16]
     requires within { at + 16 ≤ length text.now }
@@ -69,7 +69,7 @@ fn joined(first: &[u8; 16], second: &[u8; 16]) -> [u8; 16]
     pairs
 }
 
-/// Cuts eight characters. Two rows of a table do, of which the second begins where the first ends; the high bits are taken once, as
+/// Cuts eight characters. It uses two rows of a table, the second of which begins where the first ends. The high bits are taken once, because
 /// each row would wait for them.
 #[inline(always)]
 pub fn cut_eight(text: &[u8], at: usize) -> Cut

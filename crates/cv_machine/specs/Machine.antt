@@ -1,39 +1,39 @@
--- A machine with one private table for each caller. What one request does is a parameter, the turn, so what is said here of
+-- A machine with one private table for each caller. What one request does is a parameter, the turn, so what is stated here of
 -- runs holds of every set of operations. The machine is this project's own.
 use Rattle.std.specs.Prelude.{filter, ◌≡◌, ◌≢◌, ℕ, List, [], ◌∷◌, ◌++◌, ◌==◌, map, Bool, true, false, if◌then◌else◌}
 use Rattle.cv_frame.specs.Message.{Message, joined, FitsFrame}
 use Rattle.cv_frame.specs.Cut.{messages_of}
 use Rattle.std.specs.List.{AllByRecursion}
 
--- What came of one request: the caller's table after it, and the status and the body of the reply.
+-- The result of one request: the caller's table after it, and the status and the body of the reply.
 pub record Outcome (Table : Type 0) : Type 0 where
   pub next : Table
   pub code : ℕ
   pub body : List ℕ
 
--- ENOMEM, the status that says that memory lacked
+-- ENOMEM, the status that says that an allocation failed
 abbrev pub no_memory : ℕ
 no_memory = 6
 
--- Memory lacked: the table is as it was, and the body is empty.
+-- An allocation failed: the table is unchanged, and the body is empty.
 abbrev pub lacking : {Table : Type 0} → Table → Outcome Table
 lacking table = record { next = table; code = no_memory; body = [] }
 
--- Which outcomes a request may have, by its caller's table, its op and its body. Where it takes memory, want of memory is one of them.
+-- Which outcomes a request may have, by its caller's table, its op and its body. If it takes memory, an allocation failure is one of them.
 abbrev pub Turn : Type 0 → Type 1
 Turn Table = Table → ℕ → List ℕ → Outcome Table → Type 0
 
--- Where the test holds the first claim does, and else the second.
+-- If the test is true, the first claim holds, and otherwise the second.
 abbrev pub When : Bool → Type 0 → Type 0 → Type 0
 When true Then Else = Then
 When false Then Else = Else
 
--- Of a claim about outcomes: at most one outcome meets it, and want of memory beside it.
+-- Of a claim about outcomes: at most one outcome meets it, besides an allocation failure.
 pub record HasOneAnswer {Table : Type 0} (table : Table) (May : Outcome Table → Type 0) : Type 0 where
   pub one : (a b : Outcome Table) → May a → May b → a.code ≢ no_memory → b.code ≢ no_memory → a ≡ b
   pub lacks : (a : Outcome Table) → May a → a.code ≡ no_memory → a ≡ lacking table
 
--- Each request has one outcome at most, and want of memory beside it.
+-- Each request has one outcome at most, besides an allocation failure.
 abbrev pub IsOneAnswer : {Table : Type 0} → Turn Table → Type 0
 IsOneAnswer {Table} turn = (table : Table) (op : ℕ) (body : List ℕ) → HasOneAnswer table (turn table op body)
 
@@ -41,7 +41,7 @@ IsOneAnswer {Table} turn = (table : Table) (op : ℕ) (body : List ℕ) → HasO
 abbrev pub IsSomeAnswer : {Table : Type 0} → Turn Table → Type 0
 IsSomeAnswer {Table} turn = (table : Table) (op : ℕ) (body : List ℕ) → (outcome : Outcome Table) × turn table op body outcome
 
--- a request, and what came of it
+-- a request, and the result of it
 pub record Event (Table : Type 0) : Type 0 where
   pub request : Message
   pub outcome : Outcome Table
@@ -72,7 +72,7 @@ module _ {Table : Type 0} where
   after_all tables [] = tables
   after_all tables (e ∷ events) = after_all (tables_after tables e) events
 
-  -- Each request came to an outcome that it may have at its caller's table, as the events before it left that table.
+  -- Each request ended in an outcome that it may have at its caller's table, as the events before it left that table.
   abbrev pub IsRun : Turn Table → (ℕ → Table) → List (Event Table) → Type 0
   IsRun turn tables [] = Unit {0}
   IsRun turn tables (e ∷ events) = turn (tables e.request.caller) e.request.code e.request.body e.outcome × IsRun turn (tables_after tables e) events
@@ -99,7 +99,7 @@ module _ {Table : Type 0} where
     pub fits : AllByRecursion FitsFrame told
     pub leaves : new ≡ after_all old events
 
-  -- Of the requests that were asked all but the later ones ran, from tables old to new. Their spelled replies are the written bytes and then the unwritten.
+  -- Of the requests that were asked, all but the later ones ran, from tables old to new. Their spelled replies are the written bytes and then the unwritten.
   pub record Progress (turn : Turn Table) (old : ℕ → Table) (asked later : List Message) (written unwritten : List ℕ) (new : ℕ → Table) : Type 0 where
     pub events : List (Event Table)
     pub is_run : IsRun turn old events
@@ -108,11 +108,11 @@ module _ {Table : Type 0} where
     pub writes : joined (replies_of events) ≡ written ++ unwritten
     pub leaves : new ≡ after_all old events
 
--- for each of the replies, whether it says that memory lacked
+-- for each of the replies, whether it says that an allocation failed
 abbrev pub lacks : List Message → List Bool
 lacks replies = map (λ r. r.code == no_memory) replies
 
--- none of the replies says that memory lacked
+-- none of the replies says that an allocation failed
 abbrev pub NoneLacks : List Message → Type 0
 NoneLacks replies = AllByRecursion (λ r. r.code ≢ no_memory) replies
 
@@ -124,12 +124,12 @@ pub record Answers {Table : Type 0} (turn : Turn Table) (tables : ℕ → Table)
   pub fits : AllByRecursion FitsFrame (replies_of events)
   pub writes : written ≡ joined (replies_of events)
 
--- They answer them, and memory never lacked.
+-- They answer them, and no reply says that an allocation failed.
 abbrev pub IsServed : {Table : Type 0} → Turn Table → (ℕ → Table) → List ℕ → List ℕ → Type 0
 IsServed turn tables given written = Answers turn tables given written × NoneLacks (messages_of written)
 
--- The written bytes begin an answer to the given ones: of a run of all whole frames that were given they are the front of the spelled replies, up to the
--- unwritten ones, and their whole frames are the first of those replies, up to the untold ones.
+-- The written bytes begin an answer to the given ones. There is a run of all whole frames that were given: its spelled replies are the written bytes and then
+-- the unwritten ones, and its replies are the whole frames of the written bytes and then the untold ones.
 pub record BeginsAnswer {Table : Type 0} (turn : Turn Table) (tables : ℕ → Table) (given written : List ℕ) : Type 0 where
   pub events : List (Event Table)
   pub is_run : IsRun turn tables events

@@ -8,13 +8,13 @@ pub trait Machine {
     /// What is kept for one caller.
     ghost Table: { Type 0 };
 
-    /// What a request may come to.
+    /// The outcomes that a request may have.
     ghost turn: { Turn Table };
 
     /// The table of each caller.
     ghost tables: { Self → ℕ → Table };
 
-    /// States that each request has some answer, and one at most beside want of memory, for callers that need it. It does nothing.
+    /// States that each request has some answer, and one at most besides an allocation failure, for callers that need it. It does nothing.
     fn assert_valid(&self)
         ensures some { IsSomeAnswer turn }
         ensures one { IsOneAnswer turn };

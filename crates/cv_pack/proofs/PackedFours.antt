@@ -10,7 +10,7 @@ use Rattle.cv_pack.specs.Packed.{flags, from_fours}
 use Rattle.cv_pack.proofs.Rows.{same, same_is, all_below, below_is, at_all, looked_up, stands, behind, one}
 use Rattle.cv_pack.specs.declared.four_places.TheConstants.{FOUR_PLACES}
 
--- from a place on, the first of each four, and the second and the third where their flags are set
+-- from a place on, the first of each four, and the second and the third if their flags are set
 abbrev places : List Bool → List Bool → ℕ → List ℕ
 places [] cs i = []
 places (b ∷ bs) [] i = []

@@ -18,7 +18,7 @@ abbrev set_bits : ℕ → ℕ → ℕ → List ℕ
 set_bits zero m i = []
 set_bits (suc n) m i = cond (eqb (m % 2) 1) (i ∷ set_bits n (m / 2) (suc i)) (set_bits n (m / 2) (suc i))
 
--- eight places, those of the bits at the front
+-- eight places, those of the bits at the start
 abbrev lanes : ℕ → List ℕ
 lanes m = take 8 (set_bits 8 m 0 ++ replicate 8 0)
 
@@ -120,7 +120,7 @@ packed_are vs m h small long =
     ap (λ l. digits_l 65536 8 (number_l 256 l)) (looked_up (bytes vs) (row m) r.sixteen r.below ∙ ap (at_all (bytes vs)) r.is ∙ all_found vs (lanes m) small long r.low)
     ∙ ap (λ n. digits_l 65536 n (number_l 256 (flat_map (λ l. bytes_of (get_or vs l 0)) (lanes m)))) (sym r.eight) ∙ joined vs (lanes m) small long r.low
 
--- at their front are those that are kept
+-- those that are kept come first
 pub packed_front : (vs : List ℕ) (m : ℕ) → m < 256 → Each1 (λ x. x < 65536) vs → length vs ≡ 8 → take (count_ones m) (digits_l 65536 8 (number_l 256 (swz_l w8 16 (bytes vs) 0 (row m)))) ≡ kept m vs
 packed_front vs m h small long =
     let r = row_at m h in

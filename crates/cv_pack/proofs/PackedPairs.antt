@@ -10,7 +10,7 @@ use Rattle.cv_pack.specs.Packed.{flags, from_pairs}
 use Rattle.cv_pack.proofs.Rows.{same, same_is, all_below, below_is, at_all, looked_up, stands, behind, one}
 use Rattle.cv_pack.specs.declared.pair_places.TheConstants.{PAIR_PLACES}
 
--- from a place on, the first of each two, and the second where its flag is set
+-- from a place on, the first of each two, and the second if its flag is set
 abbrev places : List Bool → ℕ → List ℕ
 places [] i = []
 places (b ∷ bs) i = i ∷ (cond b (suc i ∷ []) [] ++ places bs (suc (suc i)))

@@ -1,4 +1,4 @@
--- Tables of places, held against lists by computing, and what is looked up by them.
+-- Tables of places, checked against lists by computing, and what is looked up by them.
 use Rattle.std.proofs.Common.{◌≡◌, ℕ, ◌+◌, ◌*◌, ◌/◌, ◌%◌, ◌<◌, ◌≤◌, Bool, true, false, cond, ◌&&◌, List, [], ◌∷◌, ◌++◌, length, drop, get_or, get_or-drop, map, refl, sym, ◌∙◌, ap, ap₂, arith, zero, suc, w8}
 use Rattle.std.specs.Simd.Lanes.{Each1, mask_l}
 use Rattle.std.proofs.Math.Dec.{eqb, ltb, leb}
@@ -49,26 +49,26 @@ below_is n (x ∷ xs) e =
     let both = and_parts (ltb x n) (all_below n xs) e in
     (ltb-true x n both.0, below_is n xs both.1)
 
--- what stands behind a place
+-- what follows a place
 pub stands : (text : List ℕ) (i k j : ℕ) → j ≡ i + k → get_or text j 0 ≡ get_or (drop i text) k 0
 stands text i k j e = ap (λ n. get_or text n 0) e ∙ sym (get_or-drop i text k 0)
 
--- all that is behind a place
+-- all that is after a place
 pub behind : (text : List ℕ) (i k j : ℕ) → j ≡ i + k → drop j text ≡ drop k (drop i text)
 behind text i k j e = ap (λ n. drop n text) e ∙ sym (drop-drop k i text)
 
--- what stands at a place, and what is behind it
+-- what is at a place, and what follows it
 pub next_at : (text : List ℕ) (i x : ℕ) (rest : List ℕ) → drop i text ≡ x ∷ rest → (get_or text i 0 ≡ x) × (drop (suc i) text ≡ rest)
 next_at [] zero x rest e = cc
 next_at [] (suc i) x rest e = cc
 next_at (t ∷ text) zero x rest e = (cc, cc)
 next_at (t ∷ text) (suc i) x rest e = next_at text i x rest e
 
--- what stands at some places
+-- what is at some places
 abbrev pub at_all : List ℕ → List ℕ → List ℕ
 at_all text ps = map (λ p. get_or text p 0) ps
 
--- what stands at a place if it is wanted, and at others
+-- what is at a place if it is wanted, and at others
 pub one : (b : Bool) (text : List ℕ) (i x : ℕ) (ps xs : List ℕ) → get_or text i 0 ≡ x → at_all text ps ≡ xs → at_all text (cond b (i ∷ []) [] ++ ps) ≡ cond b (x ∷ []) [] ++ xs
 one true text i x ps xs e more = ap₂ (λ (y : ℕ) (l : List ℕ). y ∷ l) e more
 one false text i x ps xs e more = more

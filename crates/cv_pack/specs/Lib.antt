@@ -1,2 +1,2 @@
--- Packing. It serves speed: no contract of a codec cites it.
+-- Packing. It exists for speed: no contract of a codec cites it.
 pub mod Packed

@@ -1,4 +1,4 @@
--- What is packed: those of some bytes or numbers that are wanted, one behind the other.
+-- What is packed: those of some bytes or numbers that are wanted, one after the other.
 use Rattle.std.specs.Prelude.{◌≡◌, ℕ, zero, suc, ◌/◌, ◌%◌, ◌<◌, Bool, cond, nat_eq, List, [], ◌∷◌, ◌++◌, length, drop, get_or}
 
 -- the lowest bits of a number, the lowest first
@@ -15,12 +15,12 @@ kept marks (x ∷ xs) = cond (nat_eq (marks % 2) 1) (x ∷ kept (marks / 2) xs) 
 abbrev pub IsOneOf : List ℕ → ℕ → Type 0
 IsOneOf xs x = (j : ℕ) × (j < length xs) × (x ≡ get_or xs j 0)
 
--- of pairs of bytes the first of each, and the second where its flag is set
+-- of pairs of bytes the first of each, and the second if its flag is set
 abbrev pub from_pairs : List Bool → List ℕ → List ℕ
 from_pairs [] pairs = []
 from_pairs (two ∷ twos) pairs = get_or pairs 0 0 ∷ (cond two (get_or pairs 1 0 ∷ []) [] ++ from_pairs twos (drop 2 pairs))
 
--- of groups of four bytes the first of each, and the second and the third where their flags are set
+-- of groups of four bytes the first of each, and the second and the third if their flags are set
 abbrev pub from_fours : List Bool → List Bool → List ℕ → List ℕ
 from_fours [] threes fours = []
 from_fours (two ∷ twos) [] fours = []

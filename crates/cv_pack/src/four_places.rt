@@ -1,7 +1,7 @@
-//! Where the bytes of four groups of four stand that are wanted.
+//! The indexes of the bytes that are wanted of four groups of four.
 
-/// For each set of four groups, as the four lowest bits, and each other set, as the four others, where the first byte of each group stands
-/// among the bytes of all, then the second of those in the one set and the third of those in the other. What is behind them is 0.
+/// A row for each eight bits: the lowest four are one set of the groups, the others another. Group by group, it has the index of the first
+/// byte, then of the second if the group is in the one set, and of the third if it is in the other. What follows them is 0.
 #[rattlefmt::skip]
 pub(crate) static FOUR_PLACES: [[u8; 16]; 256] = [
     [0, 4, 8, 12, 0, 0, 0, 0, 0, 0, 0, 0, 0, 0, 0, 0],

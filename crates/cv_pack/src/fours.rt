@@ -5,8 +5,8 @@ ghost use Rattle.cv_pack.specs.Packed.{flags, from_fours};
 use crate::four_places::FOUR_PLACES;
 use std::simd::prelude::*;
 
-/// Of four times four bytes the first of each, the second of those whose bit is set among the four lowest, and the third of those whose
-/// bit is set among the next four, one behind the other. What is behind them is the first byte of all.
+/// Packs four groups of four bytes, group by group: the first byte of each, the second if the group's bit among the four lowest is set, and
+/// the third if its bit among the next four is set. What follows them is the first byte of all.
 #[inline(always)]
 pub fn packed_fours(fours: u8x16, sizes: u64) -> u8x16
     requires { sizes < 256 }

@@ -1,7 +1,7 @@
-//! Where those of eight numbers stand that are kept.
+//! The indexes of those of eight numbers that are kept.
 
-/// For each set of eight numbers, as bits, the lowest for the first, where the two bytes of each in the set stand among those of all. What is
-/// behind them are the bytes of the first of the eight.
+/// A row for each set of eight numbers, as bits, the lowest for the first. It has the indexes of the two bytes of each number in the set.
+/// What follows them are the indexes of the bytes of the first of the eight.
 #[rattlefmt::skip]
 pub(crate) static LANES: [[u8; 16]; 256] = [
     [0, 1, 0, 1, 0, 1, 0, 1, 0, 1, 0, 1, 0, 1, 0, 1],

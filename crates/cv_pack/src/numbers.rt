@@ -5,7 +5,7 @@ ghost use Rattle.cv_pack.specs.Packed.{kept, IsOneOf};
 use crate::lanes::LANES;
 use std::simd::prelude::*;
 
-/// Those of eight numbers whose bit is set, one behind the other, the lowest bit for the first. What is behind them is the first of
+/// Those of eight numbers whose bit is set, one after the other, the lowest bit for the first. What follows them is the first of
 /// the eight.
 #[inline(always)]
 pub fn packed_numbers(numbers: u16x8, marks: u64) -> u16x8

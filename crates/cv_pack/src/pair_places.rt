@@ -1,7 +1,7 @@
-//! Where the bytes of eight pairs stand that are wanted.
+//! The indexes of the bytes that are wanted of eight pairs.
 
-/// For each set of eight pairs, as bits, the lowest for the first, where the first byte of each pair stands among the bytes of all, and the
-/// second of those in the set. What is behind them is 0.
+/// A row for each set of eight pairs, as bits, the lowest for the first. It has the index of each pair's first byte, and of its second if
+/// the pair is in the set, pair by pair. What follows them is 0.
 #[rattlefmt::skip]
 pub(crate) static PAIR_PLACES: [[u8; 16]; 256] = [
     [0, 2, 4, 6, 8, 10, 12, 14, 0, 0, 0, 0, 0, 0, 0, 0],

@@ -5,8 +5,8 @@ ghost use Rattle.cv_pack.specs.Packed.{flags, from_pairs};
 use crate::pair_places::PAIR_PLACES;
 use std::simd::prelude::*;
 
-/// Of eight pairs of bytes the first of each, and the second of those whose bit is set, one behind the other, the lowest bit for the
-/// first pair. What is behind them is the first byte of all.
+/// Packs eight pairs of bytes, pair by pair: the first byte of each, and the second if the pair's bit is set, the lowest bit for the first
+/// pair. What follows them is the first byte of all.
 #[inline(always)]
 pub fn packed_pairs(pairs: u8x16, twos: u64) -> u8x16
     requires { twos < 256 }

@@ -17,7 +17,7 @@ has_page tops t some = elim (cases_lt t (length tops)) [
 
 -- ---- naming places
 
--- two characters have two cells, where one has a page of its own
+-- two characters have two cells if one has a page of its own
 cells_apart : (tops : List ℕ) (size c d : ℕ) → AreNumbered tops size → 0 < get_or tops (c / 64) 0 → cell_of tops d ≡ cell_of tops c → d ≡ c
 cells_apart tops size c d n some e =
     let page : get_or tops (d / 64) 0 ≡ get_or tops (c / 64) 0 = omega (arith, e, n.begins (c / 64), n.begins (d / 64)) in

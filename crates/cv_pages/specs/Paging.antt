@@ -2,11 +2,11 @@
 use Rattle.std.specs.Prelude.{◌≡◌, ◌≢◌, ℕ, ◌+◌, ◌/◌, ◌%◌, ◌<◌, ◌≤◌, List, length, slice_index, slice_index_or}
 use Rattle.cv_byte_trie.specs.Entries.{Entry, character_at}
 
--- stands for no place
+-- the value for no place
 abbrev pub nowhere : ℕ
 nowhere = 0xFFFFFFFF
 
--- where the cell of a character stands, by where each page begins
+-- where the cell of a character is, by where each page begins
 abbrev pub cell_of : List ℕ → ℕ → ℕ
 cell_of tops character = slice_index tops (character / 64) + character % 64
 
@@ -18,7 +18,7 @@ place_of tops cells character = slice_index_or cells (cell_of tops character) no
 abbrev pub AreWhole : List ℕ → List ℕ → Type 0
 AreWhole tops cells = (t : ℕ) → slice_index tops t + 64 ≤ length cells
 
--- Of the first so many entries each character has the place of its first, and any other character has none.
+-- Each character of the first k entries has the place of its first entry, and any other character has none.
 pub record NameFirst (place : ℕ → ℕ) (k : ℕ) (entries : List Entry) : Type 0 where
   pub low : (c : ℕ) → place c ≢ nowhere → place c < k
   pub of : (c : ℕ) → place c ≢ nowhere → character_at entries (place c) ≡ c

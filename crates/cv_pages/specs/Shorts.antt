@@ -1,13 +1,13 @@
--- Bytes that stand ready to be written, for the cells of pages.
+-- Bytes that are ready to be written, for the cells of pages.
 use Rattle.std.specs.Prelude.{◌≡◌, ◌≢◌, ◌≤◌, ◌<◌, ℕ, List, [], length, take, slice_index_or}
 use Rattle.cv_byte_trie.specs.Entries.{Entry, bytes_at}
 use Rattle.cv_pages.specs.Paging.{nowhere}
 
--- stands for the size of bytes that are more than four, or none
+-- the size of bytes that are more than four, or of none
 abbrev pub no_size : ℕ
 no_size = 33
 
--- So many bytes, four at most, are those of the entry at a place.
+-- The first size bytes, four at most, are those of the entry at a place.
 pub record IsShort (entries : List Entry) (place : ℕ) (bytes : List ℕ) (size : ℕ) : Type 0 where
   pub few : size ≤ 4
   pub has : place ≢ nowhere

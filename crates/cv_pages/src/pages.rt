@@ -1,5 +1,5 @@
 //! The place of each character's first entry.
-ghost use Rattle.std.specs.Prelude.{◌≡◌, ◌≤◌, ◌<◌, ◌+◌, ◌-◌, ◌*◌, ◌/◌, ℕ, length, slice_index, IfOk, IsTrue};
+ghost use Rattle.std.specs.Prelude.{◌≡◌, ◌≤◌, ◌<◌, ◌+◌, ◌-◌, ◌*◌, ◌/◌, ◌^◌, ℕ, min, length, slice_index, IfOk, IsTrue};
 ghost use Rattle.cv_byte_trie.specs.Entries.{AreEntries, character_at};
 ghost use Rattle.cv_pages.specs.Paging.{cell_of, place_of, AreWhole, AreFirst};
 ghost use Rattle.cv_pages.specs.Private.Numbered.{AreNumbered, ArePaged};
@@ -10,21 +10,22 @@ use crate::shorts::Shorts;
 use cv_base::Scalar;
 use cv_byte_trie::Entry;
 use std::alloc::{AllocError, Global};
+use std::mem::size_of;
 
-/// Stands for no place.
+/// The value for no place.
 pub const NOWHERE: u32 = 0xFFFF_FFFF;
 
 /// How many characters a page has.
 const PAGE: u32 = 64;
 
-/// Pages of 64 characters each, with a cell for each character. Only those are there that name a place, and an empty one.
+/// Pages of 64 characters each, with a cell for each character. Only pages that name a place are stored, and an empty one.
 #[derive(Debug, Drop)]
 pub struct Pages {
-    /// For each 64 characters where their page begins, and for all above the last that have one. The page at 0 is empty.
+    /// Where the page of each 64 characters begins, and that of all above the last that have one. The page at 0 is empty.
     pub tops: Vec<u32>,
-    /// The cells of the pages, one page behind another.
+    /// The cells of the pages, one page after another.
     pub cells: Vec<u32>,
-    /// The bytes of each cell's entry, where they are few.
+    /// The bytes of each cell's entry, if they are few.
     pub shorts: Shorts,
     pub ghost some: { 0 < length tops.items },
     pub ghost last: { slice_index tops.items (length tops.items - 1) ≡ 0 },
@@ -53,7 +54,7 @@ fn highest(entries: &[Entry]) -> u32
     highest
 }
 
-/// Numbers the pages of the characters of entries, in the order in which they come.
+/// Numbers the pages of the characters of entries, in the order in which they occur.
 fn number(alloc: Global, entries: &[Entry]) -> Result<Numbers, AllocError>
     requires entries { AreEntries entries.now }
     requires few { length entries.now ≤ 0x1000000 }
@@ -116,6 +117,16 @@ impl Pages {
         })
     }
 
+    /// How many bytes all pages take.
+    pub fn size(&self) -> usize
+        ensures { min (4 * length self.now.cells.items) (2 ^ 64 - 1) ≤ result }
+    {
+        let tops = self.tops.capacity().saturating_mul(size_of::<u32>());
+        let cells = self.cells.capacity().saturating_mul(4);
+        tops.saturating_add(cells)
+            .saturating_add(self.shorts.size())
+    }
+
     /// The place of a character's first entry.
     #[inline]
     pub fn place(&self, character: u32) -> u32
@@ -124,7 +135,7 @@ impl Pages {
         self.cells[self.cell(character)]
     }
 
-    /// The cell of a character, with no branch: for all that are above the last page the last number says that theirs is the empty one.
+    /// The cell of a character, without a branch: for all that are above the last page, the last number names the empty page.
     #[inline(always)]
     pub fn cell(&self, character: u32) -> usize
         ensures is { result ≡ cell_of self.now.tops.items character }

@@ -1,27 +1,27 @@
-//! Bytes that stand ready to be written.
+//! Bytes that are ready to be written.
 ghost use Rattle.std.specs.Prelude.{◌≡◌, ◌≤◌, ◌<◌, ◌+◌, ◌++◌, [], length, take, slice_index_or, IfOk};
 ghost use Rattle.cv_pages.specs.Shorts.{IsShort, AreShorts, no_size};
 
 use cv_byte_trie::Entry;
 use std::alloc::{AllocError, Global};
 
-/// How many bytes stand ready at most.
+/// The most bytes that are ready to be written.
 pub const SHORT: usize = 4;
 
-/// Stands for the size of bytes that are more than four, or none. The sizes of eight are less together, unless it is among them.
+/// The size of bytes that are more than four, or of none. Eight sizes together are less than this, unless it is among them.
 pub const NO_SIZE: u8 = 33;
 
-/// For each cell of pages the bytes of the entry that it names, where they are four at most. So they are written without a look at
+/// For each cell of pages the bytes of the entry that it names, if they are four at most. So they are written without reading
 /// the entry.
 #[derive(Debug, Drop)]
 pub struct Shorts {
-    /// The bytes of each cell, with others behind them.
+    /// The bytes of each cell, with others after them.
     pub bytes: Vec<[u8; SHORT]>,
     /// How many they are.
     pub sizes: Vec<u8>,
 }
 
-/// The first four bytes of an entry, with others behind them where it has less.
+/// The first four bytes of an entry, with others after them if it has less.
 fn first_four(entry: &Entry) -> [u8; SHORT]
     requires { length entry.now.0 ≤ 4 }
     ensures size { length result ≡ 4 }
@@ -63,8 +63,14 @@ impl Shorts {
         Ok(Shorts { bytes, sizes })
     }
 
-    /// Puts the bytes of a cell at a place, and answers their size. What is behind them may be anything: four bytes are copied,
-    /// whose number is known when the code is compiled.
+    /// How many bytes they take.
+    pub(crate) fn size(&self) -> usize {
+        let bytes = self.bytes.capacity().saturating_mul(SHORT);
+        bytes.saturating_add(self.sizes.capacity())
+    }
+
+    /// Puts the bytes of a cell at a place, and answers their size. What follows them may be anything: four bytes are copied,
+    /// a number that is known at compile time.
     #[inline(always)]
     pub fn put(&self, cell: usize, front: &mut [u8], used: usize) -> usize
         requires long { cell < length self.now.bytes.items }

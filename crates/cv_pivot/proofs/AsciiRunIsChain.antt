@@ -55,7 +55,7 @@ unfolding run_items
 run_characters s form [] = refl
 run_characters s form (c ∷ characters) = ap (λ (x : List ℕ). c ∷ x) (run_characters s form characters)
 
--- characters that stand in one form, and were put as the bytes that they are written as, are a chain
+-- characters that are in one form, and were put as the bytes that they are written as, are a chain
 pub run_takes : (limit : ℕ) (reads : ItemRelation) (writes : Writing) (policy : Policy) (from : States) (rest before : List ℕ) (at : ℕ) (form : AsciiForm) (characters bytes : List ℕ) (after : List ℕ) → ReadsBelow limit reads from.reading form → output_for writes from.writing characters ≡ output bytes 0 from.writing → AreBelow limit characters
     → Begins (units_of form characters) rest → 0 < length (units_of form characters) → at + length bytes ≤ length before
     → after ≡ take at before ++ bytes ++ drop (at + length bytes) before
@@ -90,7 +90,7 @@ units_take limit few reads writes policy from rest before at n form target after
     let below = run_is_below limit few form rest n small in
     rw (a, b) at (run_takes limit reads writes policy from rest before at form characters (units_of target characters) after r (run_output limit writes from.writing target w characters below) below (run_begins limit few form rest n within small) (omega arith) (omega arith) (put ∙ rw b refl))
 
--- what a run comes to, if it is one
+-- the result of a run, if there is one
 pub units_taken : (limit : ℕ) → limit ≤ 0x100 → (reads : ItemRelation) (writes : Writing) (from : States) (rest before : List ℕ) (at : ℕ) (form target : AsciiForm) (after : List ℕ) (n : ℕ) → ReadsBelow limit reads from.reading form → WritesBelow limit writes from.writing target
     → unit_size form * n ≤ length rest → at + unit_size target * n ≤ length before → IsRunBelow limit form rest n → (n ≡ 0 → after ≡ before)
     → after ≡ take at before ++ units_of target (characters_in form rest n) ++ drop (at + unit_size target * n) before
@@ -104,7 +104,7 @@ length-units : (form : AsciiForm) (characters : List ℕ) → length (units_of f
 length-units form [] = sym (mul-zero (unit_size form))
 length-units form (c ∷ characters) = omega (arith, length-append (unit_of form c) (units_of form characters), length-unit_of form c, length-units form characters, mul-suc (unit_size form) (length characters))
 
--- a run that was written as bytes stands in the text
+-- a run that was written as bytes is in the text
 pub run_within : (writes : Writing) (t : WriteState) (form : AsciiForm) (rest before : List ℕ) (at n : ℕ) (after : List ℕ) → IsWrittenRun writes t form rest before at n after → unit_size form * n ≤ length rest
 run_within writes t form rest before at n after p =
     let long : length (units_of form p.characters) ≡ unit_size form * n = length-units form p.characters ∙ ap (λ (k : ℕ). unit_size form * k) (sym p.put.wrote) in
@@ -114,7 +114,7 @@ nothing_put : (bytes before : List ℕ) (at : ℕ) (after : List ℕ) → IsPut 
 nothing_put [] before at after p = p.out ∙ rw (add-zero, append-nil) (take-append-drop at before)
 nothing_put (b ∷ bytes) before at after p = absurd (omega (arith, p.wrote))
 
--- what a run that is written as bytes comes to, if it is one
+-- the result of a run that is written as bytes, if there is one
 pub bytes_taken : (reads : ItemRelation) (writes : Writing) (from : States) (rest before : List ℕ) (at : ℕ) (form : AsciiForm) (n : ℕ) (after : List ℕ) → ReadsAscii reads from.reading form → IsWrittenRun writes from.writing form rest before at n after
     → MatchOption (took_units form Byte n) (after ≡ before) (λ took. (policy : Policy) → TakesSome reads writes policy from rest before at took from after)
 bytes_taken reads writes from rest before at form zero after r p = nothing_put p.characters before at after p.put

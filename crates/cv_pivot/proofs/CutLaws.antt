@@ -1,4 +1,4 @@
--- What feeds come to doesn't depend on how the text and the room were cut.
+-- The result of feeds doesn't depend on how the text and the room were cut.
 use Rattle.std.proofs.Common.{◌≡◌, ℕ, ◌+◌, ◌⊎◌, ◌<◌, ◌≤◌, List, [], ◌∷◌, ◌++◌, length, drop, refl, sym, ◌∙◌, ap, subst, arith, add-zero, inl, inr}
 use Rattle.std.proofs.lemmas.List.{drop-drop}
 use Rattle.cv_base.specs.Items.{Taken, ItemRelation, Begins, Stands, NoneStands}
@@ -47,7 +47,7 @@ front reads writes policy from text (call ∷ calls) p q =
       writing = rest.writing ∙ ap (λ (x : Output). x.next) behind ∙ sym (ap (λ (x : Output). x.next) e);
     }
 
--- Nothing stands where a feed ends ill-formed.
+-- No item is next after a feed that ends ill-formed.
 ends_none : (reads : ItemRelation) (writes : Writing) (policy : Policy) (from : States) (text : List ℕ) (calls : List Call) → IsFeed reads writes policy from calls → IsFed text calls → EndsIll calls
     → NoneStands reads (total from calls).states.reading (drop (total from calls).used text)
 ends_none reads writes policy from text [] p q h = absurd h
@@ -61,7 +61,7 @@ ends_none reads writes policy from text (call ∷ next ∷ calls) p q h =
 lacking_stays : (reads : ItemRelation) (writes : Writing) (policy : Policy) (states : States) (text more : List ℕ) → Begins text more → LackingStands reads writes policy states text → LackingStands reads writes policy states more
 lacking_stays reads writes policy states text more b p = record { next = p.next; stands = item_stays reads states.reading text more p.next b p.stands; lacking = p.lacking }
 
--- A character that the target lacks stands where a feed ends at one.
+-- If a feed ends at a character that the target lacks, that character is next.
 ends_lacking : (reads : ItemRelation) (writes : Writing) (policy : Policy) (from : States) (text : List ℕ) (calls : List Call) → IsFeed reads writes policy from calls → IsFed text calls → EndsLacking calls
     → LackingStands reads writes policy (total from calls).states (drop (total from calls).used text)
 ends_lacking reads writes policy from text [] p q h = absurd h
@@ -76,7 +76,7 @@ strict_counts_none : (reads : ItemRelation) (writes : Writing) (from : States) (
 strict_counts_none reads writes from [] p = refl
 strict_counts_none reads writes from (call ∷ calls) p = omega (arith, p.0.count, p.0.longest.allowed, strict_counts_none reads writes call.came.states calls p.1)
 
--- The policy allows what a feed comes to.
+-- The policy allows the result of a feed.
 feed_allowed : (reads : ItemRelation) (writes : Writing) (policy : Policy) (from : States) (text : List ℕ) (calls : List Call) → IsFeed reads writes policy from calls → (f : IsFront reads writes from text (total from calls))
     → Allows policy (output_of writes from.writing f.chain)
 feed_allowed reads writes Substitute from text calls p f = tt
@@ -148,6 +148,6 @@ same_end reads writes policy r from text a b p q f g h =
     let one : x.chain ≡ y.chain = same_chain reads r from.reading text x.chain y.chain x.is_chain y.is_chain (omega (arith, m, n)) in
     x.used ∙ ap used_bytes one ∙ sym y.used
 
--- what feeds come to doesn't depend on the cuts
+-- the result of feeds doesn't depend on the cuts
 pub cuts : (reads : ItemRelation) (writes : Writing) (policy : Policy) → IsReadable reads → DoesNotDependOnCuts reads writes policy
 cuts reads writes policy r = record { front = front reads writes policy; same = same reads writes policy r; same_end = same_end reads writes policy r }

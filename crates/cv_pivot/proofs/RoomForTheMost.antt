@@ -60,7 +60,7 @@ same_states a b r w = rw (r, w) refl
 same_fields : (c d : Converted) → c.left ≡ d.left → c.count ≡ d.count → c.stop ≡ d.stop → c.output ≡ d.output → c.states.reading ≡ d.states.reading → c.states.writing ≡ d.states.writing → c ≡ d
 same_fields c d l n s o r w = rw (l, n, s, o, r, w) refl
 
--- one conversion there is of a text in a room
+-- a text in a room has one conversion
 pub one_conversion : (reads : ItemRelation) (writes : Writing) (policy : Policy) → IsReadable reads → (from : States) (text : List ℕ) (room : ℕ) (c d : Converted)
     → IsConverted reads writes policy from text room c → IsConverted reads writes policy from text room d → c ≡ d
 one_conversion reads writes policy r from text room c d p q =

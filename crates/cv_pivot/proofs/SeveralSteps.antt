@@ -1,4 +1,4 @@
--- Several steps one behind the other.
+-- Several steps one after the other.
 use Rattle.std.proofs.Common.{◌≡◌, ℕ, ◌+◌, ◌≤◌, inl, inr, List, ◌++◌, length, take, drop, refl, sym, ◌∙◌, ap, subst, arith, length-append, length-drop, length-take, append_assoc}
 use Rattle.cv_base.specs.Items.{ItemRelation}
 use Rattle.cv_base.specs.Codecs.{Writing, IsReadable}
@@ -20,7 +20,7 @@ use Rattle.cv_pivot.proofs.Progress.{output_of-count, used_bytes-within, some_of
 abbrev pub both : Took → Took → Took
 both taken took = record { used = taken.used + took.used; wrote = taken.wrote + took.wrote; count = taken.count + took.count }
 
--- items were taken, and behind them others
+-- items were taken, and after them others
 some_more : (reads : ItemRelation) (writes : Writing) (policy : Policy) (from : States) (rest before : List ℕ) (at : ℕ) (taken : Took) (now : States) (out : List ℕ) → TakesSome reads writes policy from rest before at taken now out
     → (took : Took) (to : States) (after : List ℕ) → TakesSome reads writes policy now (drop taken.used rest) out (at + taken.wrote) took to after → TakesSome reads writes policy from rest before at (both taken took) to after
 some_more reads writes policy from rest before at taken now out p took to after q =
@@ -63,7 +63,7 @@ any_then_some reads writes policy from rest before at taken now out (inl p) took
     let d : taken.count + took.count ≡ took.count = omega (arith, p.2) in
     rw (a, b, d) (rw (here, p.0, p.3, p.4) at q)
 
--- what was taken is within the text and the room, and stands for no more characters than there are bytes
+-- what was taken is within the text and the room, and replaces no more characters than there are bytes
 pub any_within : (reads : ItemRelation) (writes : Writing) (policy : Policy) → IsReadable reads → (from : States) (rest before : List ℕ) (at : ℕ) (taken : Took) (now : States) (out : List ℕ) → at ≤ length before
     → TakesAny reads writes policy from rest before at taken now out → (taken.used ≤ length rest) × (at + taken.wrote ≤ length before) × (taken.count ≤ taken.used) × (length out ≡ length before)
 any_within reads writes policy r from rest before at taken now out room (inl p) = (omega (arith, p.0), omega (arith, p.1), omega (arith, p.0, p.2), ap length p.4)
@@ -72,7 +72,7 @@ any_within reads writes policy r from rest before at taken now out room (inr p) 
     let few = output_of-count reads writes r from.reading from.writing rest p.chain p.is_chain in
     (omega (arith, in_text, p.uses), p.fits, omega (arith, few, p.counts, p.uses), ap length p.out ∙ simp (length-append, length-take, length-drop) (omega (arith, p.writes_bytes, p.fits)))
 
--- Items were taken one by one, or none: how many bytes they use, where their output ends, and for how many characters `?` was written by then.
+-- Items were taken one by one, or none: how many bytes they use, where their output ends, and for how many characters `?` has been written.
 pub record ItemsSoFar (reads : ItemRelation) (writes : Writing) (policy : Policy) (from : States) (rest before : List ℕ) (at count used end lacking : ℕ) (now : States) (out : List ℕ) : Type 0 where
   pub took : Took
   pub takes : TakesAny reads writes policy from rest before at took now out
@@ -111,7 +111,7 @@ items_more reads writes policy r from rest before at count used end lacking now 
       counts = omega (arith, p.counts);
     }
 
--- where the next item stops the conversion, it finishes
+-- if the next item stops the conversion, it finishes
 pub items_finish : (reads : ItemRelation) (writes : Writing) (policy : Policy) (from : States) (rest before : List ℕ) (at count used end lacking : ℕ) (now : States) (out : List ℕ) → ItemsSoFar reads writes policy from rest before at count used end lacking now out
     → (stop : Stop) → StepStops reads writes policy now (drop used rest) out end stop → (left room_left : ℕ) → left + used ≡ length rest → room_left + end ≡ length out
     → Finishes reads writes policy from rest before at count (record { left = left; room_left = room_left; count = lacking; stop = stop }) now out

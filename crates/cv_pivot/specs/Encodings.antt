@@ -28,7 +28,7 @@ pub data Builtin : Type 0 where
   Utf32 : (order : Order) → Builtin
   Utf7 : Builtin
 
--- What an encoding comes to: a built-in one, or the list of a charmap.
+-- The form of an encoding: a built-in encoding, or the list of a charmap.
 pub data Form : Type 0 where
   Own : (builtin : Builtin) → Form
   Mapped : (pairs : List Pair) → Form
@@ -94,7 +94,7 @@ abbrev pub IsForm : Form → Type 0
 IsForm (Own builtin) = Unit {0}
 IsForm (Mapped pairs) = IsMap pairs
 
--- what a value of the program comes to: of a charmap its list alone counts
+-- the form of a value of the program; only the list of a charmap counts
 abbrev pub form_of : Encoding → Form
 form_of encoding.Ascii = Own Ascii
 form_of encoding.Latin1 = Own Latin1

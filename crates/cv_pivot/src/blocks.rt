@@ -12,24 +12,24 @@ const SHORT_BLOCK: usize = 64;
 /// How many characters a long block has at most.
 const LONG_BLOCK: usize = 256;
 
-/// How many long blocks are taken one behind the other, before a run of small characters is tried again.
+/// How many long blocks are taken in sequence, before a run of small characters is tried again.
 const MOST_BLOCKS: usize = 4;
 
 /// How many bytes a character has at most in any encoding.
 const MOST_BYTES: usize = 8;
 
-/// How long the next block is at most. It decides speed alone: what a block costs besides its characters is spread over more of
-/// them where it is long, but a short one costs less to clear, and behind it a run of ASCII may stand.
+/// How long the next block is at most. It affects speed only: a long block spreads its fixed cost over more characters, but a short one
+/// costs less to clear, and a run of ASCII may follow it.
 #[derive(Clone, Copy, Debug)]
 pub(crate) enum BlockSize {
-    /// The first block, and the next behind a run of small characters or an item by itself.
+    /// The first block, and the next after a run of small characters or an item by itself.
     Short,
-    /// The next ones behind a block, where so many bytes are left.
+    /// The next ones after a block, while enough bytes are left.
     Long,
 }
 
 impl BlockSize {
-    /// The size behind a block, or behind none.
+    /// The size after a block, or after none.
     #[inline(always)]
     fn behind(took: &Option<Took>) -> BlockSize {
         match took {
@@ -39,7 +39,7 @@ impl BlockSize {
     }
 }
 
-/// Takes a block of as many characters as the buffer has at most, if the source reads one, and the target writes it under the policy.
+/// Takes a block of at most as many characters as fit in the buffer, if the source reads one, and the target writes it under the policy.
 #[inline(always)]
 fn block<F: BlockCodec, T: BlockCodec>(
     from: &F,
@@ -75,7 +75,7 @@ fn block<F: BlockCodec, T: BlockCodec>(
     })
 }
 
-/// Takes a short block, if there is one, by a buffer of its own size: a function clears all of its buffers when it is entered.
+/// Takes a short block, if there is one, by a buffer of its own size. A function clears all of its buffers on entry.
 #[inline(always)]
 fn short_block<F: BlockCodec, T: BlockCodec>(
     from: &F,
@@ -95,7 +95,7 @@ fn short_block<F: BlockCodec, T: BlockCodec>(
     block(from, to, &mut buffer, policy, states, rest, out, at)
 }
 
-/// Takes a few long blocks one behind the other, if there is one, by one buffer, which is cleared once for all of them.
+/// Takes a few long blocks in a row, if there is one, by one buffer, which is cleared once for all of them.
 #[inline(always)]
 fn long_blocks<F: BlockCodec, T: BlockCodec>(
     from: &F,
@@ -132,7 +132,7 @@ fn long_blocks<F: BlockCodec, T: BlockCodec>(
     Some(taken)
 }
 
-/// Takes a block of the size that is due, or some of them, if there is one.
+/// Takes a block of the current size, or some of them, if there is one.
 #[inline(always)]
 pub(crate) fn sized_block<F: BlockCodec, T: BlockCodec>(
     from: &F,

@@ -31,7 +31,7 @@ impl Conversion {
     }
 
     /// Converts the longest run of items whose bytes fit in `out`. A character that the target lacks is written as `?` and
-    /// counted, or ends the run where the policy is strict. Bytes of `out` past the output stay.
+    /// counted, or ends the run if the policy is strict. Bytes of `out` past the output stay.
     pub fn convert(&mut self, input: &[u8], out: &mut [u8]) -> Outcome
         ensures converts { Converts (form_reads (form_of self.old.from)) (form_writes (form_of self.old.to))
             self.old.policy self.old.states input.now out.old result self.new.states out.new }
@@ -53,7 +53,7 @@ impl Conversion {
         )
     }
 
-    /// How many bytes so many bytes of input are written as at most.
+    /// The most bytes that input of this length can be written as.
     pub fn most_output(&self, len: usize) -> usize
         requires { 8 * len < 2 ^ 64 }
         ensures { IsMostOutput (form_reads (form_of self.now.from)) (form_writes (form_of self.now.to)) len result }
@@ -62,8 +62,8 @@ impl Conversion {
         self.to.most_bytes() * len
     }
 
-    /// Goes back to the start, under the same policy. With room 0 it gives both states up and writes nothing; with room above 0
-    /// it answers the bytes that close the target's shift, or `TooBig` where they don't fit, and then the conversion is
+    /// Goes back to the start, under the same policy. With room 0 it drops both states and writes nothing; with room above 0
+    /// it answers the bytes that close the target's shift, or `TooBig` if they don't fit, and then the conversion is
     /// unchanged.
     pub fn reset(&mut self, room: usize) -> Result<Piece, TooBig>
         ensures gives_up { room ≡ 0 → (result ≡ Ok []) × (self.new ≡ record self.old { states = start }) }

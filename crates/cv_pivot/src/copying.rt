@@ -1,4 +1,4 @@
-//! Copying the text that stays as it is where both encodings are the same.
+//! Copying text that stays unchanged because both encodings are the same.
 ghost use Rattle.std.specs.Prelude.{◌≡◌, ◌≤◌, ◌+◌, ◌++◌, length, take, drop, IsTrue, MatchOption};
 ghost use Rattle.cv_base.specs.declared.policy.Policy.{Policy};
 ghost use Rattle.cv_pivot.specs.Private.Steps.{TakesSome};
@@ -8,7 +8,8 @@ use crate::outcome::States;
 use crate::step::Took;
 use cv_base::BlockCodec;
 
-/// Whether both are one encoding of which text is copied. It may say no where they are: then it goes by blocks, or one by one.
+/// Whether both are the same encoding, whose text is copied. It may say no even if they are: then the text is converted by blocks, or item
+/// by item.
 pub(crate) fn may_copy(from: &Encoding, to: &Encoding) -> bool
     ensures { IsTrue result → from.now ≡ to.now }
 {
@@ -31,7 +32,7 @@ fn copy_front(rest: &[u8], n: usize, out: &mut [u8], at: usize)
     out[at..at + n].copy_from_slice(&rest[..n]);
 }
 
-/// Copies the items at the front of a text that are written as they stand there, as far as there is room, if there are such. Every
+/// Copies the items at the start of a text that are written unchanged, as far as there is room, if there are any. Every
 /// policy allows it.
 #[inline(never)]
 pub(crate) fn copy_unchanged<C: BlockCodec>(

@@ -22,9 +22,9 @@ pub enum Encoding {
     Latin1,
     /// UTF-8.
     Utf8,
-    /// UTF-16 in an order of bytes.
+    /// UTF-16 in a byte order.
     Utf16(Order),
-    /// UTF-32 in an order of bytes.
+    /// UTF-32 in a byte order.
     Utf32(Order),
     /// UTF-7.
     Utf7,
@@ -66,7 +66,7 @@ pub fn builtin(name: &[u8]) -> Option<Encoding>
 impl Clone for Encoding {
     ghost is_clone = { λ encoding other. form_of other ≡ form_of encoding };
 
-    /// The same encoding again. It takes no memory, and fails only where a charmap has too many owners.
+    /// A copy of the encoding. It takes no memory, and fails only if a charmap has too many owners.
     fn clone(&self) -> Result<Encoding, AllocError> {
         match self {
             Encoding::Ascii => Ok(Encoding::Ascii),

@@ -12,10 +12,10 @@ use cv_utf7::Utf7;
 use cv_utf8::Utf8;
 use cv_wide::{Utf16, Utf32};
 
-/// Fewer bytes than these are converted sooner item by item than by blocks, whose buffers are cleared and copied. It decides speed alone.
+/// Fewer bytes than these are converted faster item by item than by blocks, whose buffers are cleared and copied. It affects speed only.
 pub(crate) const FEW_BYTES: usize = 12;
 
-/// Takes the item that stands next, if there is one, the policy allows it and its bytes fit behind the first `at` bytes of the
+/// Takes the item that is next, if there is one, the policy allows it and its bytes fit after the first `at` bytes of the
 /// output.
 #[inline(always)]
 #[tactic(auto, using(cv_base::proofs::AllWritten::none_allowed))]
@@ -64,8 +64,8 @@ pub(crate) fn one_step<F: Codec, T: Codec>(
     }
 }
 
-/// Converts what is left of a text item by item, behind the first `at` bytes of the output and `count` characters for which `?` was
-/// written, by a loop of its own for each two encodings: so they are not told apart for each item.
+/// Converts what is left of a text item by item, after the first `at` bytes of the output and `count` characters for which `?` was
+/// written. Each pair of encodings has a loop of its own, so that no item is dispatched on its encoding.
 #[inline(always)]
 fn each_item<F: Codec, T: Codec>(
     from: &F,
@@ -113,7 +113,7 @@ fn each_item<F: Codec, T: Codec>(
     }
 }
 
-/// Converts what is left to an encoding that is told apart here, as `each_item`.
+/// Converts what is left, as `each_item`, after dispatching on the target encoding.
 #[inline(always)]
 fn each_item_to<F: Codec>(
     from: &F,
@@ -159,7 +159,7 @@ fn each_item_to<F: Codec>(
     }
 }
 
-/// Converts what is left of a text where that is little. It stands apart, so that the loop that ends by it stays small.
+/// Converts what is left of a text if that is little. Kept out of line, so that the loop that calls it stays small.
 #[inline(never)]
 pub(crate) fn few_items(
     from: &Encoding,

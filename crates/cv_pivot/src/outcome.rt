@@ -32,7 +32,7 @@ pub struct Outcome {
     pub stop: Stop,
 }
 
-/// Where a conversion is on its two sides.
+/// The states of a conversion on its two sides.
 #[derive(Clone, Copy, Debug, PartialEq, Eq)]
 pub struct States {
     pub reading: ReadState,

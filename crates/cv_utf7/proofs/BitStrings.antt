@@ -7,7 +7,7 @@ use Rattle.std.proofs.lemmas.Nat.{pow_pos, pow-add, mod-pow-add}
 use Rattle.std.proofs.Math.Nat.{mod-eq_of_lt, pow-suc}
 use Rattle.cv_utf7.specs.BitLists.{bits, number}
 
--- so many bits are so many
+-- the low count bits of a number are count bits
 pub length-bits : (count n : ℕ) → length (bits count n) ≡ count
 unfolding bits
 length-bits zero n = refl
@@ -19,7 +19,7 @@ number_lt [] = omega arith
 number_lt (true ∷ bits) = omega (arith, number_lt bits, pow-suc 2 (length bits))
 number_lt (false ∷ bits) = omega (arith, number_lt bits, pow-suc 2 (length bits))
 
--- the number of bits behind others
+-- the number of bits after others
 pub number-append : (a b : List Bool) → number (a ++ b) ≡ number a * 2 ^ length b + number b
 number-append [] b = omega arith
 number-append (true ∷ a) b =
@@ -38,7 +38,7 @@ number-bits (suc count) n =
     ]) in
     rw (number-append (bits count (n / 2)) ((n % 2 == 1) ∷ [])) (omega (arith, e, number-bits count (n / 2), mod-pow-add n count 1, ap (λ (k : ℕ). n % 2 ^ k) (add-one count)))
 
--- bits as many as others, of the same number, are the same
+-- two strings of as many bits that spell the same number are the same
 pub same-bits : (a b : List Bool) → length a ≡ length b → number a ≡ number b → a ≡ b
 same-bits [] [] l e = refl
 same-bits [] (y ∷ b) l e = absurd (omega arith)
@@ -48,15 +48,15 @@ same-bits (false ∷ a) (false ∷ b) l e = ap (λ (t : List Bool). false ∷ t)
 same-bits (true ∷ a) (false ∷ b) l e = let p : 2 ^ length a ≡ 2 ^ length b = ap (λ (n : ℕ). 2 ^ pred n) l in absurd (omega (arith, number_lt b))
 same-bits (false ∷ a) (true ∷ b) l e = let p : 2 ^ length a ≡ 2 ^ length b = ap (λ (n : ℕ). 2 ^ pred n) l in absurd (omega (arith, number_lt a))
 
--- so many bits of two numbers are the same where the numbers' low bits are, and only there
+-- the low count bits of two numbers are the same if the numbers are the same modulo 2 ^ count
 pub bits-mod : (count a b : ℕ) → a % 2 ^ count ≡ b % 2 ^ count → bits count a ≡ bits count b
 bits-mod count a b e = same-bits (bits count a) (bits count b) (length-bits count a ∙ sym (length-bits count b)) (number-bits count a ∙ e ∙ sym (number-bits count b))
 
--- the low bits of two numbers of which so many bits are the same
+-- two numbers are the same modulo 2 ^ count if their low count bits are the same
 pub mod-bits : (count a b : ℕ) → bits count a ≡ bits count b → a % 2 ^ count ≡ b % 2 ^ count
 mod-bits count a b e = sym (number-bits count a) ∙ ap number e ∙ number-bits count b
 
--- more bits are high ones and low ones
+-- a string of bits is its high bits and its low bits
 pub bits-split : (m n v : ℕ) → bits (m + n) v ≡ bits m (v / 2 ^ n) ++ bits n v
 bits-split m n v =
     same-bits (bits (m + n) v) (bits m (v / 2 ^ n) ++ bits n v)
@@ -74,7 +74,7 @@ append-same (c ∷ a) (d ∷ b) x y e l =
     let r = append-same a b x y t (omega arith) in
     (cc (h, r.0), r.1)
 
--- a digit behind other bits
+-- a digit after other bits
 pub bits-digit : (p v d : ℕ) → d < 64 → bits p v ++ bits 6 d ≡ bits (p + 6) (v * 64 + d)
 bits-digit p v d h =
     let e : (v * 64 + d) / 2 ^ 6 ≡ v = omega arith in

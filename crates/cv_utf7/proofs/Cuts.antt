@@ -111,12 +111,12 @@ pair_behind pending c h k =
     let s : bits 32 (high_unit c * 65536 + low_unit c) ≡ bits 16 (high_unit c) ++ bits 16 (low_unit c) = bits-split 16 16 (high_unit c * 65536 + low_unit c) ∙ rw (g, j) refl in
     ap (λ (t : List Bool). bits_of pending ++ t) (two_units c h) ∙ sym (bits-split pending.count 32 (pending.value * 4294967296 + (high_unit c * 65536 + low_unit c)) ∙ rw (e, f, s) refl)
 
--- a cut of a character of one code unit behind pending bits
+-- a cut of a character of one code unit after pending bits
 pub cut_unit : (pending : Bits) (c : ℕ) (cut : Cut) → c < 0x10000 → pending.count + 16 ≡ 6 * cut.n + cut.next.count → cut.value ≡ (pending.value * 65536 + c) / 2 ^ cut.next.count → cut.next.value ≡ (pending.value * 65536 + c) % 2 ^ cut.next.count
     → written_bits (bits_of pending ++ character_bits c) ≡ (digits (bits (6 * cut.n) cut.value), write.Shifted cut.next)
 cut_unit pending c cut h e v w = cut_is _ cut.n cut.next.count (pending.value * 65536 + c) cut.value cut.next (unit_behind pending c h ∙ ap (λ (k : ℕ). bits k (pending.value * 65536 + c)) e) refl v w
 
--- a cut of a character of two code units behind pending bits
+-- a cut of a character of two code units after pending bits
 pub cut_pair : (pending : Bits) (c : ℕ) (cut : Cut) → 0x10000 ≤ c → c < 0x110000 → pending.count + 32 ≡ 6 * cut.n + cut.next.count → cut.value ≡ (pending.value * 4294967296 + (high_unit c * 65536 + low_unit c)) / 2 ^ cut.next.count → cut.next.value ≡ (pending.value * 4294967296 + (high_unit c * 65536 + low_unit c)) % 2 ^ cut.next.count
     → written_bits (bits_of pending ++ character_bits c) ≡ (digits (bits (6 * cut.n) cut.value), write.Shifted cut.next)
 cut_pair pending c cut h k e v w = cut_is _ cut.n cut.next.count (pending.value * 4294967296 + (high_unit c * 65536 + low_unit c)) cut.value cut.next (pair_behind pending c h k ∙ ap (λ (m : ℕ). bits m (pending.value * 4294967296 + (high_unit c * 65536 + low_unit c))) e) refl v w
@@ -163,7 +163,7 @@ closing_two pending d e f = closing_of pending 4 d (omega arith) (omega arith) f
 pub closing_four : (pending : Bits) (d : ℕ) → 0 < pending.count → (pending.count ≡ 2 → ⊥) → d ≡ digit_of (pending.value * 4) → last_digit (bits_of pending) ≡ d ∷ []
 closing_four pending d h e f = let g : pending.count ≡ 4 = omega (arith, pending.few, pending.even) in closing_of pending 2 d (omega arith) h f
 
--- what closes a sequence behind a closing digit
+-- what closes a sequence after a closing digit
 pub closing_some : (pending : Bits) (d : ℕ) → last_digit (bits_of pending) ≡ d ∷ [] → utf7_closes (write.Shifted pending) ≡ d ∷ minus ∷ []
 closing_some pending d e = ap (λ (w : List ℕ). w ++ minus ∷ []) e
 

@@ -34,7 +34,7 @@ some_digits (a ∷ b ∷ c ∷ d ∷ f ∷ g ∷ l) h = omega arith
 pub no_digits : AreDigits []
 no_digits k d l = absurd (omega arith)
 
--- a digit in front of digits
+-- a digit before digits
 pub AreDigits-cons : (b : ℕ) (w : List ℕ) → is_digit b ≡ true → AreDigits w → AreDigits (b ∷ w)
 AreDigits-cons b w e d = All-cons (λ b. is_digit b ≡ true) b w e d
 
@@ -42,18 +42,18 @@ AreDigits-cons b w e d = All-cons (λ b. is_digit b ≡ true) b w e d
 pub AreDigits-append : (a b : List ℕ) → AreDigits a → AreDigits b → AreDigits (a ++ b)
 AreDigits-append a b p q = All-append (λ b. is_digit b ≡ true) a b p q
 
--- one of digits is a digit
+-- each of the digits is a digit
 pub AreDigits-at : (w : List ℕ) → AreDigits w → (k : ℕ) → k < length w → is_digit (get_or w k 0) ≡ true
 AreDigits-at w d k l = d k 0 l
 
--- the front of digits is digits
+-- a prefix of digits is digits
 pub AreDigits-take : (n : ℕ) (w : List ℕ) → AreDigits w → AreDigits (take n w)
 AreDigits-take n w d k o l =
     let e : k < n = omega (arith, length-take n w) in
     let h : k < length w = omega (arith, length-take n w) in
     rw (get_or-take n w k o e) (d k o h)
 
--- what is behind the front of digits is digits
+-- what follows a prefix of digits is digits
 pub AreDigits-drop : (n : ℕ) (w : List ℕ) → AreDigits w → AreDigits (drop n w)
 AreDigits-drop n w d k o l = rw (get_or-drop n w k o) (d (n + k) o (omega (arith, length-drop n w)))
 
@@ -72,11 +72,11 @@ digits-bits (suc m) (a ∷ b ∷ c ∷ d ∷ f ∷ g ∷ l) e =
     let r = digits-bits m l (omega arith) in
     (AreDigits-cons _ _ s.0 r.0, ap (λ (t : List Bool). t ++ digit_bits (digits l)) s.1 ∙ ap (λ (t : List Bool). a ∷ b ∷ c ∷ d ∷ f ∷ g ∷ t) r.1)
 
--- the bits of digits and of those behind them
+-- the bits of digits and of those after them
 pub digit_bits-append : (a b : List ℕ) → digit_bits (a ++ b) ≡ digit_bits a ++ digit_bits b
 digit_bits-append [] b = refl
 digit_bits-append (x ∷ a) b = ap (λ (t : List Bool). bits 6 (value_of x) ++ t) (digit_bits-append a b) ∙ sym (append_assoc (bits 6 (value_of x)) (digit_bits a) (digit_bits b))
 
--- the bits of digits are those of a front and of the rest
+-- the bits of digits are those of a prefix and of the rest
 pub digit_bits-cut : (n : ℕ) (w : List ℕ) → digit_bits w ≡ digit_bits (take n w) ++ digit_bits (drop n w)
 digit_bits-cut n w = sym (ap digit_bits (take-append-drop n w)) ∙ digit_bits-append (take n w) (drop n w)

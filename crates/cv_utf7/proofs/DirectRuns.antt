@@ -1,4 +1,4 @@
--- Direct characters of a run of ASCII, of which some stand at the front of a buffer.
+-- Direct characters of a run of ASCII, of which some are at the start of a buffer.
 use Rattle.std.proofs.Common.{◌≡◌, ℕ, ◌+◌, ◌-◌, ◌*◌, ◌<◌, ◌≤◌, true, List, [], ◌∷◌, ◌++◌, length, take, drop, get_or, sym, ◌∙◌, ap, arith, append_assoc, length-take, get_or-take}
 use Rattle.std.proofs.Math.Nat.{mul-le-mul_left}
 use Rattle.std.proofs.lemmas.List.{take_at}
@@ -17,7 +17,7 @@ use Rattle.cv_utf7.specs.Utf7.{utf7_writes}
 use Rattle.cv_utf7.proofs.SetMembers.{written_lt}
 use Rattle.cv_utf7.proofs.WriteRuns.{AreDirect, are_direct, direct_output}
 
--- the characters of a run stand at the front of what it was written to, and so do the first of them
+-- the characters of a run are at the start of what it was written to, and so are the first of them
 first_of_run : (form : AsciiForm) (text ascii behind : List ℕ) (n run : ℕ) → run ≤ n → ascii ≡ units_of Byte (characters_in form text n) ++ behind → take run ascii ≡ characters_in form text run
 first_of_run form text ascii behind n run few put =
     let m : ℕ = n - run in
@@ -29,7 +29,7 @@ first_of_run form text ascii behind n run few put =
     let long : length first ≡ run = ap length (sym (each_byte first)) ∙ length-run form Byte text run ∙ omega arith in
     ap (take run) is ∙ take_at first (more ++ behind) run long
 
--- the direct characters at the front of a run were put
+-- the direct characters at the start of a run were put
 pub direct_units : (form : AsciiForm) (text before : List ℕ) (at n run : ℕ) (ascii behind after : List ℕ) → unit_size form * n ≤ length text → IsRunBelow 128 form text n → ascii ≡ units_of Byte (characters_in form text n) ++ behind
     → run ≤ n → ((i : ℕ) → i < run → is_direct (get_or ascii i 0) ≡ true) → at + run ≤ length before → after ≡ take at before ++ take run ascii ++ drop (at + run) before
     → IsWrittenRun utf7_writes write.Start form text before at run after
@@ -52,7 +52,7 @@ direct_below : (characters : List ℕ) → AreDirect characters → AreBelow 128
 direct_below [] d = tt
 direct_below (c ∷ characters) d = (written_lt c d.0, direct_below characters d.1)
 
--- the direct bytes at the front of a text were put
+-- the direct bytes at the start of a text were put
 pub direct_bytes : (text before : List ℕ) (at most run : ℕ) (after : List ℕ) → run ≤ length (take most text) → ((i : ℕ) → i < run → is_direct (get_or (take most text) i 0) ≡ true) → at + run ≤ length before → after ≡ take at before ++ take run text ++ drop (at + run) before
     → IsWrittenRun utf7_writes write.Start Byte text before at run after
 direct_bytes text before at most run after within direct fits out =

@@ -1,4 +1,4 @@
--- What stands next in a shifted sequence where too few digits for a code unit do: its end, or nothing that is well-formed.
+-- What is next in a shifted sequence if too few digits for a code unit are next: its end, or nothing that is well-formed.
 use Rattle.std.proofs.Common.{◌≡◌, ℕ, zero, suc, ◌+◌, ◌-◌, ◌*◌, ◌/◌, ◌%◌, ◌^◌, ◌<◌, ◌≤◌, Bool, true, false, List, [], ◌∷◌, ◌++◌, length, take, drop, get_or, replicate, refl, sym, ◌∙◌, ap, subst, arith, inl, inr, Some, None, zero-mul}
 use Rattle.std.proofs.lemmas.Bool.{true≢false, cases_lt, cases_order}
 use Rattle.std.proofs.lemmas.List.{append_assoc, length-take-le, take-take, take_more, get_or-take}
@@ -63,14 +63,14 @@ stop_leads p x n count value w f rest h l d k a =
     let t = AreDigits-at w k.are_digits n m in
     (let same : true ≡ false = cc in true≢false same)
 
--- each of the digits at the front is a digit
+-- each of the digits at the start is a digit
 pub front_at : (p : Bits) (x : List ℕ) (n count value k : ℕ) → IsFront p x n count value → k < n → is_digit (get_or x k 0) ≡ true
 front_at p x n count value k h l =
     let t = AreDigits-at (take n x) h.are_digits k (rw (length-take-le n x h.within) l) in
     let g : get_or (take n x) k 0 ≡ get_or x k 0 = get_or-take n x k 0 l in
     cc
 
--- a sequence ends where they do, if it does
+-- a sequence ends where its digits end, if it does
 stop_place : (p : Bits) (x : List ℕ) (n count value : ℕ) (w : List ℕ) (i : Taken) → IsFront p x n count value → n < length x → is_digit (get_or x n 0) ≡ false → (s : IsStop p w i) → Agree w x → s.n ≡ n
 stop_place p x n count value w i h l d s a = elim (cases_order s.n n) [
   | inl e ↦ e
@@ -128,7 +128,7 @@ end_item p x n count value i h l z e = record {
   front = Begins-take (n + 1) x;
 }
 
--- what stands next where zero bits are left is what the byte behind them ends
+-- what is next if zero bits are left is what the byte after them ends
 pub few_ends : (p : Bits) (x : List ℕ) (n count value used : ℕ) (r : Item) → IsFront p x n count value → n < length x → is_digit (get_or x n 0) ≡ false → value ≡ 0 → used ≡ n + 1 → IsEnding (get_or x n 0) used r → IsNext utf7_reads (read.Shifted p) x r
 few_ends p x n count value used (item.Char c m next) h l d z u e = end_item p x n count value _ h l z (subst (λ (k : ℕ). EndsAt k (get_or x n 0) (taken m (Some c) next)) u e)
 few_ends p x n count value used (item.Shift m next) h l d z u e = end_item p x n count value _ h l z (subst (λ (k : ℕ). EndsAt k (get_or x n 0) (taken m None next)) u e)
@@ -160,11 +160,11 @@ few_low p x n count value from to h l some e f a b = ill_from p x some
           omega arith)
     ])
 
--- no digit stands at the front
+-- no digit is at the start
 pub stop_ill : (p : Bits) (x : List ℕ) → 0 < length x → is_digit (get_or x 0 0) ≡ false → (p.value ≡ 0 → ⊥) → IsNext utf7_reads (read.Shifted p) x item.Ill
 stop_ill p x some d z = few_ill p x 0 p.count p.value (front_none p x p.count p.value refl refl) some d z
 
--- what stands next where no digit does and no bits are pending
+-- what is next if no digit is and no bits are pending
 pub stop_ends : (p : Bits) (x : List ℕ) (r : Item) → 0 < length x → is_digit (get_or x 0 0) ≡ false → p.value ≡ 0 → IsEnding (get_or x 0 0) 1 r → IsNext utf7_reads (read.Shifted p) x r
 stop_ends p x r some d z e = few_ends p x 0 p.count p.value 1 r (front_none p x p.count p.value refl refl) some d z (omega arith) e
 

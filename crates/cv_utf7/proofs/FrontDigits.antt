@@ -33,7 +33,7 @@ three_digits p v a b c d e f =
 cut_unit : (p n q total value over : ℕ) → p + n ≡ 16 + q → total / 2 ^ q ≡ value → total % 2 ^ q ≡ over % 2 ^ q → bits (p + n) total ≡ bits 16 value ++ bits q over
 cut_unit p n q total value over e f g = rw e (bits-split 16 q total ∙ rw (f, bits-mod q total over g) refl)
 
--- two digits behind four pending bits hold a code unit
+-- two digits after four pending bits hold a code unit
 pub unit_4 : (pending : Bits) (text : List ℕ) (u : Unit) → pending.count ≡ 4 → 2 ≤ length text → is_digit (get_or text 0 0) ≡ true → is_digit (get_or text 1 0) ≡ true → u.n ≡ 2 → u.over.count ≡ 0 → u.value ≡ pending.value * 4096 + (value_of (get_or text 0 0) * 64 + value_of (get_or text 1 0)) → IsUnit pending text u
 unit_4 pending [] u p l a b n q e = absurd (omega arith)
 unit_4 pending (x ∷ []) u p l a b n q e = absurd (omega arith)
@@ -48,7 +48,7 @@ unit_4 pending (x ∷ y ∷ text) u p l a b n q e =
       small = omega (arith, value_lt x a, value_lt y b);
     }
 
--- three digits behind two pending bits hold a code unit
+-- three digits after two pending bits hold a code unit
 pub unit_2 : (pending : Bits) (text : List ℕ) (u : Unit) → pending.count ≡ 2 → 3 ≤ length text → is_digit (get_or text 0 0) ≡ true → is_digit (get_or text 1 0) ≡ true → is_digit (get_or text 2 0) ≡ true → u.n ≡ 3 → u.over.count ≡ 4
     → u.value ≡ pending.value * 16384 + ((value_of (get_or text 0 0) * 64 + value_of (get_or text 1 0)) * 64 + value_of (get_or text 2 0)) / 16 → u.over.value ≡ ((value_of (get_or text 0 0) * 64 + value_of (get_or text 1 0)) * 64 + value_of (get_or text 2 0)) % 16 → IsUnit pending text u
 unit_2 pending [] u p l a b c n q e f = absurd (omega arith)
@@ -64,7 +64,7 @@ unit_2 pending (x ∷ y ∷ z ∷ text) u p l a b c n q e f =
       small = omega (arith, value_lt x a, value_lt y b, value_lt z c);
     }
 
--- three digits hold a code unit where no bits are pending
+-- three digits hold a code unit if no bits are pending
 pub unit_0 : (pending : Bits) (text : List ℕ) (u : Unit) → (pending.count ≡ 4 → ⊥) → (pending.count ≡ 2 → ⊥) → 3 ≤ length text → is_digit (get_or text 0 0) ≡ true → is_digit (get_or text 1 0) ≡ true → is_digit (get_or text 2 0) ≡ true → u.n ≡ 3 → u.over.count ≡ 2
     → u.value ≡ ((value_of (get_or text 0 0) * 64 + value_of (get_or text 1 0)) * 64 + value_of (get_or text 2 0)) / 4 → u.over.value ≡ ((value_of (get_or text 0 0) * 64 + value_of (get_or text 1 0)) * 64 + value_of (get_or text 2 0)) % 4 → IsUnit pending text u
 unit_0 pending [] u p r l a b c n q e f = absurd (omega arith)
@@ -95,25 +95,25 @@ none_where pending text m h e f n l k d =
     let g : get_or (take n text) m 0 ≡ get_or text m 0 = get_or-take n text m 0 (omega arith) in
     (let same : true ≡ false = cc in true≢false same)
 
--- no code unit stands where the first byte is no digit
+-- no code unit is next if the first byte is no digit
 pub none_first : (pending : Bits) (text : List ℕ) → 2 ≤ length text → is_digit (get_or text 0 0) ≡ false → NoUnit pending text
 none_first pending text h e = none_where pending text 0 (omega arith) e (omega (arith, pending.few))
 
--- no code unit stands where the second byte is no digit
+-- no code unit is next if the second byte is no digit
 pub none_second : (pending : Bits) (text : List ℕ) → 2 ≤ length text → is_digit (get_or text 1 0) ≡ false → NoUnit pending text
 none_second pending text h e = none_where pending text 1 (omega arith) e (omega (arith, pending.few))
 
--- no code unit stands where the third byte is no digit, unless four bits are pending
+-- no code unit is next if the third byte is no digit, unless four bits are pending
 pub none_third : (pending : Bits) (text : List ℕ) → (pending.count ≡ 4 → ⊥) → 3 ≤ length text → is_digit (get_or text 2 0) ≡ false → NoUnit pending text
 none_third pending text p h e = none_where pending text 2 (omega arith) e (omega (arith, pending.few, pending.even))
 
 pub ruleset units = (unit_0, unit_2, unit_4, none_short, none_shorter, none_first, none_second, none_third, value_lt)
 
--- the digits at the front
+-- the digits at the start
 pub front_none : (pending : Bits) (text : List ℕ) (count value : ℕ) → count ≡ pending.count → value ≡ pending.value → IsFront pending text 0 count value
 front_none pending text count value e f = record { within = omega arith; are_digits = no_digits; counts = omega arith; few = omega (arith, pending.few); small = rw (e, f) pending.in_range; same = rw (e, f) (append-nil (bits_of pending)) }
 
--- one digit more at the front
+-- one digit more at the start
 pub front_more : (pending : Bits) (text : List ℕ) (n m count value more next : ℕ) → NoUnit pending text → IsFront pending text n count value → n < length text → is_digit (get_or text n 0) ≡ true → m ≡ n + 1 → more ≡ count + 6 → next ≡ value * 64 + value_of (get_or text n 0) → IsFront pending text m more next
 front_more pending text n m count value more next none h l d g e f =
     let t : take m text ≡ take n text ++ get_or text n 0 ∷ [] = ap (λ (k : ℕ). take k text) g ∙ take_more text n 0 l in

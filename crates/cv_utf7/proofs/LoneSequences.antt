@@ -53,7 +53,7 @@ reads_lone text used n c b before p h l e =
     let then = reads_shift text (place (read.Shifted p.unit.over) (used + 4) (n + 1)) (set before n c) 1 read.Start (omega arith) (omega (arith, length-set before n c)) stands in
     reads_same (reads_to (reads_more first then) read.Start (used + 5) (n + 1) refl (omega arith) refl) (set (set before n c) (n + 1) b) (length-set (set before n c) (n + 1) b) (take-set (set before n c) (n + 1) b)
 
--- a lone character and the direct one behind it
+-- a lone character and the direct one after it
 pub reads_lone_direct : (text : List ℕ) (used n c : ℕ) (before : List ℕ) → IsLone text used c → used + 5 ≤ length text → n + 1 < length before → (get_or text (used + 4) 0 ≡ minus → ⊥)
     → ReadsOn text (place read.Start used n) before (place read.Start (used + 5) (n + 2)) (set (set before n c) (n + 1) (get_or text (used + 4) 0))
 reads_lone_direct text used n c before p h l e =

@@ -38,7 +38,7 @@ get-last (x ∷ a) b = get-last a b
 pub ends_no_digit : (used b : ℕ) (i : Taken) → EndsAt used b i → is_digit b ≡ false
 ends_no_digit used b i e = elim e [ inl p ↦ rw p.0 minus_is_no_digit | inr p ↦ p.1 ]
 
--- the end of a shifted sequence has its byte behind the digits
+-- the end of a shifted sequence has its byte after the digits
 pub stop_of : (pending : Bits) (w : List ℕ) (i : Taken) → ReadsEnd pending w i → IsStop pending w i
 stop_of pending w i r =
     let t : take (length r.front) w ≡ r.front = ap (take (length r.front)) r.whole ∙ take_at r.front (r.last ∷ []) (length r.front) refl in
@@ -62,7 +62,7 @@ leads-length pending w u rest h =
     let e : length (bits_of pending ++ digit_bits w) ≡ length (bits 16 u ++ rest) = ap length h.same in
     omega (arith, simp length-append at e, length-bits pending.count pending.value, length-bits 16 u, length-digits w)
 
--- one is as the other
+-- both are the same
 one_one : (p : Bits) (a b : List ℕ) (i j : Taken) → IsOne p a i → IsOne p b j → Agree a b → i ≡ j
 one_one p a b i j h k g =
     let l : length a ≡ length b = omega (arith, leads-length p a h.c (bits_of h.next) h.leads, leads-length p b k.c (bits_of k.next) k.leads, length-bits h.next.count h.next.value, length-bits k.next.count k.next.value, h.next.few, k.next.few) in
@@ -102,7 +102,7 @@ pair_pair p a b i j h k g =
     let next_is : h.next ≡ k.next = bits_of-same h.next k.next r.1 in
     h.is ∙ (let same : taken (length a) (Some h.c) (read.Shifted h.next) ≡ taken (length b) (Some k.c) (read.Shifted k.next) = cc in same) ∙ sym k.is
 
--- where a unit stands no sequence ends
+-- if a unit is next, no sequence ends
 pub leads_stop : (p : Bits) (a b : List ℕ) (u : ℕ) (rest : List Bool) (j : Taken) → Leads p a u rest → IsStop p b j → Agree a b → ⊥
 leads_stop p a b u rest j h k g =
     let l : k.n < length a = omega (arith, leads-long p a u rest h, k.few) in
@@ -226,7 +226,7 @@ uses_utf7 read.Big a i p = uses_at_start a i p
 uses_utf7 read.Little a i p = uses_at_start a i p
 uses_utf7 (read.Shifted p) a i r = uses_in_shift p a i r
 
--- UTF-7 is readable: one item stands at most, and it uses some bytes
+-- UTF-7 is readable: at most one item is next, and it uses some bytes
 pub utf7_readable : IsReadable utf7_reads
 utf7_readable = record { one_item = one_utf7; uses = uses_utf7 }
 

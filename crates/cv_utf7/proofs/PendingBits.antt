@@ -41,7 +41,7 @@ pending_is (a ∷ b ∷ c ∷ []) next e f = absurd (omega (arith, next.even))
 pending_is (a ∷ b ∷ c ∷ d ∷ []) next e f = same-pending _ next e (mod-eq_of_lt (number_lt (a ∷ b ∷ c ∷ d ∷ [])) ∙ f)
 pending_is (a ∷ b ∷ c ∷ d ∷ g ∷ l) next e f = absurd (omega (arith, next.few))
 
--- where no bits are pending their number is 0
+-- if no bits are pending, their number is 0
 pub no_value : (pending : Bits) → pending.count ≡ 0 → pending.value ≡ 0
 no_value pending e = let h : pending.value < 1 = subst (λ (k : ℕ). pending.value < 2 ^ k) e pending.in_range in omega arith
 
@@ -49,7 +49,7 @@ no_value pending e = let h : pending.value < 1 = subst (λ (k : ℕ). pending.va
 pub none_pending : (next : Bits) → next.count ≡ 0 → next ≡ pending_of []
 none_pending next e = sym (pending_is [] next (sym e) (sym (no_value next e)))
 
--- where no bits are pending their list is empty
+-- if no bits are pending, their list is empty
 pub no_bits : (pending : Bits) → pending.count ≡ 0 → bits_of pending ≡ []
 unfolding bits
 no_bits pending e = ap (λ (n : ℕ). bits n pending.value) e

@@ -43,7 +43,7 @@ all_even (c ∷ os) = elim (character_length c) [
   | inr e ↦ rw length-append (omega (arith, all_even os))
 ]
 
--- where a list begins with a shorter one
+-- if a list begins with a shorter one
 cut_list : (a b c d : List Bool) → a ++ b ≡ c ++ d → length c ≤ length a → (q : List Bool) × (a ≡ c ++ q) × (d ≡ q ++ b)
 cut_list a b [] d e l = (a, refl, sym e)
 cut_list [] b (y ∷ c) d e l = absurd (omega arith)
@@ -61,7 +61,7 @@ IsRead s text characters = IsReadFrom utf7_reads s text characters (λ next. Uni
 nothing_read : (s : ReadState) → IsRead s [] []
 nothing_read s = record { chain = []; is_chain = tt; whole = refl; gives = refl; after = tt }
 
--- an item in front of what is read
+-- an item before what is read
 front_item : (s : ReadState) (w rest : List ℕ) (i : Taken) (characters : List ℕ) → utf7_reads s w i → i.used ≡ length w → IsRead i.next rest characters → IsRead s (w ++ rest) (option_to_list i.gives ++ characters)
 front_item s w rest i characters r u h = record {
   chain = i ∷ h.chain;
@@ -145,14 +145,14 @@ may_of c e = elim (or_cases (is_set_d c) (is_blank c) e) [
   | inr b ↦ rw b (or_right (is_set_d c || is_set_o c) true refl)
 ]
 
--- a direct character in front
+-- a direct character before others
 direct_front : (c : ℕ) (rest characters : List ℕ) → is_direct c ≡ true → IsRead read.Start rest characters → IsRead read.Start (c ∷ rest) (c ∷ characters)
 direct_front c rest characters e h = front_item read.Start (c ∷ []) rest (taken 1 (Some c) read.Start) characters (may_of c e, refl) refl h
 
 none_bits : bits_of (pending_of []) ≡ []
 none_bits = pending_bits [] (omega arith) refl
 
--- `+` in front of digits
+-- `+` before digits
 plus_front : (d : ℕ) (rest characters : List ℕ) → is_digit d ≡ true → IsRead (read.Shifted (pending_of [])) (d ∷ rest) characters → IsRead read.Start (plus ∷ d ∷ rest) characters
 plus_front d rest characters e h = record {
   chain = taken 1 None (read.Shifted (pending_of [])) ∷ h.chain;

@@ -37,7 +37,7 @@ direct_characters : (bytes : List ℕ) → characters_of (direct_items bytes) �
 direct_characters [] = refl
 direct_characters (x ∷ bytes) = ap (λ (l : List ℕ). x ∷ l) (direct_characters bytes)
 
--- the front of a text is direct where each of its bytes is
+-- a prefix of a text is direct if each of its bytes is
 pub are_direct : (k : ℕ) (text : List ℕ) → ((i : ℕ) → i < k → i < length text → may_be_direct (get_or text i 0) ≡ true) → AreDirect (take k text)
 are_direct zero text h = tt
 are_direct (suc k) [] h = tt
@@ -60,7 +60,7 @@ reads_direct text used n k before after h f l d g =
       size = l;
     }
 
--- the front of what was put
+-- a prefix of what was put
 pub front_of_put : (n run most : ℕ) (before after bytes : List ℕ) → n ≤ length before → run ≤ most → take (n + most) after ≡ take n before ++ take most bytes → take (n + run) after ≡ take n before ++ take run bytes
 front_of_put n run most before after bytes h r e =
     let long : length (take n before) ≡ n = simp length-take (omega arith) in

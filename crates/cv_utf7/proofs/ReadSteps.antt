@@ -25,7 +25,7 @@ reads_none text at before h k = record {
   size = refl;
 }
 
--- reading goes on by reading
+-- a step of reading continues another
 pub reads_more : {text : List ℕ} {from middle to : ReadBlock} {before now after : List ℕ} → ReadsOn text from before middle now → ReadsOn text middle now to after → ReadsOn text from before to after
 reads_more {text = text} {from = from} {middle = middle} {before = before} p q =
     let there : drop middle.used text ≡ drop (used_bytes p.chain) (drop from.used text) = ap (λ (x : ℕ). drop x text) p.uses ∙ sym (drop-drop (used_bytes p.chain) from.used text) in
@@ -53,7 +53,7 @@ reads_to {after = after} p s used n e f g = record {
   size = p.size;
 }
 
--- what is behind the characters does not matter
+-- what follows the characters does not matter
 pub reads_same : {text : List ℕ} {from to : ReadBlock} {before now : List ℕ} → ReadsOn text from before to now → (after : List ℕ) → length after ≡ length now → take to.n after ≡ take to.n now → ReadsOn text from before to after
 reads_same p after l e = record {
   chain = p.chain;
@@ -96,7 +96,7 @@ reads_shift text at before k next h l p = record {
   size = refl;
 }
 
--- what was read from the front is a block
+-- what was read from the start is a block
 pub is_block : (text : List ℕ) (s : ReadState) (before : List ℕ) (block : ReadBlock) (after : List ℕ) → ReadsOn text (place s 0 0) before block after → IsReadBlock utf7_reads s text block after
 is_block text s before block after p = record {
   chain = p.chain;
@@ -107,7 +107,7 @@ is_block text s before block after p = record {
   next = p.next;
 }
 
--- one character more, where the item was sought in `&text[at.used..]`
+-- one character more, if the item was looked for in `&text[at.used..]`
 pub character_more : {text : List ℕ} {from at : ReadBlock} {before now : List ℕ} → ReadsOn text from before at now → at.n < length now → (c k : ℕ) (next : ReadState) → Stands utf7_reads at.next (take (length text - at.used) (drop at.used text)) (taken k (Some c) next)
     → ReadsOn text from before (place next (at.used + k) (at.n + 1)) (set now at.n c)
 character_more {text = text} {at = at} {now = now} p l c k next q = reads_more p (reads_character text at now c k next p.within l (rw rest_is at q))

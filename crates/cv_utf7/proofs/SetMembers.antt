@@ -7,7 +7,7 @@ use Rattle.std.proofs.lemmas.Bool.{cases_Bool, true≢false, agree_below_at, eqb
 use Rattle.std.proofs.lemmas.Bool.Decides.{nat_tests}
 use Rattle.cv_utf7.specs.Sets.{base64, is_digit, value_of, digit_of, may_be_direct, is_direct, is_set_d, is_set_o, is_blank}
 
--- what a list has stands at a place of it
+-- what a list contains is at an index of it
 place_lt : (xs : List ℕ) (c : ℕ) → char_set_contains xs c ≡ true → position_or_len (λ d. d == c) xs < length xs
 place_lt [] c e = absurd (true≢false (sym e))
 place_lt (x ∷ xs) c e = elim (cases_Bool (x == c)) [

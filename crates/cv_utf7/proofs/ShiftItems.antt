@@ -1,4 +1,4 @@
--- What stands next in a shifted sequence where a code unit does: a character, or one half of a pair.
+-- What is next in a shifted sequence if a code unit is: a character, or one half of a pair.
 use Rattle.std.proofs.Common.{◌≡◌, ℕ, zero, suc, ◌+◌, ◌*◌, ◌%◌, ◌<◌, ◌≤◌, Bool, List, [], ◌∷◌, ◌++◌, length, take, drop, sym, ◌∙◌, ap, arith, inl, inr, Some}
 use Rattle.std.proofs.lemmas.Bool.{cases_lt}
 use Rattle.std.proofs.lemmas.List.{append_assoc, length-take-le, length-drop}
@@ -41,7 +41,7 @@ unit_leads p x u h = record { are_digits = h.are_digits; same = h.same }
 pub unit_length : (p : Bits) (x : List ℕ) (u : Unit) → IsUnit p x u → p.count + 6 * u.n ≡ 16 + u.over.count
 unit_length p x u h = omega (arith, leads-length p (take u.n x) u.value (bits_of u.over) (unit_leads p x u h), length-take-le u.n x h.within, length-bits u.over.count u.over.value)
 
--- where it stands each character begins with it
+-- if it is next, each character begins with it
 pub unit_of : (p : Bits) (x : List ℕ) (u : Unit) (w : List ℕ) (f : ℕ) (rest : List Bool) → IsUnit p x u → Leads p w f rest → Agree w x → (u.n ≤ length w) × (f % 65536 ≡ u.value % 65536) × (rest ≡ bits_of u.over ++ digit_bits (drop u.n w))
 unit_of p x u w f rest h k a =
     let l : u.n ≤ length w = omega (arith, leads-long p w f rest k, unit_length p x u h, u.over.few) in
@@ -53,7 +53,7 @@ unit_of p x u w f rest h k a =
 pub unit_no_stop : (p : Bits) (x : List ℕ) (u : Unit) (w : List ℕ) (i : Taken) → IsUnit p x u → IsStop p w i → Agree w x → ⊥
 unit_no_stop p x u w i h s a = leads_stop p (take u.n x) w u.value (bits_of u.over) i (unit_leads p x u h) s (agree-front w x a u.n)
 
--- a code unit stands in no empty text
+-- no code unit is next in an empty text
 pub unit_some : (p : Bits) (x : List ℕ) (u : Unit) → IsUnit p x u → 0 < length x
 unit_some p x u h = omega (arith, unit_length p x u h, p.few, h.within)
 
@@ -61,7 +61,7 @@ unit_some p x u h = omega (arith, unit_length p x u h, p.few, h.within)
 pub one_in_range : (c : ℕ) (u : ℕ) → c % 65536 ≡ u % 65536 → IsScalar c → c < 0x10000 → u < 0x10000 → 0xD800 ≤ u → u < 0xE000 → ⊥
 one_in_range c u e s l m a b = omega (arith, s.1)
 
--- a code unit that is no surrogate stands as its character
+-- a code unit that is not a surrogate is read as its character
 pub char_stands : (p : Bits) (x : List ℕ) (u : Unit) (c n : ℕ) (next : Bits) → IsUnit p x u → c ≡ u.value → n ≡ u.n → next ≡ u.over → ((0xD800 ≤ u.value) × (u.value < 0xE000) → ⊥) → Stands utf7_reads (read.Shifted p) x (taken n (Some c) (read.Shifted next))
 char_stands p x u c n next h e f g s =
     let l : length (take u.n x) ≡ u.n = length-take-le u.n x h.within in
@@ -90,20 +90,20 @@ take-two (suc a) zero [] = ap (λ (n : ℕ). let l : List ℕ = [] in take n l) 
 take-two (suc a) (suc b) [] = ap (λ (n : ℕ). let l : List ℕ = [] in take n l) (let e : suc a + suc b ≡ suc (a + suc b) = omega arith in e)
 take-two (suc a) b (y ∷ x) = ap (λ (n : ℕ). take n (y ∷ x)) (let e : suc a + b ≡ suc (a + b) = omega arith in e) ∙ ap (λ (t : List ℕ). y ∷ t) (take-two a b x)
 
--- behind the code unit of a high surrogate a pair goes on with its low one
+-- after the code unit of a high surrogate a pair continues with its low one
 pub pair_after : (p : Bits) (x : List ℕ) (u : Unit) (w : List ℕ) (i : Taken) → IsUnit p x u → (m : IsPair p w i) → Agree w x → (high_unit m.c ≡ u.value) × Leads u.over (drop u.n w) (low_unit m.c) (bits_of m.next) × Agree (drop u.n w) (drop u.n x)
 pair_after p x u w i h m a =
     let e = unit_of p x u w (high_unit m.c) (bits 16 (low_unit m.c) ++ bits_of m.next) h m.leads a in
     (omega (arith, e.1, m.in_range, m.large, h.small), record { are_digits = AreDigits-drop u.n w m.leads.are_digits; same = sym e.2 }, agree-drop w x a u.n)
 
--- a surrogate is ill-formed where no low one can follow
+-- a surrogate is ill-formed if no low one can follow
 pub surrogate_ill : (p : Bits) (x : List ℕ) (u : Unit) → IsUnit p x u → 0xD800 ≤ u.value → u.value < 0xE000 → ((w : List ℕ) (c : ℕ) (rest : List Bool) → c < 0x110000 → 0x10000 ≤ c → high_unit c ≡ u.value → Leads u.over w (low_unit c) rest → Agree w (drop u.n x) → ⊥) → IsNext utf7_reads (read.Shifted p) x item.Ill
 surrogate_ill p x u h a b pair = ill_from p x (unit_some p x u h)
     (λ w i m g. one_in_range m.c u.value (unit_of p x u w m.c (bits_of m.next) h m.leads g).1 m.scalar m.small h.small a b)
     (λ w i m g. (let e = pair_after p x u w i h m g in pair (drop u.n w) m.c (bits_of m.next) m.in_range m.large e.0 e.1 e.2))
     (λ w i m g. unit_no_stop p x u w i h m g)
 
--- a surrogate that is no high one is ill-formed where it comes first
+-- a surrogate that is no high one is ill-formed if it comes first
 pub low_first : (p : Bits) (x : List ℕ) (u : Unit) → IsUnit p x u → IsSurrogate u.value → (IsHighUnit u.value → ⊥)
     → IsNext utf7_reads (read.Shifted p) x item.Ill
 low_first p x u h s n = surrogate_ill p x u h s.0 s.1 (λ w c rest i l e k g. n (omega arith))
@@ -114,7 +114,7 @@ pub no_low : (p : Bits) (x : List ℕ) (u v : Unit) → IsUnit p x u → IsHighU
 no_low p x u v h a k n = surrogate_ill p x u h (omega arith) (omega arith) (λ w c rest i l e m g.
     (let f = (unit_of u.over (drop u.n x) v w (low_unit c) rest k m g).1 in n (omega (arith, k.small))))
 
--- a high surrogate and a low one stand as their character
+-- a high surrogate and a low one are read as their character
 pub pair_stands : (p : Bits) (x : List ℕ) (u v : Unit) (c n : ℕ) (next : Bits) → IsUnit p x u → IsUnit u.over (drop u.n x) v
     → IsHighUnit u.value → IsLowUnit v.value → IsJoined u.value v.value c → n ≡ u.n + v.n → next ≡ v.over → Stands utf7_reads (read.Shifted p) x (taken n (Some c) (read.Shifted next))
 pair_stands p x u v c n next h k a b f g j =

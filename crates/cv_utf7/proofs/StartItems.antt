@@ -1,4 +1,4 @@
--- What stands next outside a shifted sequence.
+-- What is next outside a shifted sequence.
 use Rattle.std.proofs.Common.{◌≡◌, ℕ, ◌⊎◌, ◌<◌, ◌≤◌, true, false, List, [], ◌∷◌, length, get_or, refl, sym, ◌∙◌, ap, arith, inl, inr, Some, None}
 use Rattle.std.proofs.lemmas.Bool.{true≢false}
 use Rattle.cv_base.specs.Items.{Taken, taken, Begins, Stands, IsNext}
@@ -27,7 +27,7 @@ fits (a ∷ b ∷ []) (x ∷ y ∷ xs) i r f n =
 ill_from : (x : List ℕ) → 0 < length x → ((w : List ℕ) (i : Taken) → ReadsAtStart w i → (Begins w x ⊎ Begins x w) → ⊥) → IsNext utf7_reads read.Start x item.Ill
 ill_from x n never = (n, λ i p. never p.bytes i p.is_item (inl p.front), λ p. never p.bytes p.item p.is_item (inr p.front))
 
--- a direct byte stands as its character
+-- a direct byte is read as its character
 pub start_direct : (x : List ℕ) (c : ℕ) → c ≡ get_or x 0 0 → 0 < length x → may_be_direct (get_or x 0 0) ≡ true → Stands utf7_reads read.Start x (taken 1 (Some c) read.Start)
 start_direct [] c e n d = absurd (omega arith)
 start_direct (a ∷ x) c e n d = record { bytes = a ∷ []; is_item = (d, ap (λ (b : ℕ). taken 1 (Some b) read.Start) e); front = (refl, tt) }
@@ -47,7 +47,7 @@ start_short [] n l e = absurd (omega arith)
 start_short (a ∷ b ∷ x) n l e = absurd (omega arith)
 start_short (a ∷ []) n l e = (n, λ i p. none_short a e p.bytes i p.is_item p.front, record { bytes = plus ∷ minus ∷ []; item = taken 2 (Some plus) read.Start; is_item = inl (refl, refl, refl); front = (e, tt) })
 
--- `+-` stands as `+`
+-- `+-` is read as `+`
 pub start_plus : (x : List ℕ) (c : ℕ) → c ≡ plus → 2 ≤ length x → get_or x 0 0 ≡ plus → get_or x 1 0 ≡ minus → Stands utf7_reads read.Start x (taken 2 (Some c) read.Start)
 start_plus [] c q n e f = absurd (omega arith)
 start_plus (a ∷ []) c q n e f = absurd (omega arith)
@@ -74,11 +74,11 @@ same_next s t to back x item.Incomplete h = (h.0, λ i p. h.1 i (record { bytes 
 same_next s t to back x item.Ill h = (h.0, λ i p. h.1 i (record { bytes = p.bytes; is_item = back p.bytes i p.is_item; front = p.front }), λ p. h.2 (record { bytes = p.bytes; item = p.item; is_item = back p.bytes p.item p.is_item; front = p.front }))
 same_next s t to back x item.End h = h
 
--- what stands next at a state that UTF-7 does not use, as at the start
+-- a state that UTF-7 does not use reads as the start does
 pub next_big : (x : List ℕ) (r : Item) → IsNext utf7_reads read.Start x r → IsNext utf7_reads read.Big x r
 next_big = same_next read.Start read.Big (λ w i p. p) (λ w i p. p)
 
--- the same at the other
+-- the same for the other such state
 pub next_little : (x : List ℕ) (r : Item) → IsNext utf7_reads read.Start x r → IsNext utf7_reads read.Little x r
 next_little = same_next read.Start read.Little (λ w i p. p) (λ w i p. p)
 

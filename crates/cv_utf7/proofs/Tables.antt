@@ -1,4 +1,4 @@
--- The tables are held against the sets at each byte, by computing.
+-- The tables are compared with the sets at each byte, by computing.
 use Rattle.std.proofs.Common.{◌≡◌, ℕ, ◌<◌, ◌≤◌, Bool, true, false, ◌||◌, not, nat_eq, nat_lt, get_or, refl, sym, ◌∙◌, arith, inl, inr}
 use Rattle.std.proofs.lemmas.Bool.{agree_below_at, cases_Bool, le-ltb, lt-ltb, eqb-true}
 use Rattle.cv_utf7.specs.Sets.{base64, is_digit, value_of, digit_of, may_be_direct, is_direct, is_set_d, is_set_o, is_blank}

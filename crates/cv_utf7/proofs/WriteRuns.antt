@@ -71,13 +71,13 @@ writes_direct characters k at r many before after h w f d s b l =
       size = l;
     }
 
--- the front of a list that has the numbers of a part of another
+-- a prefix of a list that has the numbers of a part of another
 same_front : (n j : ℕ) (a b : List ℕ) → n ≤ length a → j + n ≤ length b → ((k : ℕ) → k < n → get_or a k 0 ≡ get_or b (j + k) 0) → take n a ≡ take n (drop j b)
 same_front n j a b h l e = ext_get_or 0 (take n a) (take n (drop j b)) (simp (length-take, length-drop) (omega arith)) (λ k m. (
     let s : k < n = omega (arith, length-take n a) in
     get_or-take n a k 0 s ∙ e k s ∙ sym (get_or-drop j b k 0) ∙ sym (get_or-take n (drop j b) k 0 s)))
 
--- the direct characters at the front of sixteen are written where all sixteen were put
+-- the direct characters at the start of sixteen are written if all sixteen were put
 pub writes_run : (characters bytes : List ℕ) (n at run : ℕ) (before after : List ℕ) → length bytes ≡ 16 → ((i : ℕ) → i < 16 → is_direct (get_or bytes i 0) ≡ true → get_or bytes i 0 ≡ get_or characters (n + i) 0) → n + 16 ≤ length characters → at + 16 ≤ length before
     → run ≤ 16 → ((i : ℕ) → i < run → is_direct (get_or bytes i 0) ≡ true) → after ≡ take at before ++ take 16 bytes ++ drop (at + 16) before → WritesOn characters (place write.Start n at) before (place write.Start (n + run) (at + run)) after
 writes_run characters bytes n at run before after sixteen narrowed left room few direct put =

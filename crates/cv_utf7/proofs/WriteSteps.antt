@@ -54,7 +54,7 @@ shifts_some p c = elim (cases_Bool (is_direct c)) [
   | inr e ↦ rw e (some_digits (bits_of p ++ character_bits c) (rw length-append (omega (arith, character_length c))))
 ]
 
--- they are one at least
+-- there is at least one
 pub bytes_some : (t : WriteState) (c : ℕ) → 0 < length (bytes_in t c).0
 unfolding bytes_in
 bytes_some write.Start c = starts_some c
@@ -67,13 +67,13 @@ one_written t c =
     let e : written utf7_writes t (Some c) ≡ output (bytes_in t c).0 0 (bytes_in t c).1 = ap (put_or (substituted t (utf7_writes t question))) (all_written t c) in
     rw e (rw (append-nil, add-zero) refl)
 
--- what is the same from a place on is so from a later one
+-- what is the same from one place on is the same from a later one
 pub later : (i j : ℕ) (a b : List ℕ) → i ≤ j → drop i a ≡ drop i b → drop j a ≡ drop j b
 later i j a b h e =
     let place : i + (j - i) ≡ j = omega arith in
     ap (λ (k : ℕ). drop k a) (sym place) ∙ sym (drop-drop (j - i) i a) ∙ ap (drop (j - i)) e ∙ drop-drop (j - i) i b ∙ ap (λ (k : ℕ). drop k b) place
 
--- writing goes on by writing
+-- a step of writing continues another
 pub writes_more : {characters : List ℕ} {from middle to : Reached} {before now after : List ℕ} → WritesOn characters from before middle now → WritesOn characters middle now to after → WritesOn characters from before to after
 writes_more {characters = characters} {from = from} {middle = middle} {to = to} {before = before} {now = now} p q =
     let first = output_for utf7_writes from.next p.run in
@@ -150,7 +150,7 @@ never_full t c at before after h p =
     let q = subst (λ (w : Option (List ℕ × WriteState)). PutsAt w before at NoRoom after) (all_written t c) p in
     omega (arith, q.full, bytes_most t c)
 
--- no character lacks
+-- the target has every character
 pub never_lacks : (t : WriteState) (c at : ℕ) (before after : List ℕ) → PutsAt (utf7_writes t c) before at Lacks after → ⊥
 never_lacks t c at before after p = subst (λ (w : Option (List ℕ × WriteState)). PutsAt w before at Lacks after) (all_written t c) p
 
@@ -172,7 +172,7 @@ is_block characters t at before to after block p e w c n =
       };
     }
 
--- a character is put where there is room
+-- a character is put if there is room
 pub always_put : (t : WriteState) (c at : ℕ) (before : List ℕ) (put : Put) (after : List ℕ) → at + 8 ≤ length before → PutsAt (utf7_writes t c) before at put after → (put ≡ NoRoom) ⊎ (put ≡ Lacks) → ⊥
 always_put t c at before put after h p o = elim o [
   | inl e ↦ never_full t c at before after h (subst (λ (r : Put). PutsAt (utf7_writes t c) before at r after) e p)

@@ -53,7 +53,7 @@ digits_at_most n (a ∷ b ∷ c ∷ d ∷ f ∷ []) h = omega arith
 digits_at_most zero (a ∷ b ∷ c ∷ d ∷ f ∷ g ∷ l) h = absurd (omega arith)
 digits_at_most (suc n) (a ∷ b ∷ c ∷ d ∷ f ∷ g ∷ l) h = omega (arith, digits_at_most n l (omega arith))
 
--- the closing digit is one at most
+-- there is at most one closing digit
 pub last_digit_long : (p : Bits) → length (last_digit (bits_of p)) ≤ 1
 last_digit_long p = digits_at_most 1 (bits_of p ++ replicate 5 false) (rw length-append (omega (arith, length-bits p.count p.value, p.few)))
 

@@ -5,7 +5,7 @@ use Rattle.cv_base.specs.Units.{units_of}
 use Rattle.cv_base.specs.declared.state.Bits.{Bits}
 use Rattle.cv_utf7.specs.Sets.{is_digit, value_of, digit_of}
 
--- so many low bits of a number
+-- the lowest bits of a number, as many as given
 unfoldable pub bits : ℕ → ℕ → List Bool
 bits zero n = []
 bits (suc count) n = bits count (n / 2) ++ (n % 2 == 1) ∷ []

@@ -3,7 +3,7 @@ use Rattle.std.specs.Prelude.{ℕ, Bool, ◌||◌, ◌==◌, List, codes}
 use Rattle.std.specs.Char.{is_ascii_alphanumeric, char_set_contains}
 use Rattle.std.specs.List.{slice_index, position_or_len}
 
--- set D, the direct characters: letters, figures, and nine signs
+-- set D, the direct characters: letters, digits, and nine signs
 unfoldable pub is_set_d : ℕ → Bool
 is_set_d c = is_ascii_alphanumeric c || char_set_contains (codes "'(),-./:?") c
 
@@ -15,11 +15,11 @@ is_set_o c = char_set_contains (codes "!\"#$%&*;<=>@[]^_`{|}") c
 unfoldable pub is_blank : ℕ → Bool
 is_blank c = char_set_contains (codes " \t\r\n") c
 
--- what may stand for itself in a text that is read (rules 1 and 3)
+-- what may be itself in a text that is read (rules 1 and 3)
 unfoldable pub may_be_direct : ℕ → Bool
 may_be_direct c = is_set_d c || is_set_o c || is_blank c
 
--- what stands for itself in a text that is written: no optional character does
+-- what is itself in a text that is written: no optional character is
 unfoldable pub is_direct : ℕ → Bool
 is_direct c = is_set_d c || is_blank c
 

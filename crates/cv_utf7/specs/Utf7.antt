@@ -1,5 +1,5 @@
 -- UTF-7 (RFC 2152, "UTF-7 Definition", rules 1 to 3).
--- `pending_of` makes pending bits of two or four bits, or of none: they are the bits that it is given (`laws::pending_bits`).
+-- `pending_of` makes pending bits from two or four bits, or from none: they are the bits that it is given (`laws::pending_bits`).
 use Rattle.std.specs.Prelude.{◌≡◌, ℕ, ◌<◌, Bool, true, false, ◌⊎◌, List, [], ◌∷◌, ◌++◌, length, Option, Some, None, ◌==◌, if◌then◌else◌, replicate}
 use Rattle.cv_base.specs.Scalars.{IsScalar}
 use Rattle.cv_base.specs.Items.{Taken, taken}
@@ -37,7 +37,7 @@ pub record ReadsCharacter (pending : Bits) (bytes : List ℕ) (item : Taken) : T
   pub same_bits : bits_of pending ++ digit_bits bytes ≡ character_bits c ++ bits_of next
   pub is : item ≡ taken (length bytes) (Some c) (read.Shifted next)
 
--- What ends a shifted sequence: `-`, which is swallowed, or another direct byte that is no digit, which is its character (rule 2).
+-- What ends a shifted sequence: `-`, which gives no character, or another direct byte that is not a digit, which is its character (rule 2).
 abbrev pub EndsAt : ℕ → ℕ → Taken → Type 0
 EndsAt used b item =
     ((b ≡ minus) × (item ≡ taken used None read.Start))
@@ -63,7 +63,7 @@ utf7_reads other bytes item = ReadsAtStart bytes item
 abbrev pub written_bits : List Bool → List ℕ × WriteState
 written_bits all = (digits all, write.Shifted (pending_of (over all)))
 
--- the closing digit: the pending bits followed by zero bits, or no digit where none are pending
+-- the closing digit: the pending bits followed by zero bits, or no digit if none are pending
 abbrev pub last_digit : List Bool → List ℕ
 last_digit few = digits (few ++ replicate 5 false)
 

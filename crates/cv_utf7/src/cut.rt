@@ -6,7 +6,7 @@ use crate::sets::digit_for;
 use cv_base::{Bits, Scalar};
 use cv_block::{first_of, second_of};
 
-/// The digits of a character behind pending bits: how many there are, the number that they spell, and the bits over.
+/// The digits of a character after pending bits: how many there are, the number that they spell, and the bits over.
 #[derive(Clone, Copy)]
 pub(crate) struct Cut {
     pub(crate) n: usize,
@@ -56,7 +56,7 @@ impl Cut {
         }
     }
 
-    /// The digits of a code unit behind pending bits, as many as these, and the bits over.
+    /// The digits of a code unit after pending bits, as many as these, and the bits over.
     #[inline(always)]
     #[tactic(auto, using(crate::proofs::Cuts::cut_unit))]
     pub(crate) fn of_unit(pending: Bits, unit: u32, n: usize, over: u8) -> Cut

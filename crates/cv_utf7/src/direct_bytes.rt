@@ -1,11 +1,11 @@
-//! The bytes that are direct, as sets against which many bytes are held at once.
+//! The bytes that are direct, as sets against which many bytes are tested at once.
 ghost use Rattle.std.specs.Prelude.{◌≡◌, ◌+◌, ◌≤◌, ◌<◌, ℕ, true, length, get_or};
 ghost use Rattle.cv_utf7.specs.Sets.{may_be_direct, is_direct};
 
 use cv_byte_sets::{front_in, run_in};
 
 // A set has sixteen entries, one for each lower half of a byte, with a bit for each higher half. So entry 9 of `MAY_STAND`, 0xFD, has the
-// tab (09), `)` (29), `9`, `I`, `Y`, `i` and `y`, and lacks 19, a control; entry 11, 0xF8, has `;`, `K`, `[`, `k` and `{`, and lacks
+// tab (09), `)` (29), `9`, `I`, `Y`, `i` and `y`, but not 19, a control; entry 11, 0xF8, has `;`, `K`, `[`, `k` and `{`, and lacks
 // `+` (2B).
 
 // What may be direct in a text that is read.
@@ -32,7 +32,7 @@ pub(crate) fn direct_run(input: &[u8], from: usize) -> usize
     run_in(MAY_STAND, input, from)
 }
 
-/// How many bytes at the front are written as themselves, sixteen at most.
+/// How many bytes at the start are written as themselves, sixteen at most.
 #[inline(always)]
 pub(crate) fn written_run(bytes: &[u8]) -> usize
     requires many { 16 ≤ length bytes.now }
@@ -42,7 +42,7 @@ pub(crate) fn written_run(bytes: &[u8]) -> usize
     run_in(STANDS, bytes, 0)
 }
 
-/// How many bytes at the front are written as themselves, as far as whole sixteens of them go.
+/// How many bytes at the start are written as themselves, in whole blocks of sixteen.
 #[inline(always)]
 pub(crate) fn written_direct(bytes: &[u8]) -> usize
     ensures within { result ≤ length bytes.now }

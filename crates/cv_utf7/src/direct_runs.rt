@@ -1,4 +1,4 @@
-//! Runs of direct characters out of a text in which ASCII stands for itself.
+//! Runs of direct characters out of a text in which each ASCII character is one unit.
 ghost use Rattle.std.specs.Prelude.{◌≤◌, length};
 ghost use Rattle.cv_base.specs.Blocks.{IsWrittenRun};
 ghost use Rattle.cv_base.specs.declared.ascii_form.AsciiForm.{AsciiForm};
@@ -11,10 +11,10 @@ use cv_base::AsciiForm;
 use cv_block::take_ascii_run;
 use cv_byte_sets::SIXTEEN;
 
-/// How many units of more than one byte are made bytes at once.
+/// How many units of more than one byte are converted to bytes at once.
 const MANY_UNITS: usize = 64;
 
-/// Writes the direct bytes at the front of a text, as far as there is room, and answers how many they are.
+/// Writes the direct bytes at the start of a text, as far as there is room, and answers how many they are.
 #[inline(always)]
 fn write_direct_bytes(text: &[u8], out: &mut [u8], at: usize) -> usize
     requires { at ≤ length out.old }
@@ -23,7 +23,7 @@ fn write_direct_bytes(text: &[u8], out: &mut [u8], at: usize) -> usize
 {
     let most = text.len().min(out.len() - at);
     let run = written_direct(&text[..most]);
-    // Fewer go sooner by a block.
+    // Fewer are faster by a block.
     if run < SIXTEEN {
         return 0;
     }
@@ -31,7 +31,7 @@ fn write_direct_bytes(text: &[u8], out: &mut [u8], at: usize) -> usize
     run
 }
 
-/// Writes the direct characters at the front of a text whose ASCII has this form, as far as there is room, and answers how many they
+/// Writes the direct characters at the start of a text whose ASCII has this form, as far as there is room, and answers how many they
 /// are.
 #[inline(always)]
 fn write_direct_units(form: AsciiForm, text: &[u8], out: &mut [u8], at: usize) -> usize
@@ -41,7 +41,7 @@ fn write_direct_units(form: AsciiForm, text: &[u8], out: &mut [u8], at: usize) -
     let mut ascii = [0; MANY_UNITS];
     let n = take_ascii_run(form, AsciiForm::Byte, text, &mut ascii, 0);
     let run = written_direct(&ascii).min(n).min(out.len() - at);
-    // Fewer go sooner by a block.
+    // Fewer are faster by a block.
     if run < SIXTEEN {
         return 0;
     }
@@ -49,8 +49,8 @@ fn write_direct_units(form: AsciiForm, text: &[u8], out: &mut [u8], at: usize) -
     run
 }
 
-/// Writes the direct characters at the front of a text whose ASCII has this form, as far as there is room, and answers how many they
-/// are. They may be none where they are few.
+/// Writes the direct characters at the start of a text whose ASCII has this form, as far as there is room, and answers how many they
+/// are. It may write none if they are few.
 pub(crate) fn write_direct_run(form: AsciiForm, text: &[u8], out: &mut [u8], at: usize) -> usize
     requires { at ≤ length out.old }
     ensures { IsWrittenRun utf7_writes WriteState.Start form text.now out.old at result out.new }

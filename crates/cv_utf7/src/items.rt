@@ -1,4 +1,4 @@
-//! What stands next in a text.
+//! The next item of a text.
 ghost use Rattle.std.specs.Prelude.{◌≡◌, false, drop, ◌+◌, ◌<◌, ◌≤◌, length, get_or};
 ghost use Rattle.cv_utf7.specs.Sets.{is_digit};
 ghost use Rattle.cv_base.specs.Items.{IsNext};
@@ -14,7 +14,7 @@ use cv_block::{is_high, is_low, is_surrogate, joined};
 // No bits are pending.
 pub(crate) const NONE: Bits = Bits { count: 0, value: 0 };
 
-/// What stands next outside a shifted sequence.
+/// What is next outside a shifted sequence.
 #[inline]
 #[tactic(auto, using(crate::proofs::StartItems::starts))]
 pub(crate) fn item_at_start(input: &[u8]) -> Item
@@ -53,7 +53,7 @@ pub(crate) fn item_at_start(input: &[u8]) -> Item
     }
 }
 
-/// What stands next in a shifted sequence.
+/// What is next in a shifted sequence.
 #[inline(always)]
 #[tactic(auto, using(crate::proofs::ShiftItems::shifts))]
 pub(crate) fn item_in_shift(pending: Bits, input: &[u8]) -> Item
@@ -82,7 +82,7 @@ pub(crate) fn item_in_shift(pending: Bits, input: &[u8]) -> Item
     }
 }
 
-/// What stands next where no digit does: the end of the sequence, if no bits are left.
+/// What is next if no digit is: the end of the sequence, if no bits are left.
 #[inline(always)]
 #[tactic(auto, using(crate::proofs::FewDigits::stops))]
 fn item_of_end(pending: Bits, input: &[u8]) -> Item
@@ -96,7 +96,7 @@ fn item_of_end(pending: Bits, input: &[u8]) -> Item
     ending(input[0], 1)
 }
 
-/// What stands next where a surrogate does: a pair, if it is a high one and a low one follows.
+/// What is next if a surrogate is: a pair, if it is a high one and a low one follows.
 #[inline(always)]
 #[tactic(auto, using(crate::proofs::ShiftItems::pairs))]
 fn item_of_surrogate(pending: Bits, input: &[u8], high: Unit) -> Item
@@ -121,7 +121,7 @@ fn item_of_surrogate(pending: Bits, input: &[u8], high: Unit) -> Item
     }
 }
 
-/// What stands next where a high surrogate does, and then too few digits for a code unit.
+/// What is next if a high surrogate is, and then too few digits for a code unit.
 #[tactic(auto, using(crate::proofs::GrownDigits::halves))]
 fn item_of_front(pending: Bits, input: &[u8], high: Unit) -> Item
     requires unit { IsUnit pending input.now high }
@@ -144,7 +144,7 @@ fn item_of_front(pending: Bits, input: &[u8], high: Unit) -> Item
     Item::Incomplete
 }
 
-/// What stands next where there are too few digits for a code unit: the end of the sequence, or the front of a character.
+/// What is next if there are too few digits for a code unit: the end of the sequence, or a prefix of a character.
 #[tactic(auto, using(crate::proofs::GrownDigits::fews))]
 fn item_of_few(pending: Bits, input: &[u8]) -> Item
     requires few { NoUnit pending input.now }

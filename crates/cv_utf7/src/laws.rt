@@ -5,7 +5,7 @@ ghost use Rattle.cv_utf7.specs.BitLists.{bits_of};
 ghost use Rattle.cv_utf7.specs.Private.PendingBits.{pending_of};
 ghost use Rattle.cv_utf7.specs.Utf7.{utf7_reads, utf7_writes, utf7_closes};
 
-/// Pending bits that are made of two or four bits, or of none, are these bits.
+/// Pending bits that are made from two or four bits, or from none, are these bits.
 #[tactic(auto, using(crate::proofs::PendingBits::pending_bits))]
 pub fn pending_bits()
     ensures { (few : List Bool) → length few ≤ 4 → length few % 2 ≡ 0

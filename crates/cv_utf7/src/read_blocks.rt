@@ -8,7 +8,7 @@ use crate::utf7::Utf7;
 use cv_base::{Codec, Item, ReadBlock, ReadState, Scalar};
 use cv_byte_sets::SIXTEEN;
 
-/// Reads direct characters, and sequences between them, as far as it goes.
+/// Reads direct characters, and the sequences between them, as far as possible.
 #[inline(always)]
 fn read_outside(input: &[u8], start: usize, buffer: &mut [Scalar], n: usize) -> ReadBlock
     requires within { start ≤ length input.now }
@@ -47,7 +47,7 @@ fn read_outside(input: &[u8], start: usize, buffer: &mut [Scalar], n: usize) -> 
     }
 }
 
-/// Reads on from a block, as far as it goes at once.
+/// Continues a block, as far as one step goes.
 #[inline(always)]
 pub(crate) fn read_on(input: &[u8], buffer: &mut [Scalar], from: ReadBlock) -> ReadBlock
     requires within { from.used ≤ length input.now }
@@ -61,7 +61,7 @@ pub(crate) fn read_on(input: &[u8], buffer: &mut [Scalar], from: ReadBlock) -> R
     }
 }
 
-/// Reads the item that stands next, if there is one and there is a place for its character.
+/// Reads the item that is next, if there is one and there is a place for its character.
 #[inline(never)]
 pub(crate) fn read_one(input: &[u8], buffer: &mut [Scalar], from: ReadBlock) -> Option<ReadBlock>
     requires within { from.used ≤ length input.now }

@@ -8,7 +8,7 @@ use cv_base::{ReadState, Scalar};
 use cv_byte_sets::SIXTEEN;
 use std::simd::prelude::*;
 
-/// How many places the character of a shifted sequence takes with the one behind it.
+/// How many places in the buffer the character of a shifted sequence takes with the one after it.
 pub(crate) const LONE_PLACES: usize = 2;
 
 /// Reads direct characters, and answers how many they are.
@@ -42,7 +42,7 @@ fn put_many(input: &[u8], at: usize, buffer: &mut [Scalar], n: usize)
     }
 }
 
-/// Puts so many bytes into the buffer.
+/// Puts this many bytes into the buffer.
 #[inline(always)]
 fn put_rest(input: &[u8], at: usize, many: usize, buffer: &mut [Scalar], n: usize)
     requires within { at + many ≤ length input.now }
@@ -54,7 +54,7 @@ fn put_rest(input: &[u8], at: usize, many: usize, buffer: &mut [Scalar], n: usiz
     }
 }
 
-/// Reads the direct characters of a run, as many as are put at once. Answers how many they are, and whether the run may go on.
+/// Reads the direct characters of a run, as many as are put at once. Answers how many they are, and whether the run may continue.
 #[inline(always)]
 pub(crate) fn read_run(input: &[u8], used: usize, buffer: &mut [Scalar], n: usize) -> (usize, bool)
     requires many { 16 ≤ length input.now }

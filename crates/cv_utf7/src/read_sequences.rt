@@ -19,7 +19,7 @@ fn ends_sequence(b: u8) -> bool
     may_stand(b) && digit(b).is_none()
 }
 
-/// The character of a shifted sequence that has no other, if one stands here with the byte that ends it.
+/// The character of a shifted sequence that has only one, if such a sequence is here with the byte that ends it.
 #[inline(always)]
 fn lone(input: &[u8], at: usize) -> Option<Scalar>
     requires { at + 5 ≤ length input.now }
@@ -42,7 +42,7 @@ fn lone(input: &[u8], at: usize) -> Option<Scalar>
 }
 
 /// Reads a shifted sequence of one character, and the direct character that ends it if `-` does not.
-/// Answers how many characters they are: none if no such sequence stands here.
+/// Answers how many characters they are: none if no such sequence is here.
 #[inline(always)]
 #[tactic(auto, using(crate::proofs::LoneSequences::lone_reads))]
 pub(crate) fn read_lone(input: &[u8], used: usize, buffer: &mut [Scalar], n: usize) -> usize

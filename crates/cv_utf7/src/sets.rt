@@ -26,7 +26,7 @@ static VALUES: [u8; 256] = [
     64, 64, 64, 64, 64, 64, 64, 64, 64, 64, 64, 64, 64, 64, 64, 64,
 ];
 
-// For each ASCII character: 1 where it may be direct, 3 where it is written so too.
+// For each ASCII character: 1 if it may be direct, 3 if it is also written so.
 #[rattlefmt::skip]
 static DIRECT: [u8; 128] = [
     0, 0, 0, 0, 0, 0, 0, 0, 0, 3, 3, 0, 0, 3, 0, 0,
@@ -58,7 +58,7 @@ pub(crate) fn digit_for(value: u32) -> u8
     DIGITS[value as usize]
 }
 
-/// Whether the byte may stand for itself in a text that is read.
+/// Whether the byte may be itself in a text that is read.
 #[inline(always)]
 pub(crate) fn may_stand(b: u8) -> bool
     ensures { result ≡ may_be_direct b }

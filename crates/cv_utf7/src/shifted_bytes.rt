@@ -70,7 +70,7 @@ fn put_digits(cut: Cut, out: &mut [u8], at: usize) -> Put
     wrote
 }
 
-/// Writes the digits of a code unit. Each count of pending bits has code of its own, in which the count of digits is known.
+/// Writes the digits of a code unit. Each count of pending bits has a branch of its own, in which the count of digits is known.
 #[inline(always)]
 fn put_unit(pending: Bits, unit: u32, out: &mut [u8], at: usize) -> Put
     requires place { at ≤ length out.old }
@@ -127,7 +127,7 @@ pub(crate) fn put_first(cut: Cut, out: &mut [u8], at: usize) -> Put
     wrote
 }
 
-/// Writes a direct character behind what closes the shifted sequence.
+/// Writes a direct character after what closes the shifted sequence.
 #[inline(always)]
 #[tactic(auto, using(crate::proofs::Cuts::closings))]
 pub(crate) fn put_closed(pending: Bits, byte: u8, out: &mut [u8], at: usize) -> Put

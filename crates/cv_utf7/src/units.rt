@@ -12,7 +12,7 @@ pub(crate) struct Unit {
     pub(crate) over: Bits,
 }
 
-/// The digits at the front of a text that are too few for a code unit: how many there are, and the bits so far with the pending ones.
+/// The digits at the start of a text that are too few for a code unit: how many there are, and the bits so far with the pending ones.
 #[derive(Clone, Copy)]
 pub(crate) struct Front {
     pub(crate) n: usize,
@@ -23,7 +23,7 @@ pub(crate) struct Front {
 impl Unit {
     ghost use Rattle.cv_utf7.specs.Private.ItemSteps.{IsUnit, NoUnit};
 
-    /// The code unit at the front of a text, if there are digits enough.
+    /// The code unit at the start of a text, if there are digits enough.
     #[inline(always)]
     #[tactic(auto, using(crate::proofs::FrontDigits::units))]
     pub(crate) fn next(pending: Bits, input: &[u8]) -> Option<Unit>
@@ -71,7 +71,7 @@ impl Front {
     ghost use Rattle.cv_utf7.specs.Private.ItemSteps.{NoUnit, IsFront};
     ghost use Rattle.cv_utf7.specs.Sets.{is_digit};
 
-    /// The digits at the front of a text.
+    /// The digits at the start of a text.
     #[tactic(auto, using(crate::proofs::FrontDigits::fronts))]
     pub(crate) fn of(pending: Bits, input: &[u8]) -> Front
         requires { NoUnit pending input.now }

@@ -7,7 +7,7 @@ use crate::write_sequences::{Reached, write_inside, write_one, write_sequence};
 use cv_base::{Scalar, WriteState};
 use cv_byte_sets::SIXTEEN;
 
-/// Writes direct characters, and sequences between them, as far as it goes.
+/// Writes direct characters, and the sequences between them, as far as possible.
 #[inline(always)]
 fn write_outside(characters: &[Scalar], from: usize, out: &mut [u8], at: usize) -> Reached
     requires some { from < length characters.now }
@@ -40,7 +40,7 @@ fn write_outside(characters: &[Scalar], from: usize, out: &mut [u8], at: usize) 
     }
 }
 
-/// Writes on from a place, as far as it goes at once.
+/// Continues at a place, as far as one step goes.
 #[inline(always)]
 pub(crate) fn write_on(characters: &[Scalar], from: Reached, out: &mut [u8]) -> Reached
     requires some { from.n < length characters.now }

@@ -28,7 +28,7 @@ fn write_direct(characters: &[Scalar], n: usize, out: &mut [u8], at: usize) -> u
     run
 }
 
-/// The byte of a character, and that of the last below 256 if it has none. No byte from 80 on is direct.
+/// The byte of a character, or 0xFF if it has none. No byte from 0x80 on is direct.
 #[inline(always)]
 fn narrow(c: Scalar) -> u8
     ensures { is_direct result ≡ true → result ≡ c }
@@ -36,7 +36,7 @@ fn narrow(c: Scalar) -> u8
     c.value().min(0xff) as u8
 }
 
-/// Sixteen characters as bytes, of which those that are direct are the characters.
+/// Sixteen characters as bytes. Bytes that are direct are the characters.
 #[inline(always)]
 fn narrowed(characters: &[Scalar], base: usize) -> [u8; 16]
     requires { base + 16 ≤ length characters.now }
@@ -50,7 +50,7 @@ fn narrowed(characters: &[Scalar], base: usize) -> [u8; 16]
     bytes
 }
 
-/// Copies so many bytes, if there are any.
+/// Copies the first `many` bytes. It does nothing if `many` is 0.
 #[inline(always)]
 pub(crate) fn copy(bytes: &[u8], many: usize, out: &mut [u8], at: usize)
     requires within { many ≤ length bytes.now }
@@ -62,7 +62,7 @@ pub(crate) fn copy(bytes: &[u8], many: usize, out: &mut [u8], at: usize)
     }
 }
 
-/// Writes the direct characters from a place on, sixteen at most where as many are left, and answers how many they are.
+/// Writes the direct characters from a place on, sixteen at most if as many are left, and answers how many they are.
 #[inline(always)]
 pub(crate) fn write_run(characters: &[Scalar], n: usize, out: &mut [u8], at: usize) -> usize
     requires within { n ≤ length characters.now }
@@ -74,7 +74,7 @@ pub(crate) fn write_run(characters: &[Scalar], n: usize, out: &mut [u8], at: usi
     if characters.len() - n < SIXTEEN {
         return write_direct(characters, n, out, at);
     }
-    // All sixteen are put: what is written behind the run overwrites those that were too many.
+    // All sixteen are put: what is written after the run overwrites the surplus.
     let bytes = narrowed(characters, n);
     copy(&bytes, SIXTEEN, out, at);
     written_run(&bytes)

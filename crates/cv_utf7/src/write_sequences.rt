@@ -5,7 +5,7 @@ ghost use Rattle.cv_utf7.specs.Private.WriteSteps.{place, WritesOn};
 use crate::utf7::Utf7;
 use cv_base::{Bits, Codec, Put, Scalar, WriteState};
 
-/// How far writing has come: how many characters were written, where their bytes end, and the state behind them.
+/// The progress of writing: how many characters were written, where their bytes end, and the state after them.
 #[derive(Clone, Copy)]
 pub(crate) struct Reached {
     pub(crate) n: usize,
@@ -70,7 +70,7 @@ pub(crate) fn write_inside(
     }
 }
 
-/// Writes a character that is not direct, and those of the shifted sequence that it begins.
+/// Writes a character that is not direct, and the other characters of the shifted sequence that it begins.
 #[inline(always)]
 pub(crate) fn write_sequence(characters: &[Scalar], n: usize, out: &mut [u8], at: usize) -> Reached
     requires some { n < length characters.now }

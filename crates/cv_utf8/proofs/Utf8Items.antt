@@ -1,4 +1,4 @@
--- What stands next in UTF-8.
+-- What is next in UTF-8.
 use Rattle.std.proofs.Common.{◌≡◌, ℕ, Bool, true, false, cond, nat_lt, ◌+◌, ◌*◌, ◌/◌, ◌%◌, ◌<◌, ◌≤◌, inl, inr, List, [], ◌∷◌, length, get_or, refl, sym, arith, Some}
 use Rattle.std.proofs.lemmas.Bool.{cases_lt}
 use Rattle.cv_base.specs.Scalars.{IsScalar}
@@ -56,7 +56,7 @@ ill_second s x n h k never = ill_from s x (omega arith) (λ w c q a.
     let f : get_or w 1 0 ≡ get_or x 1 0 = a 1 (omega arith) (omega arith) in
     never (rw (← e, ← f) (q.second (omega arith))))
 
--- a third byte that is none behind a first
+-- a third byte that is not one after a first
 pub ill_third : (s : ReadState) (x : List ℕ) → 3 ≤ length x → 0xe0 ≤ get_or x 0 0 → get_or x 0 0 ≤ 0xf4 → (IsTail (get_or x 2 0) → ⊥) → IsNext utf8_reads s x Ill
 ill_third s x n h k never = ill_from s x (omega arith) (λ w c q a.
     let e : get_or w 0 0 ≡ get_or x 0 0 = a 0 q.some (omega arith) in
@@ -64,7 +64,7 @@ ill_third s x n h k never = ill_from s x (omega arith) (λ w c q a.
     let f : get_or w 2 0 ≡ get_or x 2 0 = a 2 (omega arith) (omega arith) in
     never (rw (← f) (q.third (omega arith))))
 
--- a fourth byte that is none behind a first
+-- a fourth byte that is not one after a first
 pub ill_fourth : (s : ReadState) (x : List ℕ) → 4 ≤ length x → 0xf0 ≤ get_or x 0 0 → get_or x 0 0 ≤ 0xf4 → (IsTail (get_or x 3 0) → ⊥) → IsNext utf8_reads s x Ill
 ill_fourth s x n h k never = ill_from s x (omega arith) (λ w c q a.
     let e : get_or w 0 0 ≡ get_or x 0 0 = a 0 q.some (omega arith) in

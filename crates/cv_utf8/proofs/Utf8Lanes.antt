@@ -34,7 +34,7 @@ words_at (suc n) [] k e h = cc
 words_at (suc n) (v ∷ vs) zero e h = refl
 words_at (suc n) (v ∷ vs) (suc k) e h = words_at n vs k (omega arith) (omega arith)
 
--- 1 where a number is a limit at least
+-- 1 if a number is a limit at least
 abbrev pub above : ℕ → ℕ → ℕ
 above k v = cond (top 31 (cond (leb k v) 0xffffffff 0)) 1 0
 

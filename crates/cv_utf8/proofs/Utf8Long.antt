@@ -28,7 +28,7 @@ use Rattle.cv_utf8.specs.Private.Utf8Long.{AreWordsOf, IsNumberOf, AreNumbersOf}
 pub number_scalar : (size word number : ℕ) → IsNumberOf size word number → IsScalar number
 number_scalar size word number h = elim h [ inl e ↦ rw e (omega arith, λ p. omega arith) | inr p ↦ p.0 ]
 
--- A character that has so many bytes stands at a place.
+-- A character that has size bytes is at a place.
 record IsLongAt (size : ℕ) (text : List ℕ) (at number : ℕ) : Type 0 where
   scalar : IsScalar number
   begins : Begins (utf8_bytes number) (drop at text)
@@ -42,7 +42,7 @@ long_at size text at word number small unit is some = elim is [
       record { scalar = p.0; begins = rw p.1 front; long = ap length p.1 ∙ length-take-le size bytes small })
 ]
 
--- The bytes of the first so many characters begin a text, and each has so many.
+-- The bytes of the first n characters begin a text, and each has size bytes.
 record Begun (size : ℕ) (text numbers : List ℕ) (n : ℕ) : Type 0 where
   begins : Begins (flat_map utf8_bytes (take n numbers)) text
   uses : length (flat_map utf8_bytes (take n numbers)) ≡ size * n
@@ -63,7 +63,7 @@ begun size text numbers (suc n) h at =
       scalars = rw e (AreScalars-append (take n numbers) (c ∷ []) before.scalars (here.scalar, tt));
     }
 
--- characters of so many bytes each are read
+-- characters of size bytes each are read
 pub long_read : (size : ℕ) → size ≤ 4 → (text : List ℕ) (at : ℕ) (before : List ℕ) (n more : ℕ) (words numbers after : List ℕ) → length numbers ≡ 16
     → AreWordsOf size (take (length text - at) (drop at text)) words 16 → AreNumbersOf size words numbers 16 → more ≤ 16 → ((k : ℕ) → k < more → 0 < get_or numbers k 0) → n + 16 ≤ length before
     → take (n + 16) after ≡ take n before ++ numbers → length after ≡ length before → IsReadSpelled utf8_bytes text at before n (record { n = more; used = size * more }) after

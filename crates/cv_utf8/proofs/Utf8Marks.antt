@@ -35,7 +35,7 @@ left_in a b k e = omega (arith, bit_at_or a b k, bit_at-lt b k, bit_at-lt a k)
 pub right_in : (a b k : ℕ) → bit_at b k ≡ 1 → bit_at (bit_or a b) k ≡ 1
 right_in a b k e = omega (arith, bit_at_or a b k, bit_at-lt b k, bit_at-lt a k)
 
--- 1 for what is so, and else 0
+-- 1 if a test is true, and 0 otherwise
 abbrev pub one_if : Bool → ℕ
 one_if b = cond b 1 0
 
@@ -69,7 +69,7 @@ among_at text at least many m k room small range e l one =
 wider : (a b k : ℕ) → a < 0x10000 → bit_and a b < 0x10000
 wider a b k h = omega (arith, and_le_l a b)
 
--- the lanes of ASCII mark it
+-- the lanes of ASCII mark ASCII bytes
 pub one_marks : (text : List ℕ) (at one : ℕ) → at + 18 ≤ length text → ((i : ℕ) → Fits w8 (get_or text i 0)) → one ≡ mask_l (map (is_among 0 0x80) (take 16 (drop at text))) → AreMarks (IsOneAt text) at one
 one_marks text at one room fits e = (among_lt text at 0 0x80 one (omega arith) e, λ k l b. (among_at text at 0 0x80 one k (omega arith) (fits (at + k)).fits (lit≤ tt) e l b).1)
 

@@ -1,4 +1,4 @@
--- Characters of UTF-8 that begin in sixteen lanes, one behind the other.
+-- Characters of UTF-8 that begin in sixteen lanes, one after the other.
 use Rattle.std.proofs.Common.{◌≡◌, ℕ, ◌+◌, ◌/◌, ◌%◌, ◌<◌, ◌≤◌, Bool, true, false, cond, inl, inr, List, [], ◌∷◌, ◌++◌, length, take, drop, get_or, refl, sym, ◌∙◌, ap, arith, zero, suc, append_assoc, append-nil, length-append, length-take, subst}
 use Rattle.std.specs.Int.{bit_at}
 use Rattle.std.specs.List.{flat_map}
@@ -17,7 +17,7 @@ use Rattle.cv_utf8.specs.Utf8.{utf8_bytes}
 use Rattle.cv_pack.specs.Packed.{kept}
 use Rattle.cv_utf8.specs.Private.Utf8Windows.{IsLane, AreBegun}
 
--- The bytes of some characters stand at a place of a text, so many.
+-- The bytes of some characters are at a place of a text, used bytes together.
 abbrev IsRun : List ℕ → ℕ → List ℕ → ℕ → Type 0
 IsRun text at cs used = AreScalars cs × Begins (flat_map utf8_bytes cs) (drop at text) × (used ≡ length (flat_map utf8_bytes cs))
 
@@ -81,7 +81,7 @@ high_at xs k h = low_at (take 8 (drop 8 xs)) k h ∙ get_or-chunk 8 8 xs k 0 h
 
 -- ---- in a buffer
 
--- What is behind those that were kept may be anything.
+-- What follows those that were kept may be anything.
 pub front_kept : (before after packed kept : List ℕ) (n c : ℕ) → n ≤ length before → c ≤ 8 → take (n + 8) after ≡ take n before ++ packed → take c packed ≡ kept → take (n + c) after ≡ take n before ++ kept
 front_kept before after packed kept n c room few stand is =
     let front : List ℕ = take n before in
@@ -119,7 +119,7 @@ high_lanes text at numbers high begun used p long is j h =
     let l : j < 8 = omega (arith, long) in
     rw (is j l, high_bits begun j) (p.lanes (8 + j) (omega (arith, long)))
 
--- the characters of both halves, one behind the other
+-- the characters of both halves, one after the other
 both_run : (text : List ℕ) (at : ℕ) (numbers low high : List ℕ) (begun used : ℕ) (p : AreBegun text at numbers begun used) → length low ≡ 8 → length high ≡ 8 → ((k : ℕ) → k < 8 → get_or low k 0 ≡ get_or numbers k 0)
     → ((k : ℕ) → k < 8 → get_or high k 0 ≡ get_or numbers (8 + k) 0) → IsRun text at (kept (begun % 256) low ++ kept (begun / 256) high) used
 both_run text at numbers low high begun used p long also are these =

@@ -114,7 +114,7 @@ byte_is false = refl
 pub all_used : (text : List ℕ) (at : ℕ) (b : Bool) → b ≡ is_behind (get_or text (at + 16) 0) → 16 + bool_byte b ≡ 16 + left_over text (at + 16)
 all_used text at b e = ap (λ n. 16 + n) (byte_is b ∙ ap one_if e)
 
--- what begins in the lanes stands one behind the other
+-- what begins in the lanes is put one after the other
 pub short_begun : (text : List ℕ) (at used : ℕ) (vs : List ℕ) (begun : ℕ) → at + 18 ≤ length text → ((i : ℕ) → Fits w8 (get_or text i 0)) → is_behind (get_or text at 0) ≡ false → used ≡ 16 + left_over text (at + 16) → ((k : ℕ) → k < 16 → IsShortAt text (at + k))
     → ((k : ℕ) → k < 16 → get_or vs k 0 ≡ short_value text (at + k)) → ((k : ℕ) → k < 16 → bit_at begun k ≡ cond (is_behind (get_or text (at + k) 0)) 0 1) → AreBegun text at vs begun used
 short_begun text at used vs begun room fits begins e short are bits =

@@ -1,4 +1,4 @@
--- Characters of one and of two bytes at the front of a text are well-formed.
+-- Characters of one and of two bytes at the start of a text are well-formed.
 use Rattle.std.proofs.Common.{◌≡◌, ℕ, ◌+◌, ◌-◌, ◌*◌, ◌/◌, ◌%◌, ◌<◌, ◌≤◌, inl, inr, Bool, true, false, cond, Fits, List, [], ◌∷◌, length, take, drop, get_or, refl, sym, ◌∙◌, ap, subst, arith, suc, zero, w8}
 use Rattle.std.specs.Prelude.{IsUtf8}
 use Rattle.std.proofs.Math.Utf8.{encode, low_scalar}
@@ -7,7 +7,7 @@ use Rattle.std.proofs.lemmas.Bool.{cases_lt, ltb-true, ltb-false, lt-ltb, le-ltb
 use Rattle.std.proofs.lemmas.Str.{IsUtf8-append, IsUtf8-nil, IsUtf8-encode, encode_ascii}
 use Rattle.cv_utf8.specs.Private.Utf8Short.{is_among, is_behind, IsShortAt}
 
--- a byte of ASCII behind well-formed ones
+-- a byte of ASCII after well-formed ones
 one_more : (text : List ℕ) (n : ℕ) → n < length text → IsUtf8 (take n text) → get_or text n 0 < 128 → IsUtf8 (take (n + 1) text)
 one_more text n room p low =
     let c = get_or text n 0 in
@@ -18,7 +18,7 @@ encode_two : (c : ℕ) → 128 ≤ c → c < 2048 → encode c ≡ (192 + c / 64
 unfolding encode
 encode_two c h l = rw (le-ltb c 128 h, lt-ltb c 2048 l) refl
 
--- the two bytes of a character behind well-formed ones
+-- the two bytes of a character after well-formed ones
 two_more : (text : List ℕ) (n : ℕ) → n + 1 < length text → IsUtf8 (take n text) → 0xc2 ≤ get_or text n 0 → get_or text n 0 < 0xe0 → 0x80 ≤ get_or text (n + 1) 0 → get_or text (n + 1) 0 < 0xc0 → IsUtf8 (take (n + 2) text)
 two_more text n room p a b d e =
     let x = get_or text n 0 in
@@ -32,7 +32,7 @@ two_more text n room p a b d e =
     let bytes : take 2 (drop n text) ≡ encode c = ap (λ (l : List ℕ). take 2 l) pair ∙ sym spelled in
     subst IsUtf8 (sym (take-add n 2 text)) (IsUtf8-append (take n text) (take 2 (drop n text)) p (subst IsUtf8 (sym bytes) (IsUtf8-encode c (low_scalar c (omega arith)))))
 
--- how many bytes of the character before a place stand there
+-- how many bytes of the character before a place are there
 abbrev pub tail_at : List ℕ → ℕ → ℕ
 tail_at text n = cond (is_behind (get_or text n 0)) 1 0
 
@@ -46,14 +46,14 @@ first_range x h e =
     let near : (x + (256 - 0xc2)) % 256 < 0x1e = ltb-true _ _ e in
     (omega arith, omega arith)
 
--- a byte that is none behind a first and no first is ASCII
+-- a byte that is neither one after a first nor a first is ASCII
 ascii_range : (x : ℕ) → x < 256 → is_behind x ≡ false → is_among 0xc0 0x40 x ≡ false → x < 0x80
 ascii_range x h b e =
     let far : 0x40 ≤ (x + (256 - 0x80)) % 256 = ltb-false _ _ b in
     let other : 0x40 ≤ (x + (256 - 0xc0)) % 256 = ltb-false _ _ e in
     omega arith
 
--- a byte behind a first is no first of two
+-- a byte after a first is no first of two
 not_both : (x : ℕ) → x < 256 → is_behind x ≡ true → is_among 0xc2 0x1e x ≡ true → ⊥
 not_both x h b e =
     let p = behind_range x h b in
@@ -63,7 +63,7 @@ not_both x h b e =
 abbrev IsFront : List ℕ → ℕ → Type 0
 IsFront text n = IsUtf8 (take (n + tail_at text n) text)
 
--- one byte further, by whether it is behind a first, and whether it begins two
+-- one byte further, by whether it is after a first, and whether it begins two
 further : (text : List ℕ) (n : ℕ) (behind first : Bool) → ((i : ℕ) → Fits w8 (get_or text i 0)) → n + 1 < length text → is_behind (get_or text n 0) ≡ behind → is_among 0xc2 0x1e (get_or text n 0) ≡ first → IsShortAt text n → IsFront text n → IsFront text (n + 1)
 further text n true true fits room b f s p = absurd (not_both (get_or text n 0) (fits n).fits b f)
 further text n true false fits room b f s p =
@@ -84,7 +84,7 @@ further text n false false fits room b f s p =
     let there : n + 1 ≡ n + 1 + tail_at text (n + 1) = rw next (omega arith) in
     subst (λ (m : ℕ). IsUtf8 (take m text)) there (one_more text n (omega arith) (subst (λ (m : ℕ). IsUtf8 (take m text)) here p) low)
 
--- where all bytes before a place are of characters of one and of two bytes, they are well-formed, with the second byte of the last
+-- if all bytes before a place are of characters of one and of two bytes, they are well-formed, with the second byte of the last
 pub short_well_formed : (text : List ℕ) (n : ℕ) → ((i : ℕ) → Fits w8 (get_or text i 0)) → n < length text → is_behind (get_or text 0 0) ≡ false → ((k : ℕ) → k < n → IsShortAt text k) → IsUtf8 (take (n + tail_at text n) text)
 short_well_formed text zero fits room b s = rw b IsUtf8-nil
 short_well_formed text (suc n) fits room b s =

@@ -18,19 +18,19 @@ difference a b = (a + (256 - b)) % 256
 abbrev are_below : List ℕ → List ℕ → List Bool
 are_below xs ys = map (top 7) (zip2 (λ a b. cond (ltb a b) 0xff 0) xs ys)
 
--- the lanes of bytes behind a first
+-- the lanes of bytes after a first
 abbrev seconds : ℕ → List ℕ → List Bool
 seconds n ys = are_below (zip2 difference ys (replicate n 0x80)) (replicate n 0x40)
 
--- the bytes, from the least that may stand there on
+-- the bytes, from the least that may be there on
 abbrev from_least : ℕ → List ℕ → List ℕ → List ℕ
 from_least n xs ys = zip2 difference xs (sel_l (seconds n ys) (replicate n 0xc2) (replicate n 0))
 
--- the most that may stand there, from the least on
+-- the most that may be there, from the least on
 abbrev most : ℕ → List ℕ → List ℕ
 most n ys = sel_l (seconds n ys) (replicate n 0x1d) (replicate n 0xbf)
 
--- by how much lanes are above others, and 0 where they are not
+-- by how much lanes are above others, and 0 if they are not
 abbrev pub above_all : List ℕ → List ℕ → List ℕ
 above_all xs ys = zip2 difference (sel_l (are_below xs ys) ys xs) ys
 
@@ -42,11 +42,11 @@ excess_all n xs ys = above_all (from_least n xs ys) (most n ys)
 abbrev is_set : Bool → Bool
 is_set b = top 7 (cond b 0xff 0)
 
--- by how much a lane is above another, and 0 where it is not
+-- by how much a lane is above another, and 0 if it is not
 abbrev pub above : ℕ → ℕ → ℕ
 above a b = difference (cond (is_set (ltb a b)) b a) b
 
--- by whether the next is one behind a first
+-- by whether the next is one after a first
 abbrev excess_if : Bool → ℕ → ℕ
 excess_if second x = above (difference x (cond (is_set second) 0xc2 0)) (cond (is_set second) 0x1d 0xbf)
 
@@ -64,7 +64,7 @@ excess_long (suc n) [] ys e f = cc
 excess_long (suc n) (x ∷ xs) [] e f = cc
 excess_long (suc n) (x ∷ xs) (y ∷ ys) e f = omega (arith, excess_long n xs ys (omega arith) (omega arith))
 
--- before one behind a first, only a first of two is not above
+-- before one after a first, only a first of two is not above
 first_of_two : (x : ℕ) → x < 256 → excess_if true x ≡ 0 → (is_among 0xc2 0x1e x ≡ is_among 0xc0 0x40 x) × (is_among 0xc2 0x1e x ≡ true)
 first_of_two x h e = grind arith
 
@@ -101,7 +101,7 @@ differs a b = not (eqb a b)
 abbrev bits_above : List ℕ → ℕ
 bits_above zs = mask_l (map (top 7) (zip2 (λ a b. cond (differs a b) 0xff 0) zs (replicate 16 0))) % 2 ^ 64
 
--- Where no bit is set, each lane is 0.
+-- If no bit is set, each lane is 0.
 pub none_above : (zs : List ℕ) (k : ℕ) → length zs ≡ 16 → eqb (bits_above zs) 0 ≡ true → k < 16 → get_or zs k 0 ≡ 0
 none_above zs k long none h =
     let bits : mask_l (map (λ x. differs x 0) zs) ≡ 0 = sym (bitmask_splat w8 differs zs 16 0 long (lit≤ tt)) ∙ eqb-true _ 0 none in
@@ -115,17 +115,17 @@ either xs ys = zip2 bit_or xs ys
 either_long : (xs ys : List ℕ) → length xs ≡ 16 → length ys ≡ 16 → length (either xs ys) ≡ 16
 either_long xs ys e f = length-zip2 bit_or xs ys (e ∙ sym f) ∙ e
 
--- a lane is 0 in two vectors that are joined only where it is in both
+-- a lane is 0 in two vectors that are joined only if it is 0 in both
 either_at : (xs ys : List ℕ) (k : ℕ) → length xs ≡ 16 → length ys ≡ 16 → k < 16 → get_or (either xs ys) k 0 ≡ 0 → (get_or xs k 0 ≡ 0) × (get_or ys k 0 ≡ 0)
 either_at xs ys k e f h none =
     let is : get_or (either xs ys) k 0 ≡ bit_or (get_or xs k 0) (get_or ys k 0) = get_or-zip2 bit_or xs ys k 0 0 0 (omega arith) (omega arith) in
     (omega (arith, is, none, le_or_l (get_or xs k 0) (get_or ys k 0)), omega (arith, is, none, le_or_r (get_or xs k 0) (get_or ys k 0)))
 
--- sixteen bytes are short where their lanes are 0
+-- sixteen bytes are short if their lanes are 0
 abbrev IsExcess : List ℕ → ℕ → List ℕ → Type 0
 IsExcess text at zs = (length zs ≡ 16) × ((k : ℕ) → k < 16 → get_or zs k 0 ≡ 0 → IsShortAt text (at + k))
 
--- Where no bit of four vectors is set, the sixty-four bytes of their lanes are those of characters of one and of two bytes.
+-- If no bit of four vectors is set, the sixty-four bytes of their lanes are those of characters of one and of two bytes.
 pub four_short : (text : List ℕ) (at : ℕ) (ws bs cs ds : List ℕ) → IsExcess text at ws → IsExcess text (at + 16) bs → IsExcess text (at + 32) cs → IsExcess text (at + 48) ds
     → eqb (bits_above (either (either ws bs) (either cs ds))) 0 ≡ true → (k : ℕ) → k < 64 → IsShortAt text (at + k)
 four_short text at ws bs cs ds p q r s none k h =

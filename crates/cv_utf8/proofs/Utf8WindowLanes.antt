@@ -18,7 +18,7 @@ use Rattle.cv_utf8.proofs.Utf8ShortLanes.{above, above_all}
 use Rattle.cv_utf8.proofs.Utf8Covered.{covered, firsts, firsts_of_marks, lt_or_le}
 use Rattle.cv_utf8.proofs.Utf8Begun.{begins_if, not_read}
 
--- the lanes that are none behind a first
+-- the lanes that are not after a first
 not_behind : (x : ℕ) → x < 256 → is_among 0xc0 0xc0 x ≡ not (is_behind x)
 not_behind x h = grind arith
 
@@ -48,7 +48,7 @@ pub whole_beginning_at : (text : List ℕ) (at one two three used k : ℕ) → (
 whole_beginning_at text at one two three used k fits p q r e =
     bit_at_and (firsts one two three) (2 ^ used - 1) k ∙ below (bit_at (firsts one two three) k) k used (is_behind (get_or text (at + k) 0)) (bit_at-lt (firsts one two three) k) (firsts_of_marks text at one two three used k fits p q r e) (lt_or_le k used)
 
--- so many lowest bits
+-- a shift of 1 by at most 18 bits does not overflow
 pub lowest : (used : ℕ) → used ≤ 18 → (1 * 2 ^ used) % 2 ^ 64 ≡ 2 ^ used
 lowest used h = one_shl used 64 (omega arith)
 

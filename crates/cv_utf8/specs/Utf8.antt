@@ -28,7 +28,7 @@ pub record Row : Type 0 where
 abbrev pub row : ℕ → ℕ → List Range → Row
 row first last bytes = record { scalars = range first last; bytes = bytes }
 
--- the bytes behind the first, where a row names no narrower range
+-- the bytes after the first, if a row names no narrower range
 abbrev pub tail : Range
 tail = range 0x80 0xbf
 

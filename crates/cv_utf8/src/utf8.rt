@@ -19,7 +19,7 @@ fn is_tail(byte: u8) -> bool
     byte >= 0x80 && byte <= 0xbf
 }
 
-/// Whether the second byte fits behind a first byte of three or four.
+/// Whether the second byte fits after a first byte of three or four.
 #[inline]
 fn fits_second(first: u8, second: u8) -> bool
     ensures { IsTrue result ↔ IsSecond first second }
@@ -33,7 +33,7 @@ fn fits_second(first: u8, second: u8) -> bool
     }
 }
 
-/// What stands next behind a first byte of three or four.
+/// What is next after a first byte of three or four.
 #[inline]
 #[tactic(auto, using(crate::proofs::Utf8Items::steps))]
 fn long_item(input: &[u8]) -> Item
@@ -75,7 +75,7 @@ fn long_item(input: &[u8]) -> Item
     )
 }
 
-/// The byte that carries the lowest six bits behind the first byte.
+/// The byte that carries the lowest six bits after the first byte.
 #[inline]
 fn tail(bits: u32) -> u8
     ensures { result ≡ 0x80 + bits % 64 }

@@ -1,4 +1,4 @@
-//! Putting the characters that begin among sixteen bytes one behind the other.
+//! Putting the characters that begin among sixteen bytes one after the other.
 ghost use Rattle.std.specs.Prelude.{◌≡◌, ◌+◌, ◌++◌, ◌≤◌, ◌<◌, ℕ, List, length, take, get_or};
 ghost use Rattle.cv_base.specs.Scalars.{IsScalar};
 ghost use Rattle.cv_block.specs.Spelled.{IsReadSpelled};
@@ -14,7 +14,7 @@ use std::simd::prelude::*;
 /// How many numbers are put at once.
 const EIGHT: usize = 8;
 
-/// Puts eight characters into a buffer, behind its first `n`.
+/// Puts eight characters into a buffer, after its first `n`.
 #[inline(always)]
 fn put_eight(numbers: &[u16; EIGHT], buffer: &mut [Scalar], n: usize)
     requires room { n + 8 ≤ length buffer.old }
@@ -27,8 +27,8 @@ fn put_eight(numbers: &[u16; EIGHT], buffer: &mut [Scalar], n: usize)
     }
 }
 
-/// Puts those of eight characters whose bit is set into a buffer, behind its first `n`, and answers how many they are. What is
-/// behind them may be any.
+/// Puts those of eight characters whose bit is set into a buffer, after its first `n`, and answers how many they are. What
+/// follows them may be any character.
 #[inline(always)]
 fn put_kept(numbers: u16x8, begun: u64, buffer: &mut [Scalar], n: usize) -> usize
     requires few { begun < 256 }
@@ -43,7 +43,7 @@ fn put_kept(numbers: u16x8, begun: u64, buffer: &mut [Scalar], n: usize) -> usiz
     begun.count_ones() as usize
 }
 
-/// Puts the characters that begin among sixteen bytes into a buffer, those of eight at once, so that none of this takes a branch.
+/// Puts the characters that begin among sixteen bytes into a buffer, those of eight bytes at once, without a branch.
 #[inline(always)]
 pub(crate) fn put_begun(
     numbers: &[u16; MANY],

@@ -28,7 +28,7 @@ fn numbers_of(characters: &[Scalar], n: usize) -> [u32; FOUR]
     numbers
 }
 
-/// Four bytes for each of four characters. Behind the bytes that one has they are 0.
+/// Four bytes for each of four characters. After the bytes that one has they are 0.
 #[inline(always)]
 fn fours(numbers: u32x4) -> u8x16
     requires { (k : ℕ) → k < 4 → get_or numbers k 0 < 0x10000 }
@@ -58,7 +58,7 @@ fn sizes(numbers: u32x4) -> u64
     twos + 16 * threes
 }
 
-/// Writes four characters of up to three bytes, and answers how many bytes they have. What is behind them may be anything.
+/// Writes four characters of up to three bytes, and answers how many bytes they have. What follows them may be anything.
 #[inline(always)]
 fn write_four(characters: &[Scalar], n: usize, out: &mut [u8], at: usize) -> usize
     requires within { n + 4 ≤ length characters.now }

@@ -5,14 +5,14 @@ use crate::utf8_marks::is_behind;
 use crate::utf8_short::are_short_block;
 use simdutf8::compat::from_utf8;
 
-/// How many bytes are tested at once where no character has more than two.
+/// How many bytes are tested at once if no character has more than two.
 const BLOCK: usize = 64;
 
-/// How many bytes are tested at once at first where some character has more. Where not all of them are well-formed they are read once more, so
-/// they are few; each next part is twice as long, so that what is read in vain is never much more than what was well-formed.
+/// How many bytes are tested at once at first if some character has more. If not all are well-formed, they are read once more, so
+/// they are few. Each next part is twice as long, so that the bytes read in vain are never many more than the well-formed ones.
 const FIRST_PART: usize = 256;
 
-/// How many of the bytes stand before a character that they cut off, if its front is well-formed. It decides speed alone: a part that ends
+/// How many of the bytes precede a character that they cut off, if its prefix is well-formed. It affects speed only: a part that ends
 /// within a character isn't well-formed.
 #[inline(always)]
 fn uncut(bytes: &[u8]) -> usize
@@ -31,7 +31,7 @@ fn uncut(bytes: &[u8]) -> usize
     n
 }
 
-/// The front of a text of at most so many bytes, up to its last whole character.
+/// A prefix of a text of at most `most` bytes, up to its last whole character.
 #[inline(always)]
 fn uncut_part(text: &[u8], most: usize) -> &[u8]
     ensures within { length result.now ≤ length text.now }
@@ -41,8 +41,8 @@ fn uncut_part(text: &[u8], most: usize) -> &[u8]
     &part[..uncut(part)]
 }
 
-/// How many bytes at the front of a text are blocks in which no character has more than two bytes, with the second of one that begins with the
-/// last of them.
+/// How many bytes at the start of a text are blocks in which no character has more than two bytes. If a character begins with the last of
+/// them, its second byte is counted too.
 #[inline(always)]
 fn short_front(text: &[u8]) -> usize
     ensures within { result ≤ length text.now }
@@ -58,8 +58,8 @@ fn short_front(text: &[u8]) -> usize
     n + is_behind(text[n]) as usize
 }
 
-/// How many bytes at the front of a text are well-formed. Text in which few characters have more than two bytes is tested by what is
-/// the cheaper test, and goes back to it behind each part that is tested by the other.
+/// How many bytes at the start of a text are well-formed. Text in which few characters have more than two bytes is tested by
+/// the cheaper test, and testing returns to it after each part that needs the other.
 #[inline(never)]
 pub(crate) fn well_formed_front(input: &[u8]) -> usize
     ensures within { result ≤ length input.now }

@@ -24,7 +24,7 @@ fn words_of(text: &[u8], size: usize) -> [u32; MANY]
     words
 }
 
-/// The number of the character of three bytes with which a word begins, or 0 where none does. Which it is takes no branch.
+/// The number of the character of three bytes with which a word begins, or 0 if none does. Computed without a branch.
 #[inline(always)]
 fn three_of(word: u32) -> u32
     ensures { IsNumberOf 3 word result }
@@ -38,7 +38,7 @@ fn three_of(word: u32) -> u32
     if are_bytes & is_scalar { number } else { 0 }
 }
 
-/// The number of the character whose four bytes a word has, or 0 where it has those of none. Which it is takes no branch.
+/// The number of the character whose four bytes a word has, or 0 if it has none. Computed without a branch.
 #[inline(always)]
 fn four_of(word: u32) -> u32
     ensures { IsNumberOf 4 word result }
@@ -54,8 +54,8 @@ fn four_of(word: u32) -> u32
     if are_bytes & is_scalar { number } else { 0 }
 }
 
-/// The numbers of the characters of so many bytes with which words begin, and 0 for the others. The size is known when the code is
-/// compiled, and the loop is done by blocks.
+/// The numbers of the characters of `size` bytes with which words begin, and 0 for the others. The size is known at
+/// compile time, and LLVM vectorizes the loop.
 #[inline(always)]
 fn numbers_of(words: &[u32; MANY], size: usize) -> [u32; MANY]
     requires size { (size ≡ 3) ⊎ (size ≡ 4) }
@@ -87,7 +87,7 @@ fn before_none(numbers: &[u32; MANY]) -> usize
     MANY.min(none.trailing_zeros() as usize)
 }
 
-/// Puts the characters of the numbers into a buffer, behind its first `n`.
+/// Puts the characters of the numbers into a buffer, after its first `n`.
 #[inline(always)]
 fn put_numbers(numbers: &[u32; MANY], buffer: &mut [Scalar], n: usize)
     requires long { length numbers.now ≡ 16 }
@@ -101,7 +101,7 @@ fn put_numbers(numbers: &[u32; MANY], buffer: &mut [Scalar], n: usize)
     }
 }
 
-/// Reads the characters of so many bytes at the front of a text, up to sixteen. It reads none where the last word would not be there.
+/// Reads the characters of `size` bytes each at the start of a text, up to sixteen. It reads none if the last word would not be there.
 #[inline(always)]
 fn read_long(input: &[u8], at: usize, buffer: &mut [Scalar], n: usize, size: usize) -> Spelled
     requires size { (size ≡ 3) ⊎ (size ≡ 4) }
@@ -123,7 +123,7 @@ fn read_long(input: &[u8], at: usize, buffer: &mut [Scalar], n: usize, size: usi
     }
 }
 
-/// Reads characters of three bytes each. It stands apart, so that the loops around it keep their registers.
+/// Reads characters of three bytes each. Kept out of line to save registers in the callers' loops.
 #[inline(never)]
 pub(crate) fn read_threes(input: &[u8], at: usize, buffer: &mut [Scalar], n: usize) -> Spelled
     requires within { at ≤ length input.now }

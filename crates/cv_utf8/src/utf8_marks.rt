@@ -29,7 +29,7 @@ pub(crate) fn beginnings(input: &[u8], at: usize) -> u64
     among(u8x16::from_slice(&input[at..]), 0xc0, 0xc0)
 }
 
-/// Whether the byte is one behind a first.
+/// Whether the byte is one after a first.
 #[inline(always)]
 pub(crate) fn is_behind(byte: u8) -> bool
     ensures { result ≡ is_behind byte }
@@ -59,7 +59,7 @@ pub(crate) fn three_high(first: u8x16, second: u8x16) -> u8x16
     are_surrogates.select(u8x16::splat(0), high)
 }
 
-/// Which of sixteen bytes begin a character of three bytes, as bits. Where it needs as many and is no surrogate, the high byte of its
+/// Which of sixteen bytes begin a character of three bytes, as bits. If it needs as many and is no surrogate, the high byte of its
 /// number is 8 at least.
 #[inline(always)]
 fn threes(input: &[u8], at: usize) -> u64
@@ -73,13 +73,13 @@ fn threes(input: &[u8], at: usize) -> u64
     firsts & high & among(u8x16::from_slice(&input[at + 2..]), 0x80, 0x40)
 }
 
-/// How many bytes at the front are whole characters that begin among sixteen bytes and have up to three, and which begin one, as bits.
+/// How many bytes at the start are whole characters that begin among sixteen bytes and have up to three, and which begin one, as bits.
 pub(crate) struct Front {
     pub(crate) used: usize,
     pub(crate) begun: u64,
 }
 
-/// The whole characters at the front of sixteen bytes.
+/// The whole characters at the start of sixteen bytes.
 #[inline(always)]
 pub(crate) fn whole(input: &[u8], at: usize) -> Front
     requires { at + 18 ≤ length input.now }

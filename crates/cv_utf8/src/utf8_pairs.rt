@@ -28,7 +28,7 @@ fn numbers_of(characters: &[Scalar], n: usize) -> [u16; EIGHT]
     numbers
 }
 
-/// Two bytes for each of eight characters. Where one has but one, the second is 0.
+/// Two bytes for each of eight characters. If one has a single byte, the second is 0.
 #[inline(always)]
 fn pairs(numbers: u16x8) -> u8x16
     requires { (k : ℕ) → k < 8 → get_or numbers k 0 < 0x800 }
@@ -52,7 +52,7 @@ fn twos(numbers: u16x8) -> u64
     numbers.simd_ge(u16x8::splat(0x80)).to_bitmask()
 }
 
-/// Writes eight characters of up to two bytes, and answers how many bytes they have. What is behind them may be anything.
+/// Writes eight characters of up to two bytes, and answers how many bytes they have. What follows them may be anything.
 #[inline(always)]
 fn write_eight(characters: &[Scalar], n: usize, out: &mut [u8], at: usize) -> usize
     requires within { n + 8 ≤ length characters.now }

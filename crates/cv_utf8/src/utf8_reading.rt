@@ -23,7 +23,7 @@ fn two_at(input: &[u8], at: usize) -> Option<(Scalar, usize)>
     Some((Scalar::known(number), 2))
 }
 
-/// The character of three bytes, of which the first is E0 at least.
+/// The character of three bytes, the first of which is at least E0.
 #[inline(always)]
 fn three_at(input: &[u8], at: usize) -> Option<(Scalar, usize)>
     requires within { at + 3 ≤ length input.now }
@@ -44,7 +44,7 @@ fn three_at(input: &[u8], at: usize) -> Option<(Scalar, usize)>
     Some((Scalar::known(number), 3))
 }
 
-/// The character of four bytes, of which the first is F0 at least.
+/// The character of four bytes, the first of which is at least F0.
 #[inline(always)]
 fn four_at(input: &[u8], at: usize) -> Option<(Scalar, usize)>
     requires within { at + 4 ≤ length input.now }
@@ -66,7 +66,7 @@ fn four_at(input: &[u8], at: usize) -> Option<(Scalar, usize)>
     Some((Scalar::known(number), 4))
 }
 
-/// The character that stands where four bytes are left at least.
+/// The next character, if at least four bytes are left.
 #[inline(always)]
 pub(crate) fn inner_at(input: &[u8], at: usize) -> Option<(Scalar, usize)>
     requires { at + 4 ≤ length input.now }
@@ -85,7 +85,7 @@ pub(crate) fn inner_at(input: &[u8], at: usize) -> Option<(Scalar, usize)>
     four_at(input, at)
 }
 
-/// The character that stands among the last bytes.
+/// The next character among the last bytes.
 #[inline(never)]
 pub(crate) fn last_at(input: &[u8], at: usize) -> Option<(Scalar, usize)>
     requires { at ≤ length input.now }

@@ -1,11 +1,11 @@
-//! Whether bytes of UTF-8 are those of characters of one and of two bytes, by vectors that are joined before one is made bits.
+//! Whether bytes of UTF-8 are those of characters of one and of two bytes, by vectors that are joined before the result becomes bits.
 ghost use Rattle.std.specs.Prelude.{◌≡◌, ◌+◌, ◌≤◌, ◌<◌, ℕ, length, get_or, IsTrue};
 ghost use Rattle.cv_utf8.specs.Private.Utf8Short.{IsShortAt};
 
 use std::simd::prelude::*;
 
-/// By how much each of sixteen bytes is above the most that may stand there, where each character has one or two bytes. Before a byte behind
-/// a first that is 0xc2 to 0xdf, and before any other 0 to 0xbf. The least is taken off first, so a lesser byte wraps and is above too.
+/// By how much each of sixteen bytes is above the most that may be there, if each character has one or two bytes. Before a byte after
+/// a first that is 0xc2 to 0xdf, and before any other 0 to 0xbf. The least is subtracted first, so a smaller byte wraps and is above too.
 #[inline(always)]
 fn excess(input: &[u8], at: usize) -> u8x16
     requires { at + 17 ≤ length input.now }

@@ -18,8 +18,8 @@ use std::simd::prelude::*;
 /// The spelling of characters in UTF-8 (Unicode 3.9, Table 3-6).
 pub(crate) struct Utf8Spelling;
 
-/// The spelling of a character, as a number whose lowest byte is the first. What is behind the spelling may be anything.
-/// The bits of four bytes are spread once, and a shorter spelling has the last of them; which it is takes no branch.
+/// The spelling of a character, as a number whose lowest byte is the first. What follows the spelling may be anything.
+/// The bits of four bytes are spread once, and a shorter spelling has the last of them. Its length is computed without a branch.
 #[inline(always)]
 fn word(value: u32) -> u32
     requires { IsScalar value }
@@ -49,7 +49,7 @@ fn size(value: u32) -> usize
     1 + (value >= 0x80) as usize + (value >= 0x800) as usize + (value >= 0x1_0000) as usize
 }
 
-/// The bits of sixteen characters, joined. Each is joined, so that the loop is done at once.
+/// The bits of sixteen characters, joined. No early exit, so that LLVM vectorizes the loop.
 #[inline(always)]
 fn joined(characters: &[Scalar], n: usize) -> u32
     requires { n + 16 ≤ length characters.now }
@@ -62,7 +62,7 @@ fn joined(characters: &[Scalar], n: usize) -> u32
     joined
 }
 
-/// The spellings of sixteen characters, each as `word` has it.
+/// The spellings of sixteen characters, each as `word` computes it.
 #[inline(always)]
 fn words(values: u32x16) -> u32x16
     requires { AreScalarsBelow values 16 }
@@ -139,7 +139,7 @@ impl Spelling for Utf8Spelling {
         if input.len() - at >= 4 {
             return inner_at(input, at);
         }
-        // `?` tests it here, so that it is not tested again where four bytes were left.
+        // `?` tests it here, so that it is not tested again if four bytes were left.
         let read = last_at(input, at)?;
         Some(read)
     }

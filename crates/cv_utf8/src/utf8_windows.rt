@@ -32,7 +32,7 @@ fn short_low(first: u8x16, second: u8x16) -> u8x16
     first.simd_lt(u8x16::splat(0xc0)).select(first, two)
 }
 
-/// The high bytes of the numbers of characters that begin with the bytes and have one or two: none where the byte is below 0xc0.
+/// The high bytes of the numbers of characters that begin with the bytes and have one or two: none if the byte is below 0xc0.
 #[inline(always)]
 fn short_high(first: u8x16) -> u8x16
     ensures long { length result ≡ 16 }
@@ -41,8 +41,8 @@ fn short_high(first: u8x16) -> u8x16
     first.saturating_sub(u8x16::splat(0xc0)) / u8x16::splat(4)
 }
 
-/// The numbers of the characters that begin at sixteen places, if they have one or two bytes. They are computed by bytes, of which a
-/// vector has twice as many.
+/// The numbers of the characters that begin at sixteen places, if they have one or two bytes. They are computed by bytes, because a
+/// vector has twice as many of them.
 #[inline(always)]
 fn short_values(input: &[u8], at: usize) -> [u16; MANY]
     requires { at + 17 ≤ length input.now }
@@ -103,8 +103,8 @@ fn whole_values(input: &[u8], at: usize) -> [u16; MANY]
     numbers_of(low_bytes(first, second, third), high_bytes(first, second))
 }
 
-/// Reads the whole characters of up to three bytes at the front of sixteen bytes. It stands apart, so that the loops
-/// around it keep their registers.
+/// Reads the whole characters of up to three bytes at the start of sixteen bytes. Kept out of line to save registers in the
+/// callers' loops.
 #[inline(never)]
 fn read_whole(input: &[u8], at: usize, buffer: &mut [Scalar], n: usize) -> Spelled
     requires within { at + 18 ≤ length input.now }
@@ -116,8 +116,8 @@ fn read_whole(input: &[u8], at: usize, buffer: &mut [Scalar], n: usize) -> Spell
     put_begun(&whole_values(input, at), begun, used, buffer, n)
 }
 
-/// Whether a character of three or of four bytes may begin among sixteen bytes. It decides speed alone, and which way is taken by texts of
-/// one script hardly changes.
+/// Whether a character of three or of four bytes may begin among sixteen bytes. It affects speed only, and texts of one
+/// script rarely change the branch that they take.
 #[inline(always)]
 fn may_be_high(input: &[u8], at: usize) -> bool
     requires { at + 16 ≤ length input.now }
@@ -125,8 +125,8 @@ fn may_be_high(input: &[u8], at: usize) -> bool
     among(u8x16::from_slice(&input[at..]), 0xe0, 0x20) != 0
 }
 
-/// Whether sixteen characters of three bytes may follow each other, by the first byte of some of them. It decides speed alone: to read
-/// them at once costs as much where they are fewer.
+/// Whether sixteen characters of three bytes may follow each other, by the first byte of some of them. It affects speed only: to read
+/// them at once costs as much if they are fewer.
 #[inline(always)]
 fn may_be_threes(input: &[u8], at: usize) -> bool
     requires { at ≤ length input.now }
@@ -135,8 +135,8 @@ fn may_be_threes(input: &[u8], at: usize) -> bool
     text.len() > 48 && text[0] & text[12] & text[24] & text[36] & text[45] >= 0xe0
 }
 
-/// Reads characters among which one of three or of four bytes may be: as many as have four where one stands at the front, or three where
-/// many likely follow each other, or else those of sixteen bytes, up to one that has four.
+/// Reads characters among which one of three or of four bytes may be: those of four bytes if one is at the start, or those of three if many
+/// likely follow each other. Otherwise it reads the characters of sixteen bytes, up to one of four bytes.
 #[inline(always)]
 fn read_high(input: &[u8], at: usize, buffer: &mut [Scalar], n: usize) -> Spelled
     requires within { at + 18 ≤ length input.now }
@@ -156,8 +156,8 @@ fn read_high(input: &[u8], at: usize, buffer: &mut [Scalar], n: usize) -> Spelle
     read_whole(input, at, buffer, n)
 }
 
-/// Reads the characters of up to three bytes that begin among sixteen bytes, up to one that has four. Where one of four bytes
-/// stands at the front, or of three and many behind it likely too, those that have as many are read.
+/// Reads the characters of up to three bytes that begin among sixteen bytes, up to one that has four. If one of four bytes
+/// is at the start, or one of three and likely many more after it, those with as many bytes are read.
 #[inline(always)]
 pub(crate) fn read_many(input: &[u8], at: usize, buffer: &mut [Scalar], n: usize) -> Spelled
     requires within { at ≤ length input.now }

@@ -12,7 +12,7 @@ use Rattle.cv_wide.specs.declared.order.Order.{Order}
 use Rattle.cv_wide.specs.declared.order.Order.TheVariants.{Be, Le, Marked}
 use Rattle.cv_wide.specs.Orders.{Form, reads_in, writes_in, mark}
 
--- A reader and a writer of one text are both at its start, or both behind its big-endian mark.
+-- A reader and a writer of one text are both at its start, or both after its big-endian mark.
 abbrev pub BothAt : Together
 BothAt write.Start s = s ≡ read.Start
 BothAt write.Marked s = s ≡ read.Big

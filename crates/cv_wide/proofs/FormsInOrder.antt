@@ -12,7 +12,7 @@ use Rattle.cv_wide.specs.declared.order.Order.TheVariants.{Be, Le, Marked}
 use Rattle.cv_wide.specs.Private.Forms.{IsUnique, IsForm}
 use Rattle.cv_wide.specs.Orders.{Form, gives, reads_first, reads_in, writes_in, mark}
 
--- one item stands, and it uses some of its bytes: characters, then marks, then each order
+-- one item is next, and it uses some of its bytes: characters, then marks, then each order
 one_given : (bytes_of : ℕ → List ℕ) → IsUnique bytes_of → (next : ReadState) (text a b : List ℕ) (i j : Taken) → gives bytes_of next a i → gives bytes_of next b j → Begins a text → Begins b text → i ≡ j
 one_given bytes_of u next text a b i j p q f g =
     let c_is : p.0 ≡ q.0 = u.one text p.0 q.0 p.1 q.1 (rw (← p.2) f) (rw (← q.2) g) in

@@ -1,4 +1,4 @@
--- What stands next in an encoding form in one order of bytes.
+-- What is next in an encoding form in one byte order.
 use Rattle.std.proofs.Common.{◌≡◌, ℕ, ◌<◌, ◌≤◌, List, [], ◌∷◌, ◌++◌, length, drop, suc, refl, sym, ◌∙◌, ap, arith, Some}
 use Rattle.cv_base.specs.Scalars.{IsScalar}
 use Rattle.cv_base.specs.Items.{Taken, taken, ItemRelation, Begins, Stands, IsNext}
@@ -8,26 +8,26 @@ use Rattle.cv_base.specs.declared.item.Item.TheVariants.{Char, Shift, Incomplete
 use Rattle.cv_base.proofs.Front.{Agree, Begins-agree}
 use Rattle.cv_wide.specs.Private.AnyState.{always_gives}
 
--- what begins a list that agrees with a text begins the text, where that is as long
+-- what begins a list that agrees with a text begins the text, if that is as long
 pub front_agrees : (a w x : List ℕ) → Begins a w → Agree w x → length a ≤ length x → Begins a x
 front_agrees [] w x p q l = tt
 front_agrees (y ∷ a) [] x p q l = absurd p
 front_agrees (y ∷ a) (z ∷ w) [] p q l = absurd (omega arith)
 front_agrees (y ∷ a) (z ∷ w) (t ∷ x) p q l = (p.0 ∙ q 0 (omega arith) (omega arith), front_agrees a w x p.1 (λ k m n. q (suc k) (omega arith) (omega arith)) (omega arith))
 
--- what stands behind the front of a list that agrees with a text agrees with what stands there
+-- what follows a prefix of a list that agrees with a text agrees with what is there
 pub back_agrees : (a b x : List ℕ) → Agree (a ++ b) x → Agree b (drop (length a) x)
 back_agrees [] b x q = q
 back_agrees (y ∷ a) b [] q = λ k m n. absurd (omega arith)
 back_agrees (y ∷ a) b (t ∷ x) q = back_agrees a b x (λ k m n. q (suc k) (omega arith) (omega arith))
 
--- a text that has a whole list at its front, and then a part of another
+-- a text that begins with a whole list, and then a part of another
 pub whole_and_part : (a b x : List ℕ) → Begins a x → Begins (drop (length a) x) b → Begins x (a ++ b)
 whole_and_part [] b x p q = q
 whole_and_part (y ∷ a) b [] p q = absurd p
 whole_and_part (y ∷ a) b (t ∷ x) p q = (sym p.0, whole_and_part a b x p.1 q)
 
--- a scalar whose bytes begin the text stands there
+-- a scalar whose bytes begin the text is there
 pub char_from : (bytes_of : ℕ → List ℕ) (next s : ReadState) (x : List ℕ) (n c : ℕ) → IsScalar c → Begins (bytes_of c) x → length (bytes_of c) ≡ n → Stands (always_gives bytes_of next) s x (taken n (Some c) next)
 char_from bytes_of next s x n c scalar front e = record { bytes = bytes_of c; is_item = (c, scalar, refl, ap (λ m. taken m (Some c) next) (sym e)); front = front }
 
@@ -47,7 +47,7 @@ incomplete_from bytes_of next s x some longer c scalar front = (
   record { bytes = bytes_of c; item = taken (length (bytes_of c)) (Some c) next; is_item = (c, scalar, refl, refl); front = front },
 )
 
--- what stands next is the same by two relations with the same items
+-- what is next is the same by two relations with the same items
 pub next_like : (A B : ItemRelation) (s t : ReadState) (x : List ℕ) → ((w : List ℕ) (i : Taken) → A s w i → B t w i) → ((w : List ℕ) (i : Taken) → B t w i → A s w i) → (item : Item) → IsNext A s x item → IsNext B t x item
 next_like A B s t x f g (Char c n next) h = record { bytes = h.bytes; is_item = f h.bytes _ h.is_item; front = h.front }
 next_like A B s t x f g (Shift n next) h = record { bytes = h.bytes; is_item = f h.bytes _ h.is_item; front = h.front }

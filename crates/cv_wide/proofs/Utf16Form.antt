@@ -1,4 +1,4 @@
--- UTF-16 is an encoding form with an order of bytes.
+-- UTF-16 is an encoding form with a byte order.
 use Rattle.std.proofs.Common.{◌≡◌, ℕ, ◌<◌, inl, inr, ◌/◌, List, [], ◌∷◌, length, drop, ◌∙◌, ap, subst, arith}
 use Rattle.std.proofs.lemmas.Bool.{cases_lt}
 use Rattle.cv_base.specs.Scalars.{IsScalar}
@@ -13,7 +13,7 @@ use Rattle.cv_wide.specs.Private.Forms.{IsUnique, IsForm}
 use Rattle.cv_wide.specs.Utf16.{utf16}
 use Rattle.cv_wide.proofs.Utf16Units.{IsOne, IsTwo, one_or_two, size_one, size_two, four_at_most}
 
--- What begins a text with a scalar of two units: its high surrogate, and the low one behind it.
+-- What begins a text with a scalar of two units: its high surrogate, and the low one after it.
 record Pair (e : Endian) (text : List ℕ) (c : ℕ) : Type 0 where
   first : Begins (unit_of (Two e) (high_unit c)) text
   second : Begins (unit_of (Two e) (low_unit c)) (drop 2 text)

@@ -1,4 +1,4 @@
--- What stands next in UTF-16 in one order of bytes.
+-- What is next in UTF-16 in one byte order.
 use Rattle.std.proofs.Common.{◌≡◌, ℕ, ◌+◌, ◌*◌, ◌/◌, ◌<◌, ◌≤◌, ◌⊎◌, inl, inr, List, [], ◌∷◌, ◌++◌, length, drop, get_or, get_or-drop, length-drop, zero, suc, refl, sym, ◌∙◌, ap, subst, arith, Some}
 use Rattle.std.proofs.lemmas.Bool.{cases_eq}
 use Rattle.cv_base.specs.Scalars.{IsScalar}
@@ -82,7 +82,7 @@ first_unit e x first c s a p =
           inr (o, one_number (Two e) x (high_unit c) first here p.stands))
     ]
 
--- the low surrogate of a scalar that agrees with a text does so with what is behind the first two bytes
+-- the low surrogate of a scalar that agrees with a text does so with what is after the first two bytes
 low_agrees : (e : Endian) (x : List ℕ) (c : ℕ) → IsTwo e c → Agree (utf16 e c) x → Agree (unit_of (Two e) (low_unit c)) (drop 2 x)
 low_agrees e x c t a = subst (λ (n : ℕ). Agree (unit_of (Two e) (low_unit c)) (drop n x)) (length-unit_of (Two e) (high_unit c)) (back_agrees (unit_of (Two e) (high_unit c)) (unit_of (Two e) (low_unit c)) x (subst (λ (w : List ℕ). Agree w x) t.bytes a))
 
@@ -93,14 +93,14 @@ two_from e x first c s a p high = elim (first_unit e x first c s a p) [
   | inr q ↦ q.0
 ]
 
--- a low surrogate at the front
+-- a low surrogate at the start
 pub ill_first : (e : Endian) (next s : ReadState) (x : List ℕ) (first : ℕ) → IsUnitAt (Two e) x 0 first → IsLowUnit first → IsNext (always_gives (utf16 e) next) s x Ill
 ill_first e next s x first p low = ill_from (utf16 e) next s x (omega (arith, unit_within e x 0 first p)) (λ c scalar a. elim (first_unit e x first c scalar a p) [
   | inl q ↦ q.0.no_low (ap (λ (u : ℕ). u / 0x400) q.1 ∙ low)
   | inr q ↦ omega (arith, q.0.high, q.1, low)
 ])
 
--- a high surrogate with no low one behind it
+-- a high surrogate with no low one after it
 pub ill_second : (e : Endian) (next s : ReadState) (x : List ℕ) (first second : ℕ) → IsUnitAt (Two e) x 0 first → IsHighUnit first → IsUnitAt (Two e) x 2 second → (IsLowUnit second → ⊥) → IsNext (always_gives (utf16 e) next) s x Ill
 ill_second e next s x first second p high q never = ill_from (utf16 e) next s x (omega (arith, unit_within e x 0 first p)) (λ c scalar a. (
     let t = two_from e x first c scalar a p high in
@@ -117,7 +117,7 @@ ill_part e next s x first p high long never = ill_from (utf16 e) next s x (omega
     let same : get_or (unit_of (Two e) (low_unit c)) 0 0 ≡ get_or x 2 0 = rw get_or-drop at here in
     never (subst (CanBeLow e) same (low_byte e (low_unit c) t.low))))
 
--- a byte that begins low surrogates alone
+-- a byte that begins only low surrogates
 pub ill_byte : (e : Endian) (next s : ReadState) (x : List ℕ) → 0 < length x → length x < 2 → (CanBeOther e (get_or x 0 0) → ⊥) → IsNext (always_gives (utf16 e) next) s x Ill
 ill_byte e next s x some few never = ill_from (utf16 e) next s x some (λ c scalar a. elim (one_or_two e c scalar) [
   | inl o ↦ (

@@ -89,7 +89,7 @@ one_or_two e c s = elim (cases_lt c 0x10000) [
   | inr l ↦ inr (record { above = l; high = omega (arith, s.0, l); low = omega (arith, l); bytes = two_units e c l })
 ]
 
--- a unit that stands at a place is within the text
+-- a unit that is at a place is within the text
 pub unit_within : (e : Endian) (text : List ℕ) (at u : ℕ) → IsUnitAt (Two e) text at u → at + 2 ≤ length text
 unit_within e text at u p = omega (arith, Begins-length (unit_of (Two e) u) (drop at text) p.stands, length-unit_of (Two e) u, length-drop at text)
 
@@ -104,7 +104,7 @@ one_spelled e text at u p high low = (
 behind : (e : Endian) (u : ℕ) (text : List ℕ) (at : ℕ) → drop (at + 2) text ≡ drop (length (unit_of (Two e) u)) (drop at text)
 behind e u text at = sym (drop-drop 2 at text) ∙ ap (λ (n : ℕ). drop n (drop at text)) (sym (length-unit_of (Two e) u))
 
--- the character of a pair stands where its units do
+-- the character of a pair is next if its units are
 pub pair_stands : (e : Endian) (text : List ℕ) (at high low c : ℕ) → IsUnitAt (Two e) text at high → IsUnitAt (Two e) text (at + 2) low → IsPair high low c → Begins (utf16 e c) (drop at text)
 pair_stands e text at high low c p q pair =
     let second : Begins (unit_of (Two e) low) (drop (length (unit_of (Two e) high)) (drop at text)) = subst (λ (x : List ℕ). Begins (unit_of (Two e) low) x) (behind e high text at) q.stands in

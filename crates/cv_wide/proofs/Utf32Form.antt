@@ -1,4 +1,4 @@
--- UTF-32 is an encoding form with an order of bytes.
+-- UTF-32 is an encoding form with a byte order.
 use Rattle.std.proofs.Common.{◌≡◌, ℕ, ◌/◌, ◌%◌, ◌≤◌, List, [], ◌∷◌, length, sym, ◌∙◌, arith}
 use Rattle.cv_base.specs.Scalars.{IsScalar}
 use Rattle.cv_base.specs.Items.{Begins}

@@ -1,4 +1,4 @@
--- What stands next in UTF-32 in one order of bytes.
+-- What is next in UTF-32 in one byte order.
 use Rattle.std.proofs.Common.{◌≡◌, ℕ, ◌+◌, ◌*◌, ◌/◌, ◌%◌, ◌<◌, ◌≤◌, inl, inr, List, [], ◌∷◌, length, get_or, refl, sym, ◌∙◌, subst, arith, Some}
 use Rattle.std.proofs.lemmas.Bool.{cases_lt}
 use Rattle.cv_base.specs.Scalars.{IsScalar}
@@ -60,7 +60,7 @@ no_third i j e f p h = absurd (omega arith)
 one : (j : ℕ) → IsThird 1 j
 one j e h = absurd (omega arith)
 
--- fewer than four bytes that can be a scalar's are the front of one
+-- fewer than four bytes that can be a scalar's are a prefix of one
 grown : (e : Endian) (x : List ℕ) → length x < 4 → get_or x 0 0 < 256 → get_or x 1 0 < 256 → get_or x 2 0 < 256 → CanBeScalar e x → Grown e x
 grown Big [] l p q r can = grown_big [] 0 0 0 (omega arith) (no_third 0 0 refl refl) (omega arith) (omega arith) tt
 grown Big (a ∷ []) l p q r can = grown_big (a ∷ []) 0 0 0 (omega arith) (no_third 0 0 refl refl) (omega arith) (omega arith) (can.0, tt)
@@ -76,7 +76,7 @@ grown Little (a ∷ b ∷ c ∷ d ∷ x) l p q r can = absurd (omega arith)
 third_of : (c : ℕ) → IsScalar c → IsThird (c / 0x10000 % 0x100) (c / 0x100 % 0x100)
 third_of c s e h = omega (arith, s.0, s.1 (omega (arith, s.0)))
 
--- the front of a scalar's bytes can be one's
+-- a prefix of a scalar's bytes can be one's
 can_be : (e : Endian) (x : List ℕ) (c : ℕ) → length x < 4 → 0 < length x → IsScalar c → Begins x (utf32 e c) → CanBeScalar e x
 can_be Big x c l n s f =
     let at = (Begins-agree x (utf32 Big c) f).1 in (

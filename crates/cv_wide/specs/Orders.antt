@@ -1,4 +1,4 @@
--- The byte orders of an encoding form, and the marks that tell them (Unicode 3.10, D96 to D101).
+-- The byte orders of an encoding form, and the marks that determine them (Unicode 3.10, D96 to D101).
 use Rattle.std.specs.Prelude.{◌≡◌, ℕ, ◌⊎◌, List, ◌++◌, length, Some, None}
 use Rattle.cv_base.specs.Scalars.{IsScalar}
 use Rattle.cv_base.specs.Items.{Taken, taken, ItemRelation}
@@ -11,15 +11,15 @@ use Rattle.cv_base.specs.declared.state.WriteState.TheVariants as write
 use Rattle.cv_wide.specs.declared.order.Order.{Order}
 use Rattle.cv_wide.specs.declared.order.Order.TheVariants.{Be, Le, Marked}
 
--- an encoding form: the bytes of each scalar, in each order of the bytes of a unit
+-- an encoding form: the bytes of each scalar, in each byte order of a unit
 abbrev pub Form : Type 0
 Form = Endian → ℕ → List ℕ
 
--- the byte order mark, U+FEFF, whose bytes tell the order (Unicode 23.8)
+-- the byte order mark, U+FEFF, whose bytes determine the order (Unicode 23.8)
 abbrev pub mark : ℕ
 mark = 0xFEFF
 
--- The whole byte string is that of one scalar, behind which the state is as said.
+-- The whole byte string is that of one scalar, and the state after it is the given one.
 abbrev pub gives : (ℕ → List ℕ) → ReadState → List ℕ → Taken → Type 0
 gives bytes_of next bytes item = (c : ℕ) × IsScalar c × (bytes ≡ bytes_of c) × (item ≡ taken (length bytes) (Some c) next)
 
@@ -30,7 +30,7 @@ reads_first form bytes item =
     ⊎ (((bytes ≡ form Little mark) × (item ≡ taken (length bytes) None read.Little))
     ⊎ ((bytes ≡ form Big mark → ⊥) × (bytes ≡ form Little mark → ⊥) × gives (form Big) read.Big bytes item))
 
--- The whole byte string is one scalar in the state's order, or a mark. A state that the order doesn't use stands for `Start`.
+-- The whole byte string is one scalar in the state's order, or a mark. A state that the order doesn't use means `Start`.
 abbrev pub reads_in : Form → Order → ItemRelation
 reads_in form Be s = gives (form Big) read.Start
 reads_in form Le s = gives (form Little) read.Start
@@ -38,7 +38,7 @@ reads_in form Marked read.Big = gives (form Big) read.Big
 reads_in form Marked read.Little = gives (form Little) read.Little
 reads_in form Marked other = reads_first form
 
--- Every scalar is written in the order, behind the big-endian mark where it is the first. A state that the order doesn't use stands for `Start`.
+-- Every scalar is written in the order, after the big-endian mark if it is the first. A state that the order doesn't use means `Start`.
 abbrev pub writes_in : Form → Order → Writing
 writes_in form Be t c = Some (form Big c, write.Start)
 writes_in form Le t c = Some (form Little c, write.Start)

@@ -1,4 +1,4 @@
-//! An encoding form in an order of bytes, as a codec: UTF-16 and UTF-32.
+//! An encoding form in a byte order, as a codec: UTF-16 and UTF-32.
 ghost use Rattle.std.specs.Prelude.{◌≡◌, []};
 ghost use Rattle.cv_wide.specs.Orders.{reads_in, writes_in};
 
@@ -8,8 +8,8 @@ use crate::wide_form::WideForm;
 use cv_base::{AsciiForm, Codec, Item, Piece, Put, ReadState, Scalar, WriteState};
 use std::marker::PhantomData;
 
-/// An encoding scheme (Unicode 3.10, D96 to D101): an encoding form in an order of bytes. By `Marked` the first character
-/// is written in one piece with a mark. A state that the order does not use is taken for `Start`.
+/// An encoding scheme (Unicode 3.10, D96 to D101): an encoding form in a byte order. With `Marked` the first character
+/// is written in one piece with a mark. A state that the order does not use is treated as `Start`.
 #[derive(Clone, Copy)]
 pub struct EncodingScheme<F> {
     /// The order.

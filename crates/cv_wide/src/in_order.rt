@@ -1,4 +1,4 @@
-//! UTF-16 and UTF-32 in their orders of bytes: which order a state has, and the mark at the start of a text.
+//! UTF-16 and UTF-32 in their byte orders: which order a state has, and the mark at the start of a text.
 ghost use Rattle.std.specs.Prelude.{◌≡◌, ◌≤◌, ◌↔◌, ◌++◌, IsTrue, length, Some};
 ghost use Rattle.cv_base.specs.Codecs.{WritesAtMost};
 ghost use Rattle.cv_base.specs.Items.{Begins, IsNext};
@@ -21,7 +21,7 @@ fn begins(front: &[u8], text: &[u8]) -> bool
     text.starts_with(front)
 }
 
-/// What stands next in a text that may begin with a mark.
+/// What is next in a text that may begin with a mark.
 #[tactic(auto, using(crate::proofs::StartOfText::steps))]
 fn first_item<F: WideForm>(input: &[u8]) -> Item
     ensures { (state : ReadState) → IsNext (always_first F.form) state input.now result }
@@ -44,14 +44,14 @@ fn first_item<F: WideForm>(input: &[u8]) -> Item
             next: ReadState::Little,
         };
     }
-    // The front of the big-endian mark is that of U+FEFF.
+    // A prefix of the big-endian mark is that of U+FEFF.
     if begins(input, little.as_slice()) {
         return Item::Incomplete;
     }
     F::item::<BigEndian>(input, ReadState::Big)
 }
 
-/// What stands next in a state.
+/// What is next in a state.
 #[inline(always)]
 pub(crate) fn item_in<F: WideForm>(order: Order, state: ReadState, input: &[u8]) -> Item
     ensures { IsNext (reads_in F.form order) state input.now result }

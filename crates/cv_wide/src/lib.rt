@@ -1,4 +1,4 @@
-//! The encoding forms whose units are wider than a byte, UTF-16 and UTF-32, in their orders of bytes.
+//! The encoding forms whose units are wider than a byte, UTF-16 and UTF-32, in their byte orders.
 #![tactic(auto)]
 
 mod blocks;

@@ -1,22 +1,22 @@
-//! The order of bytes.
+//! The byte order.
 ghost use Rattle.std.specs.Prelude.{IfSome};
 ghost use Rattle.cv_wide.specs.Private.Kept.{KeepsReading, KeepsWriting};
 
 use cv_base::{Endian, ReadState, WriteState};
 
-/// The order of the bytes of a unit in UTF-16 and UTF-32.
+/// The byte order of a unit in UTF-16 and UTF-32.
 #[derive(Clone, Copy, Debug, PartialEq, Eq)]
 pub enum Order {
     /// The high byte first. U+FEFF is a character like others.
     Be,
     /// The low byte first. U+FEFF is a character like others.
     Le,
-    /// By the mark that begins the text, and without one the high byte first.
+    /// The order of the mark that begins the text, and without one the high byte first.
     Marked,
 }
 
 impl Order {
-    /// In which order characters stand in this state, if it stays.
+    /// The byte order of characters in this state, if it stays.
     #[inline]
     pub(crate) fn kept_reading(self, state: ReadState) -> Option<Endian>
         ensures { IfSome result (λ endian. KeepsReading self state endian) }
@@ -30,7 +30,7 @@ impl Order {
         }
     }
 
-    /// In which order characters are written in this state, if it stays.
+    /// The byte order in which characters are written in this state, if it stays.
     #[inline]
     pub(crate) fn kept_writing(self, state: WriteState) -> Option<Endian>
         ensures { IfSome result (λ endian. KeepsWriting self state endian) }
@@ -43,7 +43,7 @@ impl Order {
         }
     }
 
-    /// In which order characters stand and are written in these states, if it is the same and both states stay.
+    /// The byte order in which characters are read and written in these states, if it is the same and both states stay.
     #[inline]
     pub(crate) fn kept(self, reading: ReadState, writing: WriteState) -> Option<Endian>
         ensures { IfSome result (λ endian. KeepsReading self reading endian × KeepsWriting self writing endian) }

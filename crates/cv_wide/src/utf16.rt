@@ -15,7 +15,7 @@ use cv_block::{
 #[derive(Clone, Copy)]
 pub struct Utf16Form;
 
-/// UTF-16 in an order of bytes. Its mark has two bytes.
+/// UTF-16 in a byte order. Its mark has two bytes.
 pub type Utf16 = EncodingScheme<Utf16Form>;
 
 /// Whether a low surrogate can begin with this byte.

@@ -1,4 +1,4 @@
-//! UTF-16 as a spelling, in each order of bytes.
+//! UTF-16 as a spelling, in each byte order.
 ghost use Rattle.std.specs.Prelude.{◌≡◌, ◌<◌, length};
 ghost use Rattle.cv_base.specs.Items.{Begins};
 ghost use Rattle.cv_base.specs.declared.endian.Endian.{Endian};
@@ -24,7 +24,7 @@ fn size_of(value: u32) -> usize
     2 + 2 * (value >= 0x1_0000) as usize
 }
 
-/// The bytes of a character. What is behind those of a single unit may be anything.
+/// The bytes of a character. What follows those of a single unit may be anything.
 #[inline(always)]
 fn bytes_of(endian: Endian, value: u32) -> [u8; 4]
     requires { value < 0x110000 }
@@ -38,7 +38,7 @@ fn bytes_of(endian: Endian, value: u32) -> [u8; 4]
     }
 }
 
-/// The words of sixteen characters, as `bytes_of` has them.
+/// The words of sixteen characters, as `bytes_of` computes them.
 #[inline(always)]
 fn words(endian: Endian, values: u32x16) -> u32x16
     requires { AreScalarsBelow values 16 }
@@ -68,7 +68,7 @@ fn sizes(values: u32x16) -> u32x16
     u32x16::splat(2) + more
 }
 
-/// UTF-16 in an order of bytes.
+/// UTF-16 in a byte order.
 pub struct Utf16In<O> {
     order: PhantomData<O>,
 }

@@ -13,7 +13,7 @@ use cv_block::{BigEndian, ByteOrder, Four, LittleEndian};
 #[derive(Clone, Copy)]
 pub struct Utf32Form;
 
-/// UTF-32 in an order of bytes. Its mark has four bytes.
+/// UTF-32 in a byte order. Its mark has four bytes.
 pub type Utf32 = EncodingScheme<Utf32Form>;
 
 /// Whether the third highest byte fits the second: the two are of no surrogate.
@@ -24,7 +24,7 @@ fn fits_third(second: u8, third: u8) -> bool
     second != 0 || third < 0xd8 || third >= 0xe0
 }
 
-/// Whether a character can begin with these bytes, of which there are one to three.
+/// Whether a character can begin with these one to three bytes.
 #[inline]
 fn can_be_scalar(endian: Endian, part: &[u8]) -> bool
     requires some { 0 < length part.now }

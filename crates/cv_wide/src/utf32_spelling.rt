@@ -1,11 +1,11 @@
-//! UTF-32 as a spelling, in each order of bytes.
+//! UTF-32 as a spelling, in each byte order.
 ghost use Rattle.cv_wide.specs.Utf32.{utf32};
 
 use cv_base::Scalar;
 use cv_block::{ByteOrder, Four, Spelled, Spelling, read_units, write_units};
 use std::marker::PhantomData;
 
-/// UTF-32 in an order of bytes.
+/// UTF-32 in a byte order.
 pub struct Utf32In<O> {
     order: PhantomData<O>,
 }

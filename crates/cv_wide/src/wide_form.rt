@@ -1,4 +1,4 @@
-//! What UTF-16 and UTF-32 have in common: encoding forms whose units have an order of bytes.
+//! What UTF-16 and UTF-32 have in common: encoding forms whose units have a byte order.
 ghost use Rattle.std.specs.Prelude.{◌≡◌, ◌≤◌, ◌+◌, length};
 ghost use Rattle.cv_base.specs.Items.{IsNext};
 ghost use Rattle.cv_base.specs.Places.{IsPut};
@@ -12,7 +12,7 @@ ghost use Rattle.cv_wide.specs.Private.Forms.{IsForm};
 use cv_base::{AsciiForm, Endian, Item, Piece, ReadState, Scalar};
 use cv_block::{ByteOrder, Spelling, Unit};
 
-/// An encoding form whose units have an order of bytes.
+/// An encoding form whose units have a byte order.
 pub(crate) trait WideForm {
     ghost form: { Form };
 
@@ -36,7 +36,7 @@ pub(crate) trait WideForm {
         ensures be_unit { SpellsUnits Self.BeUnit.form (form Big) }
         ensures le_unit { SpellsUnits Self.LeUnit.form (form Little) };
 
-    /// What stands next in a text of one order.
+    /// What is next in a text of one order.
     fn item<O: ByteOrder>(input: &[u8], next: ReadState) -> Item
         ensures { IsNext (always_gives (form O.endian) next) next input.now result };
 

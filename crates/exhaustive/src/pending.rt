@@ -1,4 +1,4 @@
-//! Each scalar value behind characters that leave each of the states in which a shifted sequence can be, in UTF-7.
+//! Each scalar value in UTF-7, after characters that leave a shifted sequence in each of its possible states.
 ghost use Rattle.std.specs.Prelude.{◌<◌, ◌≤◌};
 
 use crate::spelling::{is_read_as, write_text};
@@ -6,8 +6,8 @@ use cv_base::Scalar;
 use cv_pivot::Encoding;
 use std::alloc::{AllocError, Global};
 
-/// Characters of one code unit each, which leave a shifted sequence in the state that `k` counts: the pending bits are the last of
-/// the last of them, four behind one character, two behind two, none behind three.
+/// Characters of one code unit each, which leave a shifted sequence in the state that `k` counts: the pending bits are the last bits of
+/// the last character, four after one character, two after two, none after three.
 fn front(k: u32) -> (usize, u32)
     ensures length { result.0 ≤ 3 }
     ensures last { k < 21 → result.1 < 16 }
@@ -19,7 +19,7 @@ fn front(k: u32) -> (usize, u32)
     }
 }
 
-/// How many of the scalar values are read back behind each of the 21 fronts.
+/// How many of the scalar values are read back after each of the 21 prefixes.
 pub fn read_back(alloc: Global, encoding: &Encoding) -> Result<usize, AllocError> {
     let mut text = Vec::new(alloc);
     let mut count: usize = 0;

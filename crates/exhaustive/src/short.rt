@@ -1,4 +1,4 @@
-//! Every input of UTF-8 of one or two bytes, against a table of its own: first bytes, and the second bytes of each.
+//! Every input of UTF-8 of one or two bytes, compared with a table of its own: first bytes, and the second bytes of each.
 
 use cv_base::{Codec, Item, ReadState};
 use cv_utf8::Utf8;
@@ -6,15 +6,15 @@ use cv_utf8::Utf8;
 /// What an input begins with.
 #[derive(Clone, Copy, Debug, PartialEq, Eq)]
 enum Front {
-    /// A character of so many bytes.
+    /// A character of this many bytes.
     Character(usize, u32),
-    /// The front of one.
+    /// A prefix of a character.
     Open,
     /// Neither.
     Never,
 }
 
-/// The least and the greatest second byte behind a first byte of two or more (The Unicode Standard, Table 3-7).
+/// The least and the greatest second byte after a first byte of two or more (The Unicode Standard, Table 3-7).
 fn second_bytes(first: u8) -> Option<(u8, u8)> {
     match first {
         0xE0 => Some((0xA0, 0xBF)),

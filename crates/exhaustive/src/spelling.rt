@@ -4,7 +4,7 @@ use cv_base::{Codec, Item, ReadState, Scalar, WriteState};
 use cv_pivot::Encoding;
 use std::alloc::AllocError;
 
-/// The text of characters, closed. It is left empty where one of them is lacking.
+/// The text of characters, closed. It is left empty if one of them is lacking.
 pub fn write_text(
     encoding: &Encoding,
     characters: &[Scalar],

@@ -16,7 +16,7 @@ pub fn every_scalar(alloc: Global) -> Result<Vec<u8>, AllocError> {
     Ok(text)
 }
 
-/// The whole text converted, in calls of a size that cuts characters anyhow, and closed.
+/// The whole text converted, in calls of a size that cuts characters anywhere, and closed.
 fn converted(
     alloc: Global,
     to: Encoding,

@@ -1,4 +1,4 @@
-//! Calls beside their items.
+//! Calls compared with their items.
 
 use crate::chain::{Chain, Expected};
 use crate::trials::{Part, Trial};
@@ -8,16 +8,16 @@ use std::alloc::{AllocError, Global};
 /// What each byte of a room is before a call.
 pub const UNWRITTEN: u8 = 0xC1;
 
-/// How many bytes a text has at the least of which a long block is taken.
+/// The fewest bytes of a text from which a long block is taken.
 const LONG: usize = 256;
 
-/// By how much ample room is more than the output has, so that no short block ends for want of it: 64 characters have eight bytes each.
+/// By how much ample room is more than the output has, so that no short block ends because it is full: 64 characters have eight bytes each.
 const AMPLE: usize = 64 * 8;
 
-/// By how much it is more than the output of a long text, so that no long block ends for want of it.
+/// By how much it is more than the output of a long text, so that no long block ends because it is full.
 const AMPLE_FOR_LONG: usize = 256 * 8;
 
-/// What a call came to otherwise than its items.
+/// How the result of a call differs from that of its items.
 #[derive(Clone, Copy, Debug)]
 pub enum Found {
     Outcome(Outcome),
@@ -25,7 +25,7 @@ pub enum Found {
     Bytes,
 }
 
-/// A call that came to something else than its items do.
+/// A call whose result differs from that of its items.
 #[derive(Clone, Copy, Debug)]
 pub struct Difference {
     /// How many bytes it was given.
@@ -48,13 +48,13 @@ impl From<AllocError> for Fault {
     }
 }
 
-/// Whether a room has these bytes at its front, and behind them what it had before.
+/// Whether a room begins with these bytes, and after them has what it had before.
 fn has(room: &[u8], written: &[u8]) -> bool {
     room.strip_prefix(written)
         .is_some_and(|behind| behind.iter().all(|byte| *byte == UNWRITTEN))
 }
 
-/// What is otherwise than it has to be behind a call, if anything is.
+/// What is not as it must be after a call, if anything isn't.
 fn compare(
     expected: &Expected<'_>,
     outcome: Outcome,
@@ -72,7 +72,7 @@ fn compare(
     }
 }
 
-/// How large the room of a call is that is given a text, and whose items have so many bytes.
+/// The size of the room of a call that is given a text and whose items have `most` bytes.
 fn size_of(room: Part, input: &[u8], most: usize) -> usize {
     match room {
         Part::All if input.len() < LONG => most.saturating_add(AMPLE),
@@ -81,7 +81,7 @@ fn size_of(room: Part, input: &[u8], most: usize) -> usize {
     }
 }
 
-/// Makes a call, and answers how many bytes of the input it leaves. The buffer is not written yet, and neither is it then.
+/// Makes a call, and answers how many bytes of the input it leaves. The buffer is unwritten before the call and after it.
 fn call(
     alloc: Global,
     conversion: &mut Conversion,
@@ -106,7 +106,7 @@ fn call(
     Ok(outcome.left)
 }
 
-/// Makes the calls of a trial, and answers how many they are: one with the text as far as it is cut, and where it leaves something,
+/// Makes the calls of a trial, and answers how many they are: one with the text up to where it is cut, and if it leaves something,
 /// another with that and with what was cut off, in ample room.
 pub fn make_calls(
     alloc: Global,

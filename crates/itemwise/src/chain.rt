@@ -4,7 +4,7 @@ use cv_base::{Codec, Item, Policy, Put, Scalar, WriteState};
 use cv_pivot::{Conversion, Encoding, Outcome, States, Stop};
 use std::alloc::{AllocError, Global};
 
-/// How far a conversion is behind some items.
+/// The progress of a conversion after some items.
 #[derive(Clone, Copy, Debug, PartialEq, Eq)]
 struct Reached {
     used: usize,
@@ -13,18 +13,18 @@ struct Reached {
     states: States,
 }
 
-/// The items at the front of a text one behind the other, and what is written for them, whatever the room.
+/// The items at the start of a text one after the other, and what is written for them, whatever the room.
 #[derive(Drop)]
 pub struct Chain {
     start: Reached,
-    /// How far the conversion is behind the first item, behind the second, and so on.
+    /// How far the conversion is after the first item, after the second, and so on.
     reached: Vec<Reached>,
     written: Vec<u8>,
     /// Why there is no further item.
     stop: Stop,
 }
 
-/// What a call has to come to.
+/// The result that a call must have.
 #[derive(Clone, Copy, Debug)]
 pub struct Expected<'a> {
     pub outcome: Outcome,
@@ -35,7 +35,7 @@ pub struct Expected<'a> {
 /// The most bytes of a character in any encoding.
 const MOST_BYTES: usize = 8;
 
-/// Appends the bytes of a character, and answers the state behind them. None are appended where the encoding lacks it.
+/// Appends the bytes of a character, and answers the state after them. None are appended if the encoding lacks it.
 fn put(
     to: &Encoding,
     state: WriteState,
@@ -98,7 +98,7 @@ impl Chain {
         Ok(chain)
     }
 
-    /// Writes a character, or `?` where the encoding lacks it and the policy allows that; whether it was written.
+    /// Writes a character, or `?` if the encoding lacks it and the policy allows that; whether it was written.
     fn write(
         &mut self,
         conversion: &Conversion,
@@ -120,12 +120,12 @@ impl Chain {
         Ok(true)
     }
 
-    /// How many bytes are written where there is room for all.
+    /// How many bytes are written if there is room for all.
     pub fn most(&self) -> usize {
         self.written.len()
     }
 
-    /// What a call has to come to with so much room: the longest run of these items whose bytes fit.
+    /// The result that a call must have with so much room: the longest run of these items whose bytes fit.
     pub fn within(&self, text: &[u8], room: usize) -> Expected<'_> {
         let fit = self.reached.partition_point(|r| r.wrote <= room);
         let last = match fit.checked_sub(1) {

@@ -8,10 +8,10 @@ use std::alloc::AllocError;
 /// The longest run in which long blocks end: a short block, two long ones, and some characters.
 const LONG_BLOCKS: usize = 600;
 
-/// Around so many characters a long block ends, or the first of them begins.
+/// The numbers of characters around which a long block ends, or the first one begins.
 const LONG_BOUNDS: [usize; 4] = [64, 256, 320, 576];
 
-/// How a text is cut, and its room, where it ends with a block.
+/// How a text is cut, and its room, so that it ends with a block.
 const ENDS: [(Part, Part); 5] = [
     (Part::All, Part::All),
     (Part::AllBut(1), Part::All),

@@ -1,4 +1,4 @@
-//! Conversions between every two encodings, and to some of them under the strict policy, beside conversions item by item: texts
+//! Conversions between every two encodings, and to some of them under the strict policy, compared with conversions item by item: texts
 //! around the bounds of every loop that takes several characters at once.
 #![tactic(auto)]
 

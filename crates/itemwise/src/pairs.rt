@@ -7,13 +7,13 @@ use crate::trials::{Trial, inner_trials, trials};
 use cv_pivot::{Conversion, States};
 use std::alloc::{AllocError, Global};
 
-/// How many bytes the largest room has: that of some 1,030 characters of at most six bytes, and ample room behind them.
+/// How many bytes the largest room has: that of some 1,030 characters of at most six bytes, and ample room after them.
 const BUFFER: usize = 12_288;
 
 /// Why not all calls were compared.
 #[derive(Debug, Drop)]
 pub enum Unfinished {
-    /// One of them came to something else than its items do: which one, in words.
+    /// One of them had a result that differs from that of its items: which one, in words.
     Differs(String),
     Memory(AllocError),
 }

@@ -7,7 +7,7 @@ use cv_base::Scalar;
 pub enum Script {
     /// ASCII that stands for itself in UTF-7 too.
     Letters,
-    /// All of ASCII, of which some is shifted in UTF-7, and some may be read otherwise than it is written.
+    /// All of ASCII. Some of it is shifted in UTF-7, and some may be read differently from how it is written.
     Ascii,
     /// One byte in ISO-8859-1, two in UTF-8.
     Latin,
@@ -17,7 +17,7 @@ pub enum Script {
     Han,
     /// Four bytes in UTF-8, a surrogate pair in UTF-16.
     Emoji,
-    /// One of each of these by turns.
+    /// One of each of these in turn.
     Turns,
     /// The first and the last character of each size.
     Limits,
@@ -69,7 +69,7 @@ const WORDS: [char; 31] = [
     'l', 'd', ' ', 'ñ', 'u', '😀', '👍', ' ', 'н', 'о', '!', ' ',
 ];
 
-/// The one of a list at a place, where the list begins again behind its last.
+/// The entry of a list at an index that wraps around at the end of the list.
 fn by_turns(list: &[char], place: usize) -> u32 {
     let there = place.checked_rem(list.len());
     there.and_then(|k| list.get(k)).map_or(0, |c| u32::from(*c))

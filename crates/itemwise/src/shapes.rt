@@ -5,21 +5,21 @@ use cv_base::{Codec, Scalar, WriteState};
 use cv_pivot::Encoding;
 use std::alloc::AllocError;
 
-/// So many characters of one kind.
+/// A number of characters of one kind.
 #[derive(Clone, Copy, Debug, PartialEq, Eq)]
 pub struct Run {
     pub script: Script,
     pub length: usize,
 }
 
-/// What stands between two runs.
+/// What is between two runs.
 #[derive(Clone, Copy, Debug, PartialEq, Eq)]
 pub enum Middle {
     Nothing,
     Character(char),
-    /// A byte as it is.
+    /// A byte, unchanged.
     Byte(u8),
-    /// Bytes as they are.
+    /// Bytes, unchanged.
     Bytes(&'static [u8]),
 }
 
@@ -77,7 +77,7 @@ impl Speller {
         Ok(())
     }
 
-    /// Spells the characters of a run behind what is there.
+    /// Spells the characters of a run after what is there.
     pub fn run(&mut self, run: Run) -> Result<(), Unspelled> {
         for place in 0..run.length {
             self.put(run.script.character(place))?;
@@ -85,7 +85,7 @@ impl Speller {
         Ok(())
     }
 
-    /// Spells a shape behind what is there.
+    /// Spells a shape after what is there.
     pub fn shape(&mut self, shape: &Shape) -> Result<(), Unspelled> {
         self.run(shape.front)?;
         match shape.middle {

@@ -1,4 +1,4 @@
-//! What conversions read from, and where they are when a text comes.
+//! What conversions read from, and their state when a text begins.
 
 use crate::scripts::Script;
 use crate::shapes::{Run, Shape, Speller, Unspelled};
@@ -12,14 +12,14 @@ pub struct Source {
     pub name: &'static str,
     /// What its texts begin with.
     mark: &'static [u8],
-    /// In which encoding the rest is spelled.
+    /// The encoding in which the rest is spelled.
     pub spelling: &'static str,
-    /// Behind how many characters at most texts are given, where the state differs then.
+    /// Texts are tried after 0 to this many characters, because the state differs after each.
     pub leads: usize,
 }
 
-/// All that are read from. UTF-16 and UTF-32 have a big-endian mark, a little-endian one, or none. In UTF-7 a reader has 2, 4 and 0
-/// bits pending behind the first, the second and the third character of a shifted sequence.
+/// All sources. UTF-16 and UTF-32 have a big-endian mark, a little-endian one, or none. In UTF-7 a reader has 2, 4 and 0
+/// bits pending after the first, the second and the third character of a shifted sequence.
 #[rattlefmt::skip]
 pub const SOURCES: [Source; 14] = [
     Source { name: "US-ASCII", mark: b"", spelling: "US-ASCII", leads: 0 },
@@ -38,11 +38,11 @@ pub const SOURCES: [Source; 14] = [
     Source { name: "UTF-7", mark: b"", spelling: "UTF-7", leads: 3 },
 ];
 
-/// A text behind a lead of some characters, which are read already.
+/// A text after a lead of some characters, which are read already.
 #[derive(Drop)]
 pub struct Text {
     pub encoding: Encoding,
-    /// Where a reader is behind the lead.
+    /// The state of a reader after the lead.
     pub reading: ReadState,
     bytes: Vec<u8>,
     /// How many bytes the lead has.
@@ -55,7 +55,7 @@ impl Text {
         self.bytes.get(self.read..).unwrap_or(&[])
     }
 
-    /// Reads so many characters, and what stands before them.
+    /// Reads this many characters, and what precedes them.
     fn read(&mut self, characters: usize) {
         let mut left = characters;
         for _item in 0..self.bytes.len() {
@@ -79,7 +79,7 @@ impl Text {
 }
 
 impl Source {
-    /// The bytes of a text of a shape behind so many characters.
+    /// The bytes of a text of a shape after `lead` characters.
     fn spell(&self, alloc: Global, lead: usize, shape: &Shape) -> Result<Vec<u8>, Unspelled> {
         let Some(encoding) = builtin(self.spelling.as_bytes()) else {
             return Err(Unspelled::Lacks);
@@ -93,7 +93,7 @@ impl Source {
         Ok(speller.into_bytes())
     }
 
-    /// A text of a shape behind a lead of so many characters, if the encoding has all of them.
+    /// A text of a shape after a lead of this many characters, if the encoding has all of them.
     pub fn text(
         &self,
         alloc: Global,

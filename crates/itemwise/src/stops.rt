@@ -69,7 +69,7 @@ const UTF_7: &[&[u8]] = &[
     b"+3gA-",
 ];
 
-/// Bytes that begin no item in an encoding, or that begin one otherwise than it is written.
+/// Bytes that begin no item in an encoding, or that begin one differently from how it is written.
 pub fn bytes_in(encoding: &str) -> &'static [&'static [u8]] {
     match encoding {
         "UTF-8" => UTF_8,

@@ -1,12 +1,12 @@
-//! What conversions write to, and where they are before they write.
+//! What conversions write to, and their state before they write.
 
 use crate::scripts::Script;
 use cv_base::{Codec, Policy, WriteState};
 use cv_pivot::{Encoding, builtin};
 use std::alloc::{AllocError, Global};
 
-/// The encodings that are built in, and behind how many characters the state of a writer differs from the states before.
-/// In UTF-7 4, 2 and 0 bits are pending behind the first, the second and the third character of a shifted sequence.
+/// The encodings that are built in, and after how many characters the state of a writer differs from the states before.
+/// In UTF-7 4, 2 and 0 bits are pending after the first, the second and the third character of a shifted sequence.
 const ENCODINGS: [(&str, usize); 10] = [
     ("US-ASCII", 0),
     ("ISO-8859-1", 0),
@@ -20,10 +20,10 @@ const ENCODINGS: [(&str, usize); 10] = [
     ("UTF-7", 3),
 ];
 
-/// To which of them is written under the strict policy too: those that lack characters, and one that has them all.
+/// The targets that are also written to under the strict policy: those that lack characters, and one that has them all.
 const STRICT: [&str; 3] = ["US-ASCII", "ISO-8859-1", "UTF-8"];
 
-/// An encoding to write to, under which policy, and where a writer is.
+/// An encoding to write to, a policy, and the state of a writer.
 #[derive(Drop)]
 pub struct Target {
     pub name: &'static str,

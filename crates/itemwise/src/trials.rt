@@ -24,8 +24,8 @@ impl Part {
     }
 }
 
-/// A text, how much of it the first call is given, and its room, of what the whole output has; there is more of it than that where it
-/// is all.
+/// A text, how much of it the first call is given, and its room as a part of the whole output; the room is larger than the output if the
+/// part is all of it.
 #[derive(Clone, Copy, Debug, PartialEq, Eq)]
 pub struct Trial {
     pub shape: Shape,
@@ -42,7 +42,7 @@ const LONGEST: usize = 129;
 /// Runs that are interrupted: one shorter than the smallest block, one of two such blocks, and one of two blocks of a conversion.
 const INTERRUPTED: [usize; 3] = [12, 32, 128];
 
-/// So many bytes of UTF-8 are tested at once.
+/// How many bytes of UTF-8 are tested at once.
 const PART: usize = 1024;
 
 /// How many bytes each character of a script has in UTF-8.
@@ -54,10 +54,10 @@ const SIZES: [(Script, usize); 5] = [
     (Script::Emoji, 4),
 ];
 
-/// So near its ends each place of a text is tried: more than the smallest block.
+/// How near to its ends each place of a text is tried: more than the smallest block.
 const NEAR: usize = 20;
 
-/// How long the run behind another one is.
+/// How long the run after another one is.
 const BEHIND: usize = 40;
 
 /// The most by which a room is more than nothing, or less than the output: a character has eight bytes at most.
@@ -68,7 +68,7 @@ fn is_bound(length: usize) -> bool {
     BOUNDS.iter().any(|bound| length.abs_diff(*bound) <= 1)
 }
 
-/// Whether a place is near one of the ends of so many, or where a block ends.
+/// Whether a place is near one of the ends of a text of this length, or near where a block ends.
 fn is_tried(place: usize, length: usize) -> bool {
     place < NEAR || length.saturating_sub(place) <= NEAR || place.abs_diff(64) <= 2
 }
@@ -82,7 +82,7 @@ pub fn run(script: Script, length: usize) -> Shape {
     }
 }
 
-/// Runs of each length around which a loop may end, and of each short length.
+/// Runs of each length near which a loop may end, and of each short length.
 fn lengths(trials: &mut Vec<Trial>) -> Result<(), AllocError> {
     for script in SCRIPTS {
         for length in (0..=LONGEST).filter(|n| *n <= NEAR || is_bound(*n)) {
@@ -137,8 +137,8 @@ fn rooms(trials: &mut Vec<Trial>) -> Result<(), AllocError> {
     Ok(())
 }
 
-/// Runs that end around the end of so many bytes of UTF-8 as are tested at once: whole, cut in their last character, in a room that is
-/// a little too small, and with a byte behind them that begins nothing.
+/// Runs that end near the end of the bytes of UTF-8 that are tested at once: whole, cut in their last character, in a room that is
+/// a little too small, and with a byte after them that begins nothing.
 fn parts(trials: &mut Vec<Trial>) -> Result<(), AllocError> {
     for (script, size) in SIZES {
         let length = PART.checked_div(size).unwrap_or(0);
@@ -172,7 +172,7 @@ fn parts(trials: &mut Vec<Trial>) -> Result<(), AllocError> {
     Ok(())
 }
 
-/// A long run behind another one.
+/// A long run after another one.
 fn seams(trials: &mut Vec<Trial>) -> Result<(), AllocError> {
     for script in PLAIN {
         for behind in PLAIN.iter().filter(|other| **other != script) {
@@ -195,7 +195,7 @@ fn seams(trials: &mut Vec<Trial>) -> Result<(), AllocError> {
     Ok(())
 }
 
-/// A run with something behind so many of its characters.
+/// A run with something after this many of its characters.
 pub fn interrupted(script: Script, length: usize, place: usize, middle: Middle) -> Shape {
     Shape {
         front: Run {
@@ -243,7 +243,7 @@ fn bytes(trials: &mut Vec<Trial>) -> Result<(), AllocError> {
     Ok(())
 }
 
-/// The trials of texts that are spelled in an encoding, where the reader may be inside of a text.
+/// The trials of texts that are spelled in an encoding, if the reader may be inside of a text.
 pub fn inner_trials(alloc: Global) -> Result<Vec<Trial>, AllocError> {
     let mut trials = Vec::new(alloc);
     lengths(&mut trials)?;

@@ -6,21 +6,21 @@ use std::alloc::{AllocError, Global};
 /// A form of charmaps. The first pair of each is that of the question mark.
 #[derive(Clone, Copy, Debug, PartialEq, Eq)]
 pub enum Form {
-    /// So many byte strings of one size, each with a character of its own, and so far from character to character.
+    /// `count` byte strings of one size, each with a character of its own, and `step` between the numbers of the characters.
     Sized { size: u8, count: u32, step: u32 },
-    /// So many byte strings of 1 to 8 bytes, each with a character of its own.
+    /// `count` byte strings of 1 to 8 bytes, each with a character of its own.
     Mixed { count: u32 },
-    /// So many byte strings of three bytes, all of one character but the first.
+    /// `count` byte strings of three bytes, all of one character except the first.
     Crowded { count: u32 },
-    /// So many byte strings of four bytes but for the first 32, which have one, as GB18030 has them; twenty values of the fourth byte
-    /// are side by side, of which four have the last four bits of others.
+    /// `count` byte strings of four bytes, as in GB18030, except the first 32, which have one. Twenty values of the fourth byte are
+    /// adjacent, and four of them have the last four bits of others.
     Dense { count: u32 },
-    /// So many byte strings of two bytes but for the first 32, which have one, as EUC-KR and GBK have them, and one in the middle of the first
-    /// bytes, which has one too; second bytes go from 0x40 on.
+    /// `count` byte strings of two bytes, as in EUC-KR and GBK, except the first 32, which have one. One in the middle of the first bytes
+    /// is a single byte too. Second bytes are 0x40 or above.
     Led { count: u32 },
 }
 
-/// Each form, and what it is called.
+/// Each form, and its name.
 pub const FORMS: [(&str, Form); 14] = [
     (
         "1 byte",

@@ -1,4 +1,4 @@
-//! Charmaps of every form beside their lists: what each byte string is read as, and what each scalar value is written as.
+//! Charmaps of every form compared with their lists: what each byte string is read as, and what each scalar value is written as.
 #![tactic(auto)]
 
 mod forms;

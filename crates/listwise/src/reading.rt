@@ -5,7 +5,7 @@ use cv_base::{BlockCodec, Codec, Item, ReadState, Scalar};
 use cv_trie::Charmap;
 use std::alloc::{AllocError, Global};
 
-/// Whether the bytes of a pair are read as its character, and the front of them as no item yet.
+/// Whether the bytes of a pair are read as its character, and a prefix of them as no item yet.
 fn is_read(map: &Charmap, form: Form, n: u32) -> bool {
     let bytes = form.bytes(n);
     let whole = bytes.as_slice();
@@ -26,7 +26,7 @@ pub fn read_alone(map: &Charmap, form: Form) -> usize {
     (0..form.count()).filter(|n| is_read(map, form, *n)).count()
 }
 
-/// The bytes of pairs, one behind another.
+/// The bytes of pairs, one after another.
 fn joined(alloc: Global, form: Form, pairs: &[u32]) -> Result<Vec<u8>, AllocError> {
     let mut text = Vec::new(alloc);
     for n in pairs {
@@ -65,7 +65,7 @@ pub fn read_joined(alloc: Global, map: &Charmap, form: Form) -> Result<usize, Al
     read_in_blocks(alloc, map, form, &all)
 }
 
-/// Some of the first pairs, which are those of one byte where a form has several sizes; another twice; and some of the first again.
+/// Some of the first pairs, which are those of one byte if a form has several sizes; another twice; and some of the first again.
 fn around(alloc: Global, front: u32, other: u32, back: u32) -> Result<Vec<u32>, AllocError> {
     let mut pairs = Vec::new(alloc);
     for n in 0..front {
@@ -79,7 +79,7 @@ fn around(alloc: Global, front: u32, other: u32, back: u32) -> Result<Vec<u32>, 
     Ok(pairs)
 }
 
-/// How many texts are read whole, of those with two others behind so many of the first pairs.
+/// How many texts are read whole, of those with two others after some number of the first pairs.
 fn read_behind(alloc: Global, map: &Charmap, form: Form, front: u32) -> Result<usize, AllocError> {
     let mut count = 0usize;
     for other in 32..46 {

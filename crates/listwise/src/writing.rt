@@ -12,7 +12,7 @@ const MOST: usize = 256;
 /// How many bytes those have at most.
 const MOST_BYTES: usize = 2048;
 
-/// Stands for no pair.
+/// The value for no pair.
 const NONE: u32 = u32::MAX;
 
 /// For each number the first pair whose character it is.
@@ -48,7 +48,7 @@ pub fn written_alone(map: &Charmap, form: Form, firsts: &[u32]) -> u32 {
     count
 }
 
-/// What some numbers are written as, and for how many it is `?`: the first pair stands in for what the list lacks.
+/// What some numbers are written as, and for how many it is `?`: the first pair replaces what the list lacks.
 fn wanted(form: Form, firsts: &[u32]) -> ([u8; MOST_BYTES], usize, usize) {
     let mut bytes = [0u8; MOST_BYTES];
     let mut end = 0usize;
@@ -104,7 +104,7 @@ fn is_block_written(map: &Charmap, form: Form, top: u32, firsts: &[u32]) -> bool
         && is_written_under(map, Policy::Strict, characters, form, firsts)
 }
 
-/// How many blocks of so many numbers are written as the list says. Those of surrogates count, too.
+/// How many blocks of `size` numbers are written as the list says. Blocks of surrogates count, too.
 pub fn written_in_blocks(map: &Charmap, form: Form, firsts: &[u32], size: u32) -> u32
     requires { 0 < size }
 {

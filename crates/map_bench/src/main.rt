@@ -1,5 +1,5 @@
-//! How long building a charmap takes, and reading and writing by it. It gives figures only where it is asked for them: of each round the
-//! nanoseconds of building and how many pairs there are, and those of reading and of writing half a million characters of the map by chance.
+//! How long building a charmap takes, and reading and writing by it. It prints figures only if it is asked to: of each round the
+//! nanoseconds of building and how many pairs there are, and those of reading and of writing half a million random characters of the map.
 #![tactic(auto)]
 
 use cv_base::{BlockCodec, Policy, ReadState, Scalar, WriteState};
@@ -15,7 +15,7 @@ use std::{env, io};
 /// How many characters are read and written.
 const CHARACTERS: u32 = 500_000;
 
-/// Characters by chance, and the bytes of their pairs.
+/// Random characters, and the bytes of their pairs.
 #[derive(Drop)]
 struct Sample {
     bytes: Vec<u8>,
@@ -82,7 +82,7 @@ fn map_of(alloc: Global, pairs: Pairs) -> io::Result<Charmap> {
     Charmap::build(alloc, pairs).map_err(|_| io::ErrorKind::OutOfMemory.into())
 }
 
-/// Builds the map, and prints the nanoseconds and the number of pairs while the map is there.
+/// Builds the map, and prints the nanoseconds and the number of pairs while the map exists.
 fn build<R: Clock + Print + AllocGlobal>(rt: &R, text: &[u8]) -> io::Result<()> {
     let pairs = pairs_of(rt.alloc(), text)?;
     let start = Instant::now(rt)?;

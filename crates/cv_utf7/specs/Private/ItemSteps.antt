@@ -8,7 +8,7 @@ use Rattle.cv_utf7.specs.BitLists.{bits, bits_of, AreDigits, digit_bits}
 use Rattle.cv_utf7.specs.Utf7.{EndsAt}
 use Rattle.cv_utf7.specs.declared.units.Unit.{Unit}
 
--- The fewest digits whose bits hold a code unit stand at the front.
+-- The fewest digits whose bits hold a code unit are at the start.
 pub record IsUnit (pending : Bits) (text : List ℕ) (found : Unit) : Type 0 where
   pub within : found.n ≤ length text
   pub are_digits : AreDigits (take found.n text)
@@ -19,7 +19,7 @@ pub record IsUnit (pending : Bits) (text : List ℕ) (found : Unit) : Type 0 whe
 abbrev pub NoUnit : Bits → List ℕ → Type 0
 NoUnit pending text = (n : ℕ) → n ≤ length text → 16 ≤ pending.count + 6 * n → AreDigits (take n text) → ⊥
 
--- These are the digits at the front, and the bits so far.
+-- These are the digits at the start, and the bits so far.
 pub record IsFront (pending : Bits) (text : List ℕ) (n count value : ℕ) : Type 0 where
   pub within : n ≤ length text
   pub are_digits : AreDigits (take n text)

@@ -1,4 +1,4 @@
--- Bits that are pending, as a value of the type `Bits`. What is to be believed of it is the contract of `laws::pending_bits`, and no more.
+-- Bits that are pending, as a value of the type `Bits`. A reviewer needs to believe only the contract of `laws::pending_bits`.
 use Rattle.std.proofs.Common.{refl, lit≤, lit<}
 use Rattle.std.proofs.Math.Nat.{mod-lt}
 use Rattle.std.specs.Prelude.{◌%◌, Bool, List, [], ◌∷◌}

@@ -11,11 +11,11 @@ use Rattle.cv_utf7.specs.Private.ItemSteps.{IsUnit}
 use Rattle.cv_utf7.specs.Utf7.{plus, utf7_reads}
 use Rattle.cv_utf7.specs.declared.units.Unit.{Unit}
 
--- a place of reading: the state, how many bytes were used, and how many characters stand in the buffer
+-- a place of reading: the state, how many bytes were used, and how many characters are in the buffer
 abbrev pub place : ReadState → ℕ → ℕ → ReadBlock
 place state used n = record { n = n; used = used; next = state }
 
--- Items of a text were read from a place to another: their characters stand in the buffer, behind those that stood there.
+-- Items of a text were read from one place to another: their characters are in the buffer, after those that were there.
 pub record ReadsOn (text : List ℕ) (from : ReadBlock) (before : List ℕ) (to : ReadBlock) (after : List ℕ) : Type 0 where
   pub chain : List Taken
   pub is_chain : IsChain utf7_reads from.next (drop from.used text) chain
@@ -30,7 +30,7 @@ pub record ReadsOn (text : List ℕ) (from : ReadBlock) (before : List ℕ) (to 
 abbrev pub Ends : ℕ → Type 0
 Ends b = (may_be_direct b ≡ true) × (is_digit b ≡ false)
 
--- A shifted sequence of one character stands at a place of a text, and a byte that ends it: `+`, three digits, and the byte.
+-- A shifted sequence of one character is at a place of a text, and a byte that ends it: `+`, three digits, and the byte.
 pub record IsLone (text : List ℕ) (at c : ℕ) : Type 0 where
   pub none : Bits
   pub unit : Unit

@@ -5,7 +5,7 @@ use Rattle.std.specs.Prelude.{ℕ, ◌+◌, ◌/◌, ◌%◌, Bool, not, nat_lt,
 abbrev pub has_three : ℕ → Bool
 has_three c = not (nat_lt c 0x800)
 
--- four bytes for a character of up to three: behind those that it has they are 0
+-- four bytes for a character of up to three: after those that it has they are 0
 abbrev pub four_of : ℕ → List ℕ
 four_of c =
     if nat_lt c 0x80 then c ∷ 0 ∷ 0 ∷ 0 ∷ []

@@ -6,12 +6,12 @@ use Rattle.cv_utf8.specs.Utf8.{utf8_bytes}
 use Rattle.cv_utf8.specs.Private.Utf8Bytes.{IsTail}
 use Rattle.cv_utf8.specs.Private.Utf8Short.{is_among, is_behind}
 
--- At a lane no character begins and the place that is reached stays, or the character at that place begins, and the next stands behind it.
+-- At a lane no character begins and the place that is reached stays, or the character at that place begins, and the next is after it.
 abbrev pub IsLane : List ℕ → ℕ → ℕ → ℕ → ℕ → ℕ → Type 0
 IsLane text at value beginning reached next =
     ((beginning ≡ 0) × (next ≡ reached)) ⊎ ((beginning ≡ 1) × ((size : ℕ) × (next ≡ reached + size) × IsSpelledAt utf8_bytes text (at + reached) value size))
 
--- The characters that begin at sixteen lanes, as bits say, stand one behind the other at a place of a text, and have so many bytes.
+-- The characters that begin at sixteen lanes, as the bits of begun say, are one after the other at a place of a text, and have used bytes together.
 pub record AreBegun (text : List ℕ) (at : ℕ) (values : List ℕ) (begun used : ℕ) : Type 0 where
   pub reach : ℕ → ℕ
   pub begins : reach 0 ≡ 0
@@ -22,15 +22,15 @@ pub record AreBegun (text : List ℕ) (at : ℕ) (values : List ℕ) (begun used
 abbrev pub IsOneAt : List ℕ → ℕ → Type 0
 IsOneAt text i = get_or text i 0 < 128
 
--- The byte is one behind the first of a character.
+-- The byte is one after the first of a character.
 abbrev pub IsTailAt : List ℕ → ℕ → Type 0
 IsTailAt text i = IsTail (get_or text i 0)
 
--- A character of two bytes stands at the place.
+-- A character of two bytes is at the place.
 abbrev pub IsTwoAt : List ℕ → ℕ → Type 0
 IsTwoAt text i = (0xc2 ≤ get_or text i 0) × (get_or text i 0 ≤ 0xdf) × IsTailAt text (i + 1)
 
--- A character of three bytes stands at the place.
+-- A character of three bytes is at the place.
 abbrev pub IsThreeAt : List ℕ → ℕ → Type 0
 IsThreeAt text i = (0xe0 ≤ get_or text i 0) × (get_or text i 0 ≤ 0xef) × IsTailAt text (i + 1) × IsTailAt text (i + 2)
     × (get_or text i 0 ≡ 0xe0 → 0xa0 ≤ get_or text (i + 1) 0) × (get_or text i 0 ≡ 0xed → get_or text (i + 1) 0 < 0xa0)
@@ -39,11 +39,11 @@ IsThreeAt text i = (0xe0 ≤ get_or text i 0) × (get_or text i 0 ≤ 0xef) × I
 abbrev pub AreMarks : (ℕ → Type 0) → ℕ → ℕ → Type 0
 AreMarks Is at marks = (marks < 0x10000) × ((k : ℕ) → k < 16 → bit_at marks k ≡ 1 → Is (at + k))
 
--- The byte stands behind the first of a character, which is before it.
+-- The byte is after the first of a character, which is before it.
 abbrev pub IsFollowing : List ℕ → ℕ → ℕ → Type 0
 IsFollowing text at k = ((j : ℕ) × (k ≡ j + 1) × (0xc2 ≤ get_or text (at + j) 0)) ⊎ ((j : ℕ) × (k ≡ j + 2) × (0xe0 ≤ get_or text (at + j) 0) × (is_behind (get_or text (at + j + 1) 0) ≡ true))
 
--- The first so many bytes of a window are whole characters of up to three bytes.
+-- The first used bytes of a window are whole characters of up to three bytes.
 pub record AreWhole (text : List ℕ) (at used : ℕ) : Type 0 where
   pub most : used ≤ 18
   pub firsts : (k : ℕ) → k < 16 → k < used → is_behind (get_or text (at + k) 0) ≡ false → IsOneAt text (at + k) ⊎ ((IsTwoAt text (at + k) × (k + 2 ≤ used)) ⊎ (IsThreeAt text (at + k) × (k + 3 ≤ used)))
@@ -54,7 +54,7 @@ pub record AreWhole (text : List ℕ) (at used : ℕ) : Type 0 where
 abbrev pub three_high : ℕ → ℕ → ℕ
 three_high x y = cond (nat_eq (((x % 16) * 16 + y % 64 / 4) / 8) 27) 0 ((x % 16) * 16 + y % 64 / 4)
 
--- the number of the character that three bytes begin, and some scalar value where they begin none
+-- the number of the character that three bytes begin, and some scalar value if they begin none
 abbrev pub whole_of : ℕ → ℕ → ℕ → ℕ
 whole_of x y z = cond (nat_lt x 0x80) x (cond (is_among 0xe0 0x10 x) (three_high x y * 256 + (y % 4) * 64 + z % 64) ((x - 0xc0) / 4 * 256 + (x % 4) * 64 + y % 64))
 

@@ -6,7 +6,7 @@ use Rattle.cv_base.specs.declared.endian.Endian.{Endian}
 use Rattle.cv_base.specs.declared.endian.Endian.TheVariants.{Big, Little}
 use Rattle.cv_wide.specs.Orders.{Form, mark}
 
--- Two scalars whose bytes begin one text are one; each has some bytes, and four at most.
+-- Two scalars whose bytes begin one text are the same; each has some bytes, and four at most.
 pub record IsUnique (bytes_of : ℕ → List ℕ) : Type 0 where
   pub one : (text : List ℕ) (c d : ℕ) → IsScalar c → IsScalar d → Begins (bytes_of c) text → Begins (bytes_of d) text → c ≡ d
   pub some : (c : ℕ) → 0 < length (bytes_of c)

@@ -1,4 +1,4 @@
--- Units of UTF-16, where each high surrogate is joined with the low one behind it, many at once.
+-- Units of UTF-16, each high surrogate joined with the low one after it, many at once.
 use Rattle.std.specs.Prelude.{◌≡◌, ℕ, ◌+◌, ◌*◌, ◌/◌, ◌<◌, List, [], ◌∷◌, get_or, nat_eq, if◌then◌else◌}
 use Rattle.std.specs.List.{flat_map}
 use Rattle.cv_base.specs.Scalars.{IsScalar}
@@ -7,7 +7,7 @@ use Rattle.cv_base.specs.declared.endian.Endian.{Endian}
 use Rattle.cv_block.specs.Surrogates.{IsHighUnit, IsLowUnit, IsPair}
 use Rattle.cv_block.specs.Units.{IsUnitAt}
 
--- A number is that of a high surrogate joined with the low one behind it, or that of another unit, behind which none that is low stands.
+-- A number is that of a high surrogate joined with the low one after it, or that of another unit that no low one follows.
 pub record IsJoined (endian : Endian) (text : List ℕ) (at number : ℕ) : Type 0 where
   pub unit : ℕ
   pub next : ℕ
@@ -17,11 +17,11 @@ pub record IsJoined (endian : Endian) (text : List ℕ) (at number : ℕ) : Type
   pub pair : IsHighUnit unit → IsPair unit next number
   pub alone : (IsHighUnit unit → ⊥) → number ≡ unit
 
--- The numbers below a place are those of units, one after the other.
+-- The first n numbers are those of units, one after the other.
 abbrev pub AreJoined : Endian → List ℕ → List ℕ → ℕ → Type 0
 AreJoined endian text numbers n = (k : ℕ) → k < n → IsJoined endian text (2 * k) (get_or numbers k 0)
 
--- The numbers below a place are those of characters, or low surrogates.
+-- The first n numbers are those of characters, or low surrogates.
 abbrev pub AreScalarsOrLow : List ℕ → ℕ → Type 0
 AreScalarsOrLow numbers n = (k : ℕ) → k < n → (IsLowUnit (get_or numbers k 0) → ⊥) → IsScalar (get_or numbers k 0)
 

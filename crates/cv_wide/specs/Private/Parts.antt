@@ -17,11 +17,11 @@ abbrev pub CanBeOther : Endian → ℕ → Type 0
 CanBeOther Big b = IsLowByte b → ⊥
 CanBeOther Little b = Unit {0}
 
--- the third highest byte of a scalar fits behind the second: they are of no surrogate
+-- the third highest byte of a scalar fits after the second: they are of no surrogate
 abbrev pub IsThird : ℕ → ℕ → Type 0
 IsThird second third = second ≡ 0 → 0xd8 ≤ third → 0xe0 ≤ third
 
--- A scalar can begin in UTF-32 with these bytes, of which there are one to three.
+-- A scalar can begin in UTF-32 with these one to three bytes.
 abbrev pub CanBeScalar : Endian → List ℕ → Type 0
 CanBeScalar Big part = (get_or part 0 0 ≡ 0) × (2 ≤ length part → get_or part 1 0 ≤ 0x10) × (3 ≤ length part → IsThird (get_or part 1 0) (get_or part 2 0))
 CanBeScalar Little part = 3 ≤ length part → (get_or part 2 0 ≤ 0x10) × IsThird (get_or part 2 0) (get_or part 1 0)

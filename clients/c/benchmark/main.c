@@ -1,0 +1,62 @@
+/* iconvd-benchmark: how many requests a second an iconvd answers, and how long each takes. */
+#include <stdio.h>
+#include <sys/resource.h>
+
+#include "worker.h"
+
+/* As many descriptors as the system allows: a stream is one. */
+static void raise_limit(void) {
+    struct rlimit limit;
+    if (getrlimit(RLIMIT_NOFILE, &limit) == 0) {
+        limit.rlim_cur = limit.rlim_max;
+        setrlimit(RLIMIT_NOFILE, &limit);
+    }
+}
+
+/* Shares the streams out among the threads, and starts these. */
+static void start(struct worker *workers, const struct worker *model, pthread_barrier_t *opened) {
+    unsigned threads = model->course.options->threads, streams = model->course.options->streams;
+    size_t first = 0;
+    for (unsigned i = 0; i < threads; i++) {
+        workers[i] = *model;
+        workers[i].opened = opened;
+        workers[i].client_count = streams / threads + (i < streams % threads);
+        worker_begin(&workers[i], first);
+        first += workers[i].client_count;
+    }
+    for (unsigned i = 0; i < threads; i++)
+        if (pthread_create(&workers[i].thread, NULL, worker_run, &workers[i]) != 0)
+            give_up(1, "cannot start %u threads", threads);
+}
+
+int main(int count, char **words) {
+    static struct options options;
+    static struct workload workload;
+    static struct tally tally;
+    static _Atomic int64_t left;
+    static struct begin begin;
+    pthread_barrier_t opened;
+    options_read(&options, count, words);
+    workload_make(&workload, &options);
+    raise_limit();
+    left = options.seconds > 0 ? INT64_MAX / 2 : (int64_t)options.requests;
+    pthread_barrier_init(&opened, NULL, options.threads);
+    struct worker model = {.course = {.options = &options, .workload = &workload, .left = &left}, .begin = &begin};
+    struct worker *workers = calloc(options.threads, sizeof *workers);
+    if (!workers)
+        give_up(1, "out of memory");
+    start(workers, &model, &opened);
+    uint64_t end = 0;
+    for (unsigned i = 0; i < options.threads; i++) {
+        pthread_join(workers[i].thread, NULL);
+        tally_merge(&tally, &workers[i].course.tally);
+        end = workers[i].end > end ? workers[i].end : end;
+        worker_end(&workers[i]);
+    }
+    free(workers);
+    struct spent spent = {.seconds = (double)(end - begin.time) / 1e9, .processor = (double)(processor_nanoseconds() - begin.processor) / 1e9};
+    report(&options, &workload, &tally, spent);
+    if (fflush(stdout) != 0)
+        give_up(1, "write failed");
+    return tally_errors(&tally) > 0;
+}

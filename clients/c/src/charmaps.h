@@ -1,0 +1,45 @@
+/* Charmap files of the system, and the texts that are uploaded for them. */
+#ifndef ICONVD_CHARMAPS_H
+#define ICONVD_CHARMAPS_H
+
+#include <stdint.h>
+
+#include "../iconvd.h"
+#include "buffer.h"
+
+struct charmap {
+    struct buffer text;
+    uint32_t mappings;   /* how many the service will count; an estimate from above */
+    unsigned least_bytes; /* of a character */
+    unsigned most_bytes;
+};
+
+/* Reads `directory`/`file`.gz and mends it, so that the service reads it as the C library does:
+ *
+ *   - it gets the name `name`, since two files of Debian have one name;
+ *   - <mb_cur_min> and <mb_cur_max> are counted, since some files lack them and others are wrong;
+ *   - lines marked %IRREVERSIBLE% go behind all others: both mappings are read, and the first is written;
+ *   - combining sequences, which are no mappings of one character, are left out, and so is everything but mappings;
+ *   - a line CHARMAP is added where there is none.
+ *
+ * UNSUPPORTED: there is no such file, or no mapping in it. */
+iconvd_status charmap_read(struct charmap *charmap, const char *directory, const char *file, const char *name);
+
+/* The characters of a charmap: a bit for each code point, or NULL where memory lacks. `symbols` is set where the text has names
+   other than <Uxxxx>, which are not among the bits. */
+unsigned char *charmap_repertoire(const char *text, size_t length, bool *symbols);
+
+/* The bytes that characters of a charmap begin with: not 0 for each of them. */
+void charmap_leads(const char *text, size_t length, unsigned char leads[256]);
+
+/* Reads the name or range of a mapping at `line`, which a line feed or a zero byte ends. False: it is no <Uxxxx>. A range of two dots
+   counts in hexadecimal. One of three counts its names in decimal, and each name is hexadecimal nevertheless: <U0109>...<U0110> are
+   U+0109 and U+0110. */
+struct code_points {
+    uint32_t first;
+    uint32_t last;
+    bool decimal; /* `first` and `last` are the names read as decimal numbers */
+};
+bool charmap_points(const char *line, struct code_points *points);
+
+#endif

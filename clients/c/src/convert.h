@@ -1,0 +1,109 @@
+/* Conversions with iconv's meaning. */
+#ifndef ICONVD_CONVERT_H
+#define ICONVD_CONVERT_H
+
+#include "pool.h"
+
+struct iconvd_cd {
+    struct iconvd_pool *pool;
+    struct encoding *to; /* as they were asked for */
+    struct encoding *from;
+    struct pair pair;    /* what the service converts by: UTF-16 and UTF-32 have an order there, and no mark */
+    int policy;
+    bool mark_written;   /* to UTF-16 and UTF-32 */
+    bool order_known;    /* from UTF-16 and UTF-32 */
+    struct own *own;     /* with UTF-7 on either side: a descriptor of its own; otherwise NULL */
+};
+
+/* How far a call has come. */
+struct progress {
+    const char *in;
+    size_t in_left;
+    char *out;
+    size_t out_left;
+    size_t replaced;
+    size_t skipped;
+};
+
+/* Moves on by what a piece of text did. */
+static inline void progress_add(struct progress *progress, const struct work *work) {
+    progress->in += work->used;
+    progress->in_left -= work->used;
+    progress->out += work->produced;
+    progress->out_left -= work->produced;
+    progress->replaced += work->replaced;
+}
+
+/* What iconvd_convert() does, on a progress. */
+iconvd_status convert_text(struct iconvd_cd *cd, struct progress *progress);
+
+/* One piece, by the shared descriptor or by the conversion's own. */
+iconvd_status convert_piece(struct iconvd_cd *cd, struct work *work);
+
+/* How much input is sent for so much room: a small room takes no more than the service may use of it. */
+size_t input_for_room(size_t in_left, size_t out_left);
+
+/* marks.c: byte order marks as the C library treats them. */
+
+/* UTF-16 and UTF-32 with an order: the machine's, or another if `little` says so. Every other encoding is as it is. */
+bool machine_is_little(void);
+struct encoding *mark_free(struct encoding *encoding, bool little);
+
+/* Finds the order of a source UTF-16 or UTF-32 by its first bytes, and passes over a mark. EINVAL: too few bytes. */
+iconvd_status mark_read(struct iconvd_cd *cd, struct progress *progress);
+
+/* Keeps room for the mark of a target, if one is due. Where there is too little, no room is left at all. */
+void mark_reserve(const struct iconvd_cd *cd, struct progress *progress);
+
+/* Writes the mark into the room that was kept, if something was written behind it or did not fit; else gives the room back. */
+void mark_settle(struct iconvd_cd *cd, struct progress *progress, const struct progress *before, iconvd_status status);
+
+/* lacking.c: goes on where the next character is one that the target lacks, by the policy. OK: go on converting. */
+iconvd_status convert_lacking(struct iconvd_cd *cd, struct progress *progress);
+
+/* faulty.c: goes on over bytes that are no character, and over as much behind them as can be told. OK: go on converting. */
+iconvd_status convert_faulty(struct iconvd_cd *cd, struct progress *progress);
+
+/* convert.c: converts until something is in the way, with what the policy allows for characters that the target lacks. */
+iconvd_status convert_characters(struct iconvd_cd *cd, struct progress *progress);
+
+/* The character at the front of the input and its length, from the service. */
+iconvd_status next_character(struct iconvd_cd *cd, const struct progress *progress, uint32_t *character, size_t *length);
+
+/* own.c: conversions that have a state in the service. */
+struct own;
+struct own *own_begin(struct iconvd_pool *pool);
+void own_end(struct iconvd_cd *cd);
+iconvd_status own_open(struct iconvd_cd *cd);
+iconvd_status own_convert(struct iconvd_cd *cd, struct work *work);
+iconvd_status own_reset(struct iconvd_cd *cd, char **out, size_t *out_left);
+
+/* Gives the descriptor back, when the source's order has turned out to be another. Nothing has been converted yet. */
+void own_change(struct iconvd_cd *cd);
+
+/* The input since the last reset; false where it was too long to be kept. */
+bool own_history(const struct iconvd_cd *cd, const char **bytes, size_t *length);
+
+/* characters.c */
+
+/* How many bytes to skip where the source has bytes that are no character. */
+size_t faulty_length(enum builtin from, const char *in, size_t length);
+
+/* Whether bytes that are no character, whatever follows, are yet too few for the C library to say so: it reads a whole unit, a whole
+   pair of surrogates, and as many bytes as the first one of UTF-8 announces, before it looks at the value. */
+bool may_be_completed(enum builtin from, const char *in, size_t length);
+
+/* Where to cut the first `length` bytes of a longer input, so that no character is cut: `length` or a little less. 0: it cannot be
+   told for this encoding. */
+size_t cut_length(const struct encoding *from, const char *in, size_t length);
+
+/* How many bytes of the source a text in UTF-8 was. 0: it has to be asked for. */
+size_t source_length(const struct encoding *from, const char *text, size_t length);
+
+/* How many bytes a sequence of UTF-8 has by its first one; 1 for bytes that begin none. */
+size_t utf8_length(unsigned char first);
+
+/* The character at the front of a text in UTF-8 that the service wrote, and its length. */
+size_t utf8_read(const char *text, uint32_t *character);
+
+#endif

@@ -1,0 +1,155 @@
+/* Finds encodings by name; reads charmap files when they are first asked for. */
+#include "encodings.h"
+
+#include <stdio.h>
+
+static struct encoding BUILTINS[BUILTIN_COUNT] = {
+    {.kind = US_ASCII, .name = "US-ASCII"}, {.kind = ISO_8859_1, .name = "ISO-8859-1"}, {.kind = UTF_8, .name = "UTF-8"},
+    {.kind = UTF_16, .name = "UTF-16"},     {.kind = UTF_16BE, .name = "UTF-16BE"},     {.kind = UTF_16LE, .name = "UTF-16LE"},
+    {.kind = UTF_32, .name = "UTF-32"},     {.kind = UTF_32BE, .name = "UTF-32BE"},     {.kind = UTF_32LE, .name = "UTF-32LE"},
+    {.kind = UTF_7, .name = "UTF-7"},
+};
+
+struct encoding *encoding_builtin(enum builtin builtin) {
+    return &BUILTINS[builtin];
+}
+
+bool encodings_begin(struct encodings *encodings, const char *directory) {
+    *encodings = (struct encodings){.directory = strdup(directory), .files = calloc(charmap_count(), sizeof(struct encoding *))};
+    pthread_mutex_init(&encodings->mutex, NULL);
+    return encodings->directory && encodings->files;
+}
+
+void encoding_free(struct encoding *encoding) {
+    if (!encoding)
+        return;
+    buffer_free(&encoding->map.text);
+    free(atomic_load(&encoding->repertoire));
+    free(atomic_load(&encoding->leads));
+    free(encoding);
+}
+
+void encodings_end(struct encodings *encodings) {
+    for (size_t i = 0; encodings->files && i < charmap_count(); i++)
+        encoding_free(encodings->files[i]);
+    for (struct encoding *next; encodings->added; encodings->added = next) {
+        next = encodings->added->next;
+        encoding_free(encodings->added);
+    }
+    free(encodings->files);
+    free(encodings->directory);
+    pthread_mutex_destroy(&encodings->mutex);
+}
+
+/* A charmap that the host has added. */
+static struct encoding *find_added(const struct encodings *encodings, const char *name) {
+    struct encoding *at = encodings->added;
+    while (at && strcmp(at->known_as, name) != 0)
+        at = at->next;
+    return at;
+}
+
+/* The encoding of a charmap file, which is read the first time. The mutex is held. */
+static iconvd_status read_file(struct encodings *encodings, size_t number, struct encoding **found) {
+    *found = encodings->files[number];
+    if (*found)
+        return ICONVD_OK;
+    struct encoding *encoding = calloc(1, sizeof *encoding);
+    if (!encoding)
+        return ICONVD_ENOMEM;
+    encoding->kind = BUILTIN_COUNT;
+    snprintf(encoding->name, sizeof encoding->name, "map-%s", charmap_file(number));
+    iconvd_status status = charmap_read(&encoding->map, encodings->directory, charmap_file(number), encoding->name);
+    if (status != ICONVD_OK) {
+        encoding_free(encoding);
+        return status;
+    }
+    *found = encodings->files[number] = encoding;
+    return ICONVD_OK;
+}
+
+iconvd_status encodings_find(struct encodings *encodings, const char *name, struct encoding **found) {
+    int cancelling; /* reading a file is a cancellation point */
+    pthread_setcancelstate(PTHREAD_CANCEL_DISABLE, &cancelling);
+    pthread_mutex_lock(&encodings->mutex);
+    iconvd_status status = ICONVD_OK;
+    *found = find_added(encodings, name);
+    if (!*found) {
+        int number = name_find(name);
+        if (number < 0)
+            status = ICONVD_UNSUPPORTED;
+        else if (number < BUILTIN_COUNT)
+            *found = &BUILTINS[number];
+        else
+            status = read_file(encodings, (size_t)number - BUILTIN_COUNT, found);
+    }
+    if (status == ICONVD_OK && atomic_load(&(*found)->refused))
+        status = ICONVD_UNSUPPORTED;
+    pthread_mutex_unlock(&encodings->mutex);
+    pthread_setcancelstate(cancelling, NULL);
+    return status;
+}
+
+static bool is_taken(struct encodings *encodings, const char *name) {
+    pthread_mutex_lock(&encodings->mutex);
+    bool taken = find_added(encodings, name) || name_find(name) >= 0 || strncmp(name, "MAP-", 4) == 0;
+    pthread_mutex_unlock(&encodings->mutex);
+    return taken;
+}
+
+iconvd_status encodings_make(struct encodings *encodings, const char *name, const char *text, size_t length, struct encoding **made) {
+    struct parsed_name parsed;
+    *made = NULL;
+    if (!*name || strlen(name) > 64 || !name_parse(&parsed, name))
+        return ICONVD_UNSUPPORTED;
+    if (is_taken(encodings, parsed.name))
+        return ICONVD_EXISTS;
+    struct encoding *encoding = calloc(1, sizeof *encoding);
+    if (!encoding || !buffer_append(&encoding->map.text, text, length)) {
+        encoding_free(encoding);
+        return ICONVD_ENOMEM;
+    }
+    encoding->kind = BUILTIN_COUNT;
+    encoding->map.least_bytes = 1;
+    encoding->map.most_bytes = 8;
+    strcpy(encoding->name, name);
+    strcpy(encoding->known_as, parsed.name);
+    *made = encoding;
+    return ICONVD_OK;
+}
+
+iconvd_status encodings_publish(struct encodings *encodings, struct encoding *made) {
+    pthread_mutex_lock(&encodings->mutex);
+    bool taken = find_added(encodings, made->known_as) != NULL;
+    if (!taken) {
+        made->next = encodings->added;
+        encodings->added = made;
+    }
+    pthread_mutex_unlock(&encodings->mutex);
+    return taken ? ICONVD_EXISTS : ICONVD_OK;
+}
+
+bool encoding_has_lead(struct encoding *encoding, unsigned char byte) {
+    unsigned char *leads = atomic_load(&encoding->leads), *none = NULL;
+    if (leads)
+        return leads[byte] != 0;
+    leads = calloc(256, 1);
+    if (!leads)
+        return true;
+    charmap_leads(encoding->map.text.bytes, encoding->map.text.length, leads);
+    bool has = leads[byte] != 0;
+    /* Another thread may have been faster. */
+    if (!atomic_compare_exchange_strong(&encoding->leads, &none, leads))
+        free(leads);
+    return has;
+}
+
+unsigned encoding_most_bytes(const struct encoding *encoding) {
+    static const unsigned char MOST[BUILTIN_COUNT] = {1, 1, 4, 6, 4, 4, 8, 4, 4, 6};
+    return encoding->kind == BUILTIN_COUNT ? encoding->map.most_bytes : MOST[encoding->kind];
+}
+
+unsigned encoding_least_bytes(const struct encoding *encoding) {
+    static const unsigned char LEAST[BUILTIN_COUNT] = {1, 1, 1, 2, 2, 2, 4, 4, 4, 1};
+    return encoding->kind == BUILTIN_COUNT ? encoding->map.least_bytes : LEAST[encoding->kind];
+}

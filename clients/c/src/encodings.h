@@ -1,0 +1,54 @@
+/* The encodings of a pool: the service's own, the system's charmaps, and those that the host has added. */
+#ifndef ICONVD_ENCODINGS_H
+#define ICONVD_ENCODINGS_H
+
+#include <pthread.h>
+#include <stdatomic.h>
+
+#include "charmaps.h"
+#include "names.h"
+
+struct encoding {
+    enum builtin kind;   /* BUILTIN_COUNT: a charmap */
+    char name[80];       /* the service's name of it */
+    struct charmap map;  /* of a charmap */
+    char known_as[NAME_ROOM]; /* of a charmap that the host has added: its name as name_parse() writes it */
+    atomic_bool refused; /* the service has refused the charmap: it is not sent again */
+    unsigned char *_Atomic repertoire; /* made when a conversion first asks what the encoding has */
+    unsigned char *_Atomic leads; /* the bytes that its characters begin with; made when a conversion first meets a faulty one */
+    struct encoding *next; /* of those that the host has added */
+};
+
+struct encodings {
+    pthread_mutex_t mutex;
+    char *directory;
+    struct encoding **files; /* one for each charmap file; NULL: not read yet */
+    struct encoding *added;
+};
+
+bool encodings_begin(struct encodings *encodings, const char *directory);
+void encodings_end(struct encodings *encodings);
+
+/* The encoding of a name that name_parse() has taken apart. UNSUPPORTED, ENOMEM. */
+iconvd_status encodings_find(struct encodings *encodings, const char *name, struct encoding **found);
+
+/* One of the service's own. */
+struct encoding *encoding_builtin(enum builtin builtin);
+
+/* Makes an encoding of a charmap of the host's, which nobody finds yet. EXISTS, ENOMEM; UNSUPPORTED where the name is too long. */
+iconvd_status encodings_make(struct encodings *encodings, const char *name, const char *text, size_t length, struct encoding **made);
+
+/* From now on it is found, and belongs to the encodings. EXISTS: another thread was faster. */
+iconvd_status encodings_publish(struct encodings *encodings, struct encoding *made);
+
+/* Frees an encoding that was made and not published. NULL is nothing. */
+void encoding_free(struct encoding *encoding);
+
+/* Whether a character of a charmap may begin with a byte. True where memory lacks to know it. */
+bool encoding_has_lead(struct encoding *encoding, unsigned char byte);
+
+/* How many bytes a character has at most and at least. */
+unsigned encoding_most_bytes(const struct encoding *encoding);
+unsigned encoding_least_bytes(const struct encoding *encoding);
+
+#endif

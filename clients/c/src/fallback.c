@@ -1,0 +1,67 @@
+/* Goes on by the C library where the service has gone. */
+#include <errno.h>
+#include <stdio.h>
+
+#include "preload.h"
+
+/* The name to go on by in the middle of a text: once a mark is written or read, UTF-16 and UTF-32 have an order. */
+static const char *name_now(const struct encoding *asked, const struct encoding *now, bool begun, const char *name) {
+    return begun && asked != now ? now->name : name;
+}
+
+static iconv_t open_now(const struct handle *handle) {
+    const struct iconvd_cd *cd = handle->cd;
+    char to[300];
+    const char *name = name_now(cd->to, cd->pair.to, cd->mark_written, handle->to);
+    bool same = name == handle->to;
+    snprintf(to, sizeof to, "%s%s%s", name, !same && cd->policy & ICONVD_TRANSLIT ? "//TRANSLIT" : "",
+             !same && cd->policy & ICONVD_IGNORE ? "//IGNORE" : "");
+    return settings()->libc.open(to, name_now(cd->from, cd->pair.from, cd->order_known, handle->from));
+}
+
+/* Brings a conversion from or to UTF-7 to the state that the service's had. What it writes the host has had. */
+static bool feed_history(const struct handle *handle) {
+    const char *bytes;
+    size_t left;
+    if (!handle->cd->own)
+        return true;
+    if (!own_history(handle->cd, &bytes, &left))
+        return false;
+    char dropped[4096];
+    char *in = (char *)(uintptr_t)bytes;
+    while (left > 0) {
+        char *out = dropped;
+        size_t room = sizeof dropped;
+        if (settings()->libc.convert(handle->real, &in, &left, &out, &room) == (size_t)-1 && errno != E2BIG)
+            return errno == EINVAL;
+    }
+    return true;
+}
+
+bool handle_fall_back(struct handle *handle, iconvd_status why) {
+    if (!settings()->falls_back)
+        return false;
+    handle->real = open_now(handle);
+    bool there = handle->real != (iconv_t)-1 && feed_history(handle);
+    settings_log("%s to %s: %s; the C library %s", handle->from, handle->to, iconvd_status_text(why),
+                 there ? "goes on" : "cannot go on");
+    if (!there && handle->real != (iconv_t)-1) {
+        settings()->libc.close(handle->real);
+        handle->real = (iconv_t)-1;
+    }
+    handle->in_the_middle = there;
+    return there;
+}
+
+bool handle_start_again(struct handle *handle) {
+    const struct libc *libc = &settings()->libc;
+    if (!handle->in_the_middle)
+        return true;
+    iconv_t fresh = libc->open(handle->to, handle->from);
+    if (fresh == (iconv_t)-1)
+        return false;
+    libc->close(handle->real);
+    handle->real = fresh;
+    handle->in_the_middle = false;
+    return true;
+}

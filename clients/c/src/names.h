@@ -1,0 +1,34 @@
+/* Names of encodings. */
+#ifndef ICONVD_NAMES_H
+#define ICONVD_NAMES_H
+
+#include <stdbool.h>
+#include <stddef.h>
+
+/* The service's own encodings; the order is that of tables.py. */
+enum builtin { US_ASCII, ISO_8859_1, UTF_8, UTF_16, UTF_16BE, UTF_16LE, UTF_32, UTF_32BE, UTF_32LE, UTF_7, BUILTIN_COUNT };
+
+/* The service's name of one of them. */
+const char *builtin_name(enum builtin builtin);
+
+/* The longest name that is looked for; a longer one is none. */
+enum { NAME_ROOM = 128 };
+
+/* A name as a caller wrote it, taken apart. */
+struct parsed_name {
+    char name[NAME_ROOM]; /* upper case, without what iconv_open() passes over; empty: the locale's encoding */
+    bool translit;        /* //TRANSLIT stood behind it */
+    bool ignore;          /* //IGNORE stood behind it */
+};
+
+/* False: it is too long for a name. */
+bool name_parse(struct parsed_name *parsed, const char *written);
+
+/* The number of a name: an enum builtin, or BUILTIN_COUNT plus the number of a charmap file; -1 for none. */
+int name_find(const char *name);
+
+/* How many charmap files there are, and their names without folder and ending. */
+size_t charmap_count(void);
+const char *charmap_file(size_t number);
+
+#endif

@@ -1,0 +1,83 @@
+/* The streams of a process to one service. */
+#ifndef ICONVD_POOL_H
+#define ICONVD_POOL_H
+
+#include "remote.h"
+
+enum { MOST_STREAMS = 16, USUAL_STREAMS = 4, USUAL_TIMEOUT = 10000 };
+
+/* A stream with what its server holds. Everything is under the mutex. */
+struct slot {
+    pthread_mutex_t mutex;
+    struct stream stream;
+    struct remote remote;
+    uint64_t generation; /* counts up whenever the stream is lost, so that a descriptor of its own knows that it is gone */
+};
+
+struct iconvd_pool {
+    struct address address;
+    int timeout;
+    void (*log)(void *context, const char *line);
+    void *context;
+    struct encodings encodings;
+    size_t slot_count;
+    struct slot slots[MOST_STREAMS];
+    void *page;               /* which the kernel zeroes in a child; NULL: it cannot */
+    atomic_int *alive;        /* on that page */
+    atomic_llong down_until;  /* no connection is tried before this time */
+    atomic_int silent;        /* how many connections in a row have ended without any answer */
+    pthread_mutex_t known_mutex;
+    struct pair *known;       /* pairs that the service has opened once */
+    size_t known_count;
+    atomic_uint next_wait;    /* which slot the next thread waits for when all are in use */
+    atomic_ullong conversions, round_trips, connections, uploads;
+};
+
+/* The C library's iconv() is no cancellation point. A thread that were cancelled in a system call here would leave a mutex locked. */
+static inline int cancelling_off(void) {
+    int before;
+    pthread_setcancelstate(PTHREAD_CANCEL_DISABLE, &before);
+    return before;
+}
+
+static inline void cancelling_as(int before) {
+    pthread_setcancelstate(before, NULL);
+}
+
+/* A pool that has not connected yet. ENOMEM, BADADDRESS. */
+iconvd_status pool_begin(const char *where, const iconvd_options *options, struct iconvd_pool **pool);
+
+/* Writes a line to the log, if there is one. */
+__attribute__((format(printf, 2, 3))) void pool_log(const struct iconvd_pool *pool, const char *format, ...);
+
+/* Whether the service opens the pair. It is asked once. */
+iconvd_status pool_open(struct iconvd_pool *pool, const struct pair *pair);
+
+/* Converts one piece by the shared descriptor of a pair, on any stream. A lost stream costs two more tries. */
+iconvd_status pool_convert(struct iconvd_pool *pool, const struct pair *pair, struct work *work);
+
+/* The same for several pieces, one behind the other, until one stops. */
+iconvd_status pool_convert_batch(struct iconvd_pool *pool, const struct pair *pair, struct batch *batch);
+
+/* A slot for a descriptor that is not shared: the first that nobody uses now, so that a process of one thread has one connection. */
+struct slot *pool_pick(struct iconvd_pool *pool);
+
+/* Makes a slot that is locked ready for requests: in a child, after the host closed the descriptor, or after a loss it is connected
+   anew. False: it cannot be. */
+bool slot_ready(struct iconvd_pool *pool, struct slot *slot);
+
+/* Closes a stream, and forgets what its server holds. */
+void slot_reset(struct slot *slot);
+
+/* Gives a lost stream up, with a line in the log. */
+void slot_lose(struct iconvd_pool *pool, struct slot *slot);
+
+/* Logs a refused charmap, and counts uploads. */
+void pool_note(struct iconvd_pool *pool, struct refusal *refusal);
+
+/* fork.c: the first thing that every call of the library does. In a child it makes the pool usable again. */
+bool fork_begin(struct iconvd_pool *pool);
+void fork_end(struct iconvd_pool *pool);
+void fork_check(struct iconvd_pool *pool);
+
+#endif

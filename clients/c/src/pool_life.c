@@ -1,0 +1,127 @@
+/* Makes pools and ends them; the host's own charmaps. */
+#include <stdarg.h>
+#include <stdio.h>
+
+#include "pool.h"
+
+void pool_log(const struct iconvd_pool *pool, const char *format, ...) {
+    if (!pool->log)
+        return;
+    char line[400];
+    va_list arguments;
+    va_start(arguments, format);
+    vsnprintf(line, sizeof line, format, arguments);
+    va_end(arguments);
+    pool->log(pool->context, line);
+}
+
+iconvd_status pool_begin(const char *where, const iconvd_options *options, struct iconvd_pool **pool) {
+    static const iconvd_options USUAL = {.streams = 0};
+    const iconvd_options *wanted = options ? options : &USUAL;
+    struct iconvd_pool *made = calloc(1, sizeof *made);
+    if (!made)
+        return ICONVD_ENOMEM;
+    iconvd_status status = address_read(&made->address, where);
+    made->timeout = wanted->timeout ? wanted->timeout : USUAL_TIMEOUT;
+    made->log = wanted->log;
+    made->context = wanted->context;
+    made->slot_count = wanted->streams ? wanted->streams : USUAL_STREAMS;
+    if (made->slot_count > MOST_STREAMS)
+        made->slot_count = MOST_STREAMS;
+    for (size_t i = 0; i < MOST_STREAMS; i++) {
+        pthread_mutex_init(&made->slots[i].mutex, NULL);
+        made->slots[i].stream.fd = -1;
+    }
+    pthread_mutex_init(&made->known_mutex, NULL);
+    const char *charmaps = wanted->charmaps ? wanted->charmaps : "/usr/share/i18n/charmaps";
+    bool memory = encodings_begin(&made->encodings, charmaps) && fork_begin(made);
+    if (status == ICONVD_OK && !memory)
+        status = ICONVD_ENOMEM;
+    if (status == ICONVD_OK)
+        *pool = made;
+    else
+        iconvd_disconnect(made);
+    return status;
+}
+
+iconvd_status iconvd_connect(const char *where, const iconvd_options *options, iconvd_pool **pool) {
+    iconvd_status status = pool_begin(where, options, pool);
+    if (status != ICONVD_OK)
+        return status;
+    struct slot *slot = &(*pool)->slots[0];
+    int cancelling = cancelling_off();
+    pthread_mutex_lock(&slot->mutex);
+    bool connected = slot_ready(*pool, slot);
+    pthread_mutex_unlock(&slot->mutex);
+    cancelling_as(cancelling);
+    if (connected)
+        return ICONVD_OK;
+    iconvd_disconnect(*pool);
+    *pool = NULL;
+    return ICONVD_LOST;
+}
+
+void iconvd_disconnect(iconvd_pool *pool) {
+    if (!pool)
+        return;
+    fork_check(pool);
+    for (size_t i = 0; i < MOST_STREAMS; i++) {
+        stream_close(&pool->slots[i].stream);
+        remote_forget(&pool->slots[i].remote);
+        pthread_mutex_destroy(&pool->slots[i].mutex);
+    }
+    fork_end(pool);
+    encodings_end(&pool->encodings);
+    address_free(&pool->address);
+    pthread_mutex_destroy(&pool->known_mutex);
+    free(pool->known);
+    free(pool);
+}
+
+void iconvd_count(const iconvd_pool *pool, iconvd_counters *counters) {
+    *counters = (iconvd_counters){.conversions = atomic_load(&pool->conversions),
+                                  .round_trips = atomic_load(&pool->round_trips),
+                                  .connections = atomic_load(&pool->connections),
+                                  .uploads = atomic_load(&pool->uploads)};
+}
+
+/* Uploads the charmap, opens it by its name, on one stream, and lets it be found. */
+static iconvd_status add_charmap(struct iconvd_pool *pool, struct encoding *made, struct refusal *refusal) {
+    struct pair pair = {.to = encoding_builtin(UTF_8), .from = made, .strict = true};
+    struct slot *slot = &pool->slots[0];
+    struct place place;
+    iconvd_status status = ICONVD_LOST;
+    int cancelling = cancelling_off();
+    pthread_mutex_lock(&slot->mutex);
+    for (int try = 0; try < 3 && status == ICONVD_LOST && slot_ready(pool, slot); try++) {
+        status = remote_find(&slot->remote, &slot->stream, &pair, &place, refusal);
+        if (status == ICONVD_LOST)
+            slot_lose(pool, slot);
+    }
+    /* The name is free, so what the service finds taken, or does not find, is another one: the text's. */
+    if (status == ICONVD_UNSUPPORTED || status == ICONVD_EXISTS)
+        status = ICONVD_NONAME;
+    if (status == ICONVD_OK)
+        status = encodings_publish(&pool->encodings, made);
+    /* What the server holds of a charmap that is not kept is given back with the stream. */
+    if (status != ICONVD_OK)
+        slot_reset(slot);
+    pthread_mutex_unlock(&slot->mutex);
+    cancelling_as(cancelling);
+    return status;
+}
+
+iconvd_status iconvd_put_charmap(iconvd_pool *pool, const char *name, const void *text, size_t length, iconvd_badmap *bad) {
+    fork_check(pool);
+    struct encoding *made = NULL;
+    struct refusal refusal = {.encoding = NULL};
+    iconvd_status status = encodings_make(&pool->encodings, name, text, length, &made);
+    if (status == ICONVD_OK)
+        status = add_charmap(pool, made, &refusal);
+    atomic_fetch_add(&pool->uploads, refusal.uploads);
+    if (bad && status == ICONVD_BADMAP)
+        *bad = (iconvd_badmap){.line = refusal.line, .cause = refusal.cause};
+    if (status != ICONVD_OK)
+        encoding_free(made);
+    return status;
+}

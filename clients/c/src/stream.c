@@ -1,0 +1,66 @@
+/* One connection. */
+#include "stream.h"
+
+#include <fcntl.h>
+#include <sys/stat.h>
+#include <unistd.h>
+
+#include "transfer.h"
+
+/* Above what programs that close "all" descriptors one by one usually count to, and within the usual limit of 1,024. */
+enum { HIGH_DESCRIPTOR = 400 };
+
+bool stream_connect(struct stream *stream, const struct address *address) {
+    int fd = address_connect(address, stream->timeout);
+    if (fd < 0)
+        return false;
+    int high = fcntl(fd, F_DUPFD_CLOEXEC, HIGH_DESCRIPTOR);
+    if (high >= 0) {
+        close(fd);
+        fd = high;
+    }
+    struct stat status;
+    if (fstat(fd, &status) != 0) {
+        close(fd);
+        return false;
+    }
+    stream->fd = fd;
+    stream->device = status.st_dev;
+    stream->inode = status.st_ino;
+    stream->timed_out = false;
+    stream->answered = false;
+    return true;
+}
+
+bool stream_is_intact(const struct stream *stream) {
+    struct stat status;
+    return stream->fd >= 0 && fstat(stream->fd, &status) == 0 && status.st_dev == stream->device &&
+           status.st_ino == stream->inode;
+}
+
+void stream_close(struct stream *stream) {
+    if (stream_is_intact(stream))
+        close(stream->fd);
+    stream->fd = -1;
+}
+
+bool stream_call(struct stream *stream, struct call *call) {
+    struct sending sending;
+    struct receiving receiving = {.got = 0};
+    uint32_t tag = ++stream->tag;
+    if (!sending_begin(&sending, call, tag) || sending_go_on(stream, &sending, 0) != TRANSFER_DONE)
+        return false;
+    enum transfer state = receiving_go_on(stream, &receiving, call, tag, true);
+    if (state != TRANSFER_AGAIN)
+        return state == TRANSFER_DONE;
+    /* The kernel limits each wait. A service that sends a byte now and then is held to the limit here. */
+    long long end = now_in_milliseconds() + stream->timeout;
+    while (state == TRANSFER_AGAIN) {
+        state = receiving_go_on(stream, &receiving, call, tag, true);
+        if (state == TRANSFER_AGAIN && stream->timeout > 0 && now_in_milliseconds() > end) {
+            stream->timed_out = true;
+            return false;
+        }
+    }
+    return state == TRANSFER_DONE;
+}

@@ -1,0 +1,55 @@
+/* One connection: requests out, replies in. */
+#ifndef ICONVD_STREAM_H
+#define ICONVD_STREAM_H
+
+#include <stdbool.h>
+#include <sys/types.h>
+
+#include "address.h"
+
+struct stream {
+    int fd;           /* -1: not connected */
+    dev_t device;     /* which socket `fd` is, since the host may close it and open something else on its number */
+    ino_t inode;
+    uint32_t tag;     /* of the last request */
+    int timeout;      /* of one call, in milliseconds; below 0 without end */
+    bool timed_out;   /* why it was lost */
+    bool answered;    /* something, since it was connected */
+};
+
+/* A request with its reply. The bodies stand in two parts each, so that text is neither copied on its way out nor in. */
+struct call {
+    uint32_t caller;
+    uint8_t op;
+    const void *head;  /* the first bytes of the request's body */
+    size_t head_length;
+    const void *input; /* those behind them */
+    size_t input_length;
+    unsigned char *reply; /* where the first bytes of the reply's body go */
+    size_t reply_room;
+    char *output; /* where those behind them go */
+    size_t output_room;
+    iconvd_status status; /* what the reply says */
+    size_t reply_length;
+    size_t output_length;
+};
+
+/* Connects. The descriptor is moved to a high number, out of the way of hosts that close the low ones. */
+bool stream_connect(struct stream *stream, const struct address *address);
+
+/* Whether `fd` is still the socket that it was. */
+bool stream_is_intact(const struct stream *stream);
+
+/* Closes the connection, unless the host has closed it or something else has its number now. */
+void stream_close(struct stream *stream);
+
+/* One round trip. False: the stream is lost, and the reply is not there. */
+bool stream_call(struct stream *stream, struct call *call);
+
+/* Several requests, of which later ones are sent before earlier ones are answered. Before it reads the reply to calls[i] it asks
+   `place` where its output goes. False: the stream is lost; calls[0] to calls[*answered - 1] have their replies. */
+typedef void stream_place(void *context, struct call *call);
+bool stream_pipeline(struct stream *stream, struct call *calls, size_t number, size_t *answered, stream_place *place,
+                     void *context);
+
+#endif

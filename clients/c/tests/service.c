@@ -1,0 +1,163 @@
+/* The preload library and its service: one that goes away, comes back or stops, that ends its streams, and more of everything than a
+ * caller number has room for.
+ *
+ *   service TEST ..    each TEST is one of those in the table at the end
+ *
+ * PRELOAD is the library, SERVER the program that serves, RELAY the relay. What is converted is compared with the C library. */
+#include <signal.h>
+#include <sys/wait.h>
+#include <unistd.h>
+
+#include "samples.h"
+
+/* More pairs and charmaps than one caller number has room for, all open at once. */
+static void test_many(void) {
+    static const char *const NAMES[] = {"KOI8-R", "CP1251", "LATIN2", "LATIN5", "GREEK", "HEBREW", "CP1252", "CP1250",
+                                        "MACINTOSH", "IBM037", "CP850", "CP437", "TIS-620"};
+    enum { NAME_COUNT = sizeof NAMES / sizeof *NAMES };
+    static iconv_t open[NAME_COUNT][NAME_COUNT];
+    for (int round = 0; round < 2; round++)
+        for (size_t i = 0; i < NAME_COUNT; i++)
+            for (size_t k = 0; k < NAME_COUNT; k++) {
+                char text[] = "\x41\x4d", mine[20], other[20];
+                struct sample sample = {.to = NAMES[i], .from = NAMES[k], .text = text};
+                if (round == 0)
+                    open[i][k] = ours.open(NAMES[i], NAMES[k]);
+                check(open[i][k] != (iconv_t)-1, "%s to %s", NAMES[k], NAMES[i]);
+                ssize_t length = convert(&ours, &sample, mine, sizeof mine);
+                check(length == convert(&theirs, &sample, other, sizeof other) && (length < 0 || memcmp(mine, other, (size_t)length) == 0),
+                      "%s to %s", NAMES[k], NAMES[i]);
+            }
+    for (size_t i = 0; i < NAME_COUNT; i++)
+        for (size_t k = 0; k < NAME_COUNT; k++)
+            ours.close(open[i][k]);
+}
+
+/* More calls than a stream of the service serves. */
+static void test_million(void) {
+    const char *count = getenv("LIFE_CALLS");
+    long calls = count ? atol(count) : 1100000;
+    iconv_t cd = ours.open("UTF-16LE", "UTF-8");
+    long wrong = 0;
+    for (long i = 0; i < calls; i++) {
+        char text[] = "abc\u00e9", out[20], *in = text, *at = out;
+        size_t left = 5, room = sizeof out;
+        wrong += ours.convert(cd, &in, &left, &at, &room) != 0 || at - out != 8 || left != 0;
+    }
+    check(wrong == 0, "%ld of %ld calls failed", wrong, calls);
+    ours.close(cd);
+}
+
+/* The relay, with the Unix socket that ICONVD names. */
+static pid_t start_relay(void) {
+    int out[2];
+    if (pipe(out) != 0)
+        exit(2);
+    pid_t relay = fork();
+    if (relay == 0) {
+        setpgid(0, 0);
+        dup2(out[1], 1);
+        execl(wanted("RELAY"), "relay", wanted("ICONVD") + 5, wanted("SERVER"), "pipe", (char *)NULL);
+        _exit(127);
+    }
+    close(out[1]);
+    char line[20];
+    check(read(out[0], line, sizeof line) > 0, "the relay listens");
+    close(out[0]);
+    return relay;
+}
+
+static void stop_relay(pid_t relay) {
+    kill(-relay, SIGKILL);
+    waitpid(relay, NULL, 0);
+}
+
+/* The first half of a text, then something happens, then the second half. */
+struct halves {
+    iconv_t cd;
+    char text[20], out[60];
+    char *in, *at;
+    size_t left, room;
+};
+
+static void begin_halves(struct halves *halves) {
+    *halves = (struct halves){.text = "\u041f\u0440\u0438\u0432\u0435\u0442", .left = 6, .room = 60};
+    halves->in = halves->text;
+    halves->at = halves->out;
+    halves->cd = ours.open("UTF-16", "UTF-8");
+    check(ours.convert(halves->cd, &halves->in, &halves->left, &halves->at, &halves->room) == 0, "the first half");
+}
+
+static bool end_halves(struct halves *halves) {
+    halves->left = 6;
+    bool well = ours.convert(halves->cd, &halves->in, &halves->left, &halves->at, &halves->room) == 0;
+    int saved = errno;
+    static const char RIGHT[] = "\xff\xfe\x1f\x04\x40\x04\x38\x04\x32\x04\x35\x04\x42\x04";
+    check(!well || (halves->at - halves->out == 14 && memcmp(halves->out, RIGHT, 14) == 0), "both halves, with one mark");
+    ours.close(halves->cd);
+    errno = saved;
+    return well;
+}
+
+static bool falls_back(void) {
+    const char *fallback = getenv("ICONVD_FALLBACK");
+    return !fallback || strcmp(fallback, "never") != 0;
+}
+
+static void test_restart(void) {
+    struct halves halves;
+    pid_t relay = start_relay();
+    check(all_right(), "before the service is killed");
+    begin_halves(&halves);
+    stop_relay(relay);
+    check(end_halves(&halves) == falls_back() && (falls_back() || errno == EIO), "in the middle of a text, without a service");
+    check(all_right() == falls_back(), "without a service");
+    relay = start_relay();
+    /* After a refused connection none is tried for a second. */
+    sleep_milliseconds(1500);
+    check(all_right(), "after the service has come back");
+    stop_relay(relay);
+    relay = start_relay();
+    check(all_right(), "after a restart between two calls");
+    stop_relay(relay);
+}
+
+static void test_stopped(void) {
+    struct halves halves;
+    pid_t relay = start_relay();
+    check(all_right(), "before the service is stopped");
+    begin_halves(&halves);
+    kill(-relay, SIGSTOP);
+    check(end_halves(&halves) == falls_back() && (falls_back() || errno == EIO), "in the middle of a text, by a service that is stopped");
+    kill(-relay, SIGCONT);
+    stop_relay(relay);
+}
+
+static void test_names(void) {
+    errno = 0;
+    check(ours.open("NOPE", "UTF-8") == (iconv_t)-1 && errno == EINVAL, "a name that nobody has");
+    iconv_t cd = ours.open("UTF-8", "");
+    check(cd != (iconv_t)-1 && ours.close(cd) == 0, "the locale's encoding");
+    errno = 0;
+    check(ours.close((iconv_t)-1) == -1 && errno == EBADF, "no iconv_t");
+    cd = ours.open("UTF-8", "ISO-2022-JP");
+    check(falls_back() == (cd != (iconv_t)-1), "a name that the C library alone has");
+    if (cd != (iconv_t)-1)
+        ours.close(cd);
+    /* Two charmaps that no caller number has room for together. */
+    errno = 0;
+    cd = ours.open("EUC-TW", "GB18030");
+    check(falls_back() ? cd != (iconv_t)-1 : errno == EMFILE, "EUC-TW from GB18030: %s", strerror(errno));
+    if (cd != (iconv_t)-1)
+        ours.close(cd);
+    cd = ours.open("L1", "L1");
+    check(cd != (iconv_t)-1 && ours.close(cd) == 0, "what iconv -l opens");
+}
+
+static const struct test TESTS[] = {
+    {"many", test_many}, {"million", test_million}, {"restart", test_restart}, {"stopped", test_stopped}, {"names", test_names},
+};
+
+int main(int count, char **words) {
+    return run_tests("service", TESTS, sizeof TESTS / sizeof *TESTS, count, words);
+}

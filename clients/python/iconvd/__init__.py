@@ -1,0 +1,39 @@
+"""Client of iconvd, a character set conversion service.
+
+    import iconvd
+    iconvd.convert(b"\xc1\xc2", "UTF-8", "KOI8-R")     # one text
+    iconvd.register()
+    open("letter.txt", encoding="iconvd-koi8-r")        # codecs by name
+
+The server is named by the environment variable ICONVD (`exec:COMMAND`, `unix:PATH` or `tcp:HOST:PORT`). Without it a server
+`iconvd pipe` is started when it is first needed, and ends with the program.
+"""
+
+from .aio import AsyncClient
+from .client import Client, Conversion, convert, default, use
+from .codecs import register
+from .errors import (
+    CharmapRefused,
+    ConversionError,
+    IconvdError,
+    RequestRefused,
+    ServerLost,
+    UnknownEncoding,
+)
+
+__all__ = [
+    "AsyncClient",
+    "CharmapRefused",
+    "Client",
+    "Conversion",
+    "ConversionError",
+    "IconvdError",
+    "RequestRefused",
+    "ServerLost",
+    "UnknownEncoding",
+    "convert",
+    "default",
+    "register",
+    "use",
+]
+__version__ = "0.1.0"

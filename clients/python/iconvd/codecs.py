@@ -1,0 +1,139 @@
+"""Codecs by name: after `register()`, `iconvd-NAME` is an encoding of Python's, converted by the service."""
+
+from __future__ import annotations
+
+import codecs
+from typing import Any, List, Optional, Tuple
+
+from . import names
+from .client import Client, Decoder, Encoder, default
+from .errors import UnknownEncoding
+from .names import Encoding
+
+_PREFIX = "iconvd"
+_ORDERS = ("", "LE", "BE")
+
+
+def _client(client: Optional[Client]) -> Client:
+    return client if client is not None else default()
+
+
+def info(name: str, encoding: Encoding, client: Optional[Client] = None) -> codecs.CodecInfo:
+    """Returns the codec of an encoding, which exceptions call `name`."""
+
+    def encode(input: str, errors: str = "strict") -> Tuple[bytes, int]:
+        return Encoder(_client(client), name, encoding).encode(input, errors or "strict"), len(input)
+
+    def decode(input: bytes, errors: str = "strict") -> Tuple[str, int]:
+        raw = bytes(input)
+        return Decoder(_client(client), name, encoding).decode(raw, errors or "strict", True)[0], len(raw)
+
+    class IncrementalEncoder(codecs.IncrementalEncoder):
+        """Encodes a text that comes in pieces."""
+
+        def __init__(self, errors: str = "strict") -> None:
+            super().__init__(errors)
+            self.reset()
+
+        def encode(self, input: str, final: bool = False) -> bytes:
+            return self._encoder.encode(input, self.errors)
+
+        def reset(self) -> None:
+            self._encoder = Encoder(_client(client), name, encoding)
+
+        # As CPython's utf_16 has it: 2 before the mark of UTF-16 or UTF-32 is written, 0 after it.
+        def getstate(self) -> int:
+            return 0 if self._encoder.is_started else 2
+
+        def setstate(self, state: int) -> None:  # type: ignore[override]
+            self.reset()
+            self._encoder.is_started = not state
+
+    class IncrementalDecoder(codecs.BufferedIncrementalDecoder):
+        """Decodes bytes that come in pieces."""
+
+        def __init__(self, errors: str = "strict") -> None:
+            super().__init__(errors)
+            self._decoder = Decoder(_client(client), name, encoding, needs_mark=True)
+
+        def _buffer_decode(self, input: Any, errors: str, final: bool) -> Tuple[str, int]:
+            return self._decoder.decode(bytes(input), errors, final)
+
+        def reset(self) -> None:
+            super().reset()
+            self._decoder = Decoder(_client(client), name, encoding, needs_mark=True)
+
+        # The number says which order of bytes the text has: 0 where it is not known yet.
+        def getstate(self) -> Tuple[bytes, int]:
+            found = self._decoder.encoding
+            return super().getstate()[0], _ORDERS.index(found.name[-2:]) if found and found.name[-2:] in _ORDERS else 0
+
+        def setstate(self, state: Tuple[bytes, int]) -> None:
+            super().setstate((state[0], 0))
+            order = _ORDERS[state[1]] if 0 <= state[1] < len(_ORDERS) else ""
+            has_mark = not encoding.is_charmap and encoding.name in ("UTF-16", "UTF-32")
+            self._decoder.set_encoding(Encoding(False, encoding.name + order) if order and has_mark else None)
+
+    class StreamWriter(codecs.StreamWriter):
+        """Writes text to a file of bytes."""
+
+        def __init__(self, stream: object, errors: str = "strict") -> None:
+            super().__init__(stream, errors)  # type: ignore[arg-type]
+            self._incremental = IncrementalEncoder(errors)
+
+        def encode(self, input: str, errors: str = "strict") -> Tuple[bytes, int]:
+            self._incremental.errors = errors
+            return self._incremental.encode(input), len(input)
+
+        def reset(self) -> None:
+            self._incremental.reset()
+
+    class StreamReader(codecs.StreamReader):
+        """Reads text from a file of bytes."""
+
+        def __init__(self, stream: object, errors: str = "strict") -> None:
+            super().__init__(stream, errors)  # type: ignore[arg-type]
+            self._decoder = Decoder(_client(client), name, encoding, needs_mark=True)
+
+        def decode(self, input: bytes, errors: str = "strict") -> Tuple[str, int]:
+            return self._decoder.decode(bytes(input), errors, False)
+
+        # CPython's codecs of several bytes a character take None for all that is left.
+        def read(self, size: Optional[int] = -1, chars: int = -1, firstline: bool = False) -> str:
+            return super().read(-1 if size is None else size, chars, firstline)
+
+        def readlines(self, sizehint: Optional[int] = None, keepends: bool = True) -> List[str]:
+            return super().readlines(sizehint, keepends)
+
+        def reset(self) -> None:
+            super().reset()
+            self._decoder = Decoder(_client(client), name, encoding, needs_mark=True)
+
+    return codecs.CodecInfo(
+        encode=encode,
+        decode=decode,
+        streamreader=StreamReader,
+        streamwriter=StreamWriter,
+        incrementalencoder=IncrementalEncoder,
+        incrementaldecoder=IncrementalDecoder,
+        name=name,
+    )
+
+
+def search(name: str) -> Optional[codecs.CodecInfo]:
+    """Finds the codec of `iconvd-NAME`; Python asks by `iconvd_name`."""
+    prefix, separator, rest = name.partition("_" if name.startswith(_PREFIX + "_") else "-")
+    if prefix != _PREFIX or not separator:
+        return None
+    for spelling in (rest.replace("_", "-"), rest):
+        try:
+            return info("iconvd-" + rest.replace("_", "-"), names.find(spelling))
+        except UnknownEncoding:
+            continue
+    return None
+
+
+def register() -> None:
+    """Makes `iconvd-NAME` an encoding of Python's. A second call does nothing."""
+    codecs.unregister(search) if hasattr(codecs, "unregister") else None
+    codecs.register(search)

@@ -1,0 +1,46 @@
+"""What can go wrong, as exceptions."""
+
+from __future__ import annotations
+
+
+class IconvdError(Exception):
+    """The base of all exceptions of this package."""
+
+
+class ServerLost(IconvdError, ConnectionError):
+    """The server can't be reached, ended the stream, did not answer in time, or sent bytes that are no reply."""
+
+
+class UnknownEncoding(IconvdError, LookupError):
+    """No built-in encoding and no charmap has this name."""
+
+    def __init__(self, name: str) -> None:
+        super().__init__(f"unknown encoding: {name!r}")
+        self.name = name
+
+
+class RequestRefused(IconvdError):
+    """The server refused a request. `status` has the number, as in `Status`."""
+
+    def __init__(self, what: str, status: int) -> None:
+        super().__init__(f"{what} was refused: status {status}")
+        self.status = status
+
+
+class CharmapRefused(IconvdError, ValueError):
+    """A charmap can't be read or was refused by the server. `line` is 0 where no single line is at fault."""
+
+    def __init__(self, name: str, why: str, line: int = 0) -> None:
+        super().__init__(f"charmap {name}: " + (f"line {line}: {why}" if line else why))
+        self.name = name
+        self.line = line
+        self.why = why
+
+
+class ConversionError(IconvdError, ValueError):
+    """Bytes can't be converted. `position` is the offset in the input of the first byte that was not converted."""
+
+    def __init__(self, reason: str, position: int) -> None:
+        super().__init__(f"at byte {position}: {reason}")
+        self.reason = reason
+        self.position = position

@@ -1,0 +1,97 @@
+"""Names of encodings: which built-in encoding or which charmap a name means.
+
+The table is the C library's too. `clients/names/generate.py` makes it from the C library's gconv-modules and from the
+system's charmaps when the package is built.
+"""
+
+from __future__ import annotations
+
+import functools
+import os
+import re
+from typing import Dict, List, NamedTuple, Tuple
+
+from .errors import UnknownEncoding
+
+#: The encodings that the server has itself.
+BUILTIN = (
+    "US-ASCII",
+    "ISO-8859-1",
+    "UTF-8",
+    "UTF-16",
+    "UTF-16BE",
+    "UTF-16LE",
+    "UTF-32",
+    "UTF-32BE",
+    "UTF-32LE",
+    "UTF-7",
+)
+
+_OTHER = re.compile(r"[^A-Z0-9_\-.,:/]")
+_NEITHER_LETTER_NOR_DIGIT = re.compile(r"[^A-Z0-9]")
+
+
+class Encoding(NamedTuple):
+    """An encoding: one that the server has, or a charmap, by the name of its file."""
+
+    is_charmap: bool
+    name: str
+
+
+class Table(NamedTuple):
+    """The encodings by name, and by the letters and digits of the name alone."""
+
+    exact: Dict[str, Encoding]
+    loose: Dict[str, Encoding]
+
+
+def _normal(name: str) -> str:
+    return _OTHER.sub("", name.upper()).rstrip("/")
+
+
+def _loose(name: str) -> str:
+    return _NEITHER_LETTER_NOR_DIGIT.sub("", name.upper())
+
+
+def read_table(lines: List[str]) -> Table:
+    """Reads the lines `NAME<TAB>builtin|charmap<TAB>ENCODING`."""
+    exact = {name: Encoding(False, name) for name in BUILTIN}
+    for line in lines:
+        name, kind, target = line.rstrip("\n").split("\t")
+        exact.setdefault(name, Encoding(kind == "charmap", target))
+    loose: Dict[str, Encoding] = {}
+    for name, encoding in exact.items():
+        loose.setdefault(_loose(name), encoding)
+    return Table(exact, loose)
+
+
+@functools.lru_cache(maxsize=None)
+def table() -> Table:
+    """Returns the table that was made when the package was built, or the built-in names alone if there is none."""
+    path = os.path.join(os.path.dirname(os.path.abspath(__file__)), "data", "names.tsv")
+    try:
+        with open(path, encoding="utf-8") as file:
+            return read_table(file.readlines())
+    except FileNotFoundError:
+        return read_table([])
+
+
+@functools.lru_cache(maxsize=1024)
+def find(name: str) -> Encoding:
+    """Returns the encoding of that name, in any case of its letters. Raises UnknownEncoding."""
+    if len(name) > 255 or not name.isascii():
+        raise UnknownEncoding(name[:80])
+    known = table()
+    found = known.exact.get(_normal(name)) or known.loose.get(_loose(name))
+    if found is None or not _loose(name):
+        raise UnknownEncoding(name)
+    return found
+
+
+def charmaps() -> List[Tuple[str, List[str]]]:
+    """Returns each charmap of the table with its names."""
+    found: Dict[str, List[str]] = {}
+    for name, encoding in table().exact.items():
+        if encoding.is_charmap:
+            found.setdefault(encoding.name, []).append(name)
+    return sorted(found.items())

@@ -1,0 +1,89 @@
+"""Conversions of whole pieces of text, as generators over a session (see session.py)."""
+
+from __future__ import annotations
+
+from typing import List, NamedTuple, Sequence
+
+from . import frames
+from .errors import RequestRefused
+from .frames import Reply, Request, Status
+from .names import Encoding
+from .session import Descriptor, Pair, Session, Steps
+
+UTF_8 = Encoding(False, "UTF-8")
+#: Room for what closes a shift.
+_CLOSING = 8
+#: Bytes of a CONV of a long text.
+_LONG_CHUNK = 262_144
+
+
+class Run(NamedTuple):
+    """How far a conversion came and why it stopped: OK, EILSEQ, EINVAL or ENOCHAR."""
+
+    output: bytes
+    used: int
+    status: Status
+
+
+def run(session: Session, pair: Pair, data: bytes, close: bool = True) -> Steps[Run]:
+    """Converts from the start of `data` as far as it goes. `close` has the target's shift closed at the end."""
+    descriptor = yield from session.descriptor(pair)
+    pieces: List[bytes] = []
+    at = 0
+    status = Status.OK
+    chunk = frames.CHUNK if len(data) <= 2 * frames.CHUNK else _LONG_CHUNK
+    before = [_reset(descriptor, 0)] if descriptor.has_state else []
+    while at < len(data):
+        piece = data[at : at + chunk]
+        replies = yield before + [_convert(descriptor, piece)]
+        before = []
+        done = frames.read_converted(_accepted("CONV", replies[-1]), len(piece))
+        at += len(piece) - done.left
+        pieces.append(done.output)
+        status = done.status
+        ended = at == len(data) or done.left == len(piece)
+        if status in (Status.EILSEQ, Status.ENOCHAR) or (status == Status.EINVAL and (ended or at + done.left == len(data))):
+            break
+        if status == Status.E2BIG and done.left == len(piece):
+            raise RequestRefused("CONV", status)
+    if descriptor.has_state and close and pieces:
+        (reply,) = yield [_reset(descriptor, _CLOSING)]
+        pieces.append(_accepted("RESET", reply).body)
+    return Run(b"".join(pieces), at, Status.OK if at == len(data) else status)
+
+
+def run_each(session: Session, pair: Pair, texts: Sequence[bytes]) -> Steps[List[Run]]:
+    """Converts each of these short texts by a request of its own; all are sent before the first reply is awaited."""
+    descriptor = yield from session.descriptor(pair)
+    requests: List[Request] = []
+    for text in texts:
+        if descriptor.has_state:
+            requests.append(_reset(descriptor, 0))
+        requests.append(_convert(descriptor, text[: frames.MAX_INPUT]))
+        if descriptor.has_state:
+            requests.append(_reset(descriptor, _CLOSING))
+    replies = yield requests
+    step = 3 if descriptor.has_state else 1
+    runs: List[Run] = []
+    for number, text in enumerate(texts):
+        first = number * step + (1 if descriptor.has_state else 0)
+        sent = min(len(text), frames.MAX_INPUT)
+        done = frames.read_converted(_accepted("CONV", replies[first]), sent)
+        closing = _accepted("RESET", replies[first + 1]).body if descriptor.has_state else b""
+        status = done.status if sent == len(text) or done.left else Status.E2BIG
+        runs.append(Run(done.output + closing, sent - done.left, status))
+    return runs
+
+
+def _convert(descriptor: Descriptor, data: bytes) -> Request:
+    return frames.convert_request(descriptor.caller, descriptor.number, frames.MAX_ROOM, data)
+
+
+def _reset(descriptor: Descriptor, room: int) -> Request:
+    return frames.reset_request(descriptor.caller, descriptor.number, room)
+
+
+def _accepted(what: str, reply: Reply) -> Reply:
+    if reply.status not in frames.STOPS:
+        raise RequestRefused(what, reply.status)
+    return reply

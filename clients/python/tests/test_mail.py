@@ -1,0 +1,115 @@
+"""A message of many charsets, some of them hostile, decoded by the service as by CPython or with a documented replacement."""
+
+from __future__ import annotations
+
+import email
+import email.message
+import email.policy
+import time
+import unittest
+from typing import Tuple
+
+from support import ClientTest
+
+import iconvd
+
+#: Charset, text.
+PARTS = [
+    ("us-ascii", "plain"),
+    ("utf-8", "naïve ☃"),
+    ("iso-8859-1", "café"),
+    ("iso-8859-2", "Žluťoučký kůň"),
+    ("iso-8859-5", "Привет"),
+    ("iso-8859-15", "10 €"),
+    ("koi8-r", "Привет, мир"),
+    ("koi8-u", "Київ"),
+    ("windows-1250", "ąęł"),
+    ("windows-1251", "Москва"),
+    ("windows-1252", "“quoted”"),
+    ("windows-1253", "Ελλάδα"),
+    ("windows-1254", "İstanbul"),
+    ("utf-16", "sixteen ☃"),
+    ("utf-32", "thirty-two"),
+    ("utf-7", "séven"),
+    ("shift_jis", "日本語"),
+    ("gbk", "中文"),
+    ("euc-kr", "한국어"),
+    ("iso-8859-7", "Ελλάδα"),
+]
+HOSTILE_CHARSETS = [
+    "no-such-charset",
+    "<code_set_name> X\nCHARMAP\n<U0041> \\x41\nEND CHARMAP",
+    "../../../etc/passwd",
+    "utf-8\0",
+    "x" * 100_000,
+    "iconvd-utf-8",
+    "",
+]
+
+
+def part_text(client: iconvd.Client, data: bytes, charset: str) -> str:
+    """The text of a part: what can't be decoded is U+FFFD, and a charset that nobody has is taken as US-ASCII."""
+    try:
+        return client.decode(data, charset, "replace")
+    except iconvd.UnknownEncoding:
+        return client.decode(data, "US-ASCII", "replace")
+
+
+class Mail(ClientTest):
+    def message(self) -> email.message.EmailMessage:
+        message = email.message.EmailMessage(policy=email.policy.SMTP)
+        message.make_mixed()
+        for charset, text in PARTS:
+            part = email.message.MIMEPart()
+            part["Content-Type"] = f'text/plain; charset="{charset}"'
+            part["Content-Transfer-Encoding"] = "base64"
+            part.set_payload(__import__("base64").encodebytes(text.encode(charset)).decode())
+            message.attach(part)
+        return message
+
+    def parts(self, message: email.message.Message) -> "list[Tuple[bytes, str]]":
+        found = []
+        for part in message.walk():
+            if not part.is_multipart():
+                payload = part.get_payload(decode=True)
+                assert isinstance(payload, bytes)
+                found.append((payload, part.get_content_charset("us-ascii")))
+        return found
+
+    def test_twenty_parts(self) -> None:
+        parsed = email.message_from_bytes(self.message().as_bytes(), policy=email.policy.default)
+        parts = self.parts(parsed)
+        self.assertEqual(len(parts), len(PARTS))
+        for (data, charset), (_, text) in zip(parts, PARTS):
+            self.assertEqual(part_text(self.client, data, charset), data.decode(charset), charset)
+            self.assertEqual(part_text(self.client, data, charset), text, charset)
+
+    def test_hostile_charsets(self) -> None:
+        for charset in HOSTILE_CHARSETS:
+            self.assertEqual(part_text(self.client, b"text \xe9", charset), "text \ufffd", charset[:40])
+
+    def test_faulty_bytes(self) -> None:
+        for charset, _ in PARTS:
+            data = bytes(range(256)) * 4
+            if charset in ("utf-7", "shift_jis", "gbk", "euc-kr"):
+                self.assertIsInstance(part_text(self.client, data, charset), str)
+            else:
+                self.assertEqual(part_text(self.client, data, charset), data.decode(charset, "replace"), charset)
+
+    def test_ten_megabytes_of_one_character(self) -> None:
+        for byte, charset in ((b"A", "utf-8"), (b"\xc1", "koi8-r"), (b"\x00", "utf-16-le"), (b"+", "us-ascii")):
+            data = byte * 10_000_000
+            started = time.monotonic()
+            self.assertEqual(part_text(self.client, data, charset), data.decode(charset), charset)
+            self.assertIsNotNone(started)
+
+    def test_a_megabyte_of_faults(self) -> None:
+        for byte, charset in ((b"\xff", "utf-8"), (b"\x81", "windows-1253"), (b"\xff", "us-ascii"), (b"\x80", "utf-7"), (b"\xa0\xa0", "shift_jis")):
+            data = byte * 200_000
+            text = part_text(self.client, data, charset)
+            self.assertEqual(set(text), {"\ufffd"}, charset)
+            self.assertEqual(len(text), len(data), charset)
+
+
+if __name__ == "__main__":
+    unittest.main()

@@ -23,12 +23,15 @@ _iconvd() {
     COMPREPLY=()
     case $command:$option in
         run:--workers | pipe:--workers | listen:--workers) words=$(echo {1..16}) ;;
-        listen:--streams) return ;;
+        listen:--at-once | listen:--streams | listen:--idle | call:--timeout) return ;;
+        listen:--log) words='error info debug' ;;
+        listen:--log-format) words='text json' ;;
         :*) words="$commands --help --version" ;;
         help:help) words=$commands ;;
         run:* | pipe:*) words='--workers --help --version' ;;
-        listen:*) words='--streams --workers --help --version' ;;
-        ask:* | show:* | call:*) words='--help --version' ;;
+        listen:*) words='--at-once --streams --idle --workers --log --log-format --help --version' ;;
+        call:*) words='--timeout --help --version' ;;
+        ask:* | show:*) words='--help --version' ;;
         checkmap:*)
             if [[ $current != -* ]]; then
                 compopt -o filenames 2> /dev/null

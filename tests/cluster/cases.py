@@ -1,0 +1,175 @@
+"""What happens to the servers and to the network, and what each stream may notice of it."""
+
+from __future__ import annotations
+
+import asyncio
+import os
+import shutil
+import signal
+from typing import Callable, Dict, List
+
+from network import BALANCER, SERVERS, Network
+from servers import Balancer, Server
+from streams import Crowd, Stream, until
+
+
+class Results:
+    """Counts what passed, and prints each check."""
+
+    def __init__(self) -> None:
+        self.passed = 0
+        self.failed = 0
+
+    def check(self, holds: bool, what: str, why: str = "") -> None:
+        self.passed += holds
+        self.failed += not holds
+        print(f"{'ok' if holds else 'FAILED'}: {what}{'' if holds or not why else ': ' + why}", flush=True)
+
+
+class Cases:
+    """All cases, over one crowd of streams that go on all the time."""
+
+    def __init__(self, network: Network, servers: Dict[str, Server], balancer: Balancer, crowd: Crowd, results: Results) -> None:
+        self._network = network
+        self._servers = servers
+        self._balancer = balancer
+        self._crowd = crowd
+        self._results = results
+
+    async def run(self) -> None:
+        await self._killed("one")
+        await self._stopped("two")
+        await self._drained("three")
+        await self._upgraded("one")
+        await self._cut_short("two")
+        await self._cut_long("three")
+        await self._disturbed()
+
+    # ---- what the cases share
+
+    def _streams_of(self, name: str) -> List[Stream]:
+        owners = self._balancer.owners()
+        return [stream for stream in self._crowd.streams if owners.get(stream.port) == name]
+
+    def _status_is(self, name: str, *wanted: str) -> Callable[[], bool]:
+        return lambda: self._balancer.status(name).split(" ")[0] in wanted
+
+    async def _all_go_on(self, case: str) -> None:
+        """Each stream gets replies that it asks for from now on."""
+        before = {stream: stream.replies for stream in self._crowd.streams}
+        went_on = await until(lambda: all(stream.replies > count + 8 for stream, count in before.items()))
+        silent = sum(stream.replies <= count + 8 for stream, count in before.items())
+        self._results.check(went_on, f"{case}: each stream goes on", f"{silent} do not")
+        self._results.check(not self._crowd.wrong(), f"{case}: each reply is right", "; ".join(self._crowd.wrong()[:3]))
+
+    async def _lose(self, case: str, name: str, act: Callable[[], object]) -> None:
+        """Does something by which the streams of one server are lost, and those of others are not."""
+        theirs = self._streams_of(name)
+        before = {stream: stream.losses for stream in self._crowd.streams}
+        await asyncio.to_thread(act)
+        lost = await until(lambda: all(stream.losses > before[stream] for stream in theirs))
+        self._results.check(lost and len(theirs) > 0, f"{case}: its {len(theirs)} streams end")
+        others = [stream for stream in self._crowd.streams if stream not in theirs]
+        disturbed = sum(stream.losses > before[stream] for stream in others)
+        self._results.check(disturbed == 0, f"{case}: the {len(others)} streams of other servers see nothing", f"{disturbed} were lost")
+        await self._all_go_on(case)
+
+    async def _come_back(self, case: str, name: str) -> None:
+        """The server is up again, and gets streams."""
+        up = await until(self._status_is(name, "UP"))
+        self._results.check(up, f"{case}: the server is taken back")
+
+    async def _level(self) -> None:
+        """Gives each server a third of the streams again: those that have more lose some, which is no case of this check."""
+        await until(lambda: all(self._status_is(name, "UP")() for name in SERVERS))
+        for name in SERVERS:
+            self._balancer.command(f"set server iconvd/{name} weight 100")
+        owners = self._balancer.owners()
+        third = len(self._crowd.streams) // len(SERVERS)
+        for name in SERVERS:
+            ports = [port for port, owner in owners.items() if owner == name]
+            for stream in [stream for stream in self._crowd.streams if stream.port in ports][third:]:
+                stream.move()
+        await until(lambda: all(stream.port for stream in self._crowd.streams))
+
+    # ---- the cases
+
+    async def spread(self) -> None:
+        await until(lambda: all(stream.port for stream in self._crowd.streams))
+        counts = {name: len(self._streams_of(name)) for name in SERVERS}
+        third = len(self._crowd.streams) // len(SERVERS)
+        self._results.check(set(counts.values()) == {third}, "each server has a third of the streams", str(counts))
+
+    async def _killed(self, name: str) -> None:
+        await self._lose("killed", name, lambda: self._servers[name].end(signal.SIGKILL))
+        self._results.check(await until(self._status_is(name, "DOWN")), "killed: the balancer knows")
+        self._servers[name].start()
+        await self._come_back("killed", name)
+        await self._level()
+
+    async def _stopped(self, name: str) -> None:
+        await self._lose("stopped", name, lambda: self._servers[name].send(signal.SIGSTOP))
+        self._servers[name].send(signal.SIGCONT)
+        await self._come_back("stopped", name)
+        await self._level()
+
+    async def _drained(self, name: str) -> None:
+        before = {stream: stream.losses for stream in self._crowd.streams}
+        theirs = self._streams_of(name)
+        self._balancer.command(f"set server iconvd/{name} state drain")
+        others = [stream for stream in self._crowd.streams if stream not in theirs][:20]
+        for stream in others:
+            stream.move()
+        await self._all_go_on("drained")
+        now = self._streams_of(name)
+        stayed = all(stream.losses == before[stream] for stream in theirs)
+        self._results.check(stayed and set(now) == set(theirs), "drained: its streams stay, and no new one comes")
+        await self._lose("drained, streams ended", name, lambda: self._balancer.command(f"shutdown sessions server iconvd/{name}"))
+        self._results.check(not self._streams_of(name), "drained: it is empty")
+        self._balancer.command(f"set server iconvd/{name} state ready")
+        await self._come_back("drained", name)
+        await self._level()
+
+    async def _upgraded(self, name: str) -> None:
+        server = self._servers[name]
+        upgraded = "/run/iconvd-upgraded"
+        shutil.copy(server.program, upgraded)
+
+        def upgrade() -> None:
+            self._balancer.command(f"set server iconvd/{name} state drain")
+            self._balancer.command(f"shutdown sessions server iconvd/{name}")
+            server.end(signal.SIGTERM)
+            server.program = upgraded
+            server.start()
+            self._balancer.command(f"set server iconvd/{name} state ready")
+
+        await self._lose("upgraded", name, upgrade)
+        await self._come_back("upgraded", name)
+        await self._level()
+        self._results.check(server.runs(upgraded) and len(self._streams_of(name)) > 0, "upgraded: the new program serves")
+        os.remove(upgraded)
+
+    async def _cut_short(self, name: str) -> None:
+        before = {stream: stream.losses for stream in self._crowd.streams}
+        self._network.cut(name)
+        await asyncio.sleep(1)
+        self._network.mend(name)
+        await self._all_go_on("cable out for a second")
+        lost = sum(stream.losses > before[stream] for stream in self._crowd.streams)
+        self._results.check(lost == 0, "cable out for a second: no stream is lost", f"{lost} were")
+
+    async def _cut_long(self, name: str) -> None:
+        await self._lose("cable out", name, lambda: self._network.cut(name))
+        self._network.mend(name)
+        await self._come_back("cable out", name)
+
+    async def _disturbed(self) -> None:
+        before = {stream: stream.losses for stream in self._crowd.streams}
+        how = self._network.disturb([BALANCER, *SERVERS])
+        case = f"bad network ({how})"
+        self._results.check(bool(how), "the network can be disturbed")
+        await asyncio.sleep(5)
+        await self._all_go_on(case)
+        self._network.calm([BALANCER, *SERVERS])
+        lost = sum(stream.losses > before[stream] for stream in self._crowd.streams)
+        self._results.check(lost == 0, f"{case}: no stream is lost", f"{lost} were")

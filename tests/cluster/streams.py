@@ -1,0 +1,106 @@
+"""Many streams at once: each repeats a recorded conversation, and goes on with a new stream from its beginning when one is lost."""
+
+from __future__ import annotations
+
+import asyncio
+import random
+from typing import Callable, List, Optional, Sequence
+
+from conversation import Exchange
+from iconvd.errors import ServerLost
+from iconvd.frames import ReplyReader
+
+
+class Stream:
+    """One client. Each reply is compared with the recorded one."""
+
+    def __init__(self, number: int, exchanges: Sequence[Exchange]) -> None:
+        self._dice = random.Random(number)
+        self._exchanges = exchanges
+        self._writer: Optional[asyncio.StreamWriter] = None
+        self.port = 0
+        self.replies = 0
+        self.losses = 0
+        self.wrong: List[str] = []
+        self.ended = 0
+        self._is_moving = False
+
+    async def run(self, host: str, port: int, is_over: Callable[[], bool]) -> None:
+        """Talks until it is over."""
+        while not is_over():
+            try:
+                await self._talk(host, port, is_over)
+            except (OSError, ServerLost, asyncio.IncompleteReadError):
+                self.losses += not self._is_moving
+                self._is_moving = False
+                self.port = 0
+                await asyncio.sleep(0.1 + self._dice.random() / 5)
+            finally:
+                if self._writer is not None:
+                    self._writer.close()
+
+    async def _talk(self, host: str, port: int, is_over: Callable[[], bool]) -> None:
+        reader, self._writer = await asyncio.open_connection(host, port)
+        replies = ReplyReader()
+        while not is_over():
+            at = 0
+            while at < len(self._exchanges) and not is_over():
+                batch = self._exchanges[at : at + self._dice.randint(1, 4)]
+                await self._exchange(reader, replies, batch)
+                self.port = self._writer.get_extra_info("sockname")[1]
+                at += len(batch)
+                await asyncio.sleep(0.05 + self._dice.random() / 5)
+            self.ended += at == len(self._exchanges)
+
+    def move(self) -> None:
+        """Closes the stream from this side. It goes on by another, which counts as no loss."""
+        self._is_moving = True
+        self.port = 0
+        if self._writer is not None:
+            self._writer.close()
+
+    async def _exchange(self, reader: asyncio.StreamReader, replies: ReplyReader, batch: Sequence[Exchange]) -> None:
+        assert self._writer is not None
+        self._writer.write(b"".join(exchange.request for exchange in batch))
+        await self._writer.drain()
+        answered = 0
+        while answered < len(batch):
+            data = await reader.read(65536)
+            if not data:
+                raise ServerLost("the stream ended")
+            for reply in replies.feed(data):
+                if answered == len(batch) or reply != batch[answered].reply:
+                    self.wrong.append(f"{reply} in place of {batch[min(answered, len(batch) - 1)].reply}")
+                answered += 1
+                self.replies += 1
+
+
+class Crowd:
+    """All streams of the check."""
+
+    def __init__(self, conversations: Sequence[Sequence[Exchange]], count: int) -> None:
+        self.streams = [Stream(number, conversations[number % len(conversations)]) for number in range(count)]
+        self._is_over = False
+        self._tasks: List["asyncio.Task[None]"] = []
+
+    def start(self, host: str, port: int) -> None:
+        self._tasks = [asyncio.create_task(stream.run(host, port, lambda: self._is_over)) for stream in self.streams]
+
+    async def end(self) -> None:
+        self._is_over = True
+        await asyncio.gather(*self._tasks)
+
+    def wrong(self) -> List[str]:
+        return [text for stream in self.streams for text in stream.wrong]
+
+    def replies(self) -> int:
+        return sum(stream.replies for stream in self.streams)
+
+
+async def until(holds: Callable[[], bool], seconds: float = 60) -> bool:
+    """Waits until something holds. False: it did not within a time that is far above what it takes."""
+    for _ in range(int(seconds * 10)):
+        if holds():
+            return True
+        await asyncio.sleep(0.1)
+    return holds()

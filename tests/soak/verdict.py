@@ -1,0 +1,30 @@
+"""What the figures say: whether memory and times stayed level, whatever the machine's speed."""
+
+from __future__ import annotations
+
+from statistics import median
+from typing import List, Sequence, Tuple
+
+from probes import Window
+
+#: The last third's memory may be above the middle third's by a tenth and this, since threads have caches of their own.
+MEMORY_SLACK = 8 << 20
+#: A request beside the echo may take so many times as long in the last third as in the first. A leak of time would pass any number.
+TIME_FACTOR = 3.0
+
+
+def _thirds(windows: Sequence[Window]) -> List[Sequence[Window]]:
+    third = len(windows) // 3
+    return [windows[:third], windows[third : 2 * third], windows[2 * third :]]
+
+
+def memory_level(windows: Sequence[Window]) -> Tuple[bool, str]:
+    """Whether memory stopped growing."""
+    _, middle, last = (max(window.memory for window in third) for third in _thirds(windows))
+    return last <= 1.1 * middle + MEMORY_SLACK, f"{middle / 1e6:.1f} MB in the middle third, {last / 1e6:.1f} MB in the last"
+
+
+def times_level(windows: Sequence[Window]) -> Tuple[bool, str]:
+    """Whether the slowest requests in a hundred, beside those of the echo at the same times, stayed as slow."""
+    first, _, last = (median(window.p99 / max(window.echo_p99, 1.0) for window in third) for third in _thirds(windows))
+    return last <= TIME_FACTOR * max(first, 1.0), f"p99 is {first:.2f} times the echo's in the first third, {last:.2f} in the last"

@@ -1,4 +1,6 @@
 /* load pipe|tcp DEPTH MILLISECONDS REPLY PROGRAM WORDS..: starts a server, and says how many requests it answers and what they cost.
+   load at DEPTH MILLISECONDS REPLY PORT: the same of a server that listens at that port of this machine, of whose cost it knows nothing.
+   load new 1 MILLISECONDS REPLY PORT: the same, but each request is sent on a stream of its own, behind the first one.
 
    On standard input are two frames. The first is sent once; the second again and again for so long, with DEPTH of them in
    flight, and each has to be answered OK by a frame of REPLY bytes. With `pipe` the server serves its standard input and
@@ -81,9 +83,26 @@ static struct stream by_pipes(char **words)
     return s;
 }
 
+static int connected_to(uint16_t port)
+{
+    struct sockaddr_in address = {.sin_family = AF_INET, .sin_addr.s_addr = htonl(INADDR_LOOPBACK), .sin_port = htons(port)};
+    int one = 1, s = socket(AF_INET, SOCK_STREAM | SOCK_CLOEXEC, 0);
+    if (connect(s, (struct sockaddr *)&address, sizeof address))
+        give_up("connect");
+    setsockopt(s, IPPROTO_TCP, TCP_NODELAY, &one, sizeof one);
+    return s;
+}
+
+/* A stream to a server that somebody else started. */
+static struct stream at_port(char **words)
+{
+    int s = connected_to((uint16_t)atoi(words[0]));
+    return (struct stream){s, s, -1};
+}
+
 static struct stream by_tcp(char **words)
 {
-    int printed[2], one = 1;
+    int printed[2];
     char line[100] = "";
     if (pipe2(printed, O_CLOEXEC))
         give_up("pipe");
@@ -91,13 +110,8 @@ static struct stream by_tcp(char **words)
     close(printed[1]);
     if (read(printed[0], line, sizeof line - 1) <= 0)
         give_up("listening");
-    struct sockaddr_in address = {.sin_family = AF_INET, .sin_addr.s_addr = htonl(INADDR_LOOPBACK)};
     const char *port = strrchr(line, ':');
-    address.sin_port = htons(port ? (uint16_t)atoi(port + 1) : 0);
-    s.to = s.from = socket(AF_INET, SOCK_STREAM | SOCK_CLOEXEC, 0);
-    if (connect(s.to, (struct sockaddr *)&address, sizeof address))
-        give_up("connect");
-    setsockopt(s.to, IPPROTO_TCP, TCP_NODELAY, &one, sizeof one);
+    s.to = s.from = connected_to(port ? (uint16_t)atoi(port + 1) : 0);
     return s;
 }
 
@@ -172,6 +186,35 @@ static struct course keep_busy(struct stream s, const char *requests, size_t cou
     }
 }
 
+/* Reads a whole reply, which has to be OK. */
+static void read_reply(int from, size_t size)
+{
+    static unsigned char reply[MOST_FRAME];
+    for (size_t at = 0; at < size;) {
+        ssize_t n = read(from, reply + at, size - at);
+        if (n <= 0)
+            give_up("a reply");
+        at += (size_t)n;
+    }
+    if (reply[STATUS] != 0)
+        give_up("a reply that is not OK");
+}
+
+/* One stream after the other, of two requests each, until the time is over. How many there were. */
+static uint64_t keep_connecting(uint16_t port, const char *frames, size_t length, size_t reply, uint64_t end)
+{
+    uint64_t streams = 0;
+    for (; now() < end; streams++) {
+        int s = connected_to(port);
+        if (write(s, frames, length) != (ssize_t)length)
+            give_up("write");
+        read_reply(s, HEAD + 4);
+        read_reply(s, reply);
+        close(s);
+    }
+    return streams;
+}
+
 int main(int argc, char **argv)
 {
     static char frames[MOST_FRAME];
@@ -179,7 +222,13 @@ int main(int argc, char **argv)
         return 2;
     signal(SIGPIPE, SIG_IGN);
     size_t length = fread(frames, 1, sizeof frames, stdin), first = frame_size((unsigned char *)frames), size = length - first;
-    struct stream s = strcmp(argv[1], "tcp") == 0 ? by_tcp(argv + 5) : by_pipes(argv + 5);
+    if (strcmp(argv[1], "new") == 0) {
+        uint64_t begin = now();
+        uint64_t streams = keep_connecting((uint16_t)atoi(argv[5]), frames, length, strtoull(argv[4], NULL, 10), begin + strtoull(argv[3], NULL, 10) * 1000000u);
+        printf("%llu %llu 0\n", (unsigned long long)streams, (unsigned long long)(now() - begin));
+        return 0;
+    }
+    struct stream s = strcmp(argv[1], "tcp") == 0 ? by_tcp(argv + 5) : strcmp(argv[1], "at") == 0 ? at_port(argv + 5) : by_pipes(argv + 5);
     char reply[HEAD + 4];
     if (write(s.to, frames, first) != (ssize_t)first || read(s.from, reply, sizeof reply) != (ssize_t)sizeof reply || reply[STATUS] != 0)
         give_up("the first request");
@@ -194,11 +243,12 @@ int main(int argc, char **argv)
     struct course c = keep_busy(s, requests, count, size, strtoull(argv[4], NULL, 10), strtoull(argv[2], NULL, 10), end);
     uint64_t spent = now() - begin;
 
-    struct rusage used;
-    int status;
+    struct rusage used = {0};
+    int status = 0;
     close(s.to);
     close(s.from);
-    wait4(s.server, &status, 0, &used);
+    if (s.server > 0)
+        wait4(s.server, &status, 0, &used);
     uint64_t seconds = (uint64_t)(used.ru_utime.tv_sec + used.ru_stime.tv_sec);
     uint64_t micro = (uint64_t)(used.ru_utime.tv_usec + used.ru_stime.tv_usec);
     printf("%llu %llu %llu\n", (unsigned long long)c.answered, (unsigned long long)spent,

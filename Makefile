@@ -1,68 +1,143 @@
-# Builds, proves, runs and installs iconvd.
+# Builds, proves, checks, packs and installs iconvd. `make` alone lists the targets; their tools are in tools/.
+
+# None of the built-in rules is for these sources, and each is tried for every one of them.
+MAKEFLAGS += --no-builtin-rules --no-print-directory
 PREFIX ?= /usr/local
-PROGRAM = crates/iconvd/out/iconvd
-REFUSALS = crates/refusals/out/refusals
+PROVED = crates/iconvd/out/iconvd
+# For processors with more instructions the program stands apart, and is proved as the other.
+PROGRAM = $(if $(CPU),out/$(CPU)/iconvd,$(PROVED))
+BENCH = crates/bench/out/bench
 REFUSING = tools/refuse/out/refuse.so
-SCRIPT = crates/iconvd/stdin
-MANUALS = $(DESTDIR)$(PREFIX)/share/man
-UNITS = $(DESTDIR)$(PREFIX)/lib/systemd/system
-COMPLETIONS = $(DESTDIR)$(PREFIX)/share/bash-completion/completions
 
 SOURCES := crates.txt $(shell find crates -name out -prune -o \( -name '*.rt' -o -name '*.antt' \) -print)
-VERSION := $(shell sed -n 's/^pub const VERSION: &str = "\(.*\)";$$/\1/p' crates/cv_command_line/src/version.rt)
+CRATES := $(shell sed -n 's/^\([a-z][a-z0-9_]*\).*:.*/\1/p' crates.txt)
+CLIENTS := $(patsubst %/Makefile,%,$(wildcard clients/*/Makefile))
+# What .ci/run runs behind the gate. Each ends with a line `N passed, N failed`.
+CHECKS := check-rules check-docs check-refuse check-nonblocking check-clients check-benchmark check-package check-units check-cluster check-soak
 
-.PHONY: run check refuse install bench clean
+# `rt` itself works on several crates at a time, and locks them.
+.NOTPARALLEL:
+.PHONY: help run build check $(CHECKS) checks soak $(CRATES:%=check-%) clients deb install install-clients bench bench-tables clean
 
-# Serves the example script with the proved program, which is built first where it isn't.
-run: $(PROGRAM)
-	$(PROGRAM) run < $(SCRIPT)
+help:
+	@sed -n 's/^\([a-z][a-zA-Z_%-]*\):.*## \(.*\)/make \1\t\2/p' Makefile | expand -t 24
 
-# The gate: every proof from nothing, the must-fail edits, the tests and the program.
-check:
+run: ## converts the example script, by the proved program or else by one that is built without proofs
+	@tools/need 'make run' rt
+	@if $(MAKE) -sq $(PROVED); then $(PROVED) run < crates/iconvd/stdin; else tools/try_example; fi
+
+build: $(PROGRAM) ## proves and builds the program; CPU=x86-64-v3: for processors with AVX2
+	@echo $(PROGRAM)
+
+# The program gets the time at which its build began: it is older than a source that was edited meanwhile.
+$(PROVED) crates/refusals/out/refusals $(BENCH): $(SOURCES)
+	@tools/need 'make build' rt python3
+	@tools/build $(@F) $@
+
+ifdef CPU
+out/$(CPU)/iconvd: $(SOURCES)
+	@tools/need 'make build' rt python3
+	@tools/build iconvd $@ $(CPU)
+endif
+
+out/unproved/%: $(SOURCES)
+	@tools/need $@ rt
+	@tools/unproved_program $* $@
+
+check: ## the gate: every proof, must-fail edit, test and program from nothing
+	@tools/need 'make check' rt
 	rt ci
 
-# Proves one crate, over what earlier runs kept: make check-cv_utf8.
-check-%:
+$(CRATES:%=check-%): check-%:
+	@tools/need 'make $@' rt
 	cd crates/$* && rt check
 
-# The libraries below the program are proved first, in turn: rt locks those that a crate stands on, so no two of them that have
-# one below them both are proved at once. Each takes up to four processors for itself.
-$(PROGRAM): $(SOURCES)
-	cd crates/iconvd && rt run -- --version
-	touch $(PROGRAM)
+checks: ## all checks behind the gate, one after the other
+	@tools/count $(CHECKS:%='make %')
 
-$(REFUSALS): $(SOURCES)
-	cd crates/refusals && rt run > /dev/null
-	touch $(REFUSALS)
+check-rules: ## the house rules that a machine can check
+	@tools/need 'make $@' git python3 shellcheck
+	@tools/rules
+
+check-refuse: ## refuses each request for memory of each command in turn
+	@tools/need 'make $@' cc python3
+	@$(MAKE) $(REFUSING)
+	@program=$$(tools/checked_program iconvd) && refusals=$$(tools/checked_program refusals) && \
+	    tools/refuse/sweep.py $(REFUSING) "$$program" "$$refusals"
 
 $(REFUSING): tools/refuse/refuse.c
-	mkdir -p $(@D)
+	@mkdir -p $(@D)
 	cc -O2 -Wall -Wextra -shared -fPIC -o $@ $<
 
-# Refuses each request for memory of each command in turn. It fails where a run comes to what it may not. The gate has no part in it.
-refuse: $(PROGRAM) $(REFUSALS) $(REFUSING)
-	tools/refuse/sweep.py $(REFUSING) $(PROGRAM) $(REFUSALS)
+check-package: ## installs the Debian packages in a root of their own, runs the manual's examples there, and removes them
+	@tools/need 'make $@' root dpkg-deb dpkg-shlibdeps strip git lintian mmdebstrap
+	@program=$$(tools/checked_program iconvd) && packaging/check "$$program"
 
-# The manual pages take the version from the program's source, the units the folder of the program. Nothing is enabled or started.
-install: $(PROGRAM)
-	install -D -m 755 $(PROGRAM) $(DESTDIR)$(PREFIX)/bin/iconvd
-	sed 's/@VERSION@/$(VERSION)/' man/iconvd.1 | install -D -m 644 /dev/stdin $(MANUALS)/man1/iconvd.1
-	sed 's/@VERSION@/$(VERSION)/' man/iconvd-protocol.5 | install -D -m 644 /dev/stdin $(MANUALS)/man5/iconvd-protocol.5
-	install -D -m 644 docs/OPERATING.md $(DESTDIR)$(PREFIX)/share/doc/iconvd/OPERATING.md
-	install -D -m 644 contrib/completions/iconvd.bash $(COMPLETIONS)/iconvd
-	install -D -m 644 contrib/systemd/iconvd.socket $(UNITS)/iconvd.socket
-	for unit in iconvd@.service iconvd-listen.service; do \
-	    sed 's|^ExecStart=/usr/local/|ExecStart=$(PREFIX)/|' contrib/systemd/$$unit | install -D -m 644 /dev/stdin $(UNITS)/$$unit || exit 1; \
-	done
+check-docs: ## tries the links, the names and the examples of the documents
+	@tools/need 'make $@' python3
+	@program=$$(tools/checked_program iconvd) && tools/docs/check "$$program"
 
-# Ratios of the built program to the system's iconv, what requests cost, batches by 1, 2 and 4 workers, and streams beside an echo in C. It
-# asserts nothing.
-bench: $(PROGRAM)
-	cd crates/bench && rt run > /dev/null
+check-nonblocking: ## serves a client whose socket does not block
+	@tools/need 'make $@' python3
+	@program=$$(tools/checked_program iconvd) && tools/nonblocking "$$program"
+
+check-units: ## the units as systemd reads them, and in a systemd of its own if the machine can boot one
+	@program=$$(tools/checked_program iconvd) && tests/units/check "$$program"
+
+check-benchmark: ## iconvd-benchmark against servers that answer right and wrong
+	@tools/need 'make $@' cc python3
+	@program=$$(tools/checked_program iconvd) && tests/benchmark/check "$$program"
+
+check-cluster: ## three servers behind HAProxy in networks of their own, killed, stopped, drained and cut off
+	@tools/need 'make $@' cc python3
+	@program=$$(tools/checked_program iconvd) && tests/cluster/check "$$program"
+
+check-soak: ## two minutes of a mail gateway's day; `make soak MINUTES=10` is longer and draws a chart
+	@tools/need 'make $@' python3
+	@program=$$(tools/checked_program iconvd) && tests/soak/soak.py "$$program" --minutes 2 --out out/soak
+
+MINUTES ?= 10
+soak: ## a mail gateway's day in MINUTES=10 minutes, with a table and a chart in out/soak
+	@tools/need 'make $@' python3 python3-matplotlib
+	@program=$$(tools/checked_program iconvd) && tests/soak/soak.py "$$program" --minutes $(MINUTES) --out out/soak
+
+clients: $(CLIENTS:%=make-%) ## builds the clients
+
+.PHONY: $(CLIENTS:%=make-%)
+$(CLIENTS:%=make-%): make-%:
+	$(MAKE) -C $*
+
+check-clients: ## runs the tests of the clients
+	@program=$$(tools/checked_program iconvd) && \
+	    tools/count $(CLIENTS:%="make -C % check ICONVD=$$PWD/$$program")
+
+deb: ## makes the Debian packages, in out/deb
+	@tools/need 'make deb' dpkg-deb dpkg-shlibdeps strip git
+	@$(MAKE) build
+	@packaging/build $(PROGRAM) out/deb
+
+install: $(PROGRAM) ## installs program, manual, completion and units below PREFIX (/usr/local); DESTDIR= is heeded, and CPU=
+	@PREFIX='$(PREFIX)' DESTDIR='$(DESTDIR)' tools/install $(PROGRAM)
+
+install-clients: ## installs the clients below PREFIX
+	@for client in $(CLIENTS); do $(MAKE) -C $$client install PREFIX='$(PREFIX)' DESTDIR='$(DESTDIR)' || exit 1; done
+
+# Draws docs/charts from the figures of one run. It asserts nothing.
+bench: ## draws charts of speed beside other libraries and servers, in about ten minutes
+	@tools/need 'make bench' rt python3 cc python3-matplotlib
+	@$(MAKE) $(PROGRAM) $(BENCH)
+	bench/charts $(PROGRAM) $(BENCH)
+
+# Tables of every pair of encodings beside the system's iconv, what requests cost, batches by 1, 2 and 4 workers, and streams beside an echo
+# in C. They take long, and assert nothing.
+bench-tables: ## prints tables of every pair of encodings, of requests, batches and streams
+	@tools/need 'make bench-tables' rt python3 cc
+	@$(MAKE) $(PROGRAM) $(BENCH)
 	bench/run $(PROGRAM)
 	bench/requests $(PROGRAM)
 	cd crates/pool_bench && rt run -- 9
 	bench/network/run $(PROGRAM)
 
-clean:
-	rm -rf crates/*/out bench/out tools/refuse/out
+clean: ## removes all that was made
+	rm -rf crates/*/out bench/out tools/refuse/out out
+	@for client in $(CLIENTS); do $(MAKE) -C $$client clean || exit 1; done

@@ -6,7 +6,7 @@ the ample answer, which is that of a run where nothing is refused; replies of wh
 requests come to without those; or status 1 and the line `iconvd: out of memory`, with nothing printed or, where replies are written as
 they come, a front of the ample ones that ends with a whole one. A stream of `listen` may end so while the other is served whole, and
 the status is 0. `refusals` has the ample answer alone; it says on standard error which call it made again, and that is counted.
-Any other run is named, and the status is then 1.
+Any other run is named, and the status is then 1. The last line is `N passed, N failed`, and counts the runs.
 """
 import collections
 import functools
@@ -139,7 +139,7 @@ def judge(case, whole, run):
 
 
 def sweep(name, case):
-    """Refuses each request of a command in turn, and prints what the runs came to. It gives the number of bad ones."""
+    """Refuses each request of a command in turn, and prints what the runs came to. It gives their number, and that of the bad ones."""
     start, counts, again, bad = time.perf_counter(), collections.Counter(), collections.Counter(), 0
     whole, asked = served(case.words, case.given)
     if asked == 0:
@@ -159,7 +159,7 @@ def sweep(name, case):
     spent = time.perf_counter() - start
     print(f"{name:18}{nth:7}" + "".join(f"{counts[outcome]:15}" for outcome in OUTCOMES) + f"{bad:6}{spent:10.1f}")
     print("".join(f"    {line:30}{count:6}\n" for line, count in again.items()), end="", flush=True)
-    return bad
+    return nth, bad
 
 
 def main():
@@ -173,7 +173,7 @@ def main():
     address = server.stdout.readline().split()[1].decode()
     two = ["run", "--workers", "2"]
     print(f"{'command':18}{'runs':>7}" + "".join(f"{outcome:>15}" for outcome in OUTCOMES) + f"{'bad':>6}{'seconds':>10}")
-    bad = sum(itertools.starmap(sweep, [
+    swept = list(itertools.starmap(sweep, [
         ("run", Case([PROGRAM, "run"], short, Lines, short, ("run",))),
         ("run --workers 2", Case([PROGRAM, *two], long, Lines, long, tuple(two))),
         ("ask", Case([PROGRAM, "ask"], short)),
@@ -187,6 +187,8 @@ def main():
     ]))
     server.terminate()
     server.wait()
+    runs, bad = map(sum, zip(*swept))
+    print(f"{runs - bad} passed, {bad} failed")
     return 1 if bad else 0
 
 

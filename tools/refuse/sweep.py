@@ -87,16 +87,16 @@ def ample(words, given):
 def ask_stream(address, frames):
     """What a client is sent that sends these frames, and then reads to the end."""
     replies = b""
-    with socket.create_connection(address, SECONDS) as stream:
-        try:
+    try:
+        with socket.create_connection(address, SECONDS) as stream:
             stream.sendall(frames)
             stream.shutdown(socket.SHUT_WR)
             while part := stream.recv(65536):
                 replies += part
-        except TimeoutError:
-            raise
-        except OSError:
-            pass  # the stream was reset, at whichever of these calls it showed
+    except TimeoutError:
+        raise
+    except OSError:
+        pass  # the stream was reset or refused, at whichever of these calls it showed
     return replies
 
 
@@ -125,7 +125,7 @@ def judge(case, whole, run):
     """Which outcome a run has beside that with ample memory, or None."""
     if run == whole:
         return AMPLE
-    if run == Run(1, b"", SAYS):
+    if run._replace(streams=()) == Run(1, b"", SAYS) and not any(run.streams):
         return NOTHING
     pairs = zip([run.printed, *run.streams], [whole.printed, *whole.streams])
     others = [(told, wanted) for told, wanted in pairs if told != wanted]

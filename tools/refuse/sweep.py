@@ -4,14 +4,17 @@
 Each runs with its Nth request refused (refuse.c), N counting up until a run meets none. What a run may come to:
 the ample answer, which is that of a run where nothing is refused; replies of which some are ENOMEM, and the others are what the same
 requests come to without those; or status 1 and the line `iconvd: out of memory`, with nothing printed or, where replies are written as
-they come, a front of the ample ones that ends with a whole one. A stream of `listen` may end so while the other is served whole, and
-the status is 0. `refusals` has the ample answer alone; it says on standard error which call it made again, and that is counted.
+they come, a front of the ample ones that ends with a whole one. A stream of `listen` may end so while the others are served whole, and
+the status is 0. Or `listen` has the ample answers, and one line says that it serves fewer streams at once than it was asked to.
+`refusals` has the ample answer alone; it says on standard error which call it made again, and that is counted.
 Any other run is named, and the status is then 1. The last line is `N passed, N failed`, and counts the runs.
 """
 import collections
+import concurrent.futures
 import functools
 import itertools
 import os
+import re
 import socket
 import subprocess
 import sys
@@ -20,7 +23,8 @@ import time
 
 LIBRARY, PROGRAM, REFUSALS = map(os.path.abspath, sys.argv[1:])
 SAYS = b"iconvd: out of memory\n"
-OUTCOMES = AMPLE, ENOMEM, NOTHING, FRONT = ["ample", "ENOMEM", "no memory", "after replies"]
+FEWER_THREADS = re.compile(rb"iconvd: only [0-9]+ streams at once: cannot start more threads\n")
+OUTCOMES = AMPLE, FEWER, ENOMEM, NOTHING, FRONT = ["ample", "fewer threads", "ENOMEM", "no memory", "after replies"]
 SECONDS = 20  # a run that takes longer stands still
 CHARMAP = rb"<code_set_name> TOY|CHARMAP|<question-mark> \x3F|<U0100> \x80|END CHARMAP".replace(b"|", b"\n")
 
@@ -100,14 +104,25 @@ def ask_stream(address, frames):
     return replies
 
 
-def two_streams(frames, child):
-    """Two clients of `listen`, one after the other, once it says where it listens."""
-    line, streams = child.stdout.readline(), ()
+def streams(ask_all, frames, child):
+    """Clients of `listen`, once it says where it listens. `ask_all` asks by the address and gives what each was sent."""
+    line, told = child.stdout.readline(), ()
     if line.startswith(b"listening "):
         host, port = line.split()[1].decode().rsplit(":", 1)
-        line, streams = b"", (ask_stream((host, int(port)), frames), ask_stream((host, int(port)), frames))
+        line, told = b"", ask_all((host, int(port)), frames)
     rest, said = child.communicate(timeout=SECONDS)
-    return Run(None, line + rest, said, streams)
+    return Run(None, line + rest, said, told)
+
+
+def one_after_the_other(address, frames):
+    """Two streams, the second when the first has ended."""
+    return ask_stream(address, frames), ask_stream(address, frames)
+
+
+def at_once(address, frames):
+    """Three streams at the same time."""
+    with concurrent.futures.ThreadPoolExecutor(3) as pool:
+        return tuple(pool.map(functools.partial(ask_stream, address), 3 * [frames]))
 
 
 def has_refusals(case, told):
@@ -125,6 +140,8 @@ def judge(case, whole, run):
     """Which outcome a run has beside that with ample memory, or None."""
     if run == whole:
         return AMPLE
+    if run._replace(said=whole.said) == whole and FEWER_THREADS.fullmatch(run.said):
+        return FEWER
     if run._replace(streams=()) == Run(1, b"", SAYS) and not any(run.streams):
         return NOTHING
     pairs = zip([run.printed, *run.streams], [whole.printed, *whole.streams])
@@ -172,6 +189,7 @@ def main():
     server = subprocess.Popen([PROGRAM, "listen", "127.0.0.1:0", "--streams", "1000000"], stdout=subprocess.PIPE, stderr=subprocess.DEVNULL)
     address = server.stdout.readline().split()[1].decode()
     two = ["run", "--workers", "2"]
+    listen = [PROGRAM, "listen", "127.0.0.1:0"]
     print(f"{'command':18}{'runs':>7}" + "".join(f"{outcome:>15}" for outcome in OUTCOMES) + f"{'bad':>6}{'seconds':>10}")
     swept = list(itertools.starmap(sweep, [
         ("run", Case([PROGRAM, "run"], short, Lines, short, ("run",))),
@@ -181,7 +199,8 @@ def main():
         ("show", Case([PROGRAM, "show"], ample(("pipe",), frames))),
         ("checkmap", Case([PROGRAM, "checkmap", "-"], CHARMAP)),
         ("checkmap, faulty", Case([PROGRAM, "checkmap", "-"], b"CHARMAP\n")),
-        ("listen", Case([PROGRAM, "listen", "127.0.0.1:0", "--streams", "2"], functools.partial(two_streams, frames), Frames, frames, ("pipe",), 0)),
+        ("listen", Case([*listen, "--streams", "2"], functools.partial(streams, one_after_the_other, frames), Frames, frames, ("pipe",), 0)),
+        ("listen --at-once", Case([*listen, "--streams", "3", "--at-once", "3"], functools.partial(streams, at_once, frames), Frames, frames, ("pipe",), 0)),
         ("call", Case([PROGRAM, "call", address], short, Lines, broken=1)),
         ("refusals", Case([REFUSALS], b"")),
     ]))

@@ -128,8 +128,8 @@ bench: ## draws charts of speed beside other libraries and servers, in about ten
 	@$(MAKE) $(PROGRAM) $(BENCH)
 	bench/charts $(PROGRAM) $(BENCH)
 
-# Tables of every pair of encodings beside the system's iconv, what requests cost, batches by 1, 2 and 4 workers, and streams beside an echo
-# in C. They take long, and assert nothing.
+# Tables of every pair of encodings beside the system's iconv, what requests cost, batches by 1, 2 and 4 workers, one stream beside an echo in
+# C, and many at once. They take long, and assert nothing.
 bench-tables: ## prints tables of every pair of encodings, of requests, batches and streams
 	@tools/need 'make bench-tables' rt python3 cc
 	@$(MAKE) $(PROGRAM) $(BENCH)
@@ -137,6 +137,7 @@ bench-tables: ## prints tables of every pair of encodings, of requests, batches 
 	bench/requests $(PROGRAM)
 	cd crates/pool_bench && rt run -- 9
 	bench/network/run $(PROGRAM)
+	bench/network/streams $(PROGRAM)
 
 clean: ## removes all that was made
 	rm -rf crates/*/out bench/out tools/refuse/out out

@@ -4,16 +4,17 @@ from __future__ import annotations
 import contextlib
 import os
 import shutil
-import socket
 import subprocess
 import sys
-import time
-from typing import Callable, Iterator, NamedTuple
+from typing import Callable, NamedTuple
 
-from figures import BENCH, Figure, Figures, loaded
+sys.path.insert(0, os.path.dirname(os.path.dirname(os.path.abspath(__file__))))
 
-OUT = os.path.join(BENCH, "out")
-TARGET = "UTF-8"
+from figures import Figure, Figures, loaded  # noqa: E402
+from processes import echo, free_port, prepare, redis_server, running, wait_for  # noqa: E402
+
+# 64 bytes, of which a text has as many lines as it needs.
+LINE = "Zwölf Boxkämpfer jagen Viktor quer über den großen Deich. Ja".encode()
 # redis-benchmark says that a rate is infinite where its clock has no time for it.
 MOST_RATE = 5_000_000.0
 # How many bytes a request converts or echoes, and how many requests are in flight.
@@ -26,71 +27,43 @@ class Measured(NamedTuple):
     ask: Callable[[bytes, int], float]
 
 
-@contextlib.contextmanager
-def redis_server(folder: str) -> Iterator[int]:
-    """A Redis server that keeps nothing; gives its port."""
-    with socket.socket() as free:
-        free.bind(("127.0.0.1", 0))
-        port = free.getsockname()[1]
-    words = ["redis-server", "--port", str(port), "--bind", "127.0.0.1", "--save", "", "--appendonly", "no", "--dir", folder]
-    server = subprocess.Popen(words, stdout=subprocess.DEVNULL)
-    try:
-        for _ in range(100):
-            with contextlib.suppress(OSError), socket.create_connection(("127.0.0.1", port)):
-                break
-            time.sleep(0.05)
-        yield port
-    finally:
-        server.terminate()
-        server.wait()
-
-
-def echoed(port: int, text: bytes, depth: int, milliseconds: int) -> float:
+def echoed(port: int, text: bytes, depth: int, seconds: float) -> float:
     """Requests a second of ECHO as redis-benchmark says it, by one client that sends `depth` at a time."""
     count, rate = 16 * depth + 1000, 0.0
     for _ in ("to learn how many fit the time", "to measure"):
-        words = ["redis-benchmark", "-p", str(port), "-c", "1", "-P", str(depth), "-n", str(count), "--csv", "-x", "ECHO"]
-        said = subprocess.run(words, input=text, stdout=subprocess.PIPE, stderr=subprocess.DEVNULL, check=True).stdout
-        # The last line has the command, which may have commas, and seven numbers behind it.
-        rate = min(float(said.rstrip().rsplit(b",", 7)[1].strip(b'"')), MOST_RATE)
-        count = max(count, int(rate * milliseconds / 1000))
+        rate = min(echo(port, text, 1, depth, count).rate, MOST_RATE)
+        count = max(count, int(rate * seconds))
     return rate
 
 
-def asked(words: list[str], text: bytes, depth: int, milliseconds: int) -> float:
-    """Requests a second of a server of frames, by bench/network/load with as many in flight."""
-    found = loaded("network/run").measured(words, "tcp", depth, milliseconds, text, TARGET, 1)
-    if not found:
-        raise RuntimeError(f"{words[0]} doesn't answer")
-    return found[0]
+def asked(words: list[str], text: bytes, depth: int, seconds: float) -> float:
+    """Requests a second of a server of frames, by iconvd-benchmark with as many in flight."""
+    network = loaded("network/run")
+    asking = [*network.ONE_STREAM, "-d", str(depth), "-s", str(seconds), "-b", str(len(text)), "-x", "latin", "-t", "UTF-8"]
+    return network.by_tcp(words, asking).rate
 
 
-def servers(program: str, port: int | None, milliseconds: int) -> list[Measured]:
-    echo = [os.path.join(OUT, "echo"), "1", "listen"]
-    ours = [program, "listen", "127.0.0.1:0"]
+def servers(program: str, port: int | None, seconds: float) -> list[Measured]:
+    plain, ours = [loaded("network/run").ECHO, "1", "listen"], [program, "listen", "127.0.0.1:0"]
     found = [
-        Measured("iconvd", lambda text, depth: asked(ours, text, depth, milliseconds)),
-        Measured("echo in C", lambda text, depth: asked(echo, text, depth, milliseconds)),
+        Measured("iconvd", lambda text, depth: asked(ours, text, depth, seconds)),
+        Measured("echo in C", lambda text, depth: asked(plain, text, depth, seconds)),
     ]
     if port is not None:
-        found.append(Measured("Redis ECHO", lambda text, depth: echoed(port, text, depth, milliseconds)))
+        found.append(Measured("Redis ECHO", lambda text, depth: echoed(port, text, depth, seconds)))
     return found
 
 
-def compile_load() -> None:
-    os.makedirs(OUT, exist_ok=True)
-    for name in ("load", "echo"):
-        words = ["cc", "-O2", "-D_GNU_SOURCE", "-o", os.path.join(OUT, name), os.path.join(BENCH, "network", f"{name}.c")]
-        subprocess.run(words, check=True)
-
-
-def redis_port(figures: Figures, running: contextlib.ExitStack, folder: str) -> int | None:
+def redis_port(figures: Figures, stack: contextlib.ExitStack, folder: str) -> int | None:
     """The port of a Redis server that runs meanwhile, if Redis is there."""
     if not shutil.which("redis-server") or not shutil.which("redis-benchmark"):
         figures.say("left out", "Redis: there is no redis-server or redis-benchmark, which Debian's redis-server and redis-tools have")
         return None
     figures.say("library", subprocess.run(["redis-server", "--version"], stdout=subprocess.PIPE, text=True).stdout.split(" sha")[0])
-    return running.enter_context(redis_server(folder))
+    port = free_port()
+    stack.enter_context(running(redis_server(port, folder)))
+    wait_for(port)
+    return port
 
 
 def best_rates(measured: list[Measured], text: bytes, depth: int, rounds: int) -> dict[str, float]:
@@ -99,13 +72,13 @@ def best_rates(measured: list[Measured], text: bytes, depth: int, rounds: int) -
     return {server.name: max(rates) for server, rates in zip(measured, zip(*found))}
 
 
-def measure(figures: Figures, program: str, rounds: int, milliseconds: int, folder: str) -> None:
+def measure(figures: Figures, program: str, rounds: int, seconds: float, folder: str) -> None:
     """Adds the requests a second of each server by size and depth."""
-    compile_load()
-    line = loaded("network/run").LATIN.encode()
-    with contextlib.ExitStack() as running:
-        measured = servers(program, redis_port(figures, running, folder), milliseconds)
+    prepare()
+    loaded("network/run").build_echo()
+    with contextlib.ExitStack() as stack:
+        measured = servers(program, redis_port(figures, stack, folder), seconds)
         for size, depth in ((size, depth) for size, depths in DEPTHS.items() for depth in depths):
-            for name, rate in best_rates(measured, line * (size // len(line)), depth, rounds).items():
+            for name, rate in best_rates(measured, LINE * (size // len(LINE)), depth, rounds).items():
                 figures.add(Figure("requests", name, "UTF-8 to UTF-8, latin", size, depth, rate, "requests/s"))
             print(f"requests: {size} bytes, {depth} in flight", file=sys.stderr, flush=True)

@@ -13,7 +13,7 @@ SOURCES := crates.txt $(shell find crates -name out -prune -o \( -name '*.rt' -o
 CRATES := $(shell sed -n 's/^\([a-z][a-z0-9_]*\).*:.*/\1/p' crates.txt)
 CLIENTS := $(patsubst %/Makefile,%,$(wildcard clients/*/Makefile))
 # What .ci/run runs behind the gate. Each ends with a line `N passed, N failed`.
-CHECKS := check-rules check-docs check-refuse check-nonblocking check-clients check-benchmark check-package check-units check-cluster check-soak
+CHECKS := check-rules check-docs check-refuse check-nonblocking check-clients check-benchmark check-package check-units check-cluster check-crowd check-soak
 
 # `rt` itself works on several crates at a time, and locks them.
 .NOTPARALLEL:
@@ -91,6 +91,10 @@ check-benchmark: ## iconvd-benchmark against servers that answer right and wrong
 check-cluster: ## three servers behind HAProxy in networks of their own, killed, stopped, drained and cut off
 	@tools/need 'make $@' cc python3
 	@program=$$(tools/checked_program iconvd) && tests/cluster/check "$$program"
+
+check-crowd: ## a thousand streams at once for a minute, one in twenty of a bad client
+	@tools/need 'make $@' python3
+	@program=$$(tools/checked_program iconvd) && tests/soak/crowd.py "$$program"
 
 check-soak: ## two minutes of a mail gateway's day; `make soak MINUTES=10` is longer and draws a chart
 	@tools/need 'make $@' python3

@@ -20,11 +20,11 @@ CHECKS := check-rules check-docs check-refuse check-nonblocking check-clients ch
 .PHONY: help run build check $(CHECKS) checks soak $(CRATES:%=check-%) clients deb install install-clients bench bench-tables clean
 
 help:
-	@sed -n 's/^\([a-z][a-zA-Z_%-]*\):.*## \(.*\)/make \1\t\2/p' Makefile | expand -t 24
+	@sed -n 's/^\([a-z][a-zA-Z_%/-]*\):.*## \(.*\)/make \1\t\2/p' Makefile | sed 's/%/NAME/' | expand -t 24
 
 run: ## converts the example script, by the proved program or else by one that is built without proofs
 	@tools/need 'make run' rt
-	@if $(MAKE) -sq $(PROVED); then $(PROVED) run < crates/iconvd/stdin; else tools/try_example; fi
+	@tools/run_example
 
 build: $(PROGRAM) ## proves and builds the program; CPU=x86-64-v3: for processors with AVX2
 	@echo $(PROGRAM)
@@ -40,7 +40,7 @@ out/$(CPU)/iconvd: $(SOURCES)
 	@tools/build iconvd $@ $(CPU)
 endif
 
-out/unproved/%: $(SOURCES)
+out/unproved/%: $(SOURCES) ## a program without proofs, in two minutes: out/unproved/iconvd
 	@tools/need $@ rt
 	@tools/unproved_program $* $@
 

@@ -48,6 +48,11 @@ class Process:
         with open(f"/proc/{self._process.pid}/statm", encoding="ascii") as file:
             return int(file.read().split()[1]) * _PAGE
 
+    def wait_for_threads(self, count: int) -> None:
+        """Waits until so many threads run."""
+        while len(os.listdir(f"/proc/{self._process.pid}/task")) < count:
+            time.sleep(0.05)
+
     def end(self) -> None:
         self._process.kill()
         self._process.wait()

@@ -44,6 +44,11 @@ out/unproved/%: $(SOURCES) ## a program without proofs, in two minutes: out/unpr
 	@tools/need $@ rt
 	@tools/unproved_program $* $@
 
+# Compiled in a third of the time, for a first look.
+out/quick/%: $(SOURCES)
+	@tools/need $@ rt
+	@tools/unproved_program $* $@ -O0
+
 check: ## the gate: every proof, must-fail edit, test and program from nothing
 	@tools/need 'make check' rt
 	rt ci

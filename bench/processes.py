@@ -77,25 +77,15 @@ class Load(NamedTuple):
     p50: float
     p99: float
     requests: int
-    server_seconds: float
 
 
 def load(where: str, words: Sequence[str], processors: Optional[Sequence[int]] = None) -> Load:
-    """Runs iconvd-benchmark. It has to have no errors. A server that it starts itself is its child, whose processor time is told too."""
+    """Runs iconvd-benchmark. It has to have no errors."""
     command = [BENCHMARK, "--json", *words, where]
     if processors:
         command = ["taskset", "-c", ",".join(map(str, processors)), *command]
-    started = subprocess.Popen(command, stdout=subprocess.PIPE, text=True)
-    assert started.stdout is not None
-    said = started.stdout.read()
-    _, status, usage = os.wait4(started.pid, 0)
-    started.returncode = os.waitstatus_to_exitcode(status)
-    if started.returncode != 0:
-        raise subprocess.CalledProcessError(started.returncode, command)
-    found = json.loads(said)
-    times = found["all"]["microseconds"]
-    of_server = max(0.0, usage.ru_utime + usage.ru_stime - found["processor_seconds"])
-    return Load(found["all"]["requests_per_second"], times["p50"], times["p99"], found["all"]["requests"], of_server)
+    found = json.loads(subprocess.run(command, check=True, stdout=subprocess.PIPE).stdout)["all"]
+    return Load(found["requests_per_second"], found["microseconds"]["p50"], found["microseconds"]["p99"], found["requests"])
 
 
 def echo(port: int, text: bytes, streams: int, depth: int, requests: int) -> Load:
@@ -104,7 +94,7 @@ def echo(port: int, text: bytes, streams: int, depth: int, requests: int) -> Loa
     said = subprocess.run(words, input=text, stdout=subprocess.PIPE, stderr=subprocess.DEVNULL, check=True).stdout.decode(errors="replace")
     # The last row begins with the text, which may have commas; behind it are the rate and six times in milliseconds.
     numbers = next(csv.reader([said.rstrip().splitlines()[-1]]))[-7:]
-    return Load(float(numbers[0]), float(numbers[3]) * 1e3, float(numbers[5]) * 1e3, requests, 0.0)
+    return Load(float(numbers[0]), float(numbers[3]) * 1e3, float(numbers[5]) * 1e3, requests)
 
 
 def free_port() -> int:

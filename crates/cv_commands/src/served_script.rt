@@ -13,6 +13,7 @@ use crate::script::ask_script;
 use crate::server::new_pool;
 use cv_cache::{Cached, HashKeys};
 use cv_loop::serve_bytes;
+use cv_pool::keep_memory;
 use std::alloc::Global;
 use std::random::RandomSource;
 use std::sync::Wait;
@@ -29,6 +30,7 @@ fn serve_frames<R: RandomSource + Threads + Wait + Sync>(
     ensures answered { IfOk result (λ replies. AnswersEach turn no_tables frames.items replies.items) }
     ensures err { IfErr result IsNoFailedWrite }
 {
+    keep_memory(alloc);
     let cached = Cached::with_keys(alloc, HashKeys::drawn(rt))?;
     let mut pool = new_pool(alloc, &cached, workers)?;
     let (served, replies) = serve_bytes(&mut pool, rt, alloc, &frames, MAX_READS);

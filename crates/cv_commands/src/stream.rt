@@ -11,6 +11,7 @@ use crate::input::MAX_READS;
 use crate::server::new_pool;
 use cv_cache::{Cached, HashKeys};
 use cv_loop::{Served, Sink, Source, serve};
+use cv_pool::keep_memory;
 use std::alloc::Global;
 use std::random::RandomSource;
 use std::sync::Wait;
@@ -41,6 +42,7 @@ pub fn serve_stream<R: RandomSource + Threads + Wait + Sync, S: Source, W: Sink>
 
     ensures reads { S.pulls source.new ≤ most_reads }
 {
+    keep_memory(alloc);
     let Ok(cached) = Cached::with_keys(alloc, HashKeys::drawn(rt)) else {
         return Err(RunFault::Memory);
     };

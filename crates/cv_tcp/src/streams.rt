@@ -14,6 +14,7 @@ use crate::watched::Watched;
 use cv_cache::{Cached, HashKeys};
 use cv_commands::{RunFault, serve_stream_by};
 use cv_loop::{FromReader, ToWriter};
+use cv_pool::keep_memory;
 use log::{Log, error};
 use std::alloc::Global;
 use std::marker::Brand;
@@ -155,6 +156,7 @@ where
     ensures served { IfOk result (λ n. n ≡ service.now.terms.streams) }
     ensures err { IfErr result (λ fault. (fault ≡ RunFault.AcceptFailed) ⊎ (fault ≡ RunFault.Memory)) }
 {
+    keep_memory(service.alloc);
     let keys = HashKeys::drawn(service.rt);
     let cached = Cached::with_keys(service.alloc, keys)?;
     let (taken, mut all) = blank.open::<J>();

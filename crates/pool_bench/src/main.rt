@@ -9,7 +9,7 @@ mod batches;
 use batches::{Kind, byes, opens};
 use cv_cache::Cached;
 use cv_frame::{Request, Status};
-use cv_pool::{Open, Pool};
+use cv_pool::{Open, Pool, keep_memory};
 use std::process::ExitCode;
 use std::rt::{Clock, Env};
 use std::sync::Wait;
@@ -47,6 +47,7 @@ fn round<R: Threads + Wait + Sync + Clock + AllocGlobal>(
     requires { (1 ≤ workers) × (workers ≤ 16) }
 {
     let alloc = rt.alloc();
+    keep_memory(alloc);
     let cached = Cached::new(alloc).map_err(|_| io::ErrorKind::OutOfMemory)?;
     let mut pool = Pool::new(alloc, workers, cached, Open).map_err(|_| io::ErrorKind::OutOfMemory)?;
     let bodies = kind.bodies(alloc)?;

@@ -1,21 +1,19 @@
 -- A conversion between stateless encodings stays at the start.
 use Rattle.std.proofs.Common.{◌≡◌, ℕ, List, [], ◌∷◌, Bool, true, false, drop, nat_lt, Option, Some, None, refl, ap, ◌∙◌}
 use Rattle.std.specs.Prelude.{IfSome, option_map, if◌then◌else◌}
-use Rattle.std.specs.List.{find}
 use Rattle.cv_base.specs.Scalars.{question}
 use Rattle.cv_base.specs.Items.{Taken, ItemRelation}
 use Rattle.cv_base.specs.Codecs.{Writing}
-use Rattle.cv_base.specs.Chains.{IsChain, read_state, Output, output, substituted, put_or, written, output_of}
-use Rattle.cv_base.specs.SingleBytes.{byte_reads, byte_writes}
-use Rattle.cv_base.specs.declared.policy.Policy.{Policy}
+use Rattle.cv_base.specs.Chains.{IsChain, read_state, Output, substituted, put_or, written, output_of}
+use Rattle.cv_base.specs.SingleBytes.{byte_reads}
 use Rattle.cv_base.specs.declared.state.ReadState.{ReadState}
 use Rattle.cv_base.specs.declared.state.ReadState.TheVariants as read
 use Rattle.cv_base.specs.declared.state.WriteState.{WriteState}
 use Rattle.cv_base.specs.declared.state.WriteState.TheVariants as write
 use Rattle.cv_wide.specs.declared.order.Order.TheVariants.{Be, Le, Marked}
 use Rattle.cv_charmap.specs.Entries.{Pair}
-use Rattle.cv_trie.specs.Charmaps.{as_written, map_writes}
-use Rattle.cv_pivot.specs.Conversions.{start, Converted, IsConverted}
+use Rattle.cv_trie.specs.Charmaps.{as_written}
+use Rattle.cv_pivot.specs.Conversions.{start}
 use Rattle.cv_pivot.specs.Encodings.{Builtin, Ascii, Latin1, Utf8, Utf16, Utf32, Utf7, Form, Own, Mapped, builtin_reads, builtin_writes, form_reads, form_writes}
 use Rattle.cv_pivot.specs.Stateless.{HasNoStates, IsStateless, StaysAtStart}
 use Rattle.cv_pivot.specs.declared.outcome.States.{States}

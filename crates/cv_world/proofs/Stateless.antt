@@ -65,9 +65,9 @@ leaves feed f t body room input asked outcome p =
     let is : p.action ≡ Conv feed.number room input = p.asks ∙ ap conv_action asked in
     let acts : Convs table feed.number (descriptor_at table feed.number) room input outcome.next p.answer = subst (λ (a : Action). Acts table a outcome.next p.answer) is p.acts in
     let bound : Convs table feed.number (Some d) room input outcome.next p.answer =
-      subst (λ (o : Option Descriptor). Convs table feed.number o room input outcome.next p.answer) feed.is_open acts in
+    subst (λ (o : Option Descriptor). Convs table feed.number o room input outcome.next p.answer) feed.is_open acts in
     conv_leaves (nat_lt most_room room) table outcome.next _ _ _ (λ r. r.0)
-      (conversion_leaves table feed.number d room input outcome.next p.answer feed.is_open (at_start feed f t) f t) (λ r. r.0) bound
+    (conversion_leaves table feed.number d room input outcome.next p.answer feed.is_open (at_start feed f t) f t) (λ r. r.0) bound
 
 -- the law
 pub stateless : Stateless

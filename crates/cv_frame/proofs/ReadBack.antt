@@ -5,8 +5,8 @@ use Rattle.std.specs.Option.{option_and_then, option_map}
 use Rattle.std.proofs.lemmas.Bool.{ltb-false, le-ltb, eqb-true}
 use Rattle.std.proofs.lemmas.List.{take_at, drop_at, take_all, append-nil, take-append-drop, length-take, length-drop, drop-drop}
 use Rattle.std.proofs.lemmas.Nat.{from_be_bytes-to_be_bytes_4}
-use Rattle.cv_frame.specs.Cut.{number_at, IsBytes}
-use Rattle.cv_frame.specs.Bodies.{name_body, name_at, name_alone, drop_of, policy_body, policy_of, Opening, IsOpenBody, open_body, conv_body, number_body, reset_body, open_of, conv_of, number_of, reset_of, ReadBack}
+use Rattle.cv_frame.specs.Cut.{u32_at, IsBytes}
+use Rattle.cv_frame.specs.Bodies.{name_body, name_at, name_alone, drop_of, policy_body, policy_of, Opening, IsOpenBody, open_body, conv_body, number_body, reset_body, open_of, conv_of, u32_of, reset_of, ReadBack}
 use Rattle.cv_base.specs.declared.policy.Policy.{Policy}
 use Rattle.cv_base.specs.declared.policy.Policy.TheVariants.{Substitute, Strict}
 use Rattle.cv_frame.proofs.Cuts.{chosen, IsBytes-drop, number_spelled}
@@ -39,8 +39,8 @@ reset_back : (number room : ℕ) → number < 2 ^ 32 → room < 2 ^ 32 → reset
 unfolding reset_of
 reset_back number room n r = rw (from_be_bytes-to_be_bytes_4 number n, from_be_bytes-to_be_bytes_4 room r) refl
 
-number_back : (number : ℕ) → number < 2 ^ 32 → number_of (number_body number) ≡ Some number
-unfolding number_of
+number_back : (number : ℕ) → number < 2 ^ 32 → u32_of (number_body number) ≡ Some number
+unfolding u32_of
 number_back number n = ap Some (from_be_bytes-to_be_bytes_4 number n)
 
 -- ---- a body that is read was spelled so
@@ -125,10 +125,10 @@ conv_only body number room input fits e =
       | inl p ↦ absurd (let h = p.1 in cc)
       | inr p ↦
           let long : 8 ≤ length body = ltb-false _ _ p.0 in
-          let fields : Some (number_at body, number_at (drop 4 body), drop 8 body) ≡ Some (number, room, input) = p.1 in
-          let all : ◌≡◌ {A = ℕ × ℕ × List ℕ} (number_at body, number_at (drop 4 body), drop 8 body) (number, room, input) = cc in
-          let n : number_at body ≡ number = ap (λ (x : ℕ × ℕ × List ℕ). x.0) all in
-          let r : number_at (drop 4 body) ≡ room = ap (λ (x : ℕ × ℕ × List ℕ). x.1) all in
+          let fields : Some (u32_at body, u32_at (drop 4 body), drop 8 body) ≡ Some (number, room, input) = p.1 in
+          let all : ◌≡◌ {A = ℕ × ℕ × List ℕ} (u32_at body, u32_at (drop 4 body), drop 8 body) (number, room, input) = cc in
+          let n : u32_at body ≡ number = ap (λ (x : ℕ × ℕ × List ℕ). x.0) all in
+          let r : u32_at (drop 4 body) ≡ room = ap (λ (x : ℕ × ℕ × List ℕ). x.1) all in
           let i : drop 8 body ≡ input = ap (λ (x : ℕ × ℕ × List ℕ). x.2) all in
           let first : take 4 body ≡ to_be_bytes w32 number = sym (number_spelled body (omega arith) fits) ∙ ap (to_be_bytes w32) n in
           let second : take 4 (drop 4 body) ≡ to_be_bytes w32 room = sym (number_spelled (drop 4 body) (omega (arith, length-drop 4 body)) (IsBytes-drop 4 body fits)) ∙ ap (to_be_bytes w32) r in
@@ -144,10 +144,10 @@ reset_only body number room fits e =
     elim (chosen (eqb (length body) 8) _ _ _ e) [
       | inl p ↦
           let long : length body ≡ 8 = eqb-true _ _ p.0 in
-          let fields : Some (number_at body, number_at (drop 4 body)) ≡ Some (number, room) = p.1 in
-          let both : ◌≡◌ {A = ℕ × ℕ} (number_at body, number_at (drop 4 body)) (number, room) = cc in
-          let n : number_at body ≡ number = ap (λ (x : ℕ × ℕ). x.0) both in
-          let r : number_at (drop 4 body) ≡ room = ap (λ (x : ℕ × ℕ). x.1) both in
+          let fields : Some (u32_at body, u32_at (drop 4 body)) ≡ Some (number, room) = p.1 in
+          let both : ◌≡◌ {A = ℕ × ℕ} (u32_at body, u32_at (drop 4 body)) (number, room) = cc in
+          let n : u32_at body ≡ number = ap (λ (x : ℕ × ℕ). x.0) both in
+          let r : u32_at (drop 4 body) ≡ room = ap (λ (x : ℕ × ℕ). x.1) both in
           let last : take 4 (drop 4 body) ≡ drop 4 body = take_all 4 (drop 4 body) (omega (arith, length-drop 4 body)) in
           let first : take 4 body ≡ to_be_bytes w32 number = sym (number_spelled body (omega arith) fits) ∙ ap (to_be_bytes w32) n in
           let second : drop 4 body ≡ to_be_bytes w32 room = sym last ∙ sym (number_spelled (drop 4 body) (omega (arith, length-drop 4 body)) (IsBytes-drop 4 body fits)) ∙ ap (to_be_bytes w32) r in
@@ -155,14 +155,14 @@ reset_only body number room fits e =
       | inr p ↦ absurd (let h = p.1 in cc)
     ]
 
-number_only : (body : List ℕ) (number : ℕ) → IsBytes body → number_of body ≡ Some number → body ≡ number_body number
-unfolding number_of
+number_only : (body : List ℕ) (number : ℕ) → IsBytes body → u32_of body ≡ Some number → body ≡ number_body number
+unfolding u32_of
 number_only body number fits e =
     elim (chosen (eqb (length body) 4) _ _ _ e) [
       | inl p ↦
           let long : length body ≡ 4 = eqb-true _ _ p.0 in
-          let field : Some (number_at body) ≡ Some number = p.1 in
-          let n : number_at body ≡ number = cc in
+          let field : Some (u32_at body) ≡ Some number = p.1 in
+          let n : u32_at body ≡ number = cc in
           sym (take_all 4 body (omega arith)) ∙ sym (number_spelled body (omega arith) fits) ∙ ap (to_be_bytes w32) n
       | inr p ↦ absurd (let h = p.1 in cc)
     ]

@@ -4,7 +4,7 @@ use Rattle.std.specs.Prelude.{◌||◌, replicate}
 use Rattle.std.specs.Int.{w32, from_be_bytes}
 use Rattle.std.proofs.lemmas.Bool.{ltb-false, le-ltb, or_parts}
 use Rattle.std.proofs.lemmas.List.{take-append-le, length-append, length-replicate}
-use Rattle.cv_frame.specs.Cut.{number_at, message_at, front_of, IsRest, CanBeWhole, IsFrontOfRest, OneCut}
+use Rattle.cv_frame.specs.Cut.{u32_at, message_at, front_of, IsRest, CanBeWhole, IsFrontOfRest, OneCut}
 use Rattle.cv_frame.specs.declared.reading.Frame.TheVariants.{Partial, Bad}
 use Rattle.cv_frame.proofs.Cuts.{front_by, front_short, cut_is, cut_only}
 
@@ -13,13 +13,13 @@ abbrev pub is_bad : ℕ → Bool
 is_bad k = ltb k 9 || ltb 1048576 k
 
 -- bytes that follow change nothing of a length that is there
-number_more : (bytes more : List ℕ) → 4 ≤ length bytes → number_at (bytes ++ more) ≡ number_at bytes
+number_more : (bytes more : List ℕ) → 4 ≤ length bytes → u32_at (bytes ++ more) ≡ u32_at bytes
 number_more bytes more long = ap (from_be_bytes w32) (take-append-le 4 bytes more long)
 
 -- If the length is good, more bytes make a whole frame.
-good_can : (bytes : List ℕ) → 4 ≤ length bytes → is_bad (number_at bytes) ≡ false → CanBeWhole bytes
+good_can : (bytes : List ℕ) → 4 ≤ length bytes → is_bad (u32_at bytes) ≡ false → CanBeWhole bytes
 good_can bytes long good =
-    let k : ℕ = number_at bytes in
+    let k : ℕ = u32_at bytes in
     let t = or_parts (ltb k 9) (ltb 1048576 k) good in
     let more : List ℕ = replicate (4 + k) 0 in
     record {
@@ -31,23 +31,23 @@ good_can bytes long good =
     }
 
 -- A bad length is at the start, whatever follows.
-bad_front : (bytes : List ℕ) (k : ℕ) → number_at bytes ≡ k → 4 ≤ length bytes → is_bad k ≡ true → front_of bytes ≡ Bad k
+bad_front : (bytes : List ℕ) (k : ℕ) → u32_at bytes ≡ k → 4 ≤ length bytes → is_bad k ≡ true → front_of bytes ≡ Bad k
 unfolding front_of
 bad_front bytes k is long bad =
     let t : ltb (length bytes) 4 ≡ false = le-ltb _ _ long in
     rw (is, t, bad) refl
 
-bad_cannot : (bytes : List ℕ) → 4 ≤ length bytes → is_bad (number_at bytes) ≡ true → ¬ CanBeWhole bytes
+bad_cannot : (bytes : List ℕ) → 4 ≤ length bytes → is_bad (u32_at bytes) ≡ true → ¬ CanBeWhole bytes
 bad_cannot bytes long bad can =
-    let other : front_of (bytes ++ can.more) ≡ Bad (number_at bytes) =
-    bad_front (bytes ++ can.more) (number_at bytes) (number_more bytes can.more long) (omega (arith, length-append bytes can.more)) bad in
+    let other : front_of (bytes ++ can.more) ≡ Bad (u32_at bytes) =
+    bad_front (bytes ++ can.more) (u32_at bytes) (number_more bytes can.more long) (omega (arith, length-append bytes can.more)) bad in
     let whole = can.is_whole in cc
 
 -- A good length that no frame follows is a part of one.
-good_front : (bytes : List ℕ) → 4 ≤ length bytes → IsRest bytes → is_bad (number_at bytes) ≡ false → front_of bytes ≡ Partial
+good_front : (bytes : List ℕ) → 4 ≤ length bytes → IsRest bytes → is_bad (u32_at bytes) ≡ false → front_of bytes ≡ Partial
 unfolding front_of
 good_front bytes long ends good =
-    let k : ℕ = number_at bytes in
+    let k : ℕ = u32_at bytes in
     let t : ltb (length bytes) 4 ≡ false = le-ltb _ _ long in
     let g = or_parts (ltb k 9) (ltb 1048576 k) good in
     (elim (ltb (length bytes) (4 + k)) as (λ (b : Bool). ltb (length bytes) (4 + k) ≡ b → front_of bytes ≡ Partial) [
@@ -59,9 +59,9 @@ good_front bytes long ends good =
 by_length : (bytes : List ℕ) → 4 ≤ length bytes → IsRest bytes
     → ((front_of bytes ≡ Partial) × CanBeWhole bytes) ⊎ ((n : ℕ) × (front_of bytes ≡ Bad n) × ¬ CanBeWhole bytes)
 by_length bytes long ends =
-    (elim (is_bad (number_at bytes)) as (λ (b : Bool). is_bad (number_at bytes) ≡ b → ((front_of bytes ≡ Partial) × CanBeWhole bytes) ⊎ ((n : ℕ) × (front_of bytes ≡ Bad n) × ¬ CanBeWhole bytes)) [
-      | true ↦ λ (e : is_bad (number_at bytes) ≡ true). inr (number_at bytes, bad_front bytes (number_at bytes) refl long e, bad_cannot bytes long e)
-      | false ↦ λ (e : is_bad (number_at bytes) ≡ false). inl (good_front bytes long ends e, good_can bytes long e)
+    (elim (is_bad (u32_at bytes)) as (λ (b : Bool). is_bad (u32_at bytes) ≡ b → ((front_of bytes ≡ Partial) × CanBeWhole bytes) ⊎ ((n : ℕ) × (front_of bytes ≡ Bad n) × ¬ CanBeWhole bytes)) [
+      | true ↦ λ (e : is_bad (u32_at bytes) ≡ true). inr (u32_at bytes, bad_front bytes (u32_at bytes) refl long e, bad_cannot bytes long e)
+      | false ↦ λ (e : is_bad (u32_at bytes) ≡ false). inl (good_front bytes long ends e, good_can bytes long e)
     ]) refl
 
 front_of_rest : (bytes : List ℕ) → IsRest bytes → IsFrontOfRest bytes

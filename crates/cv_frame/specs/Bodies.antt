@@ -4,7 +4,7 @@ use Rattle.std.specs.Int.{w32, to_be_bytes}
 use Rattle.std.specs.Option.{option_and_then, option_map}
 use Rattle.cv_base.specs.declared.policy.Policy.{Policy}
 use Rattle.cv_base.specs.declared.policy.Policy.TheVariants.{Substitute, Strict}
-use Rattle.cv_frame.specs.Cut.{number_at, IsBytes}
+use Rattle.cv_frame.specs.Cut.{u32_at, IsBytes}
 
 -- ---- how bodies are encoded
 
@@ -68,15 +68,15 @@ open_of body =
 
 -- the descriptor's number, the room and the input
 unfoldable pub conv_of : List ℕ → Option (ℕ × ℕ × List ℕ)
-conv_of body = if nat_lt (length body) 8 then None else Some (number_at body, number_at (drop 4 body), drop 8 body)
+conv_of body = if nat_lt (length body) 8 then None else Some (u32_at body, u32_at (drop 4 body), drop 8 body)
 
 -- the descriptor's number and the room
 unfoldable pub reset_of : List ℕ → Option (ℕ × ℕ)
-reset_of body = if length body == 8 then Some (number_at body, number_at (drop 4 body)) else None
+reset_of body = if length body == 8 then Some (u32_at body, u32_at (drop 4 body)) else None
 
--- the descriptor's number
-unfoldable pub number_of : List ℕ → Option ℕ
-number_of body = if length body == 4 then Some (number_at body) else None
+-- the number of 32 bits that the whole body is: a descriptor, in a CLOSE
+unfoldable pub u32_of : List ℕ → Option ℕ
+u32_of body = if length body == 4 then Some (u32_at body) else None
 
 -- ---- what is spelled is read, and nothing else
 
@@ -90,9 +90,9 @@ pub record ReadBack : Type 0 where
   pub opens : (o : Opening) → length o.to ≤ 255 → length o.from ≤ 255 → open_of (open_body o.to o.from o.policy) ≡ Some o
   pub converts : (number room : ℕ) (input : List ℕ) → number < 2 ^ 32 → room < 2 ^ 32 → conv_of (conv_body number room input) ≡ Some (number, room, input)
   pub resets : (number room : ℕ) → number < 2 ^ 32 → room < 2 ^ 32 → reset_of (reset_body number room) ≡ Some (number, room)
-  pub closes : (number : ℕ) → number < 2 ^ 32 → number_of (number_body number) ≡ Some number
+  pub closes : (number : ℕ) → number < 2 ^ 32 → u32_of (number_body number) ≡ Some number
   pub drops_only : (body name : List ℕ) → drop_of body ≡ Some name → body ≡ name_body name
   pub opens_only : (body : List ℕ) (o : Opening) → open_of body ≡ Some o → IsOpenBody o body
   pub converts_only : (body : List ℕ) (number room : ℕ) (input : List ℕ) → IsBytes body → conv_of body ≡ Some (number, room, input) → body ≡ conv_body number room input
   pub resets_only : (body : List ℕ) (number room : ℕ) → IsBytes body → reset_of body ≡ Some (number, room) → body ≡ reset_body number room
-  pub closes_only : (body : List ℕ) (number : ℕ) → IsBytes body → number_of body ≡ Some number → body ≡ number_body number
+  pub closes_only : (body : List ℕ) (number : ℕ) → IsBytes body → u32_of body ≡ Some number → body ≡ number_body number

@@ -10,14 +10,14 @@ use Rattle.cv_frame.specs.declared.reading.ReplyFrame.{ReplyFrame}
 use Rattle.cv_frame.specs.declared.reading.ReplyFrame.TheVariants as reply
 
 -- the number of 32 bits at the start
-abbrev pub number_at : List ℕ → ℕ
-number_at bytes = from_be_bytes w32 (take 4 bytes)
+abbrev pub u32_at : List ℕ → ℕ
+u32_at bytes = from_be_bytes w32 (take 4 bytes)
 
 -- The message after a length n: four bytes of the caller, four of the tag, the code, and what is left of n.
 abbrev pub message_at : ℕ → List ℕ → Message
 message_at n bytes = record {
-  caller = number_at bytes;
-  tag = number_at (drop 4 bytes);
+  caller = u32_at bytes;
+  tag = u32_at (drop 4 bytes);
   code = slice_index bytes 8;
   body = take (n - 9) (drop 9 bytes);
 }
@@ -26,9 +26,9 @@ message_at n bytes = record {
 unfoldable pub front_of : List ℕ → Frame
 front_of bytes =
     if nat_lt (length bytes) 4 then Partial else
-    if nat_lt (number_at bytes) least_length || nat_lt most_length (number_at bytes) then Bad (number_at bytes) else
-    if nat_lt (length bytes) (4 + number_at bytes) then Partial else
-    Whole (message_at (number_at bytes) (drop 4 bytes)) (4 + number_at bytes)
+    if nat_lt (u32_at bytes) least_length || nat_lt most_length (u32_at bytes) then Bad (u32_at bytes) else
+    if nat_lt (length bytes) (4 + u32_at bytes) then Partial else
+    Whole (message_at (u32_at bytes) (drop 4 bytes)) (4 + u32_at bytes)
 
 -- What replies begin with is seen as what requests begin with, with the status in the place of the op.
 abbrev pub front_of_reply : ReplyFrame → Frame

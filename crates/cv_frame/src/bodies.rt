@@ -3,7 +3,7 @@
 
 ghost use Rattle.std.specs.Prelude.{◌≡◌, ◌≤◌, ◌+◌, IfSome, length};
 ghost use Rattle.std.specs.Option.{option_map};
-ghost use Rattle.cv_frame.specs.Bodies.{name_at, drop_of, policy_of, open_of, conv_of, number_of, reset_of};
+ghost use Rattle.cv_frame.specs.Bodies.{name_at, drop_of, policy_of, open_of, conv_of, u32_of, reset_of};
 
 use crate::reading::number;
 use cv_base::Policy;
@@ -88,9 +88,9 @@ pub fn read_reset(body: &[u8]) -> Option<(u32, u32)>
 }
 
 /// The body of a CLOSE: the descriptor's number.
-#[tactic(auto, unfolding(crate::specs::Bodies::number_of))]
+#[tactic(auto, unfolding(crate::specs::Bodies::u32_of))]
 pub fn read_number(body: &[u8]) -> Option<u32>
-    ensures { result ≡ number_of body.now }
+    ensures { result ≡ u32_of body.now }
 {
     if body.len() == 4 {
         Some(number(body))

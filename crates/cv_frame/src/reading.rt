@@ -1,7 +1,7 @@
 //! Reading frames.
 
 ghost use Rattle.std.specs.Prelude.{◌≡◌, ◌≤◌, length};
-ghost use Rattle.cv_frame.specs.Cut.{front_of, front_of_reply, number_at};
+ghost use Rattle.cv_frame.specs.Cut.{front_of, front_of_reply, u32_at};
 
 use crate::request::Request;
 use crate::sizes::{LEAST_LENGTH, MOST_LENGTH};
@@ -39,7 +39,7 @@ pub enum ReplyFrame<'a> {
 /// The number that the first four bytes are, the highest first.
 pub(crate) fn number(bytes: &[u8]) -> u32
     requires { 4 ≤ length bytes.now }
-    ensures { result ≡ number_at bytes.now }
+    ensures { result ≡ u32_at bytes.now }
 {
     u32::from_be_bytes([bytes[0], bytes[1], bytes[2], bytes[3]])
 }

@@ -4,7 +4,7 @@ use Rattle.std.specs.Prelude.{option_map, option_and_then, nat_le, ◌&&◌, IfS
 use Rattle.std.proofs.lemmas.Bool.{cases_lt, lt-ltb, le-ltb}
 use Rattle.std.proofs.lemmas.List.{length-drop}
 use Rattle.cv_lex.specs.Words.{begins, numeral}
-use Rattle.cv_lex.specs.Constants.{letter_of, base_of_kind, digits_at, number_at, constant_at, numbers_within, bytes_by}
+use Rattle.cv_lex.specs.Constants.{letter_of, base_of_kind, digits_at, numeral_at, constant_at, numbers_within, bytes_by}
 use Rattle.cv_lex.specs.declared.encoding.Kind.{Kind}
 use Rattle.cv_lex.specs.declared.cause.Cause.TheVariants.{Constant, Length}
 
@@ -15,7 +15,7 @@ Found = Option (ℕ × List ℕ)
 abbrev Within : ℕ → Found → Type 0
 Within n o = IfSome o (λ c. length c.1 ≤ n)
 
-number_within : (kind : Kind) (text : List ℕ) → Within (length text) (number_at kind text)
+number_within : (kind : Kind) (text : List ℕ) → Within (length text) (numeral_at kind text)
 number_within kind text =
     elim (nat_le 2 (length (digits_at kind text)) && nat_le (numeral (base_of_kind kind) (digits_at kind text)) 255) as (λ b. Within (length text) (cond b (Some (numeral (base_of_kind kind) (digits_at kind text), drop (length (digits_at kind text)) text)) None)) [
       | true ↦ omega (arith, length-drop (length (digits_at kind text)) text)
@@ -30,8 +30,8 @@ within_more m n (Some c) le h = omega arith
 pub constant_shorter : (escape : ℕ) (kind : Kind) (b : ℕ) (text : List ℕ) → Within (length text) (constant_at escape kind (b ∷ text))
 unfolding constant_at
 constant_shorter escape kind b text =
-    elim (begins (b ∷ text) (escape ∷ letter_of kind)) as (λ t. Within (length text) (option_and_then (number_at kind) (cond t (Some (drop (length (letter_of kind)) text)) None))) [
-      | true ↦ within_more (length (drop (length (letter_of kind)) text)) (length text) (number_at kind (drop (length (letter_of kind)) text)) (omega (arith, length-drop (length (letter_of kind)) text)) (number_within kind (drop (length (letter_of kind)) text))
+    elim (begins (b ∷ text) (escape ∷ letter_of kind)) as (λ t. Within (length text) (option_and_then (numeral_at kind) (cond t (Some (drop (length (letter_of kind)) text)) None))) [
+      | true ↦ within_more (length (drop (length (letter_of kind)) text)) (length text) (numeral_at kind (drop (length (letter_of kind)) text)) (omega (arith, length-drop (length (letter_of kind)) text)) (number_within kind (drop (length (letter_of kind)) text))
       | false ↦ tt
     ]
 

@@ -35,8 +35,8 @@ abbrev pub digits_at : Kind → List ℕ → List ℕ
 digits_at kind text = take_while (λ b. is_digit b (base_of_kind kind)) (take (most_digits kind) text)
 
 -- the number of these digits, and what follows them
-abbrev pub number_at : Kind → List ℕ → Option (ℕ × List ℕ)
-number_at kind text =
+abbrev pub numeral_at : Kind → List ℕ → Option (ℕ × List ℕ)
+numeral_at kind text =
     let digits : List ℕ = digits_at kind text in
     let number : ℕ = numeral (base_of_kind kind) digits in
     if nat_le 2 (length digits) && nat_le number 255 then Some (number, drop (length digits) text) else None
@@ -49,7 +49,7 @@ behind_head escape kind text =
 
 -- the constant of a type at the start: its number, and what follows it
 unfoldable pub constant_at : ℕ → Kind → List ℕ → Option (ℕ × List ℕ)
-constant_at escape kind text = option_and_then (number_at kind) (behind_head escape kind text)
+constant_at escape kind text = option_and_then (numeral_at kind) (behind_head escape kind text)
 
 -- the numbers of constants of one type, one after another to the end, if there are at most as many as given
 abbrev pub numbers_within : ℕ → ℕ → Kind → List ℕ → Option (List ℕ)

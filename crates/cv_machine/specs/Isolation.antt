@@ -2,7 +2,7 @@
 use Rattle.std.specs.Prelude.{filter, ◌≡◌, ℕ, List, ◌==◌}
 use Rattle.cv_frame.specs.Message.{Message}
 use Rattle.cv_frame.specs.Cut.{messages_of}
-use Rattle.cv_machine.specs.Machine.{Turn, Event, requests, replies_of, after_all, events_of, lacks, IsRun, Answers, IsServed}
+use Rattle.cv_machine.specs.Machine.{Turn, Event, requests, replies_of, after_all, events_of, memory_failures, IsRun, Answers, IsServed}
 
 module _ {Table : Type 0} where
   -- the replies to one caller
@@ -12,7 +12,7 @@ module _ {Table : Type 0} where
   -- Answers to one byte string in which an allocation failed at the same places are the same.
   abbrev pub OneWriting : Turn Table → Type 0
   OneWriting turn = (tables : ℕ → Table) (given written others : List ℕ) → Answers turn tables given written → Answers turn tables given others
-      → lacks (messages_of written) ≡ lacks (messages_of others) → written ≡ others
+      → memory_failures (messages_of written) ≡ memory_failures (messages_of others) → written ≡ others
 
   -- If no reply says that an allocation failed, a byte string has one answer.
   abbrev pub OneService : Turn Table → Type 0
@@ -23,7 +23,7 @@ module _ {Table : Type 0} where
   abbrev pub TwoWorlds : Turn Table → Type 0
   TwoWorlds turn = (caller : ℕ) (here there : ℕ → Table) (events others : List (Event Table)) → IsRun turn here events → IsRun turn there others
       → here caller ≡ there caller → requests (events_of caller events) ≡ requests (events_of caller others)
-      → lacks (replies_to caller events) ≡ lacks (replies_to caller others)
+      → memory_failures (replies_to caller events) ≡ memory_failures (replies_to caller others)
       → (replies_to caller events ≡ replies_to caller others) × (after_all here events caller ≡ after_all there others caller)
 
   -- Two runs from the same tables in which each caller sends the same requests, and allocations fail for the same of them. In whatever order the requests of
@@ -31,7 +31,7 @@ module _ {Table : Type 0} where
   abbrev pub AnySchedule : Turn Table → Type 0
   AnySchedule turn = (tables : ℕ → Table) (events others : List (Event Table)) → IsRun turn tables events → IsRun turn tables others
       → ((caller : ℕ) → requests (events_of caller events) ≡ requests (events_of caller others))
-      → ((caller : ℕ) → lacks (replies_to caller events) ≡ lacks (replies_to caller others))
+      → ((caller : ℕ) → memory_failures (replies_to caller events) ≡ memory_failures (replies_to caller others))
       → ((caller : ℕ) → replies_to caller events ≡ replies_to caller others) × (after_all tables events ≡ after_all tables others)
 
   -- A run in which a caller begins with the same table as in these tables, and has the same events as among these.

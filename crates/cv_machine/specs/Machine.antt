@@ -109,8 +109,8 @@ module _ {Table : Type 0} where
     pub leaves : new ≡ after_all old events
 
 -- for each of the replies, whether it says that an allocation failed
-abbrev pub lacks : List Message → List Bool
-lacks replies = map (λ r. r.code == no_memory) replies
+abbrev pub memory_failures : List Message → List Bool
+memory_failures replies = map (λ r. r.code == no_memory) replies
 
 -- none of the replies says that an allocation failed
 abbrev pub NoneLacks : List Message → Type 0

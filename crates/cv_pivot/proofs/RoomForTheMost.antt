@@ -111,13 +111,13 @@ short most reads writes r few s t text (i ∷ chain) p =
     let long = length-append (written writes t i.gives).bytes (output_of writes (written writes t i.gives).next chain).bytes in
     omega (arith, first, once, others, long)
 
--- What a text is written as has at most the most bytes of a character for each of its bytes.
-pub most_output : (most : ℕ) (reads : ItemRelation) (writes : Writing) → IsReadable reads → WritesAtMost most writes → (len n : ℕ) → n ≡ most * len → IsMostOutput reads writes len n
-most_output most reads writes r few len n is from text chain within is_chain =
+-- What a text is written as has at most the most bytes of a character for each of its bytes, and so at most any number that is no less.
+pub most_output : (most : ℕ) (reads : ItemRelation) (writes : Writing) → IsReadable reads → WritesAtMost most writes → (len n : ℕ) → most * len ≤ n → IsMostOutput reads writes len n
+most_output most reads writes r few len n covers from text chain within is_chain =
     let s = short most reads writes r few from.reading from.writing text chain is_chain in
     let u = used_bytes-within reads r from.reading text chain is_chain in
     let m : most * used_bytes chain ≤ most * len = mul-le-mul_left most (omega arith) in
-    omega (arith, s, m, is)
+    omega (arith, s, m, covers)
 
 -- Room for the most that the text can need is as good as any room.
 pub enough : (most : ℕ) (reads : ItemRelation) (writes : Writing) (policy : Policy) (states next : States) (text before after : List ℕ) (room : ℕ) (o : Outcome) → IsMostOutput reads writes (length text) most

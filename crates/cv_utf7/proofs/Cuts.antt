@@ -10,7 +10,7 @@ use Rattle.cv_utf7.proofs.BitStrings.{number-zeros, length-bits, number-bits, nu
 use Rattle.cv_utf7.proofs.CodeUnits.{one_unit, two_units}
 use Rattle.cv_base.specs.Units.{high_unit, low_unit}
 use Rattle.cv_utf7.specs.Utf7.{minus, written_bits, last_digit, utf7_closes}
-use Rattle.cv_utf7.specs.Private.PendingBits.{pending_of}
+use Rattle.cv_utf7.specs.PendingBits.{pending_of}
 use Rattle.cv_utf7.proofs.PendingBits.{pending_is}
 use Rattle.cv_utf7.specs.declared.cut.Cut.{Cut}
 

@@ -5,7 +5,7 @@ use Rattle.std.proofs.Props.{props}
 use Rattle.cv_base.specs.declared.state.Bits.{Bits}
 use Rattle.cv_utf7.specs.BitLists.{bits, number, bits_of}
 use Rattle.cv_utf7.proofs.BitStrings.{number_lt, length-bits, number-bits, same-bits}
-use Rattle.cv_utf7.specs.Private.PendingBits.{pending_of}
+use Rattle.cv_utf7.specs.PendingBits.{pending_of}
 
 -- the fields of pending bits say all of them
 same-fields : (c v : ℕ) (h i : c ≤ 4) (j k : c % 2 ≡ 0) (l m : v < 2 ^ c) → (let x : Bits = record { count = c; value = v; few = h; even = j; in_range = l } in let y : Bits = record { count = c; value = v; few = i; even = k; in_range = m } in x ≡ y)

@@ -20,7 +20,7 @@ use Rattle.cv_base.specs.ReadBack.{ReadsBack}
 use Rattle.cv_base.proofs.ReadBacks.{IsReadFrom}
 use Rattle.cv_utf7.proofs.Digits.{some_digits, six, length-digits, no_digits, AreDigits-cons, AreDigits-at, digit_bits-append, digit_bits-cut, AreDigits-append, AreDigits-take, AreDigits-drop}
 use Rattle.cv_utf7.specs.Utf7.{plus, minus, ReadsCharacter, written_bits, last_digit, utf7_reads, utf7_writes, utf7_closes, writes_at_start}
-use Rattle.cv_utf7.specs.Private.PendingBits.{pending_of}
+use Rattle.cv_utf7.specs.PendingBits.{pending_of}
 use Rattle.cv_utf7.proofs.Cuts.{last_digit_six}
 use Rattle.cv_utf7.proofs.PendingBits.{pending_bits}
 use Rattle.cv_utf7.proofs.Writes.{start_direct, start_other, shift_direct, shift_other}

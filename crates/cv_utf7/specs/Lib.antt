@@ -1,4 +1,5 @@
 pub mod Sets
 pub mod BitLists
+pub mod PendingBits
 pub mod Utf7
 pub mod Private

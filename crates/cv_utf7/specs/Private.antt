@@ -1,4 +1,3 @@
 pub mod ItemSteps
-pub mod PendingBits
 pub mod ReadSteps
 pub mod WriteSteps

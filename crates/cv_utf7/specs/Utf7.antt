@@ -10,7 +10,7 @@ use Rattle.cv_base.specs.declared.state.WriteState.{WriteState}
 use Rattle.cv_base.specs.declared.state.WriteState.TheVariants as write
 use Rattle.cv_utf7.specs.Sets.{may_be_direct, is_direct, is_digit}
 use Rattle.cv_utf7.specs.BitLists.{bits_of, character_bits, AreDigits, digit_bits, digits, over}
-use Rattle.cv_utf7.specs.Private.PendingBits.{pending_of}
+use Rattle.cv_utf7.specs.PendingBits.{pending_of}
 
 -- `+`
 abbrev pub plus : ℕ

@@ -2,7 +2,7 @@
 ghost use Rattle.std.specs.Prelude.{◌≡◌, ◌≤◌, ◌%◌, Bool, List, length};
 ghost use Rattle.cv_base.specs.ReadBack.{ReadsBack};
 ghost use Rattle.cv_utf7.specs.BitLists.{bits_of};
-ghost use Rattle.cv_utf7.specs.Private.PendingBits.{pending_of};
+ghost use Rattle.cv_utf7.specs.PendingBits.{pending_of};
 ghost use Rattle.cv_utf7.specs.Utf7.{utf7_reads, utf7_writes, utf7_closes};
 
 /// Pending bits that are made from two or four bits, or from none, are these bits.

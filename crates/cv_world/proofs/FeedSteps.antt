@@ -13,7 +13,7 @@ use Rattle.cv_pivot.specs.Conversions.{start}
 use Rattle.cv_pivot.specs.Cuts.{Call}
 use Rattle.cv_pivot.specs.Encodings.{form_closes}
 use Rattle.cv_pivot.specs.declared.outcome.Stop.{Stop}
-use Rattle.cv_frame.specs.Bodies.{number_of}
+use Rattle.cv_frame.specs.Bodies.{u32_of}
 use Rattle.cv_frame.specs.Sizes.{most_body}
 use Rattle.cv_frame.proofs.ReadBack.{read_back}
 use Rattle.cv_machine.specs.Machine.{Outcome}
@@ -103,12 +103,12 @@ step_drop table number calls kept name (Some place) t a d =
 
 -- ---- descriptors
 
-number_back : (n : ℕ) → n < 2 ^ 32 → number_of (to_be_bytes w32 n) ≡ Some n
+number_back : (n : ℕ) → n < 2 ^ 32 → u32_of (to_be_bytes w32 n) ≡ Some n
 number_back n low = read_back.closes n low
 
 -- a descriptor that is bound to a number, at its start
 bound : (table : Table) (number : ℕ) (calls : List Call) → Keeps table number calls → (n : ℕ) → n < 2 ^ 32 → (d : Descriptor) → d.states ≡ start
-    → Keeps (with_descriptor table n (Some d)) number (if is_number number (number_of (to_be_bytes w32 n)) then [] else calls)
+    → Keeps (with_descriptor table n (Some d)) number (if is_number number (u32_of (to_be_bytes w32 n)) then [] else calls)
 bound table number calls kept n low d e =
     subst (λ (o : Option ℕ). Keeps (with_descriptor table n (Some d)) number (if is_number number o then [] else calls)) (sym (number_back n low)) (
     named (n == number) (Keeps (with_descriptor table n (Some d)) number) [] calls

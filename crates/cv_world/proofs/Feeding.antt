@@ -9,7 +9,7 @@ use Rattle.cv_pivot.specs.Cuts.{Call, IsFeed, DoesNotDependOnCuts}
 use Rattle.cv_pivot.specs.Encodings.{Form, form_reads, form_writes}
 use Rattle.cv_pivot.proofs.CutLaws.{cuts}
 use Rattle.cv_pivot.proofs.EncodingLaws.{form_readable}
-use Rattle.cv_frame.specs.Bodies.{Opening, drop_of, open_of, conv_of, reset_of, number_of}
+use Rattle.cv_frame.specs.Bodies.{Opening, drop_of, open_of, conv_of, reset_of, u32_of}
 use Rattle.cv_frame.specs.Ops.{op_put, op_drop, op_open, op_conv, op_reset, op_close, op_bye, op_part}
 use Rattle.cv_frame.specs.Sizes.{most_body}
 use Rattle.cv_machine.specs.Machine.{Outcome, Event, When, events_of, after_all}
@@ -67,7 +67,7 @@ action_fits code body few =
     one_fits (code == op_open) _ _ (open_fits (open_of body)) (
     one_fits (code == op_conv) _ _ (conv_fits body few) (
     one_fits (code == op_reset) _ _ (reset_fits (reset_of body)) (
-    one_fits (code == op_close) _ _ (close_fits (number_of body)) (
+    one_fits (code == op_close) _ _ (close_fits (u32_of body)) (
     one_fits (code == op_bye) _ _ (bye_fits body) (
     one_fits (code == op_part) _ _ tt tt))))))
 

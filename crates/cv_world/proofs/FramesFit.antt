@@ -5,7 +5,7 @@ use Rattle.std.proofs.lemmas.Bool.{ltb-false, or_parts}
 use Rattle.cv_caller.specs.Tables.{Table}
 use Rattle.cv_machine.specs.Machine.{Event, requests}
 use Rattle.cv_frame.specs.Message.{Message}
-use Rattle.cv_frame.specs.Cut.{Cut, number_at, message_at, front_of, cut_from, cut_within, cut_of, messages_of}
+use Rattle.cv_frame.specs.Cut.{Cut, u32_at, message_at, front_of, cut_from, cut_within, cut_of, messages_of}
 use Rattle.cv_frame.specs.declared.reading.Frame.{Frame}
 use Rattle.cv_frame.specs.declared.reading.Frame.TheVariants.{Whole, Partial, Bad}
 use Rattle.cv_frame.specs.Sizes.{most_body}
@@ -19,7 +19,7 @@ AreShort ms = AllByRecursion (λ m. length m.body ≤ most_body) ms
 front_short : (bytes : List ℕ) (m : Message) (n : ℕ) → front_of bytes ≡ Whole m n → length m.body ≤ most_body
 unfolding front_of
 front_short bytes m n e =
-    let k : ℕ = number_at bytes in
+    let k : ℕ = u32_at bytes in
     elim (chosen (ltb (length bytes) 4) _ _ _ e) [
       | inl a ↦ absurd (let h = a.1 in cc)
       | inr a ↦ elim (chosen (ltb k 9 || ltb 1048576 k) _ _ _ a.1) [

@@ -22,3 +22,4 @@ mod FedCalls
 mod FeedSteps
 mod FramesFit
 mod Feeding
+mod Stateless

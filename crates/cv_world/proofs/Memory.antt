@@ -6,7 +6,7 @@ use Rattle.std.proofs.lemmas.Bool.{or_left, or_right, and_from}
 use Rattle.std.proofs.lemmas.Bool.Decides.{nat_tests}
 use Rattle.cv_pivot.specs.Encodings.{form_closes}
 use Rattle.cv_machine.specs.Machine.{When, no_memory}
-use Rattle.cv_frame.specs.Bodies.{reset_of, number_of, drop_of}
+use Rattle.cv_frame.specs.Bodies.{reset_of, u32_of, drop_of}
 use Rattle.cv_frame.specs.Ops.{op_open, op_conv, op_reset, op_close, op_put, op_drop, op_bye, op_part}
 use Rattle.cv_caller.specs.Tables.{Table, Descriptor, form_in, place_of, descriptor_at, uses}
 use Rattle.cv_world.specs.Actions.{Action, Put, DropMap, Open, Conv, Reset, Close, Bye, Part, Bad}
@@ -92,7 +92,7 @@ other_takes code body =
     choose (code == op_open) _ _ _ (λ is _. or_left _ _ is) (
     choose (code == op_conv) _ _ _ (λ is _. or_right _ _ (or_left _ _ is)) (
     choose (code == op_reset) _ _ _ (λ _ h. absurd (reset_takes (reset_of body) h)) (
-    choose (code == op_close) _ _ _ (λ _ h. absurd (close_takes (number_of body) h)) (
+    choose (code == op_close) _ _ _ (λ _ h. absurd (close_takes (u32_of body) h)) (
     choose (code == op_bye) _ _ _ (λ _ h. absurd (bye_takes body h)) (
     choose (code == op_part) _ _ _ (λ is h. or_right _ _ (or_right _ _ (and_from _ _ is h))) (λ h. absurd cc)))))))
 

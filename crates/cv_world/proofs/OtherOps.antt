@@ -2,7 +2,7 @@
 use Rattle.std.proofs.Common.{◌≢◌, ◌==◌, ℕ, Bool, true, false, List, [], ◌∷◌, Option, Some, None}
 use Rattle.std.specs.Prelude.{if◌then◌else◌}
 use Rattle.cv_cache.specs.Compiled.{Compiled}
-use Rattle.cv_frame.specs.Bodies.{Opening, open_of, conv_of, reset_of, number_of, drop_of}
+use Rattle.cv_frame.specs.Bodies.{Opening, open_of, conv_of, reset_of, u32_of, drop_of}
 use Rattle.cv_frame.specs.Ops.{op_open, op_conv, op_reset, op_close, op_drop, op_bye, op_part}
 use Rattle.cv_world.specs.Actions.{Action, Put}
 use Rattle.cv_world.specs.Requests.{action_of, drop_action, open_action, conv_action, reset_action, close_action, bye_action}
@@ -42,6 +42,6 @@ not_put code body c =
     by_test (code == op_open) _ _ c (open_other (open_of body) c) (
     by_test (code == op_conv) _ _ c (conv_other (conv_of body) c) (
     by_test (code == op_reset) _ _ c (reset_other (reset_of body) c) (
-    by_test (code == op_close) _ _ c (close_other (number_of body) c) (
+    by_test (code == op_close) _ _ c (close_other (u32_of body) c) (
     by_test (code == op_bye) _ _ c (bye_other body c) (
     by_test (code == op_part) _ _ c (λ e. absurd cc) (λ e. absurd cc)))))))

@@ -10,8 +10,8 @@ use Rattle.cv_pivot.specs.declared.outcome.Stop.{Stop}
 use Rattle.cv_pivot.specs.declared.outcome.Stop.TheVariants as stop
 use Rattle.cv_caller.specs.Tables.{Table, Named, Descriptor, descriptor_at, form_in}
 use Rattle.cv_machine.specs.Machine.{Outcome, Event, requests, events_of, after_all, IsRun}
-use Rattle.cv_frame.specs.Cut.{number_at, messages_of}
-use Rattle.cv_frame.specs.Bodies.{number_of}
+use Rattle.cv_frame.specs.Cut.{u32_at, messages_of}
+use Rattle.cv_frame.specs.Bodies.{u32_of}
 use Rattle.cv_frame.specs.Status.{status_number}
 use Rattle.cv_frame.specs.Sizes.{most_body}
 use Rattle.cv_frame.specs.declared.status.Status.TheVariants as status
@@ -55,8 +55,8 @@ call_of number room input why outcome = record {
   input = input;
   room = room;
   came = record {
-    left = number_at outcome.body;
-    count = number_at (drop 4 outcome.body);
+    left = u32_at outcome.body;
+    count = u32_at (drop 4 outcome.body);
     stop = why;
     output = drop 8 outcome.body;
     states = states_of (descriptor_at outcome.next number);
@@ -73,7 +73,7 @@ with_stop number room input calls outcome None = calls
 -- The calls of a number after one request more of its caller. An OPEN that answers the number, a RESET or a CLOSE of it and a BYE that are OK empty them; a CONV
 -- of it that stopped adds one; every other request and every other answer leaves them unchanged.
 abbrev pub calls_after : ℕ → List Call → Action → Outcome Table → List Call
-calls_after number calls (Open to from policy) outcome = if is_ok outcome && is_number number (number_of outcome.body) then [] else calls
+calls_after number calls (Open to from policy) outcome = if is_ok outcome && is_number number (u32_of outcome.body) then [] else calls
 calls_after number calls (Conv n room input) outcome = if n == number then with_stop number room input calls outcome (stop_of outcome.code) else calls
 calls_after number calls (Reset n room) outcome = if is_ok outcome && n == number then [] else calls
 calls_after number calls (Close n) outcome = if is_ok outcome && n == number then [] else calls

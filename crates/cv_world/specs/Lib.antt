@@ -5,4 +5,5 @@ pub mod Worlds
 pub mod Requests
 pub mod Laws
 pub mod Feeds
+pub mod Stateless
 pub mod Private

@@ -3,7 +3,7 @@ use Rattle.std.specs.Prelude.{◌≡◌, ℕ, List, [], ◌∷◌, ◌++◌, ◌
 use Rattle.cv_cache.specs.Compiled.{Compiled, MayCompile}
 use Rattle.cv_caller.specs.Tables.{Table}
 use Rattle.cv_machine.specs.Machine.{Outcome, When, Turn}
-use Rattle.cv_frame.specs.Bodies.{Opening, drop_of, open_of, conv_of, reset_of, number_of}
+use Rattle.cv_frame.specs.Bodies.{Opening, drop_of, open_of, conv_of, reset_of, u32_of}
 use Rattle.cv_frame.specs.Ops.{op_put, op_drop, op_open, op_conv, op_reset, op_close, op_bye, op_part}
 use Rattle.cv_world.specs.Actions.{Action, Put, DropMap, Open, Conv, Reset, Close, Bye, Part, Bad}
 use Rattle.cv_world.specs.Answers.{answer_code, answer_body}
@@ -49,7 +49,7 @@ action_of code body =
     if code == op_open then open_action (open_of body) else
     if code == op_conv then conv_action (conv_of body) else
     if code == op_reset then reset_action (reset_of body) else
-    if code == op_close then close_action (number_of body) else
+    if code == op_close then close_action (u32_of body) else
     if code == op_bye then bye_action body else
     if code == op_part then Part body else Bad
 

@@ -4,6 +4,7 @@ ghost use Rattle.cv_world.specs.Laws.{KeepsTables, RunsKeepTables, NeverLacksAlo
 ghost use Rattle.cv_world.specs.Feeds.{Feeds};
 ghost use Rattle.cv_world.specs.Laws.{JoinsParts, ByeStartsAgain, NamesReadBack};
 ghost use Rattle.cv_world.specs.Requests.{turn};
+ghost use Rattle.cv_world.specs.Stateless.{Stateless};
 
 pub use cv_machine::laws::{merges, one_service, one_writing, schedules, two_worlds};
 
@@ -78,6 +79,13 @@ pub fn names_read_back()
 /// What a descriptor writes while it is fed one text doesn't depend on how the text and the room were cut, in whatever run.
 pub fn feeds()
     ensures { Feeds }
+{
+    // The contract is the law; nothing runs.
+}
+
+/// Between encodings without marks and shifts a descriptor is at its start after every run, and a CONV of it leaves its caller's table as it was.
+pub fn stateless()
+    ensures { Stateless }
 {
     // The contract is the law; nothing runs.
 }

@@ -44,7 +44,9 @@ const CONVERTED: &[u8] = b"\0\0\0\x15\0\0\0\x07\0\0\0\x02\0\0\0\0\0\0\0\0\0\x41\
 fn a_stream_of_many_reads_is_served(rt: HostRuntime) -> Result<(), Fail> {
     let requests = repeated(rt.alloc(), OPEN, CONV)?;
     let replies = repeated(rt.alloc(), OPENED, CONVERTED)?;
-    let mut reader = FromReader::new(OneByOne { bytes: &requests });
+    let mut reader = FromReader::new(OneByOne {
+        bytes: requests.as_slice(),
+    });
     let mut writer = ToWriter::new(Vec::new(rt.alloc()));
     let served = serve_stream(&rt, rt.alloc(), &mut reader, &mut writer, 2)?;
     assert_eq!(rt; served, Served { requests: 301 });
@@ -55,7 +57,12 @@ fn a_stream_of_many_reads_is_served(rt: HostRuntime) -> Result<(), Fail> {
 #[test]
 fn a_file_of_many_reads_is_read(rt: HostRuntime) -> Result<(), Fail> {
     let requests = repeated(rt.alloc(), OPEN, CONV)?;
-    let bytes = read_all(rt.alloc(), OneByOne { bytes: &requests })?;
+    let bytes = read_all(
+        rt.alloc(),
+        OneByOne {
+            bytes: requests.as_slice(),
+        },
+    )?;
     assert!(rt; bytes.as_slice() == requests.as_slice());
     Ok(())
 }
@@ -68,7 +75,9 @@ fn a_peer_of_many_reads_is_called(rt: HostRuntime) -> Result<(), Fail> {
         b"7 2 conv 0 8 41e942\n",
     )?;
     let replies = repeated(rt.alloc(), OPENED, CONVERTED)?;
-    let mut source = FromReader::new(OneByOne { bytes: &replies });
+    let mut source = FromReader::new(OneByOne {
+        bytes: replies.as_slice(),
+    });
     let mut sink = ToWriter::new(Vec::new(rt.alloc()));
     let mut lines = Vec::new(rt.alloc());
     call_over(rt.alloc(), &script, &mut source, &mut sink, &mut lines)?;

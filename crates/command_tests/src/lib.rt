@@ -22,6 +22,8 @@ mod large_uploads;
 #[cfg(test)]
 mod longest_names;
 #[cfg(test)]
+mod many_reads;
+#[cfg(test)]
 mod program_streams;
 #[cfg(test)]
 mod refused_charmaps;

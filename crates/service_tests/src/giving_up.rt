@@ -1,7 +1,6 @@
 //! Memory that is refused, and had again once the compiler has given up what it keeps.
 use cv_cache::{Compiler, Plain};
 use cv_charmap::CompileFault;
-use cv_frame::ops::PUT;
 use cv_frame::{Request, Status};
 use cv_trie::Charmap;
 use cv_world::World;
@@ -34,7 +33,7 @@ impl<R: Wait> Compiler<R> for Hoard {
 /// A text of the charmap A, with one mapping.
 const SMALL: &[u8] = b"<code_set_name> A\nCHARMAP\n<question-mark> \\x6F\nEND CHARMAP\n";
 
-/// Asks for a charmap in a new world, and gives the status, and how many things the compiler keeps then.
+/// Asks for a charmap in a new world, by the op 1, and gives the status, and how many things the compiler keeps then.
 fn put<R: Wait>(rt: &R, alloc: Global, kept: u32) -> (Status, u32) {
     let hoard = Hoard {
         kept: Mutex::new(kept),
@@ -42,7 +41,7 @@ fn put<R: Wait>(rt: &R, alloc: Global, kept: u32) -> (Status, u32) {
     let request = Request {
         caller: 1,
         tag: 1,
-        op: PUT,
+        op: 1,
         body: SMALL,
     };
     let mut world = World::new(alloc);

@@ -1,5 +1,6 @@
 //! One world and its callers, with ample memory. `scripts` says how a line is read.
 mod feeds;
+mod many;
 mod scripts;
 
 use crate::world::scripts::ask;
@@ -40,6 +41,22 @@ const LIMITS: &str = r"
 #[test]
 fn numbers_and_charmaps_have_limits(rt: HostRuntime) -> Result<(), Fail> {
     ask(&rt, LIMITS)
+}
+
+const MAPPINGS: &str = r"
+1 put <code_set_name> A|<mb_cur_max> 3|CHARMAP|<question-mark> \x40|<U10000>..<U4FFFE> \x00\x00\x00|END CHARMAP| = count 262144
+2 put <code_set_name> A|<mb_cur_max> 3|CHARMAP|<question-mark> \x40|<U10000>..<U4FFFE> \x00\x00\x00|END CHARMAP| = count 262144
+3 put <code_set_name> B|CHARMAP|<question-mark> \x3F||END CHARMAP| = count 1
+1 put <code_set_name> B|CHARMAP|<question-mark> \x3F||END CHARMAP| = QUOTA
+2 put <code_set_name> B|CHARMAP|<question-mark> \x3F||END CHARMAP| = QUOTA
+1 drop A = empty
+1 put <code_set_name> B|CHARMAP|<question-mark> \x3F||END CHARMAP| = count 1
+2 put <code_set_name> B|CHARMAP|<question-mark> \x3F||END CHARMAP| = QUOTA
+";
+
+#[test]
+fn each_caller_has_262144_mappings(rt: HostRuntime) -> Result<(), Fail> {
+    ask(&rt, MAPPINGS)
 }
 
 const IN_USE: &str = r"

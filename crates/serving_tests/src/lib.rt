@@ -5,6 +5,12 @@
 #[cfg(test)]
 mod charmap_texts;
 #[cfg(test)]
+mod engines;
+#[cfg(test)]
+mod one_cache;
+#[cfg(test)]
+mod ops;
+#[cfg(test)]
 mod pool;
 #[cfg(test)]
 mod requests;

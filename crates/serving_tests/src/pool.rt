@@ -5,13 +5,13 @@ mod in_order;
 mod uploads;
 
 use cv_cache::Cached;
-use cv_pool::{MOST_WORKERS, Open, Pool};
+use cv_pool::{Open, Pool};
 use std::alloc::Global;
 use std::test::Fail;
 
 /// A pool of so many workers, with a cache of its own.
 fn pool_of(alloc: Global, workers: u32) -> Result<Pool<Cached, Open>, Fail> {
-    if workers == 0 || workers as usize > MOST_WORKERS {
+    if workers == 0 || workers > 16 {
         return Err("no pool has so many workers".into());
     }
     let cached = Cached::new(alloc)?;

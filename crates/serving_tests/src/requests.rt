@@ -1,6 +1,9 @@
 //! Requests as engines take them, and their frames.
-use cv_frame::{MOST_BODY, Request};
+use cv_frame::Request;
 use std::alloc::AllocError;
+
+/// How many bytes the longest body has.
+const LONGEST: usize = 1_048_567;
 
 /// A request with this body, or as much of it as a frame holds.
 pub fn request(caller: u32, tag: u32, op: u8, body: &[u8]) -> Request<'_> {
@@ -8,7 +11,7 @@ pub fn request(caller: u32, tag: u32, op: u8, body: &[u8]) -> Request<'_> {
         caller,
         tag,
         op,
-        body: &body[..body.len().min(MOST_BODY)],
+        body: &body[..body.len().min(LONGEST)],
     }
 }
 
@@ -21,7 +24,7 @@ pub fn push_frame(
     body: &[u8],
 ) -> Result<(), AllocError> {
     let request = request(caller, tag, op, body);
-    let length = request.body.len().min(MOST_BODY) as u32 + 9;
+    let length = request.body.len().min(LONGEST) as u32 + 9;
     stream.extend_from_slice(&length.to_be_bytes())?;
     stream.extend_from_slice(&caller.to_be_bytes())?;
     stream.extend_from_slice(&tag.to_be_bytes())?;

@@ -27,17 +27,18 @@ impl Read for Slow<'_> {
     }
 }
 
-/// Takes so many bytes, and then fails or takes none.
+/// Takes so many bytes, a few at a time, and then fails or takes none.
 #[derive(Drop)]
 pub struct Narrow {
     pub taken: Vec<u8>,
+    pub step: usize,
     pub room: usize,
     pub fails: bool,
 }
 
 impl Write for Narrow {
     fn write(&mut self, buf: &[u8]) -> io::Result<usize> {
-        let n = self.room.min(buf.len());
+        let n = self.step.min(self.room).min(buf.len());
         if n == 0 && self.fails {
             return Err(ErrorKind::BrokenPipe.into());
         }

@@ -3,7 +3,6 @@
 //! name of another status.
 use crate::words::{bytes_of, first_word, policy_of, sides, text_of};
 use cv_cache::{Compiler, Plain};
-use cv_frame::MOST_BODY;
 use cv_world::{Answer, Op, World};
 use std::alloc::{AllocError, Global};
 use std::process::Abort;
@@ -84,7 +83,7 @@ fn conv(alloc: Global, world: &mut World, caller: u32, rest: &str) -> Result<Ans
     let op = Op::Conv {
         number,
         room,
-        input: &input[..input.len().min(MOST_BODY)],
+        input: &input[..input.len().min(1_048_567)],
     };
     Ok(world.step(alloc, caller, op))
 }

@@ -1,11 +1,11 @@
 //! Shards that wait for one another: a pool that ran them one after another, or under one lock, would be late.
 use crate::charmap_texts::text_of_size;
+use crate::ops::{CONV, PUT};
 use crate::requests::request;
 use crate::words::sides;
 use cv_cache::{Compiler, Plain};
 use cv_charmap::CompileFault;
-use cv_frame::ops::{CONV, PUT};
-use cv_pool::{Gate, MOST_WORKERS, Open, Pool};
+use cv_pool::{Gate, Open, Pool};
 use cv_trie::Charmap;
 use std::alloc::Global;
 use std::sync::Arc;
@@ -31,6 +31,8 @@ fn wait_for(flag: &AtomicU64, late: &AtomicU64) {
 #[derive(Drop)]
 struct Held<'a> {
     held: usize,
+    /// Whether it tells the pool that a shard may wait for another.
+    tells: bool,
     answered: &'a AtomicU64,
     late: &'a AtomicU64,
 }
@@ -44,50 +46,79 @@ impl Gate for Held<'_> {
             self.answered.store(1, Ordering::SeqCst);
         }
     }
+
+    fn may_wait(&self) -> bool {
+        self.tells
+    }
 }
 
 /// How many workers there are, and which two callers ask: neighbours, those at the ends, and two whose numbers are larger than the pool.
 const PAIRS: &str = "2 0 1, 3 1 2, 16 3 4, 16 0 15, 5 12 19";
 
+/// They ask as little as may be.
 #[test]
 fn a_shard_runs_while_another_is_held(rt: HostRuntime) -> Result<(), Fail> {
     for pair in PAIRS.split(", ") {
-        let (workers, callers) = sides(pair, " ")?;
-        let (first, second) = sides(callers, " ")?;
-        let workers = workers.parse::<u32>()?;
-        let callers = [first.parse::<u32>()?, second.parse::<u32>()?];
-        for held in callers {
-            let late = is_late(&rt, rt.alloc(), workers, callers, held)?;
-            assert!(rt; !late, "{pair}: {held}");
-        }
+        let late = one_is_late(&rt, rt.alloc(), pair, 12)?;
+        assert!(rt; !late, "{pair}");
     }
     Ok(())
 }
 
-/// Whether one of two callers waits in vain for the other, of a pool of so many workers. They ask as little as may be.
+/// They ask so much that threads are started where nothing may wait, however many workers there are.
+#[test]
+fn much_is_answered_at_once(rt: HostRuntime) -> Result<(), Fail> {
+    for pair in PAIRS.split(", ") {
+        let late = one_is_late(&rt, rt.alloc(), pair, 200_000)?;
+        assert!(rt; !late, "{pair}");
+    }
+    Ok(())
+}
+
+/// Whether one of two callers waits in vain for the other, whichever is held. Their requests have so many bytes.
+fn one_is_late<R: Threads + Sync>(
+    rt: &R,
+    alloc: Global,
+    pair: &str,
+    size: usize,
+) -> Result<bool, Fail> {
+    let (workers, callers) = sides(pair, " ")?;
+    let (first, second) = sides(callers, " ")?;
+    let workers = workers.parse::<u32>()?;
+    let callers = [first.parse::<u32>()?, second.parse::<u32>()?];
+    let body = vec![in alloc; 0u8; size]?;
+    let [first, second] = callers;
+    Ok(
+        is_late(rt, alloc, workers, callers, first, &body)?
+            || is_late(rt, alloc, workers, callers, second, &body)?,
+    )
+}
+
+/// Whether one of two callers waits in vain for the other, of a pool of so many workers.
 fn is_late<R: Threads + Sync>(
     rt: &R,
     alloc: Global,
     workers: u32,
     callers: [u32; 2],
     held: u32,
+    body: &[u8],
 ) -> Result<bool, Fail> {
-    if workers == 0 || workers as usize > MOST_WORKERS {
+    if workers == 0 || workers > 16 {
         return Err("no pool has so many workers".into());
     }
     let answered = AtomicU64::new(0);
     let late = AtomicU64::new(0);
     let gate = Held {
         held: (held % workers) as usize,
+        tells: body.len() < 1_000,
         answered: &answered,
         late: &late,
     };
     let mut pool = Pool::new(alloc, workers, Plain, gate)?;
     let [first, second] = callers;
-    let body = [0u8; 12];
     let requests = [
-        request(first, 1, CONV, &body),
-        request(second, 1, CONV, &body),
+        request(first, 1, CONV, body),
+        request(second, 1, CONV, body),
     ];
     let replies = pool.batch(rt, alloc, &requests)?;
     Ok(replies.len() != 2 || late.load(Ordering::SeqCst) != 0)

@@ -1,10 +1,10 @@
 //! What a gate is told where no thread is started.
+use crate::ops::CLOSE;
 use crate::requests::request;
 use crate::words::sides;
 use cv_cache::Plain;
 use cv_frame::Request;
-use cv_frame::ops::CLOSE;
-use cv_pool::{Gate, MOST_WORKERS, Pool};
+use cv_pool::{Gate, Pool};
 use std::alloc::Global;
 use std::sync::atomic::{AtomicU64, Ordering};
 use std::test::Fail;
@@ -54,7 +54,7 @@ fn passes_of<R: Threads + Sync>(
     workers: u32,
     callers: &str,
 ) -> Result<u64, Fail> {
-    if workers == 0 || workers as usize > MOST_WORKERS {
+    if workers == 0 || workers > 16 {
         return Err("no pool has so many workers".into());
     }
     let passes = AtomicU64::new(9);

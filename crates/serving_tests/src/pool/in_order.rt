@@ -1,9 +1,9 @@
 //! The replies to a batch, in the order of its requests, for any number of workers.
 use super::pool_of;
+use crate::ops::{CONV, OPEN};
 use crate::requests::request;
 use crate::words::sides;
 use cv_cache::{Cached, Plain};
-use cv_frame::ops::{CONV, OPEN};
 use cv_frame::{Reply, Request, Status};
 use cv_pool::{Open, Pool};
 use std::alloc::{AllocError, Global};

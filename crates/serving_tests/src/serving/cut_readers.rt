@@ -15,6 +15,7 @@ fn is_served(alloc: Global, first: usize, step: usize) -> bool {
     });
     let mut writer = ToWriter::new(Narrow {
         taken: Vec::new(alloc),
+        step: 65_536,
         room: 1_000,
         fails: false,
     });

@@ -1,8 +1,8 @@
 //! Uploads served by an engine with a compiler of one's own.
+use crate::ops::{BYE, PART, PUT};
 use crate::requests::request;
 use crate::words::{first_word, sides};
 use cv_cache::Plain;
-use cv_frame::ops::{BYE, PART, PUT};
 use cv_frame::{Reply, Request};
 use cv_loop::{Engine, WorldWith};
 use std::alloc::Global;

@@ -5,7 +5,7 @@ use Rattle.cv_charmap.specs.Private.Seen.{Enters, padded_entry}
 use Rattle.cv_charmap.specs.declared.draft.EntryFault.{EntryFault}
 use Rattle.cv_charmap.proofs.Covering.{passed_on, refused_run}
 use Rattle.cv_charmap.proofs.EntryLemmas.{stops_at_cause}
-use Rattle.cv_charmap.proofs.range.pass.Goals as goal
+use Rattle.cv_charmap.proofs.range.pass_one.Goals as goal
 
 pub returns-in-Err-clause-passes : goal.returns-in-Err-clause-passes
 returns-in-Err-clause-passes c = λ count low n.

@@ -1,5 +1,5 @@
 -- Entries of a range that are entered at once.
-use Rattle.std.proofs.Common.{◌≡◌, ℕ, zero, suc, ◌+◌, ◌-◌, ◌*◌, ◌/◌, ◌%◌, ◌^◌, ◌<◌, ◌≤◌, Bool, true, false, not, cond, leb, ltb, List, [], ◌∷◌, ◌++◌, length, take, get_or, append-nil, append_assoc, refl, sym, subst, ◌∙◌, ap, arith, inl, inr, length-append}
+use Rattle.std.proofs.Common.{◌≡◌, ℕ, zero, suc, ◌+◌, ◌-◌, ◌/◌, ◌%◌, ◌^◌, ◌<◌, ◌≤◌, Bool, true, false, not, cond, leb, ltb, List, [], ◌∷◌, ◌++◌, length, take, get_or, append-nil, append_assoc, refl, sym, subst, ◌∙◌, ap, arith, inl, inr, length-append}
 use Rattle.std.specs.Prelude.{Ok, Err, ◌||◌, ◌&&◌}
 use Rattle.std.proofs.Math.Nat.{pow-succ'}
 use Rattle.std.proofs.Math.Seq.{take-append_seam}
@@ -13,12 +13,11 @@ use Rattle.cv_byte_trie.specs.Entries.{bytes_at, AreApart}
 use Rattle.cv_byte_trie.specs.Results.{MeetsNone}
 use Rattle.cv_byte_trie.specs.Runs.{counted, run_of}
 use Rattle.cv_byte_trie.proofs.Counted.{run_size, run_front, run_at}
-use Rattle.cv_charmap.specs.Entries.{Pair, number_of, bytes_in, named_by, entry_at}
+use Rattle.cv_charmap.specs.Entries.{Pair, number_of, bytes_in, entry_at}
 use Rattle.cv_charmap.specs.Lists.{most_pairs}
-use Rattle.cv_charmap.specs.Private.Covers.{pair_at, HasEntry, IsStop}
+use Rattle.cv_charmap.specs.Private.Covers.{pair_at, HasEntry}
 use Rattle.cv_charmap.specs.Private.Runs.{run_entries, entries_from}
 use Rattle.cv_charmap.specs.Private.Seen.{PassesOn}
-use Rattle.cv_charmap.specs.declared.reach.Stop.{Stop}
 use Rattle.cv_charmap.proofs.Counting.{is_entry}
 use Rattle.cv_charmap.proofs.Covering.{pair_stays}
 use Rattle.cv_charmap.proofs.Drafts.{enters_new}

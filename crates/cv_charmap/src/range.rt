@@ -22,6 +22,19 @@ fn count_of(first: u32, last: u32) -> u64
     (u64::from(last) + 1).saturating_sub(u64::from(first))
 }
 
+/// Where the scalar values end that follow one another from a character on.
+fn end_of(character: Scalar) -> u32
+    ensures above { character < result }
+    ensures small { result ≤ 0x110000 }
+    ensures scalars { (n : ℕ) → character ≤ n → n < result → IsScalar n }
+{
+    if character.value() < 0xD800 {
+        0xD800
+    } else {
+        0x11_0000
+    }
+}
+
 /// How many entries of a range may be entered at once from one on, of so many: those that differ from it in their last byte alone, and have
 /// characters one after another.
 fn run_limit(hex: bool, character: Scalar, last: u8, left: u64) -> usize
@@ -33,9 +46,8 @@ fn run_limit(hex: bool, character: Scalar, last: u8, left: u64) -> usize
     if !hex {
         return 0;
     }
-    let number = character.value();
-    let end = if number < 0xD800 { 0xD800 } else { 0x11_0000 };
-    let limit = (256 - u32::from(last)).min(end - number);
+    let characters = end_of(character) - character.value();
+    let limit = (256 - u32::from(last)).min(characters);
     left.min(u64::from(limit)) as usize
 }
 
@@ -110,14 +122,14 @@ fn pass(
         return Ok((Stop { at: i, place, size }, i + size));
     }
     match pass_one(draft, hex, first, bytes, i) {
-        Ok((place, next)) => Ok((
-            Stop {
+        Ok(passed) => {
+            let alone = Stop {
                 at: i,
-                place,
+                place: passed.0,
                 size: 1,
-            },
-            next,
-        )),
+            };
+            Ok((alone, passed.1))
+        }
         Err(fault) => Err(fault),
     }
 }

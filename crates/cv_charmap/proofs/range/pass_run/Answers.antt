@@ -1,5 +1,4 @@
-use Rattle.std.proofs.Common.{◌≡◌, ◌∙◌, ◌<◌, take, length, sym, ap, arith, append-nil}
-use Rattle.std.specs.Prelude.{Ok}
+use Rattle.std.proofs.Common.{take, length, sym, arith}
 use Rattle.cv_charmap.proofs.Running.{at_once, last_of}
 use Rattle.cv_charmap.proofs.range.pass_run.Goals as goal
 

@@ -29,6 +29,7 @@ fn code_of(len: usize, depth: usize, place: usize) -> u32
 }
 
 /// Adds an entry of which the byte behind the first `depth` leads nowhere from a node.
+#[inline(always)]
 pub(crate) fn enter(
     entries: &mut Vec<Entry>,
     steps: &mut Steps,

@@ -12,6 +12,8 @@ mod charmap_items;
 #[cfg(test)]
 mod charmap_pairs;
 #[cfg(test)]
+mod charmap_runs;
+#[cfg(test)]
 mod charmap_texts;
 #[cfg(test)]
 mod conversions;

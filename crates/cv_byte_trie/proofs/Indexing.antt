@@ -21,7 +21,7 @@ use Rattle.cv_byte_trie.specs.declared.steps.Steps.{Steps}
 use Rattle.cv_byte_trie.specs.declared.walking.Tail.{Tail}
 use Rattle.cv_byte_trie.proofs.Agreeing.{agree_flip, agree_not, agree_deep}
 use Rattle.cv_byte_trie.proofs.Followed.{vacant_meets_none, tail_alone, tail_begun, tail_size, tail_meets_none}
-use Rattle.cv_byte_trie.proofs.OneMore.{cases_same, one_more_entry, one_more_trie, longer, root_alone}
+use Rattle.cv_byte_trie.proofs.OneMore.{cases_same, one_more_entry, one_more_trie, one_more_at, longer, root_alone}
 use Rattle.cv_byte_trie.proofs.Lowering.{at_fork}
 use Rattle.cv_byte_trie.proofs.Setting.{edge_same}
 
@@ -101,6 +101,14 @@ indexed_more entries old new w character d i x v short scalar room sound g same 
       edges = omega (arith, longer entries e);
       tables = omega (arith, longer entries e);
     }
+
+-- the bytes in front of the one that led nowhere lead to the node to which they led
+pub at_more : (entries : List Entry) (old new : Steps) (w : List ℕ) (character d i : ℕ) → IsIndexed entries old → IsVacant (edge_of old) (length old.nodes.items) entries w d i
+    → length entries < 16777216 → SetsEdge old new i (get_or w d 0) (end_code (length w) d (length entries)) → length new.nodes.items ≡ length old.nodes.items
+    → IsAt (edge_of new) (length new.nodes.items) (entries ++ (w, character) ∷ []) w d i
+at_more entries old new w character d i x v room g same =
+    subst (λ (n : ℕ). IsAt (edge_of new) n (entries ++ (w, character) ∷ []) w d i) (sym same)
+    (one_more_at entries x.apart (edge_of old) (length old.nodes.items) w d i v.here (get_or w d 0) v.more refl v.byte v.vacant (omega arith) character (edge_of new) g.same g.set)
 
 -- ---- where an entry was added beside another
 

@@ -11,4 +11,5 @@ pub mod Leading
 pub mod OneMore
 pub mod Lowering
 pub mod Indexing
+pub mod Counted
 pub mod Walked

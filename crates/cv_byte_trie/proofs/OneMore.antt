@@ -7,7 +7,7 @@ use Rattle.cv_base.specs.Scalars.{IsScalar}
 use Rattle.cv_base.proofs.Front.{Begins-trans, Begins-meet, Begins-length, Begins-take, Begins-front, Begins-same}
 use Rattle.cv_byte_trie.specs.Entries.{Entry, no_entry, bytes_at, character_at, AreEntries}
 use Rattle.cv_byte_trie.specs.Results.{MeetsNone, GoesOnBehind}
-use Rattle.cv_byte_trie.specs.Tries.{StepsBy, tails, tail_code, none, node_code, IsAlone, HasTrie}
+use Rattle.cv_byte_trie.specs.Tries.{StepsBy, tails, tail_code, none, node_code, IsAlone, IsTrie, HasTrie}
 use Rattle.cv_byte_trie.specs.Private.Growth.{end_code}
 use Rattle.cv_byte_trie.specs.Private.Reading.{IsAt}
 use Rattle.cv_byte_trie.proofs.Ways.{longer_by_one}
@@ -231,22 +231,26 @@ module _ (entries : List Entry) (a : AreEntries entries) (S : StepsBy) (count : 
           },
         )
 
+    is_trie : IsTrie T r.way count all
+    is_trie = record {
+      some = r.trie.some;
+      root = r.trie.root;
+      node = node_T;
+      leaf = leaf_T;
+      tail = tail_T;
+      ends = ends_T;
+      there = there_T;
+      one = r.trie.one;
+      on_way = on_way_T;
+    }
+
     -- the steps are those of the trie with one more entry
     pub one_more_trie : HasTrie T count all
-    one_more_trie = record {
-      way = r.way;
-      trie = record {
-        some = r.trie.some;
-        root = r.trie.root;
-        node = node_T;
-        leaf = leaf_T;
-        tail = tail_T;
-        ends = ends_T;
-        there = there_T;
-        one = r.trie.one;
-        on_way = on_way_T;
-      };
-    }
+    one_more_trie = record { way = r.way; trie = is_trie }
+
+    -- the bytes in front of the vacant edge lead to the same node
+    pub one_more_at : IsAt T count all w d i
+    one_more_at = record { way = r.way; trie = is_trie; low = r.low; at = r.at; deep = r.deep }
 
 -- a root with no edge is the trie of no entries
 pub root_alone : (S : StepsBy) → ((b : ℕ) → b < 256 → S 0 b ≡ none) → HasTrie S 1 []

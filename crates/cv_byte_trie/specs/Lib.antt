@@ -1,5 +1,6 @@
 pub mod Entries
 pub mod Results
+pub mod Runs
 pub mod Tries
 pub mod Tables
 pub mod Walks

@@ -1,23 +1,24 @@
 //! Entries with a trie of them.
-ghost use Rattle.std.specs.Prelude.{◌≡◌, ◌≢◌, ◌<◌, ◌≤◌, ◌+◌, ◌-◌, ◌*◌, ◌^◌, ℕ, min, [], ◌∷◌, ◌++◌, length, take, slice_get, slice_index, OnOk, OnErr, IfOk};
+ghost use Rattle.std.specs.Prelude.{◌≡◌, ◌<◌, ◌≤◌, ◌+◌, ◌-◌, ◌*◌, ◌^◌, ℕ, min, [], ◌++◌, length, slice_get, slice_index, OnErr, IfOk};
 ghost use Rattle.std.specs.Option.{option_copied};
 ghost use Rattle.cv_base.specs.Items.{Begins};
+ghost use Rattle.cv_base.specs.Scalars.{IsScalar};
 ghost use Rattle.cv_byte_trie.specs.Entries.{bytes_at, AreEntries};
-ghost use Rattle.cv_byte_trie.specs.Tries.{tails, none, HasTrie};
+ghost use Rattle.cv_byte_trie.specs.Runs.{run_of};
+ghost use Rattle.cv_byte_trie.specs.Tries.{HasTrie};
 ghost use Rattle.cv_byte_trie.specs.Tables.{node_count, edge_of};
 ghost use Rattle.cv_byte_trie.specs.Walks.{Leads};
 ghost use Rattle.cv_byte_trie.specs.Private.Indexed.{IsIndexed};
-ghost use Rattle.cv_byte_trie.specs.Private.Growth.{end_code};
-ghost use Rattle.cv_byte_trie.specs.Private.Reading.{IsVacant, IsTail};
-ghost use Rattle.cv_byte_trie.specs.Private.Meetings.{AgreeFor};
-ghost use Rattle.cv_byte_trie.specs.Results.{Finds, Adds, MeetsNone};
+ghost use Rattle.cv_byte_trie.specs.Results.{Finds, Adds};
 
 use crate::added::Added;
+use crate::entering::{enter, enter_beside};
 use crate::entry::Entry;
 use crate::found::Found;
 use crate::meeting::{Meeting, meet};
-use crate::steps::{Steps, TAIL};
-use crate::walking::{Reached, Tail, walk};
+use crate::running::enter_run;
+use crate::steps::Steps;
+use crate::walking::{Reached, walk};
 use cv_base::{Memory, Scalar};
 use std::alloc::Global;
 use std::marker::Model;
@@ -54,100 +55,6 @@ fn met(entries: &[Entry], bytes: &[u8], place: usize) -> Added
         Added::Held(place)
     } else {
         Added::Continues(place)
-    }
-}
-
-/// The code by which the byte behind `depth` others leads to the entry at a place, of so many bytes.
-fn code_of(len: usize, depth: usize, place: usize) -> u32
-    requires few { depth < 2 ^ 32 }
-    requires low { place < tails }
-    ensures value { result ≡ end_code len depth place }
-    ensures leads { result ≢ none }
-{
-    if len == depth + 1 {
-        place as u32
-    } else {
-        TAIL + place as u32
-    }
-}
-
-/// Adds an entry of which the byte behind the first `depth` leads nowhere from a node.
-fn enter(
-    entries: &mut Vec<Entry>,
-    steps: &mut Steps,
-    bytes: &[u8],
-    character: Scalar,
-    node: u32,
-    depth: usize,
-) -> Result<(), Memory>
-    requires indexed { IsIndexed entries.old.items steps.old }
-    requires vacant { IsVacant (edge_of steps.old) (node_count steps.old) entries.old.items
-        bytes.now depth node }
-    requires short { length bytes.now ≤ 8 }
-    requires room { length entries.old.items < 0x1000000 }
-    ensures indexed { IsIndexed entries.new.items steps.new }
-    ensures ok { OnOk result
-        (entries.new.items ≡ entries.old.items ++ (bytes.now, character) ∷ []) }
-    ensures err { OnErr result (entries.new.items ≡ entries.old.items) }
-    ensures apart { MeetsNone entries.old.items bytes.now }
-{
-    let _scalar = character.value();
-    let place = entries.len();
-    let code = code_of(bytes.len(), depth, place);
-    entries.push(Entry::new(bytes, character))?;
-    match steps.set(node, bytes[depth], code) {
-        Ok(()) => Ok(()),
-        Err(_) => {
-            entries.truncate(place);
-            Err(Memory)
-        }
-    }
-}
-
-/// Adds an entry beside the one at a place, to which a node leads by the byte behind the first `depth`, and with which it has `common` bytes in common.
-fn enter_beside(
-    entries: &mut Vec<Entry>,
-    steps: &mut Steps,
-    bytes: &[u8],
-    character: Scalar,
-    tail: Tail,
-    common: usize,
-) -> Result<(), Memory>
-    requires indexed { IsIndexed entries.old.items steps.old }
-    requires tail { IsTail (edge_of steps.old) (node_count steps.old) entries.old.items
-        bytes.now tail }
-    requires agree { AgreeFor (bytes_at entries.old.items tail.place) bytes.now common }
-    requires held { common < length (bytes_at entries.old.items tail.place) }
-    requires more { common < length bytes.now }
-    requires deep { tail.depth < common }
-    requires short { length bytes.now ≤ 8 }
-    requires room { length entries.old.items < 0x1000000 }
-    ensures indexed { IsIndexed entries.new.items steps.new }
-    ensures ok { OnOk result
-        (entries.new.items ≡ entries.old.items ++ (bytes.now, character) ∷ []) }
-    ensures err { OnErr result (entries.new.items ≡ entries.old.items) }
-    ensures apart { MeetsNone entries.old.items bytes.now }
-{
-    let _scalar = character.value();
-    let end = entries.len();
-    let held = *entries[tail.place].padded();
-    let first = code_of(entries[tail.place].len(), common, tail.place);
-    let second = code_of(bytes.len(), common, end);
-    entries.push(Entry::new(bytes, character))?;
-    let between = &held[tail.depth + 1..common + 1];
-    match steps.fork(
-        tail.node,
-        bytes[tail.depth],
-        between,
-        first,
-        bytes[common],
-        second,
-    ) {
-        Ok(()) => Ok(()),
-        Err(_) => {
-            entries.truncate(end);
-            Err(Memory)
-        }
     }
 }
 
@@ -285,5 +192,33 @@ impl ByteTrie {
                 Ok(Added::Entered)
             }
         }
+    }
+
+    /// Adds entries whose last byte and whose character count up from those of the first, and gives how many. It adds those that are quick to
+    /// add, at most so many: it ends in front of one that has to be added alone, or where no memory is to be had.
+    pub fn add_run(&mut self, bytes: &[u8], character: Scalar, most: usize) -> usize
+        requires some { 0 < length bytes.now }
+        requires short { length bytes.now ≤ 8 }
+        requires room { length self.old.entries + most ≤ 0x1000000 }
+        requires bytes { slice_index bytes.now (length bytes.now - 1) + most ≤ 256 }
+        requires scalars { (k : ℕ) → k < most → IsScalar (character + k) }
+        ensures run { self.new.entries ≡ self.old.entries ++ run_of bytes.now character result }
+        ensures few { result ≤ most }
+        ensures entries { AreEntries self.new.entries }
+    {
+        let Reached::Vacant { node, depth } = walk(&self.steps, &self.entries, bytes) else {
+            return 0;
+        };
+        if depth + 1 != bytes.len() {
+            return 0;
+        }
+        enter_run(
+            &mut self.entries,
+            &mut self.steps,
+            bytes,
+            character,
+            node,
+            most,
+        )
     }
 }

@@ -3,11 +3,13 @@
 
 mod added;
 mod byte_trie;
+mod entering;
 mod entry;
 mod found;
 mod growing;
 mod meeting;
 mod node;
+mod running;
 mod setting_edges;
 mod steps;
 mod walking;

@@ -50,7 +50,7 @@ impl Steps {
     }
 
     /// Where a byte leads from a node.
-    #[inline]
+    #[inline(always)]
     pub(crate) fn edge(&self, node: u32, byte: u8) -> u32
         requires sound { IsSound self.now }
         requires low { node < node_count self.now }

@@ -9,12 +9,12 @@ use Rattle.std.proofs.Math.Seq.{get_or-append_right}
 use Rattle.cv_byte_trie.specs.Entries.{bytes_at, AreApart}
 use Rattle.cv_charmap.specs.Entries.{Pair, entry_at}
 use Rattle.cv_charmap.specs.Lists.{entered, pair_cause}
-use Rattle.cv_charmap.specs.Private.Covers.{pair_at, HasEntry, HasEntries, reach_at, AreCovered, AreStops, IsDraft}
+use Rattle.cv_charmap.specs.Private.Covers.{pair_at, HasEntry, HasEntries, reach_at, AreCovered, no_stop, IsStop, AreStops, IsDraft}
 use Rattle.cv_charmap.specs.Private.Runs.{run_entries, entries_from}
 use Rattle.cv_charmap.specs.declared.reach.Reach.{Reach}
 use Rattle.cv_charmap.specs.declared.reach.Stop.{Stop}
 use Rattle.cv_charmap.proofs.Counting.{counted_on}
-use Rattle.cv_charmap.specs.Private.Seen.{Enters, Passes}
+use Rattle.cv_charmap.specs.Private.Seen.{Enters, Passes, PassesOn}
 use Rattle.cv_charmap.specs.declared.draft.EntryFault.{EntryFault}
 use Rattle.cv_charmap.specs.declared.draft.EntryFault.TheVariants.{Faulty, Memory}
 use Rattle.cv_charmap.proofs.EntryLemmas.{goes_on, range_ends, stops_at_pair}
@@ -42,13 +42,18 @@ module _ (all new : List Pair) (stay : take (length all) new ≡ all) where
       let bytes : bytes_at new place ≡ bytes_at all place = ap (λ (x : Pair). x.0) (pair_stays place (omega arith)) in
       subst (λ (b : List ℕ). HasEntry new r.hex r.number b i) (sym bytes) (entry_stays r.hex r.number (bytes_at all place) i (c place low i less))
 
+  stop_stays : (hex : Bool) (first : ℕ) (bytes : List ℕ) (end last : ℕ) (stop : Stop) → end ≤ last → IsStop all hex first bytes end stop → IsStop new hex first bytes last stop
+  stop_stays hex first bytes end last stop more s = (
+    (let a = s.0 in omega arith),
+    λ j less. (let h = s.1 j less in
+        let l = no_shorter in
+        let b = h.0 in
+        (omega arith, h.1 ∙ ap (λ (x : Pair). Ok x) (sym (pair_stays (stop.place + j) h.0)))),
+  )
+
   -- entries that were looked up are at their places
   pub stops_stay : (hex : Bool) (first : ℕ) (bytes : List ℕ) (end last : ℕ) (stops : List Stop) → end ≤ last → AreStops all hex first bytes end stops → AreStops new hex first bytes last stops
-  stops_stay hex first bytes end last stops more s k low = (let h = s k low in
-      let l = no_shorter in
-      let a = h.0 in
-      let b = h.1 in
-      (omega arith, omega arith, h.2 ∙ ap (λ (x : Pair). Ok x) (sym (pair_stays (get_or stops k (record { at = 0; place = 0 })).place h.1))))
+  stops_stay hex first bytes end last stops more s k low = stop_stays hex first bytes end last (get_or stops k no_stop) more (s k low)
 
 -- ---- entries that are in the list
 
@@ -80,16 +85,36 @@ skips all apart hex first bytes count n (suc m) i has =
 -- ---- stops
 
 -- one more stop
-pub stops_more : (all : List Pair) (hex : Bool) (first : ℕ) (bytes : List ℕ) (last at place : ℕ) (stops more : List Stop) → more ≡ stops ++ record { at = at; place = place } ∷ [] → AreStops all hex first bytes last stops
-    → at < last → place < length all → entry_at hex first bytes at ≡ Ok (pair_at all place) → AreStops all hex first bytes last more
-stops_more all hex first bytes last at place stops more is s below low e =
-    let new : Stop = record { at = at; place = place } in
+pub stops_more : (all : List Pair) (hex : Bool) (first : ℕ) (bytes : List ℕ) (last : ℕ) (stop : Stop) (stops more : List Stop) → more ≡ stops ++ stop ∷ [] → AreStops all hex first bytes last stops
+    → IsStop all hex first bytes last stop → AreStops all hex first bytes last more
+stops_more all hex first bytes last stop stops more is s new =
     subst (AreStops all hex first bytes last) (sym is) (λ k lk. elim (cases_lt k (length stops)) [
-      | inl l ↦ (let f : get_or (stops ++ new ∷ []) k (record { at = 0; place = 0 }) ≡ get_or stops k (record { at = 0; place = 0 }) = get_or_append_left stops (new ∷ []) (record { at = 0; place = 0 }) k l in
-          subst (λ (x : Stop). (x.at < last) × (x.place < length all) × (entry_at hex first bytes x.at ≡ Ok (pair_at all x.place))) (sym f) (s k l))
-      | inr l ↦ (let f : get_or (stops ++ new ∷ []) k (record { at = 0; place = 0 }) ≡ new = get_or_push stops new (record { at = 0; place = 0 }) k (omega (arith, length-append stops (new ∷ []))) in
-          subst (λ (x : Stop). (x.at < last) × (x.place < length all) × (entry_at hex first bytes x.at ≡ Ok (pair_at all x.place))) (sym f) (below, low, e))
+      | inl l ↦ subst (IsStop all hex first bytes last) (sym (get_or_append_left stops (stop ∷ []) no_stop k l)) (s k l)
+      | inr l ↦ subst (IsStop all hex first bytes last) (sym (get_or_push stops stop no_stop k (omega (arith, length-append stops (stop ∷ []))))) new
     ])
+
+-- an entry alone, as a pass over it and some behind it
+pub passed_alone : (all new : List Pair) (hex : Bool) (first : ℕ) (bytes : List ℕ) (i count place next : ℕ) → Passes all hex first bytes i count (Ok (place, next)) new
+    → PassesOn all hex first bytes i count (Ok (record { at = i; place = place; size = 1 }, next)) new
+passed_alone all new hex first bytes i count place next h = (
+  h.0,
+  h.1,
+  h.2,
+  (
+    (let a = h.0 in omega arith),
+    λ j less. (
+        let a : place + j ≡ place = omega arith in
+        let b : i + j ≡ i = omega arith in
+        let low = h.3 in
+        (omega arith, ap (entry_at hex first bytes) b ∙ h.4 ∙ ap (λ (x : ℕ). Ok (pair_at new x)) (sym a))),
+  ),
+  h.5,
+)
+
+-- an entry that was refused alone
+pub refused_alone : (all new : List Pair) (hex : Bool) (first : ℕ) (bytes : List ℕ) (i count : ℕ) (why : EntryFault) → Passes all hex first bytes i count (Err why) new → PassesOn all hex first bytes i count (Err why) new
+refused_alone all new hex first bytes i count (Faulty cause) h = h
+refused_alone all new hex first bytes i count Memory h = tt
 
 -- one more place that is known of
 pub covered_set : (all : List Pair) (reach : List Reach) (hex : Bool) (first : ℕ) (bytes : List ℕ) (end at place number count : ℕ) → AreCovered all reach → HasEntries all hex first bytes end

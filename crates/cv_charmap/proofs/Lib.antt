@@ -9,6 +9,7 @@ pub mod Counting
 pub mod FitEntries
 pub mod MeaningLaws
 pub mod Covering
+pub mod Running
 pub mod Ranging
 pub mod ReaderSteps
 mod Examples

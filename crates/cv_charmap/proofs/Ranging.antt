@@ -6,7 +6,7 @@ use Rattle.std.proofs.lemmas.Bool.{cases_lt}
 use Rattle.cv_charmap.specs.Entries.{Pair, entry_at}
 use Rattle.cv_charmap.specs.Private.Covers.{HasEntries, AreStops}
 use Rattle.cv_charmap.specs.Private.Runs.{run_entries, entries_from}
-use Rattle.cv_charmap.specs.Private.Seen.{RunsTo, Passes}
+use Rattle.cv_charmap.specs.Private.Seen.{RunsTo, PassesOn}
 use Rattle.cv_charmap.specs.declared.draft.EntryFault.{EntryFault}
 use Rattle.cv_charmap.specs.declared.draft.EntryFault.TheVariants.{Faulty, Memory}
 use Rattle.cv_charmap.specs.declared.reach.Stop.{Stop}
@@ -21,16 +21,16 @@ pub record IsEntering (all now : List Pair) (hex : Bool) (first : ℕ) (bytes : 
 
 module _ (all now new : List Pair) (hex : Bool) (first : ℕ) (bytes : List ℕ) (count i : ℕ) (stops : List Stop) (so_far : IsEntering all now hex first bytes count i stops) where
   -- an entry that was refused is the end of the range
-  pub range_refused : (last n : ℕ) (why : EntryFault) → count ≡ last + 1 - first → Passes now hex first bytes i count (Err why) new → RunsTo (run_entries all n (map (entry_at hex first bytes) (range_with_len 0 (last + 1 - first)))) n (Err why) new
+  pub range_refused : (last n : ℕ) (why : EntryFault) → count ≡ last + 1 - first → PassesOn now hex first bytes i count (Err why) new → RunsTo (run_entries all n (map (entry_at hex first bytes) (range_with_len 0 (last + 1 - first)))) n (Err why) new
   range_refused last n (Faulty cause) is h = from_whole hex first last bytes i count all now n is (so_far.run n) ∙ h n
   range_refused last n Memory is h = tt
 
-  -- an entry and those behind it that are known of
-  pub range_passed : (passed : ℕ × ℕ) → Passes now hex first bytes i count (Ok passed) new → (more : List Stop) → more ≡ stops ++ record { at = i; place = passed.0 } ∷ [] → IsEntering all new hex first bytes count passed.1 more
+  -- entries that were entered, and those behind them that are known of
+  pub range_passed : (passed : Stop × ℕ) → PassesOn now hex first bytes i count (Ok passed) new → (more : List Stop) → more ≡ stops ++ passed.0 ∷ [] → IsEntering all new hex first bytes count passed.1 more
   range_passed passed h more is =
       let next = h.0 in
       record {
         run = λ n. so_far.run n ∙ h.2 n;
-        has = λ k low. elim (cases_lt k i) [ inl l ↦ entry_stays now new h.1 hex first bytes k (so_far.has k l) | inr l ↦ h.5 k l low ];
-        looked_up = stops_more new hex first bytes passed.1 i passed.0 stops more is (stops_stay now new h.1 hex first bytes i passed.1 stops (omega arith) so_far.looked_up) next h.3 h.4;
+        has = λ k low. elim (cases_lt k i) [ inl l ↦ entry_stays now new h.1 hex first bytes k (so_far.has k l) | inr l ↦ h.4 k l low ];
+        looked_up = stops_more new hex first bytes passed.1 passed.0 stops more is (stops_stay now new h.1 hex first bytes i passed.1 stops (omega arith) so_far.looked_up) h.3;
       }

@@ -1,6 +1,8 @@
 //! The list of pairs while it is read.
-ghost use Rattle.std.specs.Prelude.{◌≡◌, ◌<◌, ◌≤◌, ◌^◌, [], length, take, IfOk};
+ghost use Rattle.std.specs.Prelude.{◌≡◌, ◌<◌, ◌≤◌, ◌+◌, ◌-◌, ◌^◌, ℕ, [], ◌++◌, length, take, slice_index, IfOk};
+ghost use Rattle.cv_base.specs.Scalars.{IsScalar};
 ghost use Rattle.cv_byte_trie.specs.Entries.{bytes_at, AreApart};
+ghost use Rattle.cv_byte_trie.specs.Runs.{run_of};
 ghost use Rattle.cv_charmap.specs.Lists.{most_pairs};
 ghost use Rattle.cv_charmap.specs.Private.Covers.{HasEntries, AreStops};
 ghost use Rattle.cv_charmap.specs.Private.Seen.{Enters};
@@ -133,6 +135,29 @@ impl Draft {
             return held_by_all(&self.trie, bytes, character);
         }
         enter_into(&mut self.trie, bytes, character)
+    }
+
+    /// Enters pairs whose last byte and whose character count up from those of the first, and gives how many. It enters those that are quick
+    /// to enter, at most so many.
+    pub(crate) fn enter_run(&mut self, bytes: &[u8], character: Scalar, most: usize) -> usize
+        requires some { 0 < length bytes.now }
+        requires short { length bytes.now ≤ 8 }
+        requires bytes { slice_index bytes.now (length bytes.now - 1) + most ≤ 256 }
+        requires scalars { (k : ℕ) → k < most → IsScalar (character + k) }
+        ensures run { self.new ≡ self.old ++ run_of bytes.now character result }
+        ensures few { result ≤ most }
+        ensures full { length self.new ≤ most_pairs }
+        ensures apart { AreApart self.new }
+    {
+        let room = MOST_PAIRS - self.trie.len();
+        self.trie.add_run(bytes, character, most.min(room))
+    }
+
+    /// How many pairs there are.
+    pub(crate) fn len(&self) -> usize
+        ensures { result ≡ length self.now }
+    {
+        self.trie.len()
     }
 
     /// How many entries of a range are known to be in the list, from the one on whose pair is at a place.

@@ -1,9 +1,10 @@
 //! Entering the entries of a mapping.
 
-ghost use Rattle.std.specs.Prelude.{◌≡◌, ◌≤◌, ◌<◌, ◌+◌, ◌-◌, ◌^◌, ℕ, length, IfOk, nat_lt, ◌||◌};
+ghost use Rattle.std.specs.Prelude.{◌≡◌, ◌≤◌, ◌<◌, ◌+◌, ◌-◌, ◌^◌, ℕ, true, length, IfOk, Ok, nat_lt, ◌||◌};
+ghost use Rattle.cv_base.specs.Scalars.{IsScalar};
 ghost use Rattle.cv_charmap.specs.Entries.{entries_of, sized_entries};
 ghost use Rattle.cv_charmap.specs.Private.Runs.{run_entries};
-ghost use Rattle.cv_charmap.specs.Private.Seen.{RunsTo, Passes};
+ghost use Rattle.cv_charmap.specs.Private.Seen.{RunsTo, Passes, PassesOn};
 ghost use Rattle.cv_lex.specs.Mappings.{One, Range};
 
 use crate::draft::{Draft, EntryFault};
@@ -21,9 +22,58 @@ fn count_of(first: u32, last: u32) -> u64
     (u64::from(last) + 1).saturating_sub(u64::from(first))
 }
 
+/// Where the scalar values end that follow one another from a character on.
+fn end_of(character: Scalar) -> u32
+    ensures above { character < result }
+    ensures small { result ≤ 0x110000 }
+    ensures scalars { (n : ℕ) → character ≤ n → n < result → IsScalar n }
+{
+    if character.value() < 0xD800 {
+        0xD800
+    } else {
+        0x11_0000
+    }
+}
+
+/// How many entries of a range may be entered at once from one on, of so many: those that differ from it in their last byte alone, and have
+/// characters one after another.
+fn run_limit(hex: bool, character: Scalar, last: u8, left: u64) -> usize
+    ensures few { result ≤ left }
+    ensures hex { 0 < result → hex ≡ true }
+    ensures bytes { last + result ≤ 256 }
+    ensures scalars { (k : ℕ) → k < result → IsScalar (character + k) }
+{
+    if !hex {
+        return 0;
+    }
+    let characters = end_of(character) - character.value();
+    let limit = (256 - u32::from(last)).min(characters);
+    left.min(u64::from(limit)) as usize
+}
+
+/// Enters entries of a range from one on that can be entered at once, at most so many, and says how many they are.
+fn pass_run(draft: &mut Draft, hex: bool, first: u32, bytes: &[u8], i: u64, left: u64) -> usize
+    requires some { 0 < length bytes.now }
+    requires few { length bytes.now ≤ 8 }
+    requires near { i < 2 ^ 32 }
+    ensures run { 0 < result → (count : ℕ) → i + left ≤ count → PassesOn draft.old hex first bytes.now i count
+        (Ok (record { at = i; place = length draft.old; size = result }, i + result)) draft.new }
+    ensures none { result ≡ 0 → draft.new ≡ draft.old }
+    ensures near { result ≤ 256 }
+{
+    if left < 2 {
+        return 0;
+    }
+    let Ok(entry) = entry_at(hex, first, bytes, i) else {
+        return 0;
+    };
+    let most = run_limit(hex, entry.1, entry.0[bytes.len() - 1], left);
+    draft.enter_run(&entry.0[..bytes.len()], entry.1, most)
+}
+
 /// Enters the entry of a range so many places behind the first. It gives the place of its pair, and how many entries stand before
 /// the next that isn't known to be in the list.
-fn pass(
+fn pass_one(
     draft: &mut Draft,
     hex: bool,
     first: u32,
@@ -49,6 +99,49 @@ fn pass(
     Ok((place, i + known.max(1)))
 }
 
+/// Enters the entry of a range so many places behind the first, and some of those behind it at once, as many as may be. It gives where they
+/// stand, and how many entries stand before the next that isn't known to be in the list.
+fn pass(
+    draft: &mut Draft,
+    hex: bool,
+    first: u32,
+    bytes: &[u8],
+    i: u64,
+    left: u64,
+) -> Result<(Stop, u64), EntryFault>
+    requires some { 0 < length bytes.now }
+    requires few { length bytes.now ≤ 8 }
+    requires near { i < 2 ^ 32 }
+    ensures passes { (count : ℕ) → i < count → i + left ≤ count
+        → PassesOn draft.old hex first bytes.now i count result draft.new }
+    ensures near { IfOk result (λ p. p.1 ≤ 2 ^ 33) }
+{
+    let place = draft.len();
+    let size = pass_run(draft, hex, first, bytes, i, left) as u64;
+    if size > 0 {
+        return Ok((Stop { at: i, place, size }, i + size));
+    }
+    match pass_one(draft, hex, first, bytes, i) {
+        Ok(passed) => {
+            let alone = Stop {
+                at: i,
+                place: passed.0,
+                size: 1,
+            };
+            Ok((alone, passed.1))
+        }
+        Err(fault) => Err(fault),
+    }
+}
+
+/// How many entries of a range, of so many, may be entered at once from one on. It is worth it behind two, where the last was new.
+fn left_of(grew: bool, i: u64, count: u64) -> u64
+    requires { i < count }
+    ensures { i + result ≤ count }
+{
+    if grew && i > 1 { count - i } else { 1 }
+}
+
 /// Enters the entries of a range.
 pub(crate) fn enter_range(
     draft: &mut Draft,
@@ -66,14 +159,18 @@ pub(crate) fn enter_range(
     let count = count_of(first, last);
     let mut stops = Vec::new(draft.alloc());
     let mut i: u64 = 0;
+    let mut grew = false;
     while i < count {
-        let (place, next) = match pass(draft, hex, first, bytes, i) {
+        let before = draft.len();
+        let left = left_of(grew, i, count);
+        let (stop, next) = match pass(draft, hex, first, bytes, i, left) {
             Ok(passed) => passed,
             Err(fault) => return Err(fault),
         };
-        if stops.push(Stop { at: i, place }).is_err() {
+        if stops.push(stop).is_err() {
             return Err(EntryFault::Memory);
         }
+        grew = draft.len() > before;
         i = next;
     }
     match draft.cover(hex, first, bytes, &stops, i) {

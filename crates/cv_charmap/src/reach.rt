@@ -1,7 +1,7 @@
 //! What ranges have entered, so that a range that repeats them is passed over quickly.
 ghost use Rattle.std.specs.Prelude.{◌≡◌, ◌<◌, ◌^◌, length, Ok};
 ghost use Rattle.cv_charmap.specs.Entries.{entry_at};
-ghost use Rattle.cv_charmap.specs.Private.Covers.{pair_at, HasEntries, AreCovered, AreStops};
+ghost use Rattle.cv_charmap.specs.Private.Covers.{pair_at, HasEntries, AreCovered, IsStop, AreStops};
 
 use cv_byte_trie::ByteTrie;
 
@@ -16,11 +16,13 @@ pub(crate) struct Reach {
     pub(crate) count: u32,
 }
 
-/// An entry of a range that was looked up: how many stand before it, and the place of its pair.
+/// Entries of a range that were looked up: how many stand before the first, the place of its pair, and how many they are. Their pairs stand
+/// one after another.
 #[derive(Clone, Copy, Debug)]
 pub(crate) struct Stop {
     pub(crate) at: u64,
     pub(crate) place: usize,
+    pub(crate) size: u64,
 }
 
 /// Notes from the pair of one entry on how many entries of the range are in the list. Numbers that 32 bits can't hold are not noted.
@@ -54,6 +56,34 @@ fn note(
     };
 }
 
+/// Notes from the pair of each entry of a stop on.
+fn note_all(
+    trie: &ByteTrie,
+    reach: &mut [Reach],
+    hex: bool,
+    first: u32,
+    bytes: &[u8],
+    stop: Stop,
+    end: u64,
+)
+    requires covered { AreCovered trie.now.entries reach.old }
+    requires long { length reach.old ≡ length trie.now.entries }
+    requires near { end < 2 ^ 40 }
+    requires has { HasEntries trie.now.entries hex first bytes.now end }
+    requires stop { IsStop trie.now.entries hex first bytes.now end stop }
+    ensures covered { AreCovered trie.now.entries reach.new }
+    ensures long { length reach.new ≡ length trie.now.entries }
+{
+    for k in 0..stop.size {
+        let one = Stop {
+            at: stop.at + k,
+            place: stop.place + k as usize,
+            size: 1,
+        };
+        note(trie, reach, hex, first, bytes, one, end);
+    }
+}
+
 /// Notes from each pair that was looked up on how many entries of the range are in the list.
 pub(crate) fn mark(
     trie: &ByteTrie,
@@ -73,7 +103,7 @@ pub(crate) fn mark(
     ensures long { length reach.new ≡ length trie.now.entries }
 {
     for stop in stops {
-        note(trie, reach, hex, first, bytes, *stop, end);
+        note_all(trie, reach, hex, first, bytes, *stop, end);
     }
 }
 

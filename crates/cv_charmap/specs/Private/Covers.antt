@@ -1,5 +1,5 @@
 -- What is known to be in the list of pairs, from a pair on.
-use Rattle.std.specs.Prelude.{◌≡◌, ℕ, Bool, true, ◌<◌, ◌≤◌, List, [], length, slice_index_or, Ok}
+use Rattle.std.specs.Prelude.{◌≡◌, ℕ, Bool, true, ◌+◌, ◌<◌, ◌≤◌, List, [], length, slice_index_or, Ok}
 use Rattle.cv_byte_trie.specs.Entries.{bytes_at, AreApart}
 use Rattle.cv_charmap.specs.Entries.{Pair, entry_at}
 use Rattle.cv_charmap.specs.Lists.{most_pairs}
@@ -27,11 +27,20 @@ abbrev pub AreCovered : List Pair → List Reach → Type 0
 AreCovered all reach =
     (place : ℕ) → place < length reach → let r : Reach = reach_at reach place in HasEntries all r.hex r.number (bytes_at all place) r.count
 
+-- no entries
+abbrev pub no_stop : Stop
+no_stop = record { at = 0; place = 0; size = 0 }
+
+-- Entries of a range, one behind another, are the pairs from a place on.
+abbrev pub IsStop : List Pair → Bool → ℕ → List ℕ → ℕ → Stop → Type 0
+IsStop all hex first bytes end stop =
+    (stop.at + stop.size ≤ end)
+    × ((j : ℕ) → j < stop.size → (stop.place + j < length all) × (entry_at hex first bytes (stop.at + j) ≡ Ok (pair_at all (stop.place + j))))
+
 -- Entries of a range that were looked up are the pairs at their places.
 abbrev pub AreStops : List Pair → Bool → ℕ → List ℕ → ℕ → List Stop → Type 0
 AreStops all hex first bytes end stops =
-    (k : ℕ) → k < length stops → let s : Stop = slice_index_or stops k (record { at = 0; place = 0 }) in
-    (s.at < end) × (s.place < length all) × (entry_at hex first bytes s.at ≡ Ok (pair_at all s.place))
+    (k : ℕ) → k < length stops → IsStop all hex first bytes end (slice_index_or stops k no_stop)
 
 -- A list of pairs, which are few enough and apart, and what is known from the first of them on.
 pub record IsDraft (all : List Pair) (reach : List Reach) : Type 0 where

@@ -7,7 +7,7 @@ use Rattle.cv_charmap.specs.Headers as spec
 use Rattle.cv_charmap.specs.Headers.{marks_by}
 use Rattle.cv_charmap.specs.Lists.{entered, pair_cause}
 use Rattle.cv_charmap.specs.Meaning.{Charmap}
-use Rattle.cv_charmap.specs.Private.Covers.{pair_at, HasEntry}
+use Rattle.cv_charmap.specs.Private.Covers.{pair_at, HasEntry, IsStop}
 use Rattle.cv_charmap.specs.Private.Runs.{fault, run_entries, entries_from, State, state, above_by, inside_by, finish_by, line_run, next_number}
 use Rattle.cv_charmap.specs.declared.draft.EntryFault.{EntryFault}
 use Rattle.cv_charmap.specs.declared.draft.EntryFault.TheVariants as entry
@@ -18,6 +18,7 @@ use Rattle.cv_charmap.specs.declared.header.Header.{Header}
 use Rattle.cv_charmap.specs.declared.phase.Phase.{Phase}
 use Rattle.cv_charmap.specs.declared.phase.Phase.TheVariants.{Above, Inside}
 use Rattle.cv_charmap.specs.declared.phase.Place.{Place}
+use Rattle.cv_charmap.specs.declared.reach.Stop.{Stop}
 
 -- the values of a header
 abbrev pub header_seen : Header → spec.Header
@@ -50,6 +51,17 @@ Passes all hex first bytes i count (Ok passed) after =
 Passes all hex first bytes i count (Err (entry.Faulty cause)) after =
     (n : ℕ) → run_entries all n (entries_from hex first bytes i count) ≡ Err (fault n cause)
 Passes all hex first bytes i count (Err entry.Memory) after = Unit {0}
+
+-- Entries of a range were entered from one on, and those up to another are in the list; the first of them stand one behind another. Want of memory says nothing.
+abbrev pub PassesOn : List Pair → Bool → ℕ → List ℕ → ℕ → ℕ → Result (Stop × ℕ) EntryFault → List Pair → Type 0
+PassesOn all hex first bytes i count (Ok passed) after =
+    (i < passed.1) × (take (length all) after ≡ all)
+    × ((n : ℕ) → run_entries all n (entries_from hex first bytes i count) ≡ run_entries after n (entries_from hex first bytes passed.1 count))
+    × IsStop after hex first bytes passed.1 passed.0
+    × ((k : ℕ) → i ≤ k → k < passed.1 → HasEntry after hex first bytes k)
+PassesOn all hex first bytes i count (Err (entry.Faulty cause)) after =
+    (n : ℕ) → run_entries all n (entries_from hex first bytes i count) ≡ Err (fault n cause)
+PassesOn all hex first bytes i count (Err entry.Memory) after = Unit {0}
 
 -- Entries were run over. Want of memory says nothing.
 abbrev pub RunsTo : Result (List Pair) MapFault → ℕ → Result (Unit {0}) EntryFault → List Pair → Type 0

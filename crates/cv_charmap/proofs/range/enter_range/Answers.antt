@@ -7,12 +7,12 @@ use Rattle.cv_charmap.proofs.range.enter_range.Goals as goal
 
 pub returns-in-Err : goal.returns-in-Err
 returns-in-Err c n =
-    let passes = rw c.in-Err.is at (c.pass.ensures.passes c.count_of-count.result c.loop-i-test.true) in
+    let passes = rw c.in-Err.is at (c.pass.ensures.passes c.count_of-count.result c.loop-i-test.true c.left_of-left.ensures) in
     range_refused c.args.draft.now c.loop-i.draft c.pass.new.draft c.args.hex c.args.first c.args.bytes.now c.count_of-count.result c.loop-i.i c.loop-i.stops.items c.loop-i.invariant.entering c.args.last n c.in-Err.fault c.count_of-count.ensures.value passes
 
 pub loop-i-preserved : goal.loop-i-preserved
 loop-i-preserved c =
-    let passes = c.in-Ok.ensures.passes c.count_of-count.result c.loop-i-test.true in
+    let passes = c.in-Ok.ensures.passes c.count_of-count.result c.loop-i-test.true c.left_of-left.ensures in
     let pushed : is_ok c.push.result ≡ true = c.is_err.ensures.negation ∙ ap not c.if-is_err.false in
     let more = rw pushed at c.push.ensures.items in
     record {

@@ -1,28 +1,18 @@
-use Rattle.std.proofs.Common.{◌∙◌, ◌+◌, sym, ap, subst, arith, length, take, ℕ}
-use Rattle.std.specs.Prelude.{Result, Ok}
+use Rattle.std.proofs.Common.{◌≡◌, ◌+◌, ℕ, List, sym, subst, arith}
+use Rattle.std.specs.Prelude.{Ok}
 use Rattle.cv_charmap.specs.Entries.{Pair}
-use Rattle.cv_charmap.specs.Private.Seen.{Enters, padded_entry}
-use Rattle.cv_charmap.specs.declared.draft.EntryFault.{EntryFault}
-use Rattle.cv_charmap.proofs.Covering.{passed_on, refused_run}
-use Rattle.cv_charmap.proofs.EntryLemmas.{stops_at_cause}
+use Rattle.cv_charmap.specs.Private.Seen.{PassesOn}
+use Rattle.cv_charmap.proofs.Covering.{passed_alone}
 use Rattle.cv_charmap.proofs.range.pass.Goals as goal
 
-pub returns-in-Err-clause-passes : goal.returns-in-Err-clause-passes
-returns-in-Err-clause-passes c = λ count low n.
-    stops_at_cause c.args.hex c.args.first c.args.bytes.now c.args.i count low c.args.draft.now n c.in-Err.cause (sym c.entry_at.ensures.value ∙ ap (padded_entry (length c.args.bytes.now)) c.in-Err.is)
+pub returns-then-size-gt0-clause-passes : goal.returns-then-size-gt0-clause-passes
+returns-then-size-gt0-clause-passes c = λ count low within.
+    subst (λ (p : ℕ). PassesOn c.args.draft.now c.args.hex c.args.first c.args.bytes.now c.args.i count (Ok (record { at = c.args.i; place = p; size = c.pass_run-size.result }, c.args.i + c.pass_run-size.result)) c.pass_run-size.new.draft)
+    (sym c.len-place.ensures) (c.pass_run-size.ensures.run c.if-size-gt0.true count within)
 
-pub returns-in-Err-enter-clause-passes : goal.returns-in-Err-enter-clause-passes
-returns-in-Err-enter-clause-passes c = λ count low.
-    (let p : Pair = (take (length c.args.bytes.now) c.in-Ok.entry.0, c.in-Ok.entry.1) in
-    let enters = subst (λ (r : Result ℕ EntryFault). Enters c.args.draft.now p r c.enter.new.self) c.in-Err-enter.is c.enter.ensures.enters in
-    refused_run c.args.draft.now c.enter.new.self p c.in-Err-enter.fault enters c.args.hex c.args.first c.args.bytes.now c.args.i count low (sym c.in-Ok.ensures.value))
-
-pub returns-clause-passes : goal.returns-clause-passes
-returns-clause-passes c = λ count low.
-    (let p : Pair = (take (length c.args.bytes.now) c.in-Ok.entry.0, c.in-Ok.entry.1) in
-    let enters = rw c.in-Ok-enter.is at c.enter.ensures.enters in
-    let e = sym c.in-Ok.ensures.value in
-    let known = c.reach-known.ensures in
-    let on = passed_on c.args.draft.now c.enter.new.self p c.in-Ok-enter.place enters known.apart c.args.hex c.args.first c.args.bytes.now c.args.i count c.reach-known.result c.max.result (c.from.result + c.args.i) low e
-    (ap (λ (x : ℕ). x + c.args.i) c.from.ensures) known.has c.max.ensures in
-    (omega (arith, c.max.ensures), c.enter.ensures.stay, on.0, enters.2, e ∙ ap (λ (x : Pair). Ok x) (sym enters.3), on.1))
+pub returns-in-Ok-clause-passes : goal.returns-in-Ok-clause-passes
+returns-in-Ok-clause-passes c = λ count low within.
+    (let passed = c.in-Ok.passed in
+    let none : c.pass_run-size.new.draft ≡ c.args.draft.now = c.pass_run-size.ensures.none (omega (arith, c.if-size-gt0.false)) in
+    subst (λ (x : List Pair). PassesOn x c.args.hex c.args.first c.args.bytes.now c.args.i count (Ok (record { at = c.args.i; place = passed.0; size = 1 }, passed.1)) c.pass_one.new.draft) none
+    (passed_alone c.pass_run-size.new.draft c.pass_one.new.draft c.args.hex c.args.first c.args.bytes.now c.args.i count passed.0 passed.1 (c.in-Ok.ensures.passes count low)))

@@ -4,9 +4,10 @@ use Rattle.cv_byte_trie.specs.Entries.{Entry}
 use Rattle.cv_byte_trie.specs.Tables.{edge_of}
 use Rattle.cv_byte_trie.specs.Private.Growth.{SetsEdge, end_code}
 use Rattle.cv_byte_trie.specs.Private.Indexed.{IsIndexed}
+use Rattle.cv_byte_trie.specs.Private.Reading.{IsAt}
 use Rattle.cv_byte_trie.proofs.Followed.{vacant_meets_none}
-use Rattle.cv_byte_trie.proofs.Indexing.{indexed_unchanged, indexed_more}
-use Rattle.cv_byte_trie.proofs.byte_trie.enter.Goals as goal
+use Rattle.cv_byte_trie.proofs.Indexing.{indexed_unchanged, indexed_more, at_more}
+use Rattle.cv_byte_trie.proofs.entering.enter.Goals as goal
 
 pub returns-in-Ok-clause-indexed : goal.returns-in-Ok-clause-indexed
 returns-in-Ok-clause-indexed c =
@@ -21,6 +22,20 @@ returns-in-Ok-clause-indexed c =
     let sets : SetsEdge old new c.args.node (get_or w d 0) (end_code (length w) d (length entries)) = rw code at g.sets in
     subst (λ (x : List Entry). IsIndexed x new) (sym (c.in_ok-push.ensures.items ∙ ap (λ (x : Entry). entries ++ x ∷ []) c.new.ensures))
     (indexed_more entries old new w c.args.character d c.args.node c.requires.indexed c.requires.vacant c.requires.short c.value-scalar.ensures.scalar c.requires.room g.sound sets g.nodes g.edges g.tables)
+
+pub returns-in-Ok-clause-at : goal.returns-in-Ok-clause-at
+returns-in-Ok-clause-at c =
+    let entries = c.args.entries.now.items in
+    let old = c.args.steps.now in
+    let new = c.set.new.self in
+    let w = c.args.bytes.now in
+    let d = c.args.depth in
+    let g = c.in-Ok.ensures in
+    let place : c.len-place.result ≡ length entries = c.len-place.ensures ∙ c.args.entries.now.ok.0 in
+    let code : c.code_of-code.result ≡ end_code (length w) d (length entries) = c.code_of-code.ensures.value ∙ ap (end_code (length w) d) place in
+    let sets : SetsEdge old new c.args.node (get_or w d 0) (end_code (length w) d (length entries)) = rw code at g.sets in
+    subst (λ (x : List Entry). IsAt (edge_of new) (length new.nodes.items) x w d c.args.node) (sym (c.in_ok-push.ensures.items ∙ ap (λ (x : Entry). entries ++ x ∷ []) c.new.ensures))
+    (at_more entries old new w c.args.character d c.args.node c.requires.indexed c.requires.vacant c.requires.room sets g.nodes)
 
 pub returns-in-Err-clause-indexed : goal.returns-in-Err-clause-indexed
 returns-in-Err-clause-indexed c =

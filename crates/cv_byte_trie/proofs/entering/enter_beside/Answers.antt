@@ -8,7 +8,7 @@ use Rattle.cv_byte_trie.proofs.Agreeing.{part_is}
 use Rattle.cv_byte_trie.proofs.ReadEntries.{entry_bytes}
 use Rattle.cv_byte_trie.proofs.Followed.{tail_low}
 use Rattle.cv_byte_trie.proofs.Indexing.{indexed_unchanged, indexed_beside, between_some, between_apart, beside_meets_none}
-use Rattle.cv_byte_trie.proofs.byte_trie.enter_beside.Goals as goal
+use Rattle.cv_byte_trie.proofs.entering.enter_beside.Goals as goal
 
 pub fork-requires-clause-some : goal.fork-requires-clause-some
 fork-requires-clause-some c =

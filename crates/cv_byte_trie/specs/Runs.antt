@@ -1,0 +1,12 @@
+-- Entries that are added one behind another.
+use Rattle.std.specs.Prelude.{ℕ, zero, suc, ◌+◌, ◌-◌, List, [], ◌∷◌, ◌++◌, length, take, slice_index_or}
+use Rattle.cv_byte_trie.specs.Entries.{Entry}
+
+-- the entry so many places behind the first: its last byte and its character count up
+abbrev pub counted : List ℕ → ℕ → ℕ → Entry
+counted bytes character k = (take (length bytes - 1) bytes ++ (slice_index_or bytes (length bytes - 1) 0 + k) ∷ [], character + k)
+
+-- so many of them, from the first on
+abbrev pub run_of : List ℕ → ℕ → ℕ → List Entry
+run_of bytes character zero = []
+run_of bytes character (suc n) = run_of bytes character n ++ counted bytes character n ∷ []

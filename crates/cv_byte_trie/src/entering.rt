@@ -1,0 +1,112 @@
+//! Entering an entry where its bytes lead nowhere, or beside another.
+ghost use Rattle.std.specs.Prelude.{◌≡◌, ◌≢◌, ◌<◌, ◌≤◌, ◌+◌, ◌^◌, [], ◌∷◌, ◌++◌, length, OnOk, OnErr};
+ghost use Rattle.cv_byte_trie.specs.Entries.{bytes_at};
+ghost use Rattle.cv_byte_trie.specs.Tries.{tails, none};
+ghost use Rattle.cv_byte_trie.specs.Tables.{node_count, edge_of};
+ghost use Rattle.cv_byte_trie.specs.Private.Indexed.{IsIndexed};
+ghost use Rattle.cv_byte_trie.specs.Private.Growth.{end_code};
+ghost use Rattle.cv_byte_trie.specs.Private.Reading.{IsAt, IsVacant, IsTail};
+ghost use Rattle.cv_byte_trie.specs.Private.Meetings.{AgreeFor};
+ghost use Rattle.cv_byte_trie.specs.Results.{MeetsNone};
+
+use crate::entry::Entry;
+use crate::steps::{Steps, TAIL};
+use crate::walking::Tail;
+use cv_base::{Memory, Scalar};
+
+/// The code by which the byte behind `depth` others leads to the entry at a place, of so many bytes.
+fn code_of(len: usize, depth: usize, place: usize) -> u32
+    requires few { depth < 2 ^ 32 }
+    requires low { place < tails }
+    ensures value { result ≡ end_code len depth place }
+    ensures leads { result ≢ none }
+{
+    if len == depth + 1 {
+        place as u32
+    } else {
+        TAIL + place as u32
+    }
+}
+
+/// Adds an entry of which the byte behind the first `depth` leads nowhere from a node.
+#[inline(always)]
+pub(crate) fn enter(
+    entries: &mut Vec<Entry>,
+    steps: &mut Steps,
+    bytes: &[u8],
+    character: Scalar,
+    node: u32,
+    depth: usize,
+) -> Result<(), Memory>
+    requires indexed { IsIndexed entries.old.items steps.old }
+    requires vacant { IsVacant (edge_of steps.old) (node_count steps.old) entries.old.items
+        bytes.now depth node }
+    requires short { length bytes.now ≤ 8 }
+    requires room { length entries.old.items < 0x1000000 }
+    ensures indexed { IsIndexed entries.new.items steps.new }
+    ensures at { OnOk result (IsAt (edge_of steps.new) (node_count steps.new) entries.new.items
+        bytes.now depth node) }
+    ensures ok { OnOk result
+        (entries.new.items ≡ entries.old.items ++ (bytes.now, character) ∷ []) }
+    ensures err { OnErr result (entries.new.items ≡ entries.old.items) }
+    ensures apart { MeetsNone entries.old.items bytes.now }
+{
+    let _scalar = character.value();
+    let place = entries.len();
+    let code = code_of(bytes.len(), depth, place);
+    entries.push(Entry::new(bytes, character))?;
+    match steps.set(node, bytes[depth], code) {
+        Ok(()) => Ok(()),
+        Err(_) => {
+            entries.truncate(place);
+            Err(Memory)
+        }
+    }
+}
+
+/// Adds an entry beside the one at a place, to which a node leads by the byte behind the first `depth`, and with which it has `common` bytes in common.
+pub(crate) fn enter_beside(
+    entries: &mut Vec<Entry>,
+    steps: &mut Steps,
+    bytes: &[u8],
+    character: Scalar,
+    tail: Tail,
+    common: usize,
+) -> Result<(), Memory>
+    requires indexed { IsIndexed entries.old.items steps.old }
+    requires tail { IsTail (edge_of steps.old) (node_count steps.old) entries.old.items
+        bytes.now tail }
+    requires agree { AgreeFor (bytes_at entries.old.items tail.place) bytes.now common }
+    requires held { common < length (bytes_at entries.old.items tail.place) }
+    requires more { common < length bytes.now }
+    requires deep { tail.depth < common }
+    requires short { length bytes.now ≤ 8 }
+    requires room { length entries.old.items < 0x1000000 }
+    ensures indexed { IsIndexed entries.new.items steps.new }
+    ensures ok { OnOk result
+        (entries.new.items ≡ entries.old.items ++ (bytes.now, character) ∷ []) }
+    ensures err { OnErr result (entries.new.items ≡ entries.old.items) }
+    ensures apart { MeetsNone entries.old.items bytes.now }
+{
+    let _scalar = character.value();
+    let end = entries.len();
+    let held = *entries[tail.place].padded();
+    let first = code_of(entries[tail.place].len(), common, tail.place);
+    let second = code_of(bytes.len(), common, end);
+    entries.push(Entry::new(bytes, character))?;
+    let between = &held[tail.depth + 1..common + 1];
+    match steps.fork(
+        tail.node,
+        bytes[tail.depth],
+        between,
+        first,
+        bytes[common],
+        second,
+    ) {
+        Ok(()) => Ok(()),
+        Err(_) => {
+            entries.truncate(end);
+            Err(Memory)
+        }
+    }
+}

@@ -1,4 +1,4 @@
--- The items of a text, and what is next in it (POSIX iconv(); Unicode 3.9, code unit sequences).
+-- The items of a text, and what is next in it (POSIX iconv(); Unicode Standard, section 3.9, code unit sequences).
 use Rattle.std.specs.Prelude.{◌≡◌, ℕ, ◌<◌, List, [], ◌∷◌, length, Option, Some, None}
 use Rattle.cv_base.specs.declared.state.ReadState.{ReadState}
 use Rattle.cv_base.specs.declared.item.Item.{Item}

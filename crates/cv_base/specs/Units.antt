@@ -1,19 +1,19 @@
--- Code units: those of a character in UTF-16 (Unicode 3.9, D91 and Table 3-5), which UTF-7 spells too (RFC 2152), and the bytes of a unit.
+-- Code units: those of a character in UTF-16 (Unicode Standard, section 3.9, D91 and Table 3-5), which UTF-7 spells too (RFC 2152), and the bytes of a unit.
 use Rattle.std.specs.Prelude.{ℕ, ◌+◌, ◌-◌, ◌/◌, ◌%◌, List, [], ◌∷◌, nat_lt, if◌then◌else◌}
 use Rattle.cv_base.specs.declared.ascii_form.AsciiForm.{AsciiForm}
 use Rattle.cv_base.specs.declared.ascii_form.AsciiForm.TheVariants.{Byte, Two, Four}
 use Rattle.cv_base.specs.declared.endian.Endian.{Endian}
 use Rattle.cv_base.specs.declared.endian.Endian.TheVariants.{Big, Little}
 
--- the high surrogate of a character from 10000 on
+-- the high surrogate of a character from U+10000 on
 abbrev pub high_unit : ℕ → ℕ
 high_unit c = 0xD800 + (c - 0x10000) / 0x400
 
--- the low surrogate of a character from 10000 on
+-- the low surrogate of a character from U+10000 on
 abbrev pub low_unit : ℕ → ℕ
 low_unit c = 0xDC00 + (c - 0x10000) % 0x400
 
--- A character below 10000 is one unit, another a high and a low surrogate.
+-- A character below U+10000 is one unit, another a high and a low surrogate.
 abbrev pub units_of : ℕ → List ℕ
 units_of c = if nat_lt c 0x10000 then c ∷ [] else high_unit c ∷ low_unit c ∷ []
 

@@ -26,7 +26,7 @@ pub record Descriptor : Type 0 where
 abbrev pub Charmaps : Type 0
 Charmaps = List (Option Charmap)
 
--- Charmaps are at eight places, and descriptors at sixteen numbers.
+-- What a caller has: charmaps by their places, descriptors by their numbers, and the part of an upload that was sent so far.
 pub record Table : Type 0 where
   pub charmaps : Charmaps
   pub descriptors : List (Option Descriptor)
@@ -114,7 +114,7 @@ with_part table part = record table { part = part }
 
 -- ---- what every table keeps
 
--- Charmaps that a caller may hold: at most eight, each of them one that a text can mean, with no more mappings together than the limit.
+-- Charmaps that a caller may hold: eight places, each empty or with the pairs of a charmap, and no more mappings together than the limit.
 pub record AreCharmaps (charmaps : Charmaps) : Type 0 where
   pub places : length charmaps ≡ most_charmaps
   pub maps : (place : ℕ) → IfSome (charmap_at charmaps place) (λ charmap. IsMap charmap.pairs)

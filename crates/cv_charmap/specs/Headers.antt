@@ -1,4 +1,4 @@
--- What the header of a charmap declares (XBD 6.4). That sizes are 1 unless declared is the project's own.
+-- What the header of a charmap declares (XBD 6.4). That the least size is 1 unless declared is the project's own.
 use Rattle.std.specs.Prelude.{ℕ, Bool, List, fold, Option, Some, None, Result, Ok, Err}
 use Rattle.cv_lex.specs.Declarations as says
 use Rattle.cv_lex.specs.Declarations.{Declared, declaration_of}

@@ -21,7 +21,7 @@ pub record Charmap : Type 0 where
 abbrev pub header_lines : List (List ℕ) → List (List ℕ)
 header_lines lines = before_first is_begin lines
 
--- the mappings: the lines between that line and the next line `END CHARMAP`, or to the end
+-- the mappings: the lines between that line and the next line `END CHARMAP`, or to the end; what is behind that line means nothing
 abbrev pub mapping_lines : List (List ℕ) → List (List ℕ)
 mapping_lines lines = before_first is_finish (after_first is_begin lines)
 

@@ -29,6 +29,6 @@ op_close = 6
 abbrev pub op_bye : ℕ
 op_bye = 7
 
--- Holds a part of a charmap's text, which the next PUT ends.
+-- Holds a part of a charmap's text. A PUT that is answered OK ends it, and so does an empty PART.
 abbrev pub op_part : ℕ
 op_part = 8

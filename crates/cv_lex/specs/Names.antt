@@ -7,7 +7,7 @@ use Rattle.cv_lex.specs.declared.cause.Cause.{Cause}
 use Rattle.cv_lex.specs.declared.cause.Cause.TheVariants.{UnknownName, NotScalar, Range}
 use Rattle.cv_lex.specs.Symbols.{symbols}
 
--- whether a number is a Unicode scalar value (Unicode 3.9, D76)
+-- whether a number is a Unicode scalar value (Unicode Standard, section 3.9, D76)
 abbrev pub is_scalar : ℕ → Bool
 is_scalar n = nat_lt n 0xD800 || (nat_le 0xE000 n && nat_lt n 0x110000)
 

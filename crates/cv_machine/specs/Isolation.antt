@@ -1,4 +1,4 @@
--- Isolation: the replies to a caller depend on its own requests alone. These are the statements, with the turn as a parameter.
+-- Isolation: the replies to a caller depend on its own table and requests alone, and on where memory was refused. These are the statements, with the turn as a parameter.
 use Rattle.std.specs.Prelude.{filter, ◌≡◌, ℕ, List, ◌==◌}
 use Rattle.cv_frame.specs.Message.{Message}
 use Rattle.cv_frame.specs.Cut.{messages_of}

@@ -28,7 +28,7 @@ abbrev pub When : Bool → Type 0 → Type 0 → Type 0
 When true Then Else = Then
 When false Then Else = Else
 
--- Of a claim about outcomes: at most one outcome meets it, besides an allocation failure.
+-- Of a claim about outcomes: at most one outcome meets it besides an allocation failure, and that leaves the table as it was.
 pub record HasOneAnswer {Table : Type 0} (table : Table) (May : Outcome Table → Type 0) : Type 0 where
   pub one : (a b : Outcome Table) → May a → May b → a.code ≢ no_memory → b.code ≢ no_memory → a ≡ b
   pub lacks : (a : Outcome Table) → May a → a.code ≡ no_memory → a ≡ lacking table

@@ -1,4 +1,4 @@
--- UTF-8 (Unicode 3.9, D92): the well-formed byte sequences of Table 3-7, and the bits that they carry by Table 3-6.
+-- UTF-8 (Unicode Standard, section 3.9, D92): the well-formed byte sequences of Table 3-7, and the bits that they carry by Table 3-6.
 use Rattle.std.specs.Prelude.{◌≡◌, ℕ, ◌+◌, ◌*◌, ◌/◌, ◌%◌, ◌≤◌, ◌⊎◌, List, [], ◌∷◌, length, Option, Some, nat_lt, if◌then◌else◌}
 use Rattle.cv_base.specs.Items.{Taken, taken}
 use Rattle.cv_base.specs.declared.state.ReadState.{ReadState}
@@ -69,7 +69,7 @@ abbrev pub IsOfOne : List Row → List ℕ → ℕ → Type 0
 IsOfOne [] bytes c = ⊥
 IsOfOne (r ∷ rows) bytes c = IsOfRow r bytes c ⊎ IsOfOne rows bytes c
 
--- The whole byte string is a row of the table.
+-- The whole byte string is of a row of the table.
 abbrev pub utf8_reads : ReadState → List ℕ → Taken → Type 0
 utf8_reads s bytes item = (c : ℕ) × IsOfOne table bytes c × (item ≡ taken (length bytes) (Some c) read.Start)
 

@@ -7,7 +7,7 @@ ghost use Rattle.cv_utf8.specs.Private.Utf8Bytes.{IsTail, IsSecond};
 use cv_base::place::write_slice;
 use cv_base::{AsciiForm, Codec, Item, Piece, Put, ReadState, Scalar, WriteState, character};
 
-/// UTF-8 (Unicode 3.9, D92): one to four bytes for each character. It has no mark: an initial U+FEFF is a character.
+/// UTF-8 (Unicode Standard, section 3.9, D92): one to four bytes for each character. It has no mark: an initial U+FEFF is a character.
 /// Its only state is `Start`.
 #[derive(Clone, Copy, Debug, PartialEq, Eq)]
 pub struct Utf8;

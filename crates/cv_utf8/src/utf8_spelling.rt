@@ -15,7 +15,7 @@ use cv_base::Scalar;
 use cv_block::{MANY, Spelled, Spelling, Words, write_words};
 use std::simd::prelude::*;
 
-/// The spelling of characters in UTF-8 (Unicode 3.9, Table 3-6).
+/// The spelling of characters in UTF-8 (Unicode Standard, section 3.9, Table 3-6).
 pub(crate) struct Utf8Spelling;
 
 /// The spelling of a character, as a number whose lowest byte is the first. What follows the spelling may be anything.

@@ -1,4 +1,4 @@
--- UTF-16 (Unicode 3.9, D91): the two bytes of each unit of a scalar.
+-- UTF-16 (Unicode Standard, section 3.9, D91): the two bytes of each unit of a scalar.
 use Rattle.std.specs.List.{flat_map}
 use Rattle.cv_base.specs.Units.{units_of, unit_of}
 use Rattle.cv_base.specs.declared.ascii_form.AsciiForm.TheVariants.{Two}

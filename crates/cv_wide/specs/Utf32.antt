@@ -1,4 +1,4 @@
--- UTF-32 (Unicode 3.9, D90): the four bytes of each scalar.
+-- UTF-32 (Unicode Standard, section 3.9, D90): the four bytes of each scalar.
 use Rattle.cv_base.specs.Units.{unit_of}
 use Rattle.cv_base.specs.declared.ascii_form.AsciiForm.TheVariants.{Four}
 use Rattle.cv_wide.specs.Orders.{Form}

@@ -9,7 +9,7 @@ use crate::wide_form::WideForm;
 use cv_base::{AsciiForm, Endian, Item, Piece, ReadState, Scalar};
 use cv_block::{BigEndian, ByteOrder, Four, LittleEndian};
 
-/// The encoding form UTF-32 (Unicode 3.9, D90): four bytes for each character.
+/// The encoding form UTF-32 (Unicode Standard, section 3.9, D90): four bytes for each character.
 #[derive(Clone, Copy)]
 pub struct Utf32Form;
 

@@ -1,4 +1,4 @@
--- The bytes after the first in UTF-8 (Unicode 3.9, Table 3-7).
+-- The bytes after the first in UTF-8 (Unicode Standard, section 3.9, Table 3-7).
 use Rattle.std.specs.Prelude.{◌≡◌, ℕ, ◌≤◌}
 
 -- a byte after the first

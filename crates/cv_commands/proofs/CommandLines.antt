@@ -1,5 +1,5 @@
 -- What a line asks, by its first words.
-use Rattle.std.proofs.Common.{◌≡◌, ℕ, ◌-◌, true, false, List, [], ◌∷◌, Some, None, refl, ap, ◌∙◌}
+use Rattle.std.proofs.Common.{◌≡◌, ℕ, true, false, List, [], ◌∷◌, Some, None, refl, ap, ◌∙◌}
 use Rattle.std.specs.Prelude.{bytes_eq, codes}
 use Rattle.cv_frame.specs.Ops.{op_put, op_drop, op_open, op_conv, op_reset, op_close, op_bye, op_part}
 use Rattle.cv_commands.specs.Commands.{with_op, sent_by, text_in, drop_in, open_in, conv_in, reset_in, close_in, bye_in, raw_in, asked_by, request_by, request_in}

@@ -61,7 +61,8 @@ where
     let printed = write_all(io::writer(rt), &lines);
     // Where both failed, why there are no more lines is told.
     called?;
-    printed.map_err(CallFault::Run)
+    printed.map_err(CallFault::Run)?;
+    Ok(())
 }
 
 /// `listen`: serves the streams that come in at an address.
@@ -113,7 +114,8 @@ fn print_help<R: Print>(rt: &R, alloc: Global, asked: &Error) -> Result<(), RunF
     ensures { IfErr result (λ fault. status_of fault ≡ 1) }
 {
     let text = format!(in alloc; "{asked}")?;
-    write_all(io::writer(rt), text.as_bytes())
+    write_all(io::writer(rt), text.as_bytes())?;
+    Ok(())
 }
 
 /// Shows what a command line that is no command asked for, or says what is wrong with it, and gives the exit status.

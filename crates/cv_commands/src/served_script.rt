@@ -3,7 +3,7 @@ ghost use Rattle.std.specs.Prelude.{◌≤◌, IfOk, IfErr};
 ghost use Rattle.cv_world.specs.Requests.{turn};
 ghost use Rattle.cv_world.specs.Worlds.{no_tables};
 ghost use Rattle.cv_loop.specs.Serving.{AnswersEach};
-ghost use Rattle.cv_commands.specs.Faults.{IsNoFailedWrite};
+ghost use Rattle.cv_commands.specs.Faults.{IsNoFailedWrite, IsNoLine, SaysOfLines};
 ghost use Rattle.cv_commands.specs.Served.{AnswersScript};
 
 use crate::fault::RunFault;
@@ -29,6 +29,7 @@ fn serve_frames<R: RandomSource + Threads + Wait + Sync>(
     requires { (1 ≤ workers) × (workers ≤ 16) }
     ensures answered { IfOk result (λ replies. AnswersEach turn no_tables frames.items replies.items) }
     ensures err { IfErr result IsNoFailedWrite }
+    ensures line { IfErr result IsNoLine }
 {
     keep_memory(alloc);
     let cached = Cached::with_keys(alloc, HashKeys::drawn(rt))?;
@@ -49,6 +50,7 @@ pub fn run_script<R: RandomSource + Threads + Wait + Sync>(
 ) -> Result<Vec<u8>, RunFault>
     requires { (1 ≤ workers) × (workers ≤ 16) }
     ensures answers { IfOk result (λ lines. AnswersScript script.now lines.items) }
+    ensures fault { SaysOfLines result script.now }
     ensures err { IfErr result IsNoFailedWrite }
 {
     let replies = serve_frames(rt, alloc, ask_script(alloc, script)?, workers)?;

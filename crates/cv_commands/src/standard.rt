@@ -25,7 +25,8 @@ pub fn run<R: Input + Print + AllocGlobal + RandomSource + Threads + Wait + Sync
     let alloc = rt.alloc();
     let script = read_all(alloc, rt.reader())?;
     let lines = run_script(rt, alloc, &script, workers)?;
-    write_all(io::writer(rt), &lines)
+    write_all(io::writer(rt), &lines)?;
+    Ok(())
 }
 
 /// `ask`: writes the request frames of the script.
@@ -33,7 +34,8 @@ pub fn ask<R: Input + Print + AllocGlobal>(rt: &R) -> Result<(), RunFault> {
     let alloc = rt.alloc();
     let script = read_all(alloc, rt.reader())?;
     let frames = ask_script(alloc, &script)?;
-    write_all(io::writer(rt), &frames)
+    write_all(io::writer(rt), &frames)?;
+    Ok(())
 }
 
 /// `pipe`: serves request frames by a new pool of so many workers, and writes the reply frames. The replies to all whole frames that
@@ -56,5 +58,6 @@ pub fn show<R: Input + Print + AllocGlobal>(rt: &R) -> Result<(), RunFault> {
     let alloc = rt.alloc();
     let replies = read_all(alloc, rt.reader())?;
     let lines = show_replies(alloc, &replies)?;
-    write_all(io::writer(rt), &lines)
+    write_all(io::writer(rt), &lines)?;
+    Ok(())
 }

@@ -5,3 +5,5 @@ pub mod Flows
 pub mod Streams
 pub mod Headline
 mod Ranges
+mod FirstServed
+mod SomeService

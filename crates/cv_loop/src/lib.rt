@@ -8,6 +8,7 @@ mod ends;
 mod engine;
 mod fault;
 mod held;
+pub mod laws;
 mod pushing;
 mod serving;
 mod std_ends;

@@ -60,6 +60,9 @@ fn serve_stream<R, E: Engine<R>, S: Source, W: Sink>(
 /// batches of their own, as many as the engine runs at once. It makes at most `max_reads` reads, of 65,536 bytes at most.
 ///
 /// After a fault the engine is where the requests so far left it, and the replies before the fault have been written.
+///
+/// For every stream there is something that is served (`laws::some_service`), and one thing only (`one_service`). After a failed
+/// write the replies that were written whole, if none says that an allocation failed, are the first of it (`laws::first_served`).
 pub fn serve<R, E: Engine<R>, S: Source, W: Sink>(
     engine: &mut E,
     rt: &R,

@@ -1,8 +1,7 @@
 use Rattle.std.proofs.Common.{◌≡◌, ◌≤◌, ◌+◌, ◌-◌, ◌++◌, [], ◌∷◌, ℕ, List, length, take, get_or, sym, ap, ◌∙◌, arith, length-append}
 use Rattle.std.specs.Prelude.{slice_set}
 use Rattle.std.proofs.lemmas.List.{length-set, length-take-le}
-use Rattle.cv_byte_trie.specs.Entries.{Entry}
-use Rattle.cv_byte_trie.specs.Runs.{counted, run_of}
+use Rattle.cv_byte_trie.specs.Runs.{run_of}
 use Rattle.cv_byte_trie.specs.Tables.{edge_of}
 use Rattle.cv_byte_trie.proofs.Counted.{run_size, run_more, at_other, word_stays, word_front, word_whole}
 use Rattle.cv_byte_trie.proofs.running.enter_run.Goals as goal

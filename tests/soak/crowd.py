@@ -112,6 +112,14 @@ async def crowd(port: int, good: Sequence[Good], bad: int, seconds: float) -> in
     return sum(await asyncio.gather(*others))
 
 
+def descriptors() -> int:
+    """How many descriptors this process may have from now on, and a server that it starts."""
+    most = resource.getrlimit(resource.RLIMIT_NOFILE)[1]
+    wanted = 8192 if most == resource.RLIM_INFINITY else min(most, 8192)
+    resource.setrlimit(resource.RLIMIT_NOFILE, (wanted, most))
+    return wanted
+
+
 def judge(good: Sequence[Good], server_lives: bool) -> List[bool]:
     """Prints each part of the verdict, and the times."""
     wrong = [text for one in good for text in one.wrong]
@@ -139,22 +147,23 @@ def main() -> int:
     options.add_argument("--seconds", type=float, default=60)
     said = options.parse_args()
     signal.signal(signal.SIGTERM, signal.default_int_handler)
-    most = resource.getrlimit(resource.RLIMIT_NOFILE)[1]
-    resource.setrlimit(resource.RLIMIT_NOFILE, (min(most, 8192) if most > 0 else 8192, most))
+    streams = min(said.streams, descriptors() - 100)
+    if streams < said.streams:
+        print(f"only {streams} streams: a process may have no more descriptors here (ulimit -Hn)")
     corpus = Corpus(1)
     parts = [part for part in (corpus.part() for _ in range(8 * PARTS)) if part.charset not in corpus.charmaps and len(part.data) < 60_000][:PARTS]
-    bad = said.streams * said.bad // 100
+    bad = streams * said.bad // 100
     with tempfile.TemporaryDirectory() as folder:
-        words = [said.program, "listen", "127.0.0.1:0", "--at-once", str(said.streams), "--idle", str(IDLE)]
+        words = [said.program, "listen", "127.0.0.1:0", "--at-once", str(streams), "--idle", str(IDLE)]
         server, port = start(words, os.path.join(folder, "server.log"))
-        good = [Good(port, number, parts) for number in range(said.streams - bad)]
+        good = [Good(port, number, parts) for number in range(streams - bad)]
         try:
-            streams = asyncio.run(crowd(port, good, bad, said.seconds))
+            bad_streams = asyncio.run(crowd(port, good, bad, said.seconds))
             lives = server.poll() is None
         finally:
             server.kill()
             server.wait()
-    print(f"{len(good)} good clients and {bad} bad ones, which had {streams:,} streams, in {said.seconds:g} s")
+    print(f"{len(good)} good clients and {bad} bad ones, which had {bad_streams:,} streams, in {said.seconds:g} s")
     held = judge(good, lives)
     print(f"{sum(held)} passed, {len(held) - sum(held)} failed")
     return not all(held)

@@ -142,7 +142,7 @@ bench: ## draws charts of speed beside other libraries and servers, in about ten
 bench-tables: ## prints tables of every pair of encodings, of requests, batches and streams
 	@tools/need 'make bench-tables' rt python3 cc
 	@$(MAKE) $(PROGRAM) $(BENCH)
-	bench/run $(PROGRAM)
+	bench/pairs $(PROGRAM)
 	bench/requests $(PROGRAM)
 	cd crates/pool_bench && rt run -- 9
 	bench/network/run $(PROGRAM)

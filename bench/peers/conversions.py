@@ -1,4 +1,4 @@
-"""How fast conversions are: crates/bench beside other libraries, on the texts of bench/run, in turns of one run."""
+"""How fast conversions are: crates/bench beside other libraries, on the texts of bench/pairs, in turns of one run."""
 from __future__ import annotations
 
 import glob
@@ -90,15 +90,15 @@ def charmap(source: str, target: str) -> bytes | None:
 
 def rows(figures: Figures, size: int) -> Iterator[Row]:
     """All conversions, of texts of so many characters, but those whose charmap the system doesn't have."""
-    run = loaded("run")
-    texts = run.texts(size) | {"hangul": run.seeded(size, run.HANGUL, 6)}
+    pairs = loaded("pairs")
+    texts = pairs.texts(size) | {"hangul": pairs.seeded(size, pairs.HANGUL, 6)}
     for source, target, names in PAIRS:
         found = charmap(source, target)
         if found is None:
             figures.say("left out", f"{source} to {target}: {CHARMAPS} has no charmap, which Debian's locales has")
             continue
         for name in names:
-            yield Row(source, target, name, run.spelled(texts[name], source), found)
+            yield Row(source, target, name, pairs.spelled(texts[name], source), found)
 
 
 def frame(op: int, body: bytes) -> bytes:

@@ -1,4 +1,4 @@
-//! A keyed hash of long texts.
+//! The keys of a cache, and a hash by them. The cache itself sums its texts by words (`text_sum.rt`).
 ghost use Rattle.std.specs.Prelude.{◌≡◌};
 ghost use Rattle.std.specs.List.{fold};
 ghost use Rattle.cv_cache.specs.Hashes.{begun, folded, with_byte, hash_of};
@@ -6,14 +6,14 @@ ghost use Rattle.cv_cache.specs.Hashes.{begun, folded, with_byte, hash_of};
 use std::hash::{BuildHasher, Hasher};
 use std::random::RandomSource;
 
-/// What a cache mixes into the hashes of its texts. Clients choose the texts, and a map tells its entries apart by few bits of their
-/// hashes: who doesn't know the keys can't find texts that meet.
+/// What a cache mixes into the sums of its texts. Clients choose the texts, and a cache tells its entries apart by their sums: who doesn't
+/// know the keys can't find texts that meet.
 #[derive(Clone, Copy)]
 pub struct HashKeys {
-    /// What each byte and its place are mixed with.
-    seed: u64,
-    /// What they are multiplied by.
-    factor: u64,
+    /// What a sum begins with, and what each byte and its place are mixed with in a hash.
+    pub(crate) seed: u64,
+    /// What one factor of each product is, or is mixed with.
+    pub(crate) factor: u64,
 }
 
 impl HashKeys {
@@ -64,7 +64,7 @@ pub struct TextHasher {
 }
 
 /// The two halves of a product, joined.
-fn folded(a: u64, b: u64) -> u64
+pub(crate) fn folded(a: u64, b: u64) -> u64
     ensures { result ≡ folded a b }
 {
     let product = a as u128 * b as u128;

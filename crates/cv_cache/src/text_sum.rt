@@ -1,0 +1,121 @@
+//! A keyed sum of long texts.
+ghost use Rattle.std.specs.Prelude.{◌≡◌, length};
+ghost use Rattle.std.specs.List.{fold};
+ghost use Rattle.cv_cache.specs.Private.Sums.{begun, with_block, with_byte, ended, sum_of, IsSum};
+
+use crate::text_hasher::{HashKeys, folded};
+
+/// The sum of a text, and the keys that it was made by.
+#[derive(Clone, Copy)]
+pub(crate) struct Sum {
+    keys: HashKeys,
+    value: u64,
+}
+
+impl Sum {
+    /// The sum of a text by these keys.
+    pub(crate) fn of(keys: &HashKeys, text: &[u8]) -> Sum
+        ensures { IsSum text.now result }
+    {
+        Sum {
+            keys: *keys,
+            value: keys.sum_of(text),
+        }
+    }
+
+    /// The sum of the same text by these keys. They are the same keys in every run of the program, but no lock can say so of what it holds.
+    pub(crate) fn by(self, keys: &HashKeys, text: &[u8]) -> u64
+        requires { IsSum text.now self }
+        ensures { result ≡ sum_of keys.now text.now }
+    {
+        if self.keys.seed == keys.seed && self.keys.factor == keys.factor {
+            return self.value;
+        }
+        keys.sum_of(text)
+    }
+}
+
+/// Two chains of products, which take turns: the multiplications of one don't wait for those of the other.
+#[derive(Clone, Copy)]
+struct Chains {
+    even: u64,
+    odd: u64,
+}
+
+impl Chains {
+    /// Before any byte of a text of this length. So what fills a block differs from what is left over.
+    fn begun(keys: &HashKeys, length: usize) -> Chains
+        ensures { result ≡ begun keys.now length }
+    {
+        let even = folded(keys.seed ^ length as u64, keys.factor);
+        let odd = folded(even ^ keys.seed, keys.factor);
+        Chains { even, odd }
+    }
+
+    /// After one more block, the first half of which goes into one chain and the second into the other.
+    fn with_block(self, factor: u64, block: &[u8; 32]) -> Chains
+        ensures { result ≡ with_block factor self block.now }
+    {
+        let (words, _) = block.as_chunks::<8>();
+        let low = u64::from_le_bytes(words[0]);
+        let high = u64::from_le_bytes(words[1]);
+        let even = folded(self.even ^ low, factor ^ high);
+        let low = u64::from_le_bytes(words[2]);
+        let high = u64::from_le_bytes(words[3]);
+        let odd = folded(self.odd ^ low, factor ^ high);
+        Chains { even, odd }
+    }
+
+    /// After one more byte.
+    fn with_byte(self, factor: u64, byte: u8) -> Chains
+        ensures { result ≡ with_byte factor self byte }
+    {
+        Chains {
+            even: self.even,
+            odd: folded(self.odd ^ u64::from(byte), factor),
+        }
+    }
+
+    /// What both chains come to.
+    fn ended(self, keys: &HashKeys) -> u64
+        ensures { result ≡ ended keys.now self }
+    {
+        folded(self.even ^ keys.seed, self.odd ^ keys.factor)
+    }
+}
+
+/// After all blocks.
+fn over_blocks(begun: Chains, factor: u64, blocks: &[[u8; 32]]) -> Chains
+    ensures { result ≡ fold (with_block factor) begun blocks.now }
+{
+    let mut chains = begun;
+    for block in blocks {
+        chains = chains.with_block(factor, block);
+    }
+    chains
+}
+
+/// After the bytes that fill no block.
+fn over_bytes(begun: Chains, factor: u64, bytes: &[u8]) -> Chains
+    ensures { result ≡ fold (with_byte factor) begun bytes.now }
+{
+    let mut chains = begun;
+    for byte in bytes {
+        chains = chains.with_byte(factor, *byte);
+    }
+    chains
+}
+
+impl HashKeys {
+    /// The sum of a text, by whole words. Each word is mixed with a key, or with a chain that hangs on the keys, before it is multiplied: so
+    /// who doesn't know the keys knows neither factor of any product, and can't find texts that meet. A chain tells the places of its
+    /// blocks apart, and begins with the length.
+    pub(crate) fn sum_of(&self, text: &[u8]) -> u64
+        ensures { result ≡ sum_of self.now text.now }
+    {
+        let (blocks, rest) = text.as_chunks::<32>();
+        let begun = Chains::begun(self, text.len());
+        let chains = over_blocks(begun, self.factor, blocks);
+        over_bytes(chains, self.factor, rest).ended(self)
+    }
+}

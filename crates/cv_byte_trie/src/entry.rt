@@ -22,16 +22,34 @@ impl Model for Entry {
     ghost invariant = { λ e. record { few : e.len ≤ 8; padded : length e.bytes ≡ 8 } };
 }
 
+/// Bytes with zeros behind them. Few are put in registers: a copy of a size that isn't known at compile time is a call.
+#[inline(always)]
+fn padded(bytes: &[u8]) -> [u8; 8]
+    requires { length bytes.now ≤ 8 }
+    ensures bytes { take (length bytes.now) result ≡ bytes.now }
+    ensures size { length result ≡ 8 }
+{
+    match bytes {
+        [a] => [*a, 0, 0, 0, 0, 0, 0, 0],
+        [a, b] => [*a, *b, 0, 0, 0, 0, 0, 0],
+        [a, b, c] => [*a, *b, *c, 0, 0, 0, 0, 0],
+        [a, b, c, d] => [*a, *b, *c, *d, 0, 0, 0, 0],
+        _ => {
+            let mut padded = [0u8; 8];
+            padded[..bytes.len()].copy_from_slice(bytes);
+            padded
+        }
+    }
+}
+
 impl Entry {
     /// Bytes and their character.
     pub(crate) fn new(bytes: &[u8], character: Scalar) -> Entry
         requires { length bytes.now ≤ 8 }
         ensures { result ≡ (bytes.now, character) }
     {
-        let mut padded = [0u8; 8];
-        padded[..bytes.len()].copy_from_slice(bytes);
         Entry {
-            bytes: padded,
+            bytes: padded(bytes),
             len: bytes.len() as u8,
             character,
         }

@@ -1,13 +1,13 @@
 -- The reader's steps and its end.
-use Rattle.std.proofs.Common.{◌≡◌, ℕ, List, [], ◌∷◌, refl, sym, ◌∙◌, ap, subst}
+use Rattle.std.proofs.Common.{◌≡◌, ℕ, List, [], ◌∷◌, refl, sym, ◌∙◌, ap, subst, true}
 use Rattle.std.specs.Prelude.{Result, Ok, Err}
 use Rattle.cv_lex.specs.Mappings.{Mapping}
-use Rattle.cv_lex.specs.Readings.{Maps}
+use Rattle.cv_lex.specs.Readings.{Maps, reading_of}
 use Rattle.cv_charmap.specs.Entries.{Pair, sized_entries}
-use Rattle.cv_charmap.specs.Headers.{Header}
+use Rattle.cv_charmap.specs.Headers.{Header, marks_by}
 use Rattle.cv_charmap.specs.Meaning.{Charmap, meaning_of_lines}
-use Rattle.cv_charmap.specs.Private.Runs.{◌>>=◌, run_entries, State, state, line_run, lines_run, finish_run, run_of}
-use Rattle.cv_charmap.specs.Private.Seen.{RunsTo, TakesInside, NextTo, after_entries, finished}
+use Rattle.cv_charmap.specs.Private.Runs.{◌>>=◌, run_entries, State, state, line_run, lines_run, finish_run, run_of, inside_by}
+use Rattle.cv_charmap.specs.Private.Seen.{RunsTo, TakesInside, InsideTo, NextTo, after_entries, finished}
 use Rattle.cv_charmap.specs.Results.{Reads}
 use Rattle.cv_charmap.specs.declared.draft.EntryFault.{EntryFault}
 use Rattle.cv_charmap.specs.declared.draft.EntryFault.TheVariants as entry
@@ -26,6 +26,17 @@ by_entries h all m n (Err entry.Memory) after e = tt
 -- a mapping among the mappings is a run over its entries
 pub maps_inside : (h : Header) (all : List Pair) (m : Mapping) (n : ℕ) (r : Result (Unit {0}) EntryFault) (after : List Pair) → RunsTo (run_entries all n (sized_entries h.least h.most m)) n r after → (o : Result Phase CompileFault) → o ≡ after_entries r n → TakesInside h all (Maps m) n o after
 maps_inside h all m n r after e o is = subst (λ (x : Result Phase CompileFault). TakesInside h all (Maps m) n x after) (sym is) (by_entries h all m n r after e)
+
+-- what a line among the mappings says is taken with it
+said_inside : (h : Header) (all : List Pair) (line : List ℕ) (m : Mapping) (n : ℕ) (o : Result Phase CompileFault) (after : List Pair) → reading_of (marks_by h true) line ≡ Ok (Maps m) → TakesInside h all (Maps m) n o after → InsideTo h all line n o after
+said_inside h all line m n (Ok phase) after e takes = λ k. ap (inside_by (state h all Inside k) n) e ∙ takes k
+said_inside h all line m n (Err (compile.Map fault)) after e takes = λ k. ap (inside_by (state h all Inside k) n) e ∙ takes k
+said_inside h all line m n (Err compile.Memory) after e takes = tt
+
+-- what a mapping among the mappings says is entered with it
+pub entered_inside : (h : Header) (all : List Pair) (line : List ℕ) (m : Mapping) (n : ℕ) (r : Result (Unit {0}) EntryFault) (after : List Pair) (o : Result Phase CompileFault) → reading_of (marks_by h true) line ≡ Ok (Maps m)
+    → RunsTo (run_entries all n (sized_entries h.least h.most m)) n r after → o ≡ after_entries r n → InsideTo h all line n o after
+entered_inside h all line m n r after o e runs is = said_inside h all line m n o after e (maps_inside h all m n r after runs o is)
 
 -- a line that is at fault decides
 pub stops : (lines rest more : List (List ℕ)) (s : State) (line : List ℕ) (why : CompileFault) (after : List Pair) → run_of lines ≡ lines_run s rest >>= finish_run → rest ≡ line ∷ more → NextTo s line (Err why) after → Reads (meaning_of_lines lines) (Err why)

@@ -11,7 +11,7 @@ use crate::draft::{Draft, EntryFault};
 use crate::entry::entry_at;
 use crate::header::Header;
 use crate::reach::Stop;
-use cv_base::{Piece, Scalar};
+use cv_base::Scalar;
 use cv_lex::Cause;
 
 /// How many entries a range has.
@@ -193,16 +193,17 @@ pub(crate) fn enter_sized_one(
     draft: &mut Draft,
     header: &Header<'_>,
     c: Scalar,
-    bytes: Piece,
+    bytes: &[u8],
 ) -> Result<(), EntryFault>
-    requires { 0 < length bytes }
+    requires some { 0 < length bytes.now }
+    requires few { length bytes.now ≤ 8 }
     ensures { (n : ℕ) → RunsTo (run_entries draft.old n
-        (sized_entries header.now.least header.now.most (One c bytes))) n result draft.new }
+        (sized_entries header.now.least header.now.most (One c bytes.now))) n result draft.new }
 {
-    if is_unfit(header, bytes.as_slice()) {
+    if is_unfit(header, bytes) {
         return Err(EntryFault::Faulty(Cause::Length));
     }
-    match draft.enter(bytes.as_slice(), c) {
+    match draft.enter(bytes, c) {
         Ok(_) => Ok(()),
         Err(fault) => Err(fault),
     }

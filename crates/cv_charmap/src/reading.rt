@@ -10,7 +10,7 @@ use crate::fault::{CompileFault, MapFault};
 use crate::header::Header;
 use crate::phase::{Phase, Place};
 use crate::range::{enter_sized_one, enter_sized_range};
-use cv_lex::{Line, read_line};
+use cv_lex::{Line, read_line, read_plain};
 
 /// Takes a line above `CHARMAP`.
 pub(crate) fn read_above<'a>(
@@ -58,7 +58,10 @@ fn take_inside(
 {
     match line {
         Line::Finish => Ok(Phase::Behind),
-        Line::One { c, bytes } => after(enter_sized_one(draft, header, c, bytes), number),
+        Line::One { c, bytes } => {
+            let entered = enter_sized_one(draft, header, c, bytes.as_slice());
+            after(entered, number)
+        }
         Line::Range {
             first,
             last,
@@ -72,7 +75,7 @@ fn take_inside(
     }
 }
 
-/// Takes a line among the mappings.
+/// Takes a line among the mappings. The commonest are read first, as `read_line` would read them.
 pub(crate) fn read_inside(
     draft: &mut Draft,
     header: &Header<'_>,
@@ -82,6 +85,11 @@ pub(crate) fn read_inside(
     ensures { InsideTo (header_seen header.now) draft.old line.now number result draft.new }
 {
     let marks = header.marks(true);
+    let mut bytes = [0u8; 8];
+    if let Some((c, n)) = read_plain(&marks, line, &mut bytes) {
+        let entered = enter_sized_one(draft, header, c, &bytes[..n]);
+        return after(entered, number);
+    }
     match read_line(&marks, line) {
         Ok(said) => take_inside(draft, header, said, number),
         Err(cause) => Err(CompileFault::Map(MapFault {

@@ -1,5 +1,5 @@
 -- What a mapping line that isn't faulty says: a scalar value or a range, and 1 to 8 bytes.
-use Rattle.std.proofs.Common.{◌≡◌, ◌≢◌, ℕ, ◌<◌, ◌≤◌, Bool, true, false, cond, ltb, List, [], ◌∷◌, length, map, drop, Option, Some, None, refl, subst, ◌∙◌, ap, arith}
+use Rattle.std.proofs.Common.{◌≡◌, ◌≢◌, ℕ, ◌<◌, ◌≤◌, Bool, true, false, cond, ltb, List, [], ◌∷◌, length, drop, Option, Some, None, refl, subst, ◌∙◌, ap, arith}
 use Rattle.std.specs.Prelude.{◌==◌, codes, bytes_eq, option_map, option_and_then, ok_or, Result, Ok, Err}
 use Rattle.std.specs.Char.{is_ascii_alphabetic}
 use Rattle.std.specs.List.{list_all}

@@ -121,12 +121,9 @@ hex_odd word bytes [] p few some = absurd (some refl)
 hex_odd word bytes (x ∷ []) p few some = p
 hex_odd word bytes (x ∷ y ∷ digits) p few some = absurd (omega (arith, few))
 
-before : (o : Option (List ℕ)) → o ≡ option_map (λ more. [] ++ more) o
-before None = refl
-before (Some x) = refl
-
-pub hex_first : (word : List ℕ) → SaysBefore word [] word
-hex_first word = before (bytes_by_digits word)
+pub onto_none : (o : Option (List ℕ)) → o ≡ option_map (λ more. [] ++ more) o
+onto_none None = refl
+onto_none (Some x) = refl
 
 pub hyphen_says : (word : List ℕ) → bytes_eq word (codes "-") ≡ true → bytes_in word ≡ Some []
 unfolding bytes_in
@@ -136,15 +133,10 @@ pub digits_say : (word : List ℕ) (o : Option (List ℕ)) → bytes_eq word (co
 unfolding bytes_in
 digits_say word o e f = rw (e, f) refl
 
--- a list by its first element and the rest, and by its first two
+-- a list by its first element and the rest
 pub one_front : (bytes rest : List ℕ) (first : ℕ) → 1 ≤ length bytes → first ≡ get_or bytes 0 0 → rest ≡ drop 1 bytes → bytes ≡ first ∷ rest
 one_front [] rest first some f r = absurd (omega (arith, some))
 one_front (x ∷ bytes) rest first some f r = rw (f, r) refl
-
-pub two_front : (bytes rest : List ℕ) (first second : ℕ) → 2 ≤ length bytes → first ≡ get_or bytes 0 0 → second ≡ get_or bytes 1 0 → rest ≡ drop 2 bytes → bytes ≡ first ∷ second ∷ rest
-two_front [] rest first second some f g r = absurd (omega (arith, some))
-two_front (x ∷ []) rest first second some f g r = absurd (omega (arith, some))
-two_front (x ∷ y ∷ bytes) rest first second some f g r = rw (f, g, r) refl
 
 -- ---- how many bytes a word says
 

@@ -13,5 +13,5 @@ pub returns-clause-some : goal.returns-clause-some
 returns-clause-some c =
     let line = c.args.line.now in
     let some = eqb-false _ _ (sym c.is_empty.ensures ∙ c.if-is_empty.false) in
-    next_words line _ c.split_at.result.0.now c.split_at.result.1.now c.word_at.result (take_rest line _ ∙ ap (λ (k : ℕ). drop k line) c.spaces_at.ensures.value)
-    (omega (arith, some)) c.word_at.ensures.value c.split_at.ensures.front c.split_at.ensures.back
+    next_words line _ c.split_at.result.0.now c.split_at.result.1.now c.bytes_before.result (take_rest line _ ∙ ap (λ (k : ℕ). drop k line) c.spaces_at.ensures.value)
+    (omega (arith, some)) c.bytes_before.ensures.value c.split_at.ensures.front c.split_at.ensures.back

@@ -1,0 +1,123 @@
+//! Bytes in hexadecimal. No branch in a loop depends on a byte, so that the compiler makes vector code of it.
+ghost use Rattle.std.specs.Prelude.{◌≡◌, ◌*◌, ◌%◌, ◌<◌, ◌≤◌, ◌++◌, true, false, length, Some, None, IfOk, OnOk, OnErr, MatchBool};
+ghost use Rattle.std.specs.Char.{is_digit, digit_value};
+ghost use Rattle.std.specs.Fmt.{digit_glyph};
+ghost use Rattle.std.specs.List.{flat_map};
+ghost use Rattle.std.specs.Option.{option_map};
+ghost use Rattle.cv_commands.specs.Lines.{hexadecimal, body_word};
+ghost use Rattle.cv_commands.specs.Private.Digits.{SaysPart};
+ghost use Rattle.cv_commands.specs.Words.{bytes_by_digits, bytes_in};
+
+use crate::lines::is;
+use std::alloc::{AllocError, Global};
+
+/// How many bytes are read before it is looked whether all digits are such. A word that is at fault at its start is not read to its end.
+const PART: usize = 4096;
+
+/// The digit for a number below 16 in lower-case hexadecimal.
+fn hex_digit(number: u8) -> u8
+    requires { number < 16 }
+    ensures { result ≡ digit_glyph false number }
+{
+    if number < 10 {
+        b'0' + number
+    } else {
+        b'a' + (number - 10)
+    }
+}
+
+/// Writes the digits of bytes, two for each.
+fn write_digits(bytes: &[u8], digits: &mut [u8])
+    requires { length digits.old ≡ 2 * length bytes.now }
+    ensures { digits.new ≡ flat_map hexadecimal bytes.now }
+{
+    for n in 0..bytes.len() {
+        digits[2 * n] = hex_digit(bytes[n] >> 4);
+        digits[2 * n + 1] = hex_digit(bytes[n] & 15);
+    }
+}
+
+/// Appends the digits of bytes, or nothing where memory lacks. Their room is cleared first, which costs little beside writing them.
+fn push_digits(line: &mut Vec<u8>, bytes: &[u8]) -> Result<(), AllocError>
+    ensures ok { OnOk result (line.new.items ≡ line.old.items ++ flat_map hexadecimal bytes.now) }
+    ensures err { OnErr result (line.new.items ≡ line.old.items) }
+{
+    let start = line.len();
+    line.reserve(2 * bytes.len())?;
+    line.resize(start + 2 * bytes.len(), 0)?;
+    write_digits(bytes, &mut line[start..]);
+    Ok(())
+}
+
+/// Appends bytes in hexadecimal, or `-` where there are none; or nothing where memory lacks.
+pub(crate) fn push_hex(line: &mut Vec<u8>, bytes: &[u8]) -> Result<(), AllocError>
+    ensures ok { OnOk result (line.new.items ≡ line.old.items ++ body_word bytes.now) }
+    ensures err { OnErr result (line.new.items ≡ line.old.items) }
+{
+    if bytes.is_empty() {
+        line.push(b'-')?;
+        return Ok(());
+    }
+    push_digits(line, bytes)
+}
+
+/// The value of a hexadecimal digit of either case, or 255 for a byte that is none.
+fn digit_of(byte: u8) -> u8
+    ensures digit { result < 16 → (is_digit byte 16 ≡ true) × (result ≡ digit_value byte) }
+    ensures none { 16 ≤ result → is_digit byte 16 ≡ false }
+{
+    match byte {
+        b'0'..=b'9' => byte - b'0',
+        b'a'..=b'f' => byte - b'a' + 10,
+        b'A'..=b'F' => byte - b'A' + 10,
+        _ => 255,
+    }
+}
+
+/// Reads digits, two for each byte, and answers whether all are such.
+fn read_digits(digits: &[u8], bytes: &mut [u8]) -> bool
+    requires { length digits.now ≡ 2 * length bytes.old }
+    ensures { MatchBool result (bytes_by_digits digits.now ≡ Some bytes.new) (bytes_by_digits digits.now ≡ None) }
+{
+    let mut all = true;
+    for n in 0..bytes.len() {
+        let high = digit_of(digits[2 * n]);
+        let low = digit_of(digits[2 * n + 1]);
+        all = all & (high < 16) & (low < 16);
+        bytes[n] = 16 * (high % 16) + low % 16;
+    }
+    all
+}
+
+/// Appends the bytes that digits say, two for each, and answers whether they say any.
+fn push_bytes(bytes: &mut Vec<u8>, digits: &[u8]) -> Result<bool, AllocError>
+    requires { length digits.now % 2 ≡ 0 }
+    ensures { IfOk result (λ all. SaysPart all digits.now bytes.old.items bytes.new.items) }
+{
+    let start = bytes.len();
+    bytes.resize(start + digits.len() / 2, 0)?;
+    Ok(read_digits(digits, &mut bytes[start..]))
+}
+
+/// Bytes in hexadecimal, two digits each, or `-` for none. `None`: it is neither.
+pub(crate) fn hex_bytes(alloc: Global, word: &[u8]) -> Result<Option<Vec<u8>>, AllocError>
+    ensures { IfOk result (λ said. option_map (λ bytes. bytes.items) said ≡ bytes_in word.now) }
+{
+    if is(word, b"-") {
+        return Ok(Some(Vec::new(alloc)));
+    }
+    let mut bytes = Vec::with_capacity(alloc, word.len() / 2)?;
+    let mut digits = word;
+    while digits.len() >= 2 {
+        let n = 2 * (digits.len() / 2).min(PART);
+        if !push_bytes(&mut bytes, &digits[..n])? {
+            return Ok(None);
+        }
+        digits = &digits[n..];
+    }
+    if digits.is_empty() {
+        Ok(Some(bytes))
+    } else {
+        Ok(None)
+    }
+}

@@ -1,4 +1,4 @@
-//! How long conversions take. It prints figures only if it is asked to; see `bench/run`.
+//! How long conversions take. It prints figures only if it is asked to; see `bench/pairs`.
 #![tactic(auto)]
 
 mod measure;

@@ -58,7 +58,7 @@ ends_none reads writes policy from text (call ∷ []) p q h =
 ends_none reads writes policy from text (call ∷ next ∷ calls) p q h =
     rw (← drop-drop (total call.came.states (next ∷ calls)).used (used_of call) text) (ends_none reads writes policy call.came.states (drop (used_of call) text) (next ∷ calls) p.1 q.1 h)
 
-lacking_stays : (reads : ItemRelation) (writes : Writing) (policy : Policy) (states : States) (text more : List ℕ) → Begins text more → LackingStands reads writes policy states text → LackingStands reads writes policy states more
+pub lacking_stays : (reads : ItemRelation) (writes : Writing) (policy : Policy) (states : States) (text more : List ℕ) → Begins text more → LackingStands reads writes policy states text → LackingStands reads writes policy states more
 lacking_stays reads writes policy states text more b p = record { next = p.next; stands = item_stays reads states.reading text more p.next b p.stands; lacking = p.lacking }
 
 -- If a feed ends at a character that the target lacks, that character is next.
@@ -82,13 +82,13 @@ feed_allowed : (reads : ItemRelation) (writes : Writing) (policy : Policy) (from
 feed_allowed reads writes Substitute from text calls p f = tt
 feed_allowed reads writes Strict from text calls p f = sym f.count ∙ strict_counts_none reads writes from calls p
 
-not_longer : (reads : ItemRelation) → IsReadable reads → (s : ReadState) (text : List ℕ) (a b : List Taken) (end : ReadState) (used : ℕ) → IsChain reads s text a → IsChain reads s text b → end ≡ read_state s a → used ≡ used_bytes a → NoneStands reads end (drop used text) → length b ≤ length a
+pub not_longer : (reads : ItemRelation) → IsReadable reads → (s : ReadState) (text : List ℕ) (a b : List Taken) (end : ReadState) (used : ℕ) → IsChain reads s text a → IsChain reads s text b → end ≡ read_state s a → used ≡ used_bytes a → NoneStands reads end (drop used text) → length b ≤ length a
 not_longer reads r s text a b end used p q e u none =
     let never : length a < length b → ⊥ = (λ h. let more : Longer reads s text a b = longer reads r s text a b p q h in none more.item (rw (e, u) more.stands)) in
     omega (arith, never)
 
 -- No chain that the policy allows goes past a character that it doesn't allow.
-not_past : (reads : ItemRelation) (writes : Writing) (policy : Policy) → IsReadable reads → (from end : States) (text : List ℕ) (used : ℕ) (a b : List Taken) → IsChain reads from.reading text a → IsChain reads from.reading text b
+pub not_past : (reads : ItemRelation) (writes : Writing) (policy : Policy) → IsReadable reads → (from end : States) (text : List ℕ) (used : ℕ) (a b : List Taken) → IsChain reads from.reading text a → IsChain reads from.reading text b
     → Allows policy (output_of writes from.writing b) → end.reading ≡ read_state from.reading a → end.writing ≡ (output_of writes from.writing a).next → used ≡ used_bytes a
     → LackingStands reads writes policy end (drop used text) → length b ≤ length a
 not_past reads writes policy r from end text used a b p q ok reading writing u lacks =

@@ -1,7 +1,6 @@
 -- One conversion, and a room that is enough.
-use Rattle.std.proofs.Common.{◌≡◌, ℕ, ◌-◌, ◌*◌, ◌≤◌, min, List, [], ◌∷◌, length, take, drop, refl, sym, ap, subst, ◌∙◌, arith, length-append, Option, Some, None}
+use Rattle.std.proofs.Common.{◌≡◌, ℕ, ◌*◌, ◌≤◌, min, List, [], ◌∷◌, length, drop, refl, sym, ap, subst, ◌∙◌, arith, length-append, Option, Some, None}
 use Rattle.std.specs.Prelude.{IfSome}
-use Rattle.std.proofs.Math.Seq.{take-append_seam}
 use Rattle.cv_base.specs.Scalars.{question}
 use Rattle.cv_base.specs.Items.{Taken, ItemRelation}
 use Rattle.cv_base.specs.Codecs.{Writing, IsReadable, WritesAtMost}
@@ -80,13 +79,18 @@ one_conversion reads writes policy r from text room c d p q =
 
 -- ---- the counts of a conversion, and a room that is enough
 
--- the counts of a conversion are no larger than the input and the room
+-- the counts of a conversion are no larger than the input
+pub few_converted : (reads : ItemRelation) (writes : Writing) (policy : Policy) → IsReadable reads → (from : States) (text : List ℕ) (room : ℕ) (c : Converted) → IsConverted reads writes policy from text room c → (c.left ≤ length text) × (c.count ≤ length text)
+few_converted reads writes policy r from text room c p =
+    let few = output_of-count reads writes r from.reading from.writing text p.chain p.longest.is_chain in
+    let within = used_bytes-within reads r from.reading text p.chain p.longest.is_chain in
+    (omega (arith, p.left), omega (arith, p.count, few, within))
+
+-- and no larger than the room
 pub counts_few : (reads : ItemRelation) (writes : Writing) (policy : Policy) → IsReadable reads → (states next : States) (text before after : List ℕ) (o : Outcome) → Converts reads writes policy states text before o next after → (o.left ≤ length text) × (o.count ≤ length text) × (o.room_left ≤ length before)
 counts_few reads writes policy r states next text before after o p =
-    let q = p.converted in
-    let few = output_of-count reads writes r states.reading states.writing text q.chain q.longest.is_chain in
-    let within = used_bytes-within reads r states.reading text q.chain q.longest.is_chain in
-    (omega (arith, q.left), omega (arith, q.count, few, within), omega (arith, p.room_left))
+    let few = few_converted reads writes policy r states text (length before) _ p.converted in
+    (few.0, few.1, omega (arith, p.room_left))
 
 few_substitute : (most : ℕ) (o : Option (List ℕ × WriteState)) (t : WriteState) → IfSome o (λ p. length p.0 ≤ most) → length (substituted t o).bytes ≤ most
 few_substitute most (Some p) t h = h
@@ -120,26 +124,22 @@ most_output most reads writes r few len n covers from text chain within is_chain
     omega (arith, s, m, covers)
 
 -- Room for the most that the text can need is as good as any room.
-pub enough : (most : ℕ) (reads : ItemRelation) (writes : Writing) (policy : Policy) (states next : States) (text before after : List ℕ) (room : ℕ) (o : Outcome) → IsMostOutput reads writes (length text) most
-    → Converts reads writes policy states text before o next after → length before ≡ min room most
-    → IsConverted reads writes policy states text room (record { left = o.left; count = o.count; stop = o.stop; output = take (length before - o.room_left) after; states = next })
-enough most reads writes policy states next text before after room o few p size =
-    let q = p.converted in
-    let n : length before - o.room_left ≡ length p.output = omega (arith, p.room_left) in
-    record {
-      chain = q.chain;
-      longest = record {
-        is_chain = q.longest.is_chain;
-        fits = omega (arith, q.longest.fits, size);
-        allowed = q.longest.allowed;
-        longest = λ other is_chain fits allowed.
-            let s : length (output_of writes states.writing other).bytes ≤ most = few states text other (omega arith) is_chain in
-            q.longest.longest other is_chain (omega (arith, fits, s, size)) allowed;
-      };
-      left = q.left;
-      stop = q.stop;
-      count = q.count;
-      output = ap (λ (k : ℕ). take k after) n ∙ ap (take (length p.output)) p.buffer ∙ take-append_seam p.output (drop (length p.output) before) ∙ q.output;
-      reading = q.reading;
-      writing = q.writing;
-    }
+pub enough : (most : ℕ) (reads : ItemRelation) (writes : Writing) (policy : Policy) (from : States) (text : List ℕ) (size room : ℕ) (c : Converted) → IsMostOutput reads writes (length text) most
+    → size ≡ min room most → IsConverted reads writes policy from text size c → IsConverted reads writes policy from text room c
+enough most reads writes policy from text size room c few is p = record {
+  chain = p.chain;
+  longest = record {
+    is_chain = p.longest.is_chain;
+    fits = omega (arith, p.longest.fits, is);
+    allowed = p.longest.allowed;
+    longest = λ other is_chain fits allowed.
+        let s : length (output_of writes from.writing other).bytes ≤ most = few from text other (omega arith) is_chain in
+        p.longest.longest other is_chain (omega (arith, fits, s, is)) allowed;
+  };
+  left = p.left;
+  stop = p.stop;
+  count = p.count;
+  output = p.output;
+  reading = p.reading;
+  writing = p.writing;
+}

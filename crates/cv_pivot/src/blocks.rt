@@ -37,6 +37,16 @@ impl BlockSize {
             None => BlockSize::Short,
         }
     }
+
+    /// The size after so many bytes were taken at once. After many of them more are likely to follow what the next block takes.
+    #[inline(always)]
+    pub(crate) fn behind_many(self, used: usize) -> BlockSize {
+        if used >= LONG_BLOCK {
+            BlockSize::Short
+        } else {
+            self
+        }
+    }
 }
 
 /// Takes a block of at most as many characters as fit in the buffer, if the source reads one, and the target writes it under the policy.

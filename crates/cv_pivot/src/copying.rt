@@ -10,6 +10,7 @@ use cv_base::BlockCodec;
 
 /// Whether both are the same encoding, whose text is copied. It may say no even if they are: then the text is converted by blocks, or item
 /// by item.
+#[inline(always)]
 pub(crate) fn may_copy(from: &Encoding, to: &Encoding) -> bool
     ensures { IsTrue result → from.now ≡ to.now }
 {
@@ -34,7 +35,7 @@ fn copy_front(rest: &[u8], n: usize, out: &mut [u8], at: usize)
 
 /// Copies the items at the start of a text that are written unchanged, as far as there is room, if there are any. Every
 /// policy allows it.
-#[inline(never)]
+#[inline(always)]
 pub(crate) fn copy_unchanged<C: BlockCodec>(
     codec: &C,
     states: States,

@@ -1,0 +1,47 @@
+-- Text that is converted window by window.
+use Rattle.std.proofs.Common.{◌≡◌, ℕ, ◌+◌, ◌≤◌, List, [], ◌++◌, length, take, drop, refl, sym, ◌∙◌, ap, arith, length-append, append-nil}
+use Rattle.std.specs.List.{flat_map}
+use Rattle.std.proofs.lemmas.Grind.{flat_map-append}
+use Rattle.cv_base.proofs.Front.{Begins-join}
+use Rattle.cv_block.specs.Spelled.{BytesOf}
+use Rattle.cv_block.proofs.SpelledRuns.{AreScalars-append}
+use Rattle.cv_direct.specs.Direct.{IsConverted}
+use Rattle.cv_direct.specs.Private.Loose.{IsPutLoosely, IsConvertedLoosely}
+use Rattle.cv_direct.specs.Private.Windows.{IsWindow}
+use Rattle.cv_direct.proofs.Putting.{put_more, put_whole}
+
+-- nothing is converted at first
+pub none_converted : (from to : BytesOf) (text before : List ℕ) (at loose : ℕ) → at ≤ length before → IsConvertedLoosely from to text before at 0 0 loose before
+none_converted from to text before at loose h = record {
+  characters = [];
+  scalars = tt;
+  begins = tt;
+  uses = refl;
+  put = record { wrote = refl; fits = omega arith; stand = ap (λ i. take i before) (let e : at + 0 ≡ at = omega arith in e) ∙ sym (append-nil (take at before)); behind = refl; size = refl };
+}
+
+-- a window more
+pub window_more : (from to : BytesOf) (text before : List ℕ) (at used size n m loose place : ℕ) (mid after units : List ℕ) → IsConvertedLoosely from to text before at used n 16 mid → place ≡ at + n → IsWindow from size (drop used text) units
+    → IsPutLoosely (flat_map to units) mid place m loose after → 16 ≤ m → IsConvertedLoosely from to text before at (used + size) (n + m) loose after
+window_more from to text before at used size n m loose place mid after units p place_is w put enough =
+    let c = p.characters in
+    let both : flat_map from (c ++ units) ≡ flat_map from c ++ flat_map from units = flat_map-append from c units in
+    let out : flat_map to (c ++ units) ≡ flat_map to c ++ flat_map to units = flat_map-append to c units in
+    let there : drop used text ≡ drop (length (flat_map from c)) text = ap (λ i. drop i text) p.uses in
+    record {
+      characters = c ++ units;
+      scalars = AreScalars-append c units p.scalars w.scalars;
+      begins = rw both (Begins-join (flat_map from c) (flat_map from units) text p.begins (rw there at w.begins));
+      uses = omega (arith, ap length both, length-append (flat_map from c) (flat_map from units), p.uses, w.uses);
+      put = rw out (put_more (flat_map to c) (flat_map to units) before at n 16 m loose place mid after p.put place_is put (omega (arith, enough)));
+    }
+
+-- with nothing loose behind, the text is converted
+pub all_converted : (from to : BytesOf) (text before : List ℕ) (at used n : ℕ) (after : List ℕ) → IsConvertedLoosely from to text before at used n 0 after → IsConverted from to text before at (record { used = used; wrote = n }) after
+all_converted from to text before at used n after p = record {
+  characters = p.characters;
+  scalars = p.scalars;
+  begins = p.begins;
+  uses = p.uses;
+  put = put_whole (flat_map to p.characters) before at n after p.put;
+}

@@ -1,0 +1,60 @@
+-- Sixteen characters that are read at once.
+use Rattle.std.proofs.Common.{◌≡◌, ℕ, ◌<◌, ◌≤◌, List, [], ◌∷◌, length, length-take, take, map, get_or, get_or-take, refl, sym, ◌∙◌, ap, arith, suc}
+use Rattle.std.specs.List.{flat_map}
+use Rattle.std.proofs.lemmas.List.{take_all, map-id}
+use Rattle.cv_base.specs.Scalars.{AreScalars}
+use Rattle.cv_base.specs.declared.ascii_form.AsciiForm.TheVariants.{Two}
+use Rattle.cv_base.specs.declared.endian.Endian.{Endian}
+use Rattle.cv_base.proofs.Front.{Begins-take}
+use Rattle.cv_block.specs.Units.{AreUnits, AreScalarsBelow}
+use Rattle.cv_block.proofs.UnitRuns.{begun, all_scalars}
+use Rattle.cv_wide.specs.Utf16.{utf16}
+use Rattle.cv_wide.proofs.Utf16Units.{one_unit}
+use Rattle.cv_direct.specs.Private.Windows.{IsWindow, AreSixteen}
+
+units_window : (e : Endian) (text units : List ℕ) → length units ≡ 16 → AreUnits (Two e) text units 16 → AreScalarsBelow units 16 → IsWindow (utf16 e) 32 text units
+units_window e text units long are scalars =
+    let b = begun (utf16 e) (Two e) (λ c h. one_unit e c h) text units 16 (omega arith) are in
+    let all : take 16 units ≡ units = take_all 16 units (omega arith) in
+    record {
+      long = long;
+      few = λ k h. (are k h).few;
+      scalars = all_scalars units (rw long scalars);
+      begins = rw all at b.begins;
+      uses = sym (rw all at b.uses);
+    }
+
+-- units at the start of a text
+pub units_read : (e : Endian) (text units : List ℕ) → length units ≡ 16 → AreUnits (Two e) text units 16 → AreSixteen (utf16 e) 32 text units
+units_read e text units long are = record { few = λ k h. (are k h).few; window = units_window e text units long are }
+
+abbrev one : ℕ → List ℕ
+one c = c ∷ []
+
+ones_are : (bytes : List ℕ) → flat_map one bytes ≡ bytes
+ones_are [] = refl
+ones_are (b ∷ bytes) = ap (λ (l : List ℕ). b ∷ l) (ones_are bytes)
+
+below_scalars : (bytes : List ℕ) → ((k : ℕ) → k < length bytes → get_or bytes k 0 < 256) → AreScalars bytes
+below_scalars [] p = tt
+below_scalars (b ∷ bytes) p =
+    let small : b < 256 = p 0 (omega arith) in
+    ((omega (arith, small), λ h. absurd (omega (arith, small, h))), below_scalars bytes (λ k h. p (suc k) (omega arith)))
+
+bytes_are : (text bytes : List ℕ) → bytes ≡ take 16 text → 16 ≤ length text → ((k : ℕ) → get_or text k 0 < 256) → IsWindow one 16 text bytes
+bytes_are text bytes is room p =
+    let long : length bytes ≡ 16 = ap length is ∙ (let l : length (take 16 text) ≡ 16 = omega (arith, length-take 16 text) in l) in
+    let small : (k : ℕ) → k < 16 → get_or bytes k 0 < 256 = λ k h. rw (is, get_or-take) (p k) in
+    record {
+      long = long;
+      few = λ k h. omega (arith, small k h);
+      scalars = below_scalars bytes (λ k h. small k (omega (arith, long, h)));
+      begins = rw (ones_are bytes, is) (Begins-take 16 text);
+      uses = sym (ap length (ones_are bytes) ∙ long);
+    }
+
+-- bytes at the start of a text
+pub bytes_window : (text : List ℕ) → 16 ≤ length text → ((k : ℕ) → get_or text k 0 < 256) → AreSixteen one 16 text (map (λ (b : ℕ). b) (take 16 text))
+bytes_window text room p =
+    let w = bytes_are text _ (map-id (take 16 text)) room p in
+    record { few = w.few; window = λ scalars. w }

@@ -1,0 +1,22 @@
+-- Writing by more bytes than are wanted.
+use Rattle.std.specs.Prelude.{◌≡◌, ℕ, ◌+◌, ◌≤◌, List, ◌++◌, take, drop, length}
+use Rattle.std.specs.List.{flat_map}
+use Rattle.cv_base.specs.Scalars.{AreScalars}
+use Rattle.cv_base.specs.Items.{Begins}
+use Rattle.cv_block.specs.Spelled.{BytesOf}
+
+-- These n bytes were put at a place of a slice. The bytes behind them, as many as are given, may be anything, and all others stayed.
+pub record IsPutLoosely (bytes before : List ℕ) (at n loose : ℕ) (after : List ℕ) : Type 0 where
+  pub wrote : n ≡ length bytes
+  pub fits : at + n ≤ length before
+  pub stand : take (at + n) after ≡ take at before ++ bytes
+  pub behind : drop (at + n + loose) after ≡ drop (at + n + loose) before
+  pub size : length after ≡ length before
+
+-- The characters of the first bytes of a text, as one spelling has them, were put at a place in another.
+pub record IsConvertedLoosely (from to : BytesOf) (text before : List ℕ) (at used n loose : ℕ) (after : List ℕ) : Type 0 where
+  pub characters : List ℕ
+  pub scalars : AreScalars characters
+  pub begins : Begins (flat_map from characters) text
+  pub uses : used ≡ length (flat_map from characters)
+  pub put : IsPutLoosely (flat_map to characters) before at n loose after

@@ -1,0 +1,27 @@
+-- Sixteen characters that are read, or written, at once.
+use Rattle.std.specs.Prelude.{◌≡◌, ℕ, ◌+◌, ◌*◌, ◌/◌, ◌%◌, ◌<◌, List, length, get_or}
+use Rattle.std.specs.List.{flat_map}
+use Rattle.cv_base.specs.Scalars.{AreScalars}
+use Rattle.cv_base.specs.Items.{Begins}
+use Rattle.cv_base.specs.declared.endian.Endian.{Endian}
+use Rattle.cv_base.specs.declared.endian.Endian.TheVariants.{Big, Little}
+use Rattle.cv_block.specs.Spelled.{BytesOf}
+use Rattle.cv_block.specs.Units.{AreScalarsBelow}
+
+-- The units are sixteen characters, whose bytes begin a text.
+pub record IsWindow (bytes_of : BytesOf) (size : ℕ) (text units : List ℕ) : Type 0 where
+  pub long : length units ≡ 16
+  pub few : (k : ℕ) → k < 16 → get_or units k 0 < 0x10000
+  pub scalars : AreScalars units
+  pub begins : Begins (flat_map bytes_of units) text
+  pub uses : size ≡ length (flat_map bytes_of units)
+
+-- The units are sixteen below U+10000. If all of them are characters, their bytes begin a text.
+pub record AreSixteen (bytes_of : BytesOf) (size : ℕ) (text units : List ℕ) : Type 0 where
+  pub few : (k : ℕ) → k < 16 → get_or units k 0 < 0x10000
+  pub window : AreScalarsBelow units 16 → IsWindow bytes_of size text units
+
+-- a unit as a number whose low byte is the first
+abbrev pub in_order : Endian → ℕ → ℕ
+in_order Big u = u / 0x100 + u % 0x100 * 0x100
+in_order Little u = u

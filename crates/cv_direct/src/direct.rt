@@ -1,0 +1,99 @@
+//! Conversions by windows of sixteen characters.
+ghost use Rattle.std.specs.Prelude.{◌≡◌, ◌≤◌, ◌<◌, [], ◌∷◌, length, IfSome, MatchOption};
+ghost use Rattle.cv_direct.specs.Direct.{IsConverted};
+ghost use Rattle.cv_utf8.specs.Utf8.{utf8_bytes};
+ghost use Rattle.cv_wide.specs.Utf16.{utf16};
+
+use crate::latin1::Latin1Bytes;
+use crate::source::{Source, are_characters};
+use crate::target::{ROOM, Target, write_last};
+use crate::utf8::Utf8Bytes;
+use crate::utf16::Utf16In;
+use cv_block::ByteOrder;
+
+/// What was converted.
+#[derive(Clone, Copy, Debug, PartialEq, Eq)]
+pub struct Direct {
+    /// How many bytes of the text are used.
+    pub used: usize,
+    /// How many bytes were written.
+    pub wrote: usize,
+}
+
+/// How many windows are converted by one call, about. Then the caller looks whether a run of ASCII is next, for which it has a faster way.
+const MANY_WINDOWS: usize = 32;
+
+/// Converts the windows at the start of a text, up to one that has other characters, or that is not whole, or for which there might be
+/// no room. Each is written over what was put behind the one before, and the last one by a buffer.
+#[inline(always)]
+fn convert<S: Source, T: Target>(text: &[u8], out: &mut [u8], at: usize) -> Option<Direct>
+    requires { at ≤ length out.old }
+    ensures some { IfSome result (λ run. 0 < run.used) }
+    ensures run { MatchOption result (out.new ≡ out.old) (λ run.
+        IsConverted S.bytes_of T.bytes_of text.now out.old at run out.new) }
+{
+    let size = S::window_size();
+    if text.len() < size || out.len() - at < ROOM {
+        return None;
+    }
+    let mut units = S::window(text);
+    if !are_characters(units) {
+        return None;
+    }
+    let mut used = 0;
+    let mut end = at;
+    while used < MANY_WINDOWS * size
+        && text.len() - used >= 2 * size
+        && out.len() - end >= 2 * ROOM
+    {
+        let next = S::window(&text[used + size..]);
+        if !are_characters(next) {
+            break;
+        }
+        end += T::write_window(units, out, end);
+        used += size;
+        units = next;
+    }
+    end += write_last::<T>(units, out, end);
+    Some(Direct {
+        used: used + size,
+        wrote: end - at,
+    })
+}
+
+/// Converts characters below U+10000 at the start of a text, if there are sixteen, from UTF-16 to UTF-8.
+#[inline(never)]
+pub fn utf16_to_utf8<O: ByteOrder>(text: &[u8], out: &mut [u8], at: usize) -> Option<Direct>
+    requires { at ≤ length out.old }
+    ensures some { IfSome result (λ run. 0 < run.used) }
+    ensures run { MatchOption result (out.new ≡ out.old) (λ run.
+        IsConverted (utf16 O.endian) utf8_bytes text.now out.old at run out.new) }
+{
+    convert::<Utf16In<O>, Utf8Bytes>(text, out, at)
+}
+
+/// Converts characters below U+10000 at the start of a text, if there are sixteen, from one byte order of UTF-16 to another.
+#[inline(never)]
+pub fn utf16_swapped<O: ByteOrder, P: ByteOrder>(
+    text: &[u8],
+    out: &mut [u8],
+    at: usize,
+) -> Option<Direct>
+    requires { at ≤ length out.old }
+    ensures some { IfSome result (λ run. 0 < run.used) }
+    ensures run { MatchOption result (out.new ≡ out.old) (λ run.
+        IsConverted (utf16 O.endian) (utf16 P.endian) text.now out.old at run out.new) }
+{
+    convert::<Utf16In<O>, Utf16In<P>>(text, out, at)
+}
+
+/// Converts the characters at the start of a text, if there are sixteen, from ISO-8859-1 to UTF-8.
+#[inline(never)]
+pub fn latin1_to_utf8(text: &[u8], out: &mut [u8], at: usize) -> Option<Direct>
+    requires { at ≤ length out.old }
+    ensures some { IfSome result (λ run. 0 < run.used) }
+    ensures run { MatchOption result (out.new ≡ out.old) (λ run.
+        IsConverted (λ c. c ∷ []) utf8_bytes text.now out.old at run out.new) }
+{
+    convert::<Latin1Bytes, Utf8Bytes>(text, out, at)
+}

@@ -1,0 +1,24 @@
+//! ISO-8859-1, sixteen bytes at once.
+ghost use Rattle.std.specs.Prelude.{[], ◌∷◌};
+
+use crate::source::Source;
+use std::simd::prelude::*;
+
+/// ISO-8859-1: each byte is the character of its number.
+pub(crate) struct Latin1Bytes;
+
+impl Source for Latin1Bytes {
+    ghost bytes_of = { λ c. c ∷ [] };
+
+    ghost window_size = { 16 };
+
+    #[inline(always)]
+    fn window_size() -> usize {
+        16
+    }
+
+    #[inline(always)]
+    fn window(text: &[u8]) -> u16x16 {
+        u8x16::from_slice(text).cast::<u16>()
+    }
+}

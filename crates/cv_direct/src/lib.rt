@@ -1,0 +1,14 @@
+//! Conversions from one encoding to another that go without a buffer of characters between.
+#![tactic(auto)]
+
+mod direct;
+mod latin1;
+mod middle;
+mod short;
+mod sizes;
+mod source;
+mod target;
+mod utf16;
+mod utf8;
+
+pub use direct::{Direct, latin1_to_utf8, utf16_swapped, utf16_to_utf8};

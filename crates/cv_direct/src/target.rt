@@ -1,0 +1,48 @@
+//! Encodings that are written by sixteen units at once.
+ghost use Rattle.std.specs.Prelude.{◌≡◌, ◌+◌, ◌≤◌, ◌<◌, ◌++◌, ℕ, length, get_or, take, drop};
+ghost use Rattle.std.specs.List.{flat_map};
+ghost use Rattle.cv_block.specs.Spelled.{BytesOf};
+ghost use Rattle.cv_direct.specs.Private.Loose.{IsPutLoosely};
+
+use std::simd::prelude::*;
+
+/// How many bytes a window may overwrite.
+pub(crate) const ROOM: usize = 64;
+
+/// An encoding that has all characters.
+pub(crate) trait Target {
+    ghost bytes_of: { BytesOf };
+
+    /// Writes sixteen characters, and answers how many bytes they have. What follows them, up to sixteen bytes, may be anything.
+    fn write_window(units: u16x16, out: &mut [u8], at: usize) -> usize
+        requires room { at + 64 ≤ length out.old }
+        requires middle { (k : ℕ) → k < 16 → get_or units k 0 < 0x10000 }
+        ensures some { 16 ≤ result }
+        ensures few { result ≤ 48 }
+        ensures put { IsPutLoosely (flat_map bytes_of units) out.old at result 16 out.new };
+}
+
+/// Puts the first `n` bytes of a buffer at a place.
+#[inline(always)]
+fn copy_front(front: &[u8], n: usize, out: &mut [u8], at: usize)
+    requires stand { n ≤ length front.now }
+    requires fit { at + n ≤ length out.old }
+    ensures { out.new ≡ take at out.old ++ take n front.now ++ drop (at + n) out.old }
+{
+    out[at..at + n].copy_from_slice(&front[..n]);
+}
+
+/// Writes sixteen characters, and answers how many bytes they have. They go by a buffer, so that what follows them stays.
+#[inline(always)]
+pub(crate) fn write_last<T: Target>(units: u16x16, out: &mut [u8], at: usize) -> usize
+    requires room { at + 48 ≤ length out.old }
+    requires middle { (k : ℕ) → k < 16 → get_or units k 0 < 0x10000 }
+    ensures some { 16 ≤ result }
+    ensures few { result ≤ 48 }
+    ensures put { IsPutLoosely (flat_map T.bytes_of units) out.old at result 0 out.new }
+{
+    let mut front = [0u8; ROOM];
+    let n = T::write_window(units, &mut front, 0);
+    copy_front(&front, n, out, at);
+    n
+}

@@ -1,0 +1,83 @@
+//! UTF-16, sixteen units at once.
+ghost use Rattle.std.specs.Prelude.{◌≡◌, ◌≤◌, ◌<◌, ℕ, length, get_or, map};
+ghost use Rattle.cv_base.specs.declared.ascii_form.AsciiForm.TheVariants.{Two};
+ghost use Rattle.cv_base.specs.declared.endian.Endian.TheVariants.{Big};
+ghost use Rattle.cv_block.specs.Units.{AreUnits};
+ghost use Rattle.cv_direct.specs.Private.Windows.{in_order};
+ghost use Rattle.cv_wide.specs.Utf16.{utf16};
+
+use crate::source::Source;
+use crate::target::Target;
+use cv_base::Endian;
+use cv_block::{ByteOrder, MANY};
+use std::marker::PhantomData;
+use std::simd::prelude::*;
+
+/// The numbers of the units at the start of a text. None is tested, so that LLVM loads all at once.
+#[inline(always)]
+fn units_of<O: ByteOrder>(text: &[u8]) -> u16x16
+    requires { 32 ≤ length text.now }
+    ensures long { length result ≡ 16 }
+    ensures units { AreUnits (Two O.endian) text.now result 16 }
+{
+    let mut units = [0; MANY];
+    let mut at = 0;
+    for k in 0..MANY {
+        units[k] = O::two(text, at) as u16;
+        at += 2;
+    }
+    u16x16::from_array(units)
+}
+
+/// The units with their bytes swapped.
+#[inline(always)]
+fn swapped(units: u16x16) -> u16x16
+    requires { (k : ℕ) → k < 16 → get_or units k 0 < 0x10000 }
+    ensures { result ≡ map (in_order Big) units }
+{
+    units / u16x16::splat(0x100) + units * u16x16::splat(0x100)
+}
+
+/// The units as numbers whose low bytes are the first.
+#[inline(always)]
+fn ordered<O: ByteOrder>(units: u16x16) -> u16x16
+    requires { (k : ℕ) → k < 16 → get_or units k 0 < 0x10000 }
+    ensures { result ≡ map (in_order O.endian) units }
+{
+    match O::order() {
+        Endian::Big => return swapped(units),
+        Endian::Little => return units,
+    }
+}
+
+/// UTF-16 in a byte order.
+pub(crate) struct Utf16In<O> {
+    order: PhantomData<O>,
+}
+
+impl<O: ByteOrder> Source for Utf16In<O> {
+    ghost bytes_of = { utf16 O.endian };
+
+    ghost window_size = { 32 };
+
+    #[inline(always)]
+    fn window_size() -> usize {
+        32
+    }
+
+    #[inline(always)]
+    fn window(text: &[u8]) -> u16x16 {
+        units_of::<O>(text)
+    }
+}
+
+impl<O: ByteOrder> Target for Utf16In<O> {
+    ghost bytes_of = { utf16 O.endian };
+
+    #[inline(always)]
+    fn write_window(units: u16x16, out: &mut [u8], at: usize) -> usize {
+        let bytes = ordered::<O>(units).to_le_bytes();
+        bytes.copy_to_slice(&mut out[at..]);
+        2 * MANY
+    }
+}

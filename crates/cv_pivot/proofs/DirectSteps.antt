@@ -1,0 +1,59 @@
+-- Converting directly is a step.
+use Rattle.std.proofs.Common.{◌≡◌, ℕ, ◌<◌, List, [], ◌∷◌, length, get_or, refl, sym, subst, arith, suc}
+use Rattle.std.specs.List.{flat_map}
+use Rattle.std.proofs.lemmas.List.{take_all}
+use Rattle.cv_base.specs.Items.{ItemRelation, Begins}
+use Rattle.cv_base.specs.Codecs.{Writing}
+use Rattle.cv_base.specs.Scalars.{AreScalars}
+use Rattle.cv_base.specs.SingleBytes.{byte_reads}
+use Rattle.cv_base.specs.declared.policy.Policy.{Policy}
+use Rattle.cv_base.specs.declared.state.ReadState.{ReadState}
+use Rattle.cv_base.specs.declared.state.ReadState.TheVariants as read
+use Rattle.cv_base.specs.declared.state.WriteState.{WriteState}
+use Rattle.cv_base.specs.declared.state.WriteState.TheVariants as write
+use Rattle.cv_base.proofs.AllWritten.{none_allowed}
+use Rattle.cv_base.proofs.BlockLaws.{AreRead, read_block_of}
+use Rattle.cv_block.specs.Spelled.{BytesOf}
+use Rattle.cv_block.proofs.SpelledBlocks.{ReadsSpelled, WritesSpelled, scalars_read, spelled_written}
+use Rattle.cv_direct.specs.Direct.{IsConverted}
+use Rattle.cv_direct.specs.declared.direct.Direct.{Direct}
+use Rattle.cv_utf8.specs.Utf8.{utf8_bytes, utf8_writes}
+use Rattle.cv_pivot.specs.declared.outcome.States.{States}
+use Rattle.cv_pivot.specs.Private.Steps.{TakesSome}
+use Rattle.cv_pivot.proofs.BlockSteps.{block_takes}
+
+-- In this state characters at the start of a text read as they are spelled.
+abbrev ReadsAll : ItemRelation → ReadState → BytesOf → List ℕ → Type 0
+ReadsAll reads s bytes_of rest = (characters : List ℕ) → AreScalars characters → Begins (flat_map bytes_of characters) rest → AreRead reads s bytes_of characters
+
+-- characters that were converted from one spelling to another
+pub converted_takes : (reads : ItemRelation) (writes : Writing) (policy : Policy) (from : States) (bytes_of bytes_to : BytesOf) (rest before : List ℕ) (at : ℕ) (run : Direct) (after : List ℕ) → ReadsAll reads from.reading bytes_of rest → WritesSpelled writes from.writing bytes_to → 0 < run.used
+    → IsConverted bytes_of bytes_to rest before at run after → TakesSome reads writes policy from rest before at (record { used = run.used; wrote = run.wrote; count = 0 }) from after
+converted_takes reads writes policy from bytes_of bytes_to rest before at run after r w some p =
+    let characters : List ℕ = p.characters in
+    let n : ℕ = length characters in
+    let whole = take_all n characters (omega arith) in
+    let block = read_block_of reads from.reading bytes_of rest characters characters n run.used (r characters p.scalars p.begins) p.begins p.uses whole (omega arith) in
+    let written = spelled_written writes from.writing bytes_to w characters before at (record { wrote = run.wrote; count = 0; next = from.writing }) after (record { bytes = p.put; counts = refl; next = refl }) in
+    block_takes reads writes policy from rest before at _ characters characters _ after block some (sym whole) (none_allowed policy _ (sym written.counts)) written
+
+-- from a spelling
+pub spelled_takes : (reads : ItemRelation) (writes : Writing) (policy : Policy) (from : States) (bytes_of bytes_to : BytesOf) (rest before : List ℕ) (at : ℕ) (run : Direct) (after : List ℕ) → ReadsSpelled reads from.reading bytes_of → WritesSpelled writes from.writing bytes_to → 0 < run.used
+    → IsConverted bytes_of bytes_to rest before at run after → TakesSome reads writes policy from rest before at (record { used = run.used; wrote = run.wrote; count = 0 }) from after
+spelled_takes reads writes policy from bytes_of bytes_to rest before at run after r w some p =
+    converted_takes reads writes policy from bytes_of bytes_to rest before at run after (λ characters scalars begins. scalars_read reads from.reading bytes_of r characters scalars) w some p
+
+bytes_read : (characters rest : List ℕ) → ((k : ℕ) → get_or rest k 0 < 256) → Begins (flat_map (λ c. c ∷ []) characters) rest → AreRead (byte_reads 256) read.Start (λ c. c ∷ []) characters
+bytes_read [] rest p h = tt
+bytes_read (c ∷ characters) [] p h = absurd h
+bytes_read (c ∷ characters) (b ∷ rest) p h = ((omega (arith, h.0, p 0), refl), bytes_read characters rest (λ k. p (suc k)) h.1)
+
+-- from the bytes of ISO-8859-1
+pub bytes_take : (writes : Writing) (policy : Policy) (from : States) (bytes_to : BytesOf) (rest before : List ℕ) (at : ℕ) (run : Direct) (after : List ℕ) → from.reading ≡ read.Start → ((k : ℕ) → get_or rest k 0 < 256) → WritesSpelled writes from.writing bytes_to → 0 < run.used
+    → IsConverted (λ c. c ∷ []) bytes_to rest before at run after → TakesSome (byte_reads 256) writes policy from rest before at (record { used = run.used; wrote = run.wrote; count = 0 }) from after
+bytes_take writes policy from bytes_to rest before at run after e p w some q =
+    converted_takes (byte_reads 256) writes policy from (λ c. c ∷ []) bytes_to rest before at run after (λ characters scalars begins. subst (λ (s : ReadState). AreRead (byte_reads 256) s (λ c. c ∷ []) characters) (sym e) (bytes_read characters rest p begins)) w some q
+
+-- UTF-8 is written as it is at the start
+pub utf8_spelled : (t : WriteState) → t ≡ write.Start → WritesSpelled utf8_writes t utf8_bytes
+utf8_spelled t e = subst (λ (s : WriteState). WritesSpelled utf8_writes s utf8_bytes) (sym e) (λ c. refl)

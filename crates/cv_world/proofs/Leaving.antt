@@ -98,6 +98,10 @@ closed_more T next n a h below m l =
       | inr b ↦ now.1 m (below m (omega (arith, l, b)))
     ]
 
+-- and what was closed is closed still
+pub closed_still : (T next : Table) (n : ℕ) (a : Answer) → Acts T (Close n) next a → (m : ℕ) → descriptor_at T m ≡ None → descriptor_at next m ≡ None
+closed_still T next n a h = (closes T next n a (descriptor_at T n) refl h).1
+
 -- ---- two changes of one caller's table
 
 other_of : (s t : ℕ → Table) (c q : ℕ) → t ≡ with_table s c (t c) → eqb q c ≡ false → t q ≡ s q

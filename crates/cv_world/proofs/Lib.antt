@@ -1,5 +1,6 @@
 pub mod Owned
 pub mod Buffers
+pub mod TwoStages
 pub mod Keeping
 pub mod Changes
 pub mod Stepping

@@ -5,13 +5,13 @@ ghost use Rattle.cv_caller.specs.Keyed.{no_keys, place_at, with_place, keyed_wit
 ghost use Rattle.cv_caller.specs.Results.{IsDropped, IsPart};
 ghost use Rattle.cv_caller.specs.declared.limits.TheConstants.{DESCRIPTORS};
 ghost use Rattle.cv_world.specs.Private.Opening.{DeclinesOpen, IsOpening};
-ghost use Rattle.cv_world.specs.Private.Changes.{HasTable, IsPut, SetsKeyed};
+ghost use Rattle.cv_world.specs.Private.Changes.{ClosedWhereNot, HasTable, IsPut, SetsKeyed};
 ghost use Rattle.cv_world.specs.Worlds.{keyed_in};
 
 use crate::kept::Kept;
 use crate::opening::{Opening, prepare};
 use cv_base::{Memory, Policy};
-use cv_caller::{AddFault, DropFault, PartFault, Place, Table};
+use cv_caller::{AddFault, DESCRIPTORS, DropFault, PartFault, Place, Table};
 use cv_frame::Status;
 use cv_trie::Charmap;
 use std::alloc::Global;
@@ -26,6 +26,27 @@ pub(crate) fn place_in(callers: &BTreeMap<u32, Kept>, caller: u32, number: u32) 
     match callers.get(&caller) {
         Some(kept) => kept.table.place(number),
         None => None,
+    }
+}
+
+/// For each number of a table, whether it stands for something.
+fn bound_of(table: &Table) -> [bool; DESCRIPTORS]
+    ensures { ClosedWhereNot (place_at table.now) result }
+{
+    let mut bound = [false; DESCRIPTORS];
+    for (number, is_bound) in bound.iter_mut().enumerate() {
+        *is_bound = table.place(number as u32).is_some();
+    }
+    bound
+}
+
+/// For each number of a caller, whether it stands for something.
+pub(crate) fn bound_in(callers: &BTreeMap<u32, Kept>, caller: u32) -> [bool; DESCRIPTORS]
+    ensures { ClosedWhereNot (place_at (keyed_in callers.now caller)) result }
+{
+    match callers.get(&caller) {
+        Some(kept) => bound_of(&kept.table),
+        None => bound_of(&Table::new()),
     }
 }
 

@@ -5,6 +5,7 @@ ghost use Rattle.cv_pivot.specs.Conversions.{start, IsConverted};
 ghost use Rattle.cv_pivot.specs.Encodings.{form_of, form_reads, form_writes, form_closes, IsForm};
 ghost use Rattle.cv_pivot.specs.declared.conversion.Conversion.{Conversion as Kept};
 
+use crate::stages::convert_into;
 use cv_base::{Memory, Piece};
 use cv_frame::MOST_BODY;
 use cv_pivot::{Conversion, Outcome, States, TooBig};
@@ -32,6 +33,60 @@ pub(crate) struct Output {
     pub(crate) states: States,
 }
 
+/// Converts as much of the input as fits in so many bytes, all of which are cleared first.
+fn convert_at_once(
+    alloc: Global,
+    conversion: &mut Conversion,
+    size: usize,
+    input: &[u8],
+) -> Result<Output, Memory>
+    ensures converted { IfOk result (λ r. IsConverted (form_reads (form_of conversion.old.from)) (form_writes (form_of conversion.old.to)) conversion.old.policy conversion.old.states input.now size
+        (record { left = r.outcome.left; count = r.outcome.count; stop = r.outcome.stop; output = r.bytes.items; states = r.states })) }
+    ensures kept { IfOk result (λ r. conversion.new ≡ record conversion.old { states = r.states }) }
+    ensures few { IfOk result (λ r. (r.outcome.left ≤ length input.now) × (r.outcome.count ≤ length input.now)) }
+    ensures fits { IfOk result (λ r. length r.bytes.items ≤ size) }
+    ensures err { OnErr result (conversion.new ≡ conversion.old) }
+{
+    let mut bytes = vec![in alloc; 0u8; size]?;
+    let outcome = conversion.convert(input, &mut bytes);
+    bytes.truncate(size - outcome.room_left);
+    Ok(Output {
+        outcome,
+        bytes,
+        states: conversion.states,
+    })
+}
+
+/// Converts as much of the input as fits in so many bytes. They are cleared only as far as they come to be used.
+fn convert_in_stages(
+    alloc: Global,
+    conversion: &mut Conversion,
+    size: usize,
+    input: &[u8],
+) -> Result<Output, Memory>
+    requires small { size < 2 ^ 32 }
+    requires short { length input.now ≤ MOST_BODY }
+    ensures converted { IfOk result (λ r. IsConverted (form_reads (form_of conversion.old.from)) (form_writes (form_of conversion.old.to)) conversion.old.policy conversion.old.states input.now size
+        (record { left = r.outcome.left; count = r.outcome.count; stop = r.outcome.stop; output = r.bytes.items; states = r.states })) }
+    ensures kept { IfOk result (λ r. conversion.new ≡ record conversion.old { states = r.states }) }
+    ensures few { IfOk result (λ r. (r.outcome.left ≤ length input.now) × (r.outcome.count ≤ length input.now)) }
+    ensures fits { IfOk result (λ r. length r.bytes.items ≤ size) }
+    ensures err { OnErr result (conversion.new ≡ conversion.old) }
+{
+    let mut bytes = Vec::with_capacity(alloc, size)?;
+    let outcome = convert_into(conversion, input, &mut bytes, size);
+    let end = size - outcome.room_left;
+    bytes.truncate(end);
+    Ok(Output {
+        outcome,
+        bytes,
+        states: conversion.states,
+    })
+}
+
+/// How large a buffer is at most to be cleared at once.
+const AT_ONCE: usize = 16_384;
+
 /// Converts as much of the input as fits in the room. It takes memory for no more than the input can need.
 fn convert(
     alloc: Global,
@@ -50,14 +105,10 @@ fn convert(
 {
     conversion.from.assert_form();
     let size = (room as usize).min(conversion.most_output(input.len()));
-    let mut bytes = vec![in alloc; 0u8; size]?;
-    let outcome = conversion.convert(input, &mut bytes);
-    bytes.truncate(size - outcome.room_left);
-    Ok(Output {
-        outcome,
-        bytes,
-        states: conversion.states,
-    })
+    if size <= AT_ONCE {
+        return convert_at_once(alloc, conversion, size, input);
+    }
+    convert_in_stages(alloc, conversion, size, input)
 }
 
 /// Converts by the conversion under a key.

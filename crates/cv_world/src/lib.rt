@@ -11,6 +11,7 @@ mod op;
 mod opening;
 mod outcomes;
 mod serving;
+mod stages;
 mod world;
 
 pub use answer::Answer;

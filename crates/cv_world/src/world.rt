@@ -1,5 +1,5 @@
 //! The callers of a shard.
-ghost use Rattle.std.specs.Prelude.{◌≡◌, ◌≤◌, ◌++◌, ℕ, None, length, IfOk};
+ghost use Rattle.std.specs.Prelude.{◌≡◌, ◌≤◌, ◌<◌, ◌++◌, ℕ, None, false, length, slice_index_or, IfOk};
 ghost use Rattle.cv_cache.specs.Compiled.{compiled};
 ghost use Rattle.cv_machine.specs.Machine.{with_table};
 ghost use Rattle.cv_caller.specs.Tables.{Table as WorldTable, IsTable, empty_table, descriptor_at};
@@ -8,11 +8,12 @@ ghost use Rattle.cv_world.specs.Answers.{AnswerFits};
 ghost use Rattle.cv_world.specs.Requests.{turn};
 ghost use Rattle.cv_world.specs.Turn.{Acts};
 ghost use Rattle.cv_world.specs.Worlds.{world_tables, no_tables};
+ghost use Rattle.cv_world.specs.declared.answer.Answer.{Answer as Answered};
 
 use crate::answer::Answer;
 use crate::callers::{
-    assert_keyed, bind_in, drop_in, forget_empty, gather_in, make_room, part_in, place_in,
-    prepare_in, put_in, remove_in, unbind_in,
+    assert_keyed, bind_in, bound_in, drop_in, forget_empty, gather_in, make_room, part_in,
+    place_in, prepare_in, put_in, remove_in, unbind_in,
 };
 use crate::conversions::{convert_in, reserve_one, reset_in};
 use crate::kept::Kept;
@@ -153,13 +154,8 @@ impl World {
         if room > MOST_ROOM {
             return Answer::Refused(Status::Room);
         }
-        let Ok(output) = convert_in(
-            alloc,
-            &mut self.conversions,
-            place.key as usize,
-            room,
-            input,
-        ) else {
+        let key = place.key as usize;
+        let Ok(output) = convert_in(alloc, &mut self.conversions, key, room, input) else {
             return Answer::Refused(Status::NoMemory);
         };
         Answer::Converted {
@@ -244,13 +240,33 @@ impl World {
         part_answer(parted)
     }
 
-    /// Frees all numbers of a caller.
+    /// For each number of a caller, whether it is bound.
+    fn bound_numbers(&self, caller: u32) -> [bool; DESCRIPTORS]
+        ensures { (number : ℕ) → number < DESCRIPTORS → slice_index_or result number false ≡ false → descriptor_at (world_tables self.now caller) number ≡ None }
+    {
+        bound_in(&self.callers, caller)
+    }
+
+    /// Frees a number, if it is bound.
+    fn close_bound(&mut self, caller: u32, number: u32, is_bound: bool)
+        requires { is_bound ≡ false → descriptor_at (world_tables self.old caller) number ≡ None }
+        ensures acts { (answer : Answered) × Acts (world_tables self.old caller) (Close number) (world_tables self.new caller) answer }
+        ensures others { world_tables self.new ≡ with_table (world_tables self.old) caller (world_tables self.new caller) }
+    {
+        if !is_bound {
+            return;
+        }
+        let _ = self.close(caller, number);
+    }
+
+    /// Frees all numbers of a caller. It is looked up once for all that are free already.
     fn close_all(&mut self, caller: u32)
         ensures closed { (number : ℕ) → descriptor_at (world_tables self.new caller) number ≡ None }
         ensures others { world_tables self.new ≡ with_table (world_tables self.old) caller (world_tables self.new caller) }
     {
+        let bound = self.bound_numbers(caller);
         for number in 0..DESCRIPTORS as u32 {
-            let _ = self.close(caller, number);
+            self.close_bound(caller, number, bound[number as usize]);
         }
         // There are no other numbers.
         self.assert_table(caller);

@@ -1,9 +1,10 @@
 -- How one caller's keyed table changes, and what is answered.
-use Rattle.std.specs.Prelude.{◌≡◌, ◌≢◌, ℕ, [], IsSome, Result, Ok, Err}
+use Rattle.std.specs.Prelude.{◌≡◌, ◌≢◌, ◌<◌, ℕ, Bool, false, List, [], length, slice_index_or, Option, None, IsSome, Result, Ok, Err}
 use Rattle.std.specs.Ordering.{nat_cmp}
 use Rattle.std.specs.BTreeMap.{BTreeMap, get}
 use Rattle.cv_caller.specs.Keyed.{Keyed, keyed_with_part}
 use Rattle.cv_caller.specs.Results.{IsAdded}
+use Rattle.cv_caller.specs.declared.place.Place.{Place}
 use Rattle.cv_caller.specs.declared.faults.AddFault.{AddFault}
 use Rattle.cv_caller.specs.declared.faults.AddFault.TheVariants as add
 use Rattle.cv_caller.specs.declared.faults.DropFault.{DropFault}
@@ -18,6 +19,10 @@ use Rattle.cv_world.specs.declared.answer.Answer.TheVariants as answers
 -- The caller has a table.
 abbrev pub HasTable : BTreeMap ℕ Keyed → ℕ → Type 0
 HasTable callers caller = IsSome (get nat_cmp callers caller)
+
+-- A number for which the list says false stands for nothing.
+abbrev pub ClosedWhereNot : (ℕ → Option Place) → List Bool → Type 0
+ClosedWhereNot places bound = (number : ℕ) → number < length bound → slice_index_or bound number false ≡ false → places number ≡ None
 
 -- One caller's table becomes this, and all others stay.
 pub record SetsKeyed (old new : ℕ → Keyed) (caller : ℕ) (keyed : Keyed) : Type 0 where

@@ -91,16 +91,16 @@ static struct slot *take(struct iconvd_pool *pool, const struct pair *pair) {
 /* What is done with a stream once the pair is open on it. */
 typedef iconvd_status pool_action(struct iconvd_pool *pool, struct slot *slot, const struct place *place, void *context);
 
-/* Opens the pair on a stream and acts. `again`: the stream is lost, and another one may do better. Where the time was up it would only
-   be up again. */
-static iconvd_status try_pair(struct iconvd_pool *pool, const struct pair *pair, pool_action *act, void *context, bool *again) {
-    struct refusal refusal = {.encoding = NULL};
+/* Opens the pair on a locked stream and acts. `again`: the stream is lost, and another try may do better. Where the time was up it would
+   only be up again. */
+static iconvd_status try_pair(struct iconvd_pool *pool, struct slot *slot, const struct pair *pair, pool_action *act, void *context,
+                              struct refusal *refusal, bool *again) {
     struct place place;
-    struct slot *slot = take(pool, pair);
+    refusal->encoding = NULL;
     iconvd_status status = ICONVD_LOST;
     *again = slot_ready(pool, slot);
     if (*again) {
-        status = remote_find(&slot->remote, &slot->stream, pair, &place, &refusal);
+        status = remote_find(&slot->remote, &slot->stream, pair, &place, refusal);
         if (status == ICONVD_OK)
             status = act(pool, slot, &place, context);
     }
@@ -108,23 +108,31 @@ static iconvd_status try_pair(struct iconvd_pool *pool, const struct pair *pair,
         *again = !slot->stream.timed_out;
         slot_lose(pool, slot);
     }
+    return status;
+}
+
+/* The same, with two more tries where a stream is lost. They are made on a new connection: whatever ended this stream may have ended every
+   idle one. Where none is to be had, another stream may be there still. */
+static iconvd_status with_pair(struct iconvd_pool *pool, const struct pair *pair, pool_action *act, void *context) {
+    iconvd_status status = ICONVD_LOST;
+    bool again = true;
+    struct refusal refusal = {.encoding = NULL};
+    int cancelling = cancelling_off();
+    struct slot *slot = take(pool, pair);
+    for (int try = 0; try < 3 && status == ICONVD_LOST && again; try++) {
+        if (try > 0 && !slot_ready(pool, slot)) {
+            pthread_mutex_unlock(&slot->mutex);
+            slot = take(pool, pair);
+        }
+        status = try_pair(pool, slot, pair, act, context, &refusal, &again);
+    }
     pthread_mutex_unlock(&slot->mutex);
     pool_note(pool, &refusal);
+    cancelling_as(cancelling);
     if (!refusal.encoding || refusal.status != ICONVD_BADMAP)
         return status;
     atomic_store(&refusal.encoding->refused, true);
     return ICONVD_UNSUPPORTED;
-}
-
-/* The same, with two more tries where a stream is lost. */
-static iconvd_status with_pair(struct iconvd_pool *pool, const struct pair *pair, pool_action *act, void *context) {
-    iconvd_status status = ICONVD_LOST;
-    bool again = true;
-    int cancelling = cancelling_off();
-    for (int try = 0; try < 3 && status == ICONVD_LOST && again; try++)
-        status = try_pair(pool, pair, act, context, &again);
-    cancelling_as(cancelling);
-    return status;
 }
 
 static iconvd_status do_nothing(struct iconvd_pool *pool, struct slot *slot, const struct place *place, void *context) {

@@ -38,6 +38,9 @@ static struct {
     int request;      /* which one of a connection is answered wrongly */
     bool always;      /* on every connection, not only on the first */
     int connections;  /* how many there were */
+    int ends[16];     /* our ends of the first of them */
+    int together;     /* how many texts have to be there before one is answered */
+    int texts;        /* how many were sent */
     int listener;
 } plan;
 
@@ -102,6 +105,13 @@ static bool closes(enum fault fault) {
     return fault == CLOSE_AT_ONCE || fault >= CLOSE_AFTER;
 }
 
+/* Waits until so many texts are there as are to be answered together. */
+static void wait_for_others(void) {
+    int texts = __atomic_add_fetch(&plan.texts, 1, __ATOMIC_SEQ_CST);
+    for (; texts < plan.together; texts = __atomic_load_n(&plan.texts, __ATOMIC_SEQ_CST))
+        usleep(1000);
+}
+
 /* One connection. */
 static void *serve(void *argument) {
     static __thread unsigned char request[1100000], reply[2300000];
@@ -112,6 +122,8 @@ static void *serve(void *argument) {
         if (!read_all(fd, request + 13, length - 13))
             break;
         size_t total = answer(request, length, reply);
+        if (request[12] == ICONVD_CONV)
+            wait_for_others();
         enum fault fault = wrong && number == plan.request ? plan.fault : RIGHT;
         if (fault == SILENT) {
             while (read(fd, request, sizeof request) > 0)
@@ -134,7 +146,9 @@ static void *accept_all(void *argument) {
         int fd = accept(plan.listener, NULL, NULL);
         if (fd < 0)
             return NULL;
-        __atomic_add_fetch(&plan.connections, 1, __ATOMIC_SEQ_CST);
+        int number = __atomic_fetch_add(&plan.connections, 1, __ATOMIC_SEQ_CST);
+        if (number < (int)(sizeof plan.ends / sizeof *plan.ends))
+            plan.ends[number] = fd;
         pthread_t thread;
         if (pthread_create(&thread, NULL, serve, (void *)(intptr_t)fd) == 0)
             pthread_detach(thread);
@@ -204,6 +218,49 @@ static void test_fault(int fault, int request, size_t length) {
     check(connections <= 10, "fault %d always, at request %d: %d connections", fault, request, connections);
 }
 
+enum { STREAMS = 4 };
+
+/* Converts a text once. The status, as a pointer. */
+static void *convert_once(void *pool) {
+    iconvd_cd *cd = NULL;
+    iconvd_status status = iconvd_open(pool, "UTF-8", "ASCII", ICONVD_STRICT, &cd);
+    char text[] = "text", out[9];
+    const char *in = text;
+    char *out_at = out;
+    size_t left = 4, room = sizeof out;
+    if (status == ICONVD_OK)
+        status = iconvd_convert(cd, &in, &left, &out_at, &room, NULL);
+    check(status != ICONVD_OK || (left == 0 && room == 5 && memcmp(out, text, 4) == 0), "what a text is converted to");
+    iconvd_close(cd);
+    return (void *)(intptr_t)status;
+}
+
+/* All streams of a pool end while nobody uses them, as when their server is stopped: the next text goes on by a new one. */
+static void test_all_end(void) {
+    iconvd_options options = {.streams = STREAMS, .timeout = 5000};
+    iconvd_pool *pool = NULL;
+    pthread_t threads[STREAMS];
+    set_plan(RIGHT, 0, false);
+    plan.together = STREAMS;
+    __atomic_store_n(&plan.texts, 0, __ATOMIC_SEQ_CST);
+    check(iconvd_connect(where, &options, &pool) == ICONVD_OK, "a right server");
+    for (int i = 0; i < STREAMS; i++)
+        pthread_create(&threads[i], NULL, convert_once, pool);
+    for (int i = 0; i < STREAMS; i++) {
+        void *status;
+        pthread_join(threads[i], &status);
+        check((intptr_t)status == ICONVD_OK, "text %d of those at once: status %d", i, (int)(intptr_t)status);
+    }
+    int connections = __atomic_load_n(&plan.connections, __ATOMIC_SEQ_CST);
+    check(connections == STREAMS, "a stream for each text: %d", connections);
+    for (int i = 0; i < connections && i < STREAMS; i++)
+        shutdown(plan.ends[i], SHUT_RDWR);
+    int status = (int)(intptr_t)convert_once(pool);
+    check(status == ICONVD_OK, "after all streams have ended: status %d", status);
+    plan.together = 0;
+    iconvd_disconnect(pool);
+}
+
 int main(void) {
     struct sockaddr_un at = {.sun_family = AF_UNIX};
     snprintf(at.sun_path, sizeof at.sun_path, "/tmp/iconvd-hostile-%ld", (long)getpid());
@@ -223,6 +280,7 @@ int main(void) {
         if (point < 17)
             test_fault(CLOSE_AFTER + point, 0, 10);
     }
+    test_all_end();
     unlink(at.sun_path);
     return checks_end("hostile");
 }

@@ -3,6 +3,7 @@ pub mod Edges
 pub mod Setting
 pub mod Keeping
 pub mod Doubling
+pub mod Stretching
 pub mod Ways
 pub mod Agreeing
 pub mod ReadEntries

@@ -91,6 +91,45 @@ impl Steps {
         Ok(())
     }
 
+    /// Gives a node whose full block stands behind all others as much room again where it is, with one more edge.
+    fn stretch(
+        &mut self,
+        node: u32,
+        size: u8,
+        start: u32,
+        byte: u8,
+        code: u32,
+    ) -> Result<(), AllocError>
+        requires sound { IsSound self.old }
+        requires low { node < node_count self.old }
+        requires few { node_at self.old node ≡ Few size start }
+        requires last { start + size ≡ edge_count self.old }
+        requires small { size ≤ 16 }
+        requires lacks { (k : ℕ) → k < size → (edge_in self.old.edges.items (start + k)).byte ≢ byte }
+        requires leads { code ≢ none }
+        ensures sound { OnOk result (IsSound self.new) }
+        ensures sets { OnOk result (SetsEdge self.old self.new node byte code) }
+        ensures err { OnErr result (IsUnchanged self.old self.new) }
+        ensures nodes { OnOk result (node_count self.new ≡ node_count self.old) }
+        ensures edges { OnOk result (edge_count self.new ≤ edge_count self.old + 32) }
+        ensures tables { OnOk result (self.new.tables.items ≡ self.old.tables.items) }
+    {
+        let mut more = [Edge {
+            byte: VACANT,
+            code: NONE,
+        }; MOST / 2];
+        more[(byte & (size - 1)) as usize] = Edge {
+            byte: byte as u16,
+            code,
+        };
+        self.edges.extend_from_slice(&more[..size as usize])?;
+        self.nodes[node as usize] = Node::Few {
+            size: 2 * size,
+            start,
+        };
+        Ok(())
+    }
+
     /// Where each byte leads by a block.
     fn table_of(&self, start: u32, size: u8) -> [u32; 256]
         requires within { start + size ≤ edge_count self.now }
@@ -159,12 +198,16 @@ impl Steps {
                     };
                     return Ok(());
                 }
-                if size as usize <= MOST / 2 {
-                    return self.double(node, size, start, byte, code);
+                if size as usize > MOST / 2 {
+                    let number = self.promote(node, size, start)?;
+                    self.tables[number as usize * 256 + byte as usize] = code;
+                    return Ok(());
                 }
-                let number = self.promote(node, size, start)?;
-                self.tables[number as usize * 256 + byte as usize] = code;
-                Ok(())
+                if start as usize + size as usize == self.edges.len() {
+                    self.stretch(node, size, start, byte, code)
+                } else {
+                    self.double(node, size, start, byte, code)
+                }
             }
         }
     }

@@ -14,6 +14,12 @@ double-requires-clause-lacks c =
     let few : node_at t c.args.node ≡ Few c.in-Few.size c.in-Few.start = node_read t c.args.node c.index.result.now (Few c.in-Few.size c.in-Few.start) c.requires.low c.index.ensures c.in-Few.is in
     lacks t c.requires.sound c.args.node c.in-Few.size c.in-Few.start c.requires.low few c.args.byte (omega arith) c.requires.vacant
 
+pub stretch-requires-clause-lacks : goal.stretch-requires-clause-lacks
+stretch-requires-clause-lacks c =
+    let t = c.args.self.now in
+    let few : node_at t c.args.node ≡ Few c.in-Few.size c.in-Few.start = node_read t c.args.node c.index.result.now (Few c.in-Few.size c.in-Few.start) c.requires.low c.index.ensures c.in-Few.is in
+    lacks t c.requires.sound c.args.node c.in-Few.size c.in-Few.start c.requires.low few c.args.byte (omega arith) c.requires.vacant
+
 pub returns-in-Some-clause-sound : goal.returns-in-Some-clause-sound
 returns-in-Some-clause-sound c =
     let t = c.args.self.now in

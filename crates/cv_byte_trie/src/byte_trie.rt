@@ -45,6 +45,16 @@ impl Model for ByteTrie {
     ghost invariant = { λ t. IsIndexed t.entries.items t.steps };
 }
 
+/// A list of no entries, with room for so many, if there is memory for it.
+fn roomy(alloc: Global, room: usize) -> Vec<Entry>
+    ensures { result.items ≡ [] }
+{
+    match Vec::with_capacity(alloc, room) {
+        Ok(entries) => entries,
+        Err(_) => Vec::new(alloc),
+    }
+}
+
 /// What bytes are to the entry at a place, whose bytes begin them.
 fn met(entries: &[Entry], bytes: &[u8], place: usize) -> Added
     requires low { place < length entries.now }
@@ -68,6 +78,22 @@ impl ByteTrie {
             entries: Vec::new(alloc),
             steps,
         })
+    }
+
+    /// No entries, with room for so many, if there is memory for it.
+    pub fn with_room(alloc: Global, room: usize) -> Result<ByteTrie, Memory>
+        ensures { IfOk result (λ t. t.entries ≡ []) }
+    {
+        let steps = Steps::new(alloc)?;
+        let entries = roomy(alloc, room);
+        Ok(ByteTrie { entries, steps })
+    }
+
+    /// Gives back the room that is left for more entries.
+    pub fn trim(&mut self)
+        ensures { self.new ≡ self.old }
+    {
+        self.entries.shrink_to_fit();
     }
 
     /// How many entries there are.

@@ -17,6 +17,9 @@ use std::marker::Model;
 /// How many pairs a charmap has at most.
 const MOST_PAIRS: usize = 262_144;
 
+/// How many bytes the shortest line of a mapping has, as `<U0041>/x41`, with the line feed.
+const SHORTEST: usize = 12;
+
 /// Why a pair was not entered.
 #[derive(Clone, Copy, Debug)]
 pub(crate) enum EntryFault {
@@ -106,16 +109,27 @@ fn enter_into(trie: &mut ByteTrie, bytes: &[u8], character: Scalar) -> Result<us
     }
 }
 
+/// A list in which nothing is known of any pair, with room for so many, if there is memory for it.
+fn roomy(alloc: Global, room: usize) -> Vec<Reach>
+    ensures { result.items ≡ [] }
+{
+    match Vec::with_capacity(alloc, room) {
+        Ok(reach) => reach,
+        Err(_) => Vec::new(alloc),
+    }
+}
+
 impl Draft {
-    /// No pairs.
-    pub(crate) fn new(alloc: Global) -> Result<Draft, Memory>
+    /// No pairs, with room for as many as lines of a text of so many bytes can name, if there is memory for it.
+    pub(crate) fn new(alloc: Global, bytes: usize) -> Result<Draft, Memory>
         ensures { IfOk result (λ d. d ≡ []) }
     {
-        let trie = ByteTrie::new(alloc)?;
+        let room = (bytes / SHORTEST).min(MOST_PAIRS);
+        let trie = ByteTrie::with_room(alloc, room)?;
         Ok(Draft {
             alloc,
             trie,
-            reach: Vec::new(alloc),
+            reach: roomy(alloc, room),
         })
     }
 
@@ -193,11 +207,13 @@ impl Draft {
         Ok(())
     }
 
-    /// The pairs, with their trie.
+    /// The pairs, with their trie. It has no room for more.
     pub(crate) fn into_trie(self) -> ByteTrie
         ensures value { result.entries ≡ self }
         ensures few { length self ≤ most_pairs }
     {
-        self.trie
+        let mut trie = self.trie;
+        trie.trim();
+        trie
     }
 }

@@ -62,7 +62,7 @@ fn finish(
 pub fn read(alloc: Global, text: &[u8]) -> Result<Pairs, CompileFault>
     ensures { Reads (meaning text.now) result }
 {
-    let mut draft = match Draft::new(alloc) {
+    let mut draft = match Draft::new(alloc, text.len()) {
         Ok(draft) => draft,
         Err(_) => return Err(CompileFault::Memory),
     };

@@ -73,8 +73,8 @@ pub fn read(alloc: Global, text: &[u8]) -> Result<Pairs, CompileFault>
     let mut number: u32 = 0;
     for line in lines(text) {
         number = number.saturating_add(1);
-        match read_next(&mut draft, place, line, number) {
-            Ok(after) => place = after,
+        match read_next(&mut draft, &mut place, line, number) {
+            Ok(()) => {}
             Err(fault) => return Err(fault),
         }
         if let Phase::Behind = place.phase {

@@ -3,7 +3,7 @@
 ghost use Rattle.std.specs.Prelude.{◌≡◌, ℕ};
 ghost use Rattle.cv_lex.specs.Seen.{line_seen, HasBytes};
 ghost use Rattle.cv_charmap.specs.Private.Runs.{next_number};
-ghost use Rattle.cv_charmap.specs.Private.Seen.{TakesInside, NextTo, header_seen, state_seen, AboveTo, InsideTo, after_entries};
+ghost use Rattle.cv_charmap.specs.Private.Seen.{TakesInside, NextTo, taken, header_seen, state_seen, AboveTo, InsideTo, after_entries};
 
 use crate::draft::{Draft, EntryFault};
 use crate::fault::{CompileFault, MapFault};
@@ -99,30 +99,33 @@ pub(crate) fn read_inside(
     }
 }
 
-/// Takes a line.
+/// Takes a line, and goes on to where it leads.
 #[tactic(auto, unfolding(crate::specs::Private::Runs::line_run))]
 pub(crate) fn read_next<'a>(
     draft: &mut Draft,
-    place: Place<'a>,
+    place: &mut Place<'a>,
     line: &'a [u8],
     number: u32,
-) -> Result<Place<'a>, CompileFault>
+) -> Result<(), CompileFault>
     ensures { (k : ℕ) → number ≡ next_number k
-        → NextTo (state_seen place.entry.header draft.old place.entry.phase k) line.entry.now result
+        → NextTo (state_seen place.old.header draft.old place.old.phase k) line.entry.now (taken place.new result)
         draft.new }
 {
     match place.phase {
         Phase::Above => match read_above(place.header, line, number) {
-            Ok((header, phase)) => Ok(Place { header, phase }),
+            Ok((header, phase)) => {
+                *place = Place { header, phase };
+                Ok(())
+            }
             Err(fault) => Err(CompileFault::Map(fault)),
         },
         Phase::Inside => match read_inside(draft, &place.header, line, number) {
-            Ok(phase) => Ok(Place {
-                header: place.header,
-                phase,
-            }),
+            Ok(phase) => {
+                place.phase = phase;
+                Ok(())
+            }
             Err(fault) => Err(fault),
         },
-        Phase::Behind => Ok(place),
+        Phase::Behind => Ok(()),
     }
 }

@@ -100,6 +100,11 @@ TakesInside h all said n (Ok phase) after = (k : ℕ) → inside_by (state h all
 TakesInside h all said n (Err (compile.Map fault)) after = (k : ℕ) → inside_by (state h all Inside k) n (Ok said) ≡ Err fault
 TakesInside h all said n (Err compile.Memory) after = Unit {0}
 
+-- where a line that was taken led
+abbrev pub taken : Place → Result (Unit {0}) CompileFault → Result Place CompileFault
+taken place (Ok done) = Ok place
+taken place (Err why) = Err why
+
 -- A line was taken.
 abbrev pub NextTo : State → List ℕ → Result Place CompileFault → List Pair → Type 0
 NextTo s line (Ok place) after = line_run s line ≡ Ok (state (header_seen place.header) after place.phase (next_number s.number))

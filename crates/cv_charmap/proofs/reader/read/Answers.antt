@@ -16,7 +16,7 @@ returns-in-Err-read_next c =
 pub returns-in-Behind : goal.returns-in-Behind
 returns-in-Behind c =
     let place = c.loop-line.place in
-    let after = c.in-Ok-read_next.after in
+    let after = c.read_next.new.place in
     let number : c.saturating_add-number.result ≡ next_number c.loop-line.number = omega (arith, c.saturating_add-number.ensures) in
     let next = c.in-Ok-read_next.ensures c.loop-line.number number in
     ends_behind (lines_of c.args.text.now) (lines_of c.loop-line.line-iterator) (lines_of c.next.new.self) (state_seen place.header c.loop-line.draft place.phase c.loop-line.number) c.in-Some.line.now

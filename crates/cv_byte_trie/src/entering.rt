@@ -1,5 +1,5 @@
 //! Entering an entry where its bytes lead nowhere, or beside another.
-ghost use Rattle.std.specs.Prelude.{◌≡◌, ◌≢◌, ◌<◌, ◌≤◌, ◌+◌, ◌^◌, [], ◌∷◌, ◌++◌, length, OnOk, OnErr};
+ghost use Rattle.std.specs.Prelude.{◌≡◌, ◌≢◌, ◌<◌, ◌≤◌, ◌+◌, ◌^◌, ℕ, [], ◌∷◌, ◌++◌, length, slice_index_or, OnOk, OnErr};
 ghost use Rattle.cv_byte_trie.specs.Entries.{bytes_at};
 ghost use Rattle.cv_byte_trie.specs.Tries.{tails, none};
 ghost use Rattle.cv_byte_trie.specs.Tables.{node_count, edge_of};
@@ -46,6 +46,8 @@ pub(crate) fn enter(
     ensures indexed { IsIndexed entries.new.items steps.new }
     ensures at { OnOk result (IsAt (edge_of steps.new) (node_count steps.new) entries.new.items
         bytes.now depth node) }
+    ensures others { OnOk result ((b : ℕ) → b < 256 → b ≢ slice_index_or bytes.now depth 0
+        → edge_of steps.new node b ≡ edge_of steps.old node b) }
     ensures ok { OnOk result
         (entries.new.items ≡ entries.old.items ++ (bytes.now, character) ∷ []) }
     ensures err { OnErr result (entries.new.items ≡ entries.old.items) }

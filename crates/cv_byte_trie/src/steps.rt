@@ -1,7 +1,7 @@
 //! The steps of a trie, and where a byte leads by them.
-ghost use Rattle.std.specs.Prelude.{◌≡◌, ◌<◌, ◌≤◌, ◌+◌, ℕ, length, slice_index, IfOk};
+ghost use Rattle.std.specs.Prelude.{◌≡◌, ◌≢◌, ◌<◌, ◌≤◌, ◌+◌, ℕ, length, slice_index, IfOk};
 ghost use Rattle.cv_byte_trie.specs.Tries.{none};
-ghost use Rattle.cv_byte_trie.specs.Tables.{node_count, edge_count, code_count, node_at, edge_of};
+ghost use Rattle.cv_byte_trie.specs.Tables.{node_count, edge_count, code_count, node_at, edge_in, edge_of};
 ghost use Rattle.cv_byte_trie.specs.Private.Blocks.{FindsEdge};
 ghost use Rattle.cv_byte_trie.specs.Private.Sound.{IsSound};
 ghost use Rattle.cv_byte_trie.specs.declared.node.Node.TheVariants.{Few};
@@ -27,6 +27,17 @@ pub struct Steps {
     pub(crate) edges: Vec<Edge>,
     /// Tables of 256 codes, one behind another.
     pub(crate) tables: Vec<u32>,
+}
+
+/// How many bytes from one on, of so many, stand before another.
+fn nearer(byte: u8, other: u16, free: usize) -> usize
+    ensures few { result ≤ free }
+    ensures before { (b : ℕ) → byte ≤ b → b < byte + result → other ≢ b }
+{
+    if other < byte as u16 {
+        return free;
+    }
+    free.min((other - byte as u16) as usize)
 }
 
 impl Steps {
@@ -66,6 +77,38 @@ impl Steps {
                 }
             }
         }
+    }
+
+    /// How many bytes from one on, of so many, stand before the first that has an edge in a block.
+    fn free_in(&self, start: u32, size: u8, byte: u8, most: usize) -> usize
+        requires within { start + size ≤ edge_count self.now }
+        requires bytes { byte + most ≤ 256 }
+        ensures few { result ≤ most }
+        ensures free { (b k : ℕ) → byte ≤ b → b < byte + result → k < size → (edge_in self.now.edges.items (start + k)).byte ≢ b }
+    {
+        let mut free = most;
+        for at in 0..size as usize {
+            free = nearer(byte, self.edges[start as usize + at].byte, free);
+        }
+        free
+    }
+
+    /// How many bytes from one on, of so many, stand before the first that leads somewhere from a node.
+    pub(crate) fn free_from(&self, node: u32, byte: u8, most: usize) -> usize
+        requires sound { IsSound self.now }
+        requires low { node < node_count self.now }
+        requires bytes { byte + most ≤ 256 }
+        ensures few { result ≤ most }
+        ensures free { (b : ℕ) → byte ≤ b → b < byte + result → edge_of self.now node b ≡ none }
+    {
+        if let Node::Few { size, start } = self.nodes[node as usize] {
+            return self.free_in(start, size, byte, most);
+        }
+        let mut free = 0;
+        while free < most && self.edge(node, byte + free as u8) == NONE {
+            free += 1;
+        }
+        free
     }
 
     /// Where each byte leads from the root.

@@ -120,7 +120,7 @@ fn roomy(alloc: Global, room: usize) -> Vec<Reach>
 }
 
 impl Draft {
-    /// No pairs, with room for as many as lines of a text of so many bytes can name, if there is memory for it.
+    /// No pairs, with room for as many as lines of one mapping each have place in so many bytes, if there is memory for it.
     pub(crate) fn new(alloc: Global, bytes: usize) -> Result<Draft, Memory>
         ensures { IfOk result (λ d. d ≡ []) }
     {

@@ -52,3 +52,6 @@ returns-in-Err-clause-apart c = vacant_meets_none c.args.entries.now.items c.req
 
 pub returns-in_err-push-clause-apart : goal.returns-in_err-push-clause-apart
 returns-in_err-push-clause-apart c = vacant_meets_none c.args.entries.now.items c.requires.indexed.apart (edge_of c.args.steps.now) (length c.args.steps.now.nodes.items) c.args.bytes.now c.args.depth c.args.node c.requires.vacant
+
+pub returns-in-Ok-clause-others : goal.returns-in-Ok-clause-others
+returns-in-Ok-clause-others c = λ b l other. c.in-Ok.ensures.sets.same c.args.node b c.requires.vacant.here.low l (λ p. other p.1)

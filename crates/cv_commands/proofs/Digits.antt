@@ -7,7 +7,7 @@ use Rattle.std.proofs.lemmas.Bool.{ltb-true, ltb-false}
 use Rattle.std.proofs.lemmas.List.{take_all}
 use Rattle.std.proofs.Math.Seq.{take-append_seam}
 use Rattle.cv_commands.specs.Words.{bytes_by_digits}
-use Rattle.cv_commands.specs.Private.Digits.{SaysPart}
+use Rattle.cv_commands.specs.Private.Digits.{SaysPart, IsValue}
 use Rattle.cv_commands.proofs.Numbers.{SaysBefore, onto_none, hex_more, hex_no_high, hex_no_low, hex_all}
 
 -- ---- from digits to bytes
@@ -15,11 +15,6 @@ use Rattle.cv_commands.proofs.Numbers.{SaysBefore, onto_none, hex_more, hex_no_h
 -- If all so far are digits, the bytes so far precede those that the rest says; otherwise the digits say none.
 abbrev pub SaysSoFar : Bool → List ℕ → List ℕ → List ℕ → Type 0
 SaysSoFar all digits rest bytes = MatchBool all (SaysBefore digits bytes rest) (bytes_by_digits digits ≡ None)
-
--- A number is the value of this digit, or 16 or more where it is none.
-pub record IsValue (byte value : ℕ) : Type 0 where
-  pub digit : value < 16 → (is_digit byte 16 ≡ true) × (value ≡ digit_value byte)
-  pub none : 16 ≤ value → is_digit byte 16 ≡ false
 
 small : (n : ℕ) → n < 16 → n % 16 ≡ n
 small n lt = omega arith
@@ -121,6 +116,15 @@ part_none false word bytes bytes' digits n k p even within says e =
     ap bytes_by_digits (sym (take-append-drop n digits)) ∙ part_says_none k (take n digits) (drop n digits) (omega (arith, even, within, length-take n digits)) says in
     p ∙ ap (option_map (λ x. bytes ++ x)) cut
 part_none true word bytes bytes' digits n k p even within says e = absurd cc
+
+-- sixteen digits more
+pub eight_more : (all part : Bool) (word bytes bytes' digits sixteen rest new : List ℕ) → SaysSoFar all word digits bytes → sixteen ≡ take 16 digits → rest ≡ drop 16 digits → 16 ≤ length digits
+    → MatchBool part (bytes_by_digits sixteen ≡ Some new) (bytes_by_digits sixteen ≡ None) → bytes' ≡ bytes ++ new → SaysSoFar (all && part) word rest bytes'
+eight_more true true word bytes bytes' digits sixteen rest new p front behind within says more =
+    part_more true word bytes bytes' digits rest 16 p behind (new, sym (ap bytes_by_digits front) ∙ says, more) refl
+eight_more true false word bytes bytes' digits sixteen rest new p front behind within says more =
+    part_none false word bytes bytes' digits 16 8 p (omega arith) within (sym (ap bytes_by_digits front) ∙ says) refl
+eight_more false part word bytes bytes' digits sixteen rest new p front behind within says more = p
 
 -- ---- a list that was written behind others
 

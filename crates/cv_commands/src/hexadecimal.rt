@@ -8,6 +8,7 @@ ghost use Rattle.cv_commands.specs.Lines.{hexadecimal, body_word};
 ghost use Rattle.cv_commands.specs.Private.Digits.{SaysPart};
 ghost use Rattle.cv_commands.specs.Words.{bytes_by_digits, bytes_in};
 
+use crate::eight_bytes::{EIGHT, read_eight};
 use crate::lines::is;
 use std::alloc::{AllocError, Global};
 
@@ -74,13 +75,19 @@ fn digit_of(byte: u8) -> u8
     }
 }
 
-/// Reads digits, two for each byte, and answers whether all are such.
+/// Reads digits, two for each byte, and answers whether all are such: those of eight bytes at once, and the last few one by one.
 fn read_digits(digits: &[u8], bytes: &mut [u8]) -> bool
     requires { length digits.now ≡ 2 * length bytes.old }
     ensures { MatchBool result (bytes_by_digits digits.now ≡ Some bytes.new) (bytes_by_digits digits.now ≡ None) }
 {
     let mut all = true;
-    for n in 0..bytes.len() {
+    let blocks = bytes.len() / EIGHT;
+    for block in 0..blocks {
+        let n = EIGHT * block;
+        let part = read_eight(&digits[2 * n..2 * n + 2 * EIGHT], &mut bytes[n..n + EIGHT]);
+        all = all & part;
+    }
+    for n in EIGHT * blocks..bytes.len() {
         let high = digit_of(digits[2 * n]);
         let low = digit_of(digits[2 * n + 1]);
         all = all & (high < 16) & (low < 16);

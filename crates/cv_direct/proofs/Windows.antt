@@ -1,16 +1,17 @@
 -- Sixteen characters that are read at once.
-use Rattle.std.proofs.Common.{◌≡◌, ℕ, ◌<◌, ◌≤◌, List, [], ◌∷◌, length, length-take, take, map, get_or, get_or-take, refl, sym, ◌∙◌, ap, arith, suc}
+use Rattle.std.proofs.Common.{◌≡◌, ℕ, ◌*◌, ◌<◌, ◌≤◌, List, [], ◌∷◌, length, length-take, take, map, get_or, get_or-take, refl, sym, ◌∙◌, ap, subst, arith, suc}
 use Rattle.std.specs.List.{flat_map}
 use Rattle.std.proofs.lemmas.List.{take_all, map-id}
 use Rattle.cv_base.specs.Scalars.{AreScalars}
-use Rattle.cv_base.specs.declared.ascii_form.AsciiForm.TheVariants.{Two}
+use Rattle.cv_base.specs.declared.ascii_form.AsciiForm.TheVariants.{Two, Four}
 use Rattle.cv_base.specs.declared.endian.Endian.{Endian}
 use Rattle.cv_base.proofs.Front.{Begins-take}
-use Rattle.cv_block.specs.Units.{AreUnits, AreScalarsBelow}
+use Rattle.cv_block.specs.Units.{IsUnitAt, AreUnits, AreScalarsBelow}
 use Rattle.cv_block.proofs.UnitRuns.{begun, all_scalars}
 use Rattle.cv_wide.specs.Utf16.{utf16}
+use Rattle.cv_wide.specs.Utf32.{utf32}
 use Rattle.cv_wide.proofs.Utf16Units.{one_unit}
-use Rattle.cv_direct.specs.Private.Windows.{IsWindow, AreSixteen}
+use Rattle.cv_direct.specs.Private.Windows.{IsWindow, AreSixteen, AreNarrow}
 
 units_window : (e : Endian) (text units : List ℕ) → length units ≡ 16 → AreUnits (Two e) text units 16 → AreScalarsBelow units 16 → IsWindow (utf16 e) 32 text units
 units_window e text units long are scalars =
@@ -27,6 +28,23 @@ units_window e text units long are scalars =
 -- units at the start of a text
 pub units_read : (e : Endian) (text units : List ℕ) → length units ≡ 16 → AreUnits (Two e) text units 16 → AreSixteen (utf16 e) 32 text units
 units_read e text units long are = record { few = λ k h. (are k h).few; window = units_window e text units long are }
+
+narrow_window : (e : Endian) (text numbers units : List ℕ) → length units ≡ 16 → AreUnits (Four e) text numbers 16 → AreNarrow numbers units 16 → AreScalarsBelow units 16 → IsWindow (utf32 e) 64 text units
+narrow_window e text numbers units long are narrow scalars =
+    let here : AreUnits (Four e) text units 16 = λ k h. subst (λ (c : ℕ). IsUnitAt (Four e) text (4 * k) c) ((narrow k h).same (scalars k h)) (are k h) in
+    let b = begun (utf32 e) (Four e) (λ c h. refl) text units 16 (omega arith) here in
+    let all : take 16 units ≡ units = take_all 16 units (omega arith) in
+    record {
+      long = long;
+      few = λ k h. (narrow k h).few;
+      scalars = all_scalars units (rw long scalars);
+      begins = rw all at b.begins;
+      uses = sym (rw all at b.uses);
+    }
+
+-- units of four bytes at the start of a text, narrowed
+pub narrow_read : (e : Endian) (text numbers units : List ℕ) → length units ≡ 16 → AreUnits (Four e) text numbers 16 → AreNarrow numbers units 16 → AreSixteen (utf32 e) 64 text units
+narrow_read e text numbers units long are narrow = record { few = λ k h. (narrow k h).few; window = narrow_window e text numbers units long are narrow }
 
 abbrev one : ℕ → List ℕ
 one c = c ∷ []

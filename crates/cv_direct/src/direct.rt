@@ -3,13 +3,15 @@ ghost use Rattle.std.specs.Prelude.{◌≡◌, ◌≤◌, ◌<◌, [], ◌∷◌
 ghost use Rattle.cv_direct.specs.Direct.{IsConverted};
 ghost use Rattle.cv_utf8.specs.Utf8.{utf8_bytes};
 ghost use Rattle.cv_wide.specs.Utf16.{utf16};
+ghost use Rattle.cv_wide.specs.Utf32.{utf32};
 
 use crate::latin1::Latin1Bytes;
 use crate::source::{Source, are_characters};
 use crate::target::{ROOM, Target, write_last};
 use crate::utf8::Utf8Bytes;
 use crate::utf16::Utf16In;
-use cv_block::ByteOrder;
+use crate::utf32::Utf32In;
+use cv_block::{ByteOrder, MANY};
 
 /// What was converted.
 #[derive(Clone, Copy, Debug, PartialEq, Eq)]
@@ -20,8 +22,17 @@ pub struct Direct {
     pub wrote: usize,
 }
 
-/// How many windows are converted by one call, about. Then the caller looks whether a run of ASCII is next, for which it has a faster way.
-const MANY_WINDOWS: usize = 32;
+/// After so many windows in a row that have one byte for each character the caller looks whether a run of ASCII is next, for which it has
+/// a faster way.
+const MANY_PLAIN: usize = 2;
+
+/// How many windows in a row have one byte for each character, behind one more that has, or has not.
+#[inline(always)]
+fn plain_behind(plain: usize, is_plain: bool) -> usize
+    requires { plain < 2 }
+{
+    if is_plain { plain + 1 } else { 0 }
+}
 
 /// Converts the windows at the start of a text, up to one that has other characters, or that is not whole, or for which there might be
 /// no room. Each is written over what was put behind the one before, and the last one by a buffer.
@@ -42,17 +53,17 @@ fn convert<S: Source, T: Target>(text: &[u8], out: &mut [u8], at: usize) -> Opti
     }
     let mut used = 0;
     let mut end = at;
-    while used < MANY_WINDOWS * size
-        && text.len() - used >= 2 * size
-        && out.len() - end >= 2 * ROOM
-    {
+    let mut plain = 0;
+    while text.len() - used >= 2 * size && out.len() - end >= 2 * ROOM && plain < MANY_PLAIN {
         let next = S::window(&text[used + size..]);
         if !are_characters(next) {
             break;
         }
-        end += T::write_window(units, out, end);
+        let wrote = T::write_window(units, out, end);
+        end += wrote;
         used += size;
         units = next;
+        plain = plain_behind(plain, wrote == MANY);
     }
     end += write_last::<T>(units, out, end);
     Some(Direct {
@@ -85,6 +96,32 @@ pub fn utf16_swapped<O: ByteOrder, P: ByteOrder>(
         IsConverted (utf16 O.endian) (utf16 P.endian) text.now out.old at run out.new) }
 {
     convert::<Utf16In<O>, Utf16In<P>>(text, out, at)
+}
+
+/// Converts characters below U+10000 at the start of a text, if there are sixteen, from UTF-32 to UTF-8.
+#[inline(never)]
+pub fn utf32_to_utf8<O: ByteOrder>(text: &[u8], out: &mut [u8], at: usize) -> Option<Direct>
+    requires { at ≤ length out.old }
+    ensures some { IfSome result (λ run. 0 < run.used) }
+    ensures run { MatchOption result (out.new ≡ out.old) (λ run.
+        IsConverted (utf32 O.endian) utf8_bytes text.now out.old at run out.new) }
+{
+    convert::<Utf32In<O>, Utf8Bytes>(text, out, at)
+}
+
+/// Converts characters below U+10000 at the start of a text, if there are sixteen, from UTF-32 to UTF-16.
+#[inline(never)]
+pub fn utf32_to_utf16<O: ByteOrder, P: ByteOrder>(
+    text: &[u8],
+    out: &mut [u8],
+    at: usize,
+) -> Option<Direct>
+    requires { at ≤ length out.old }
+    ensures some { IfSome result (λ run. 0 < run.used) }
+    ensures run { MatchOption result (out.new ≡ out.old) (λ run.
+        IsConverted (utf32 O.endian) (utf16 P.endian) text.now out.old at run out.new) }
+{
+    convert::<Utf32In<O>, Utf16In<P>>(text, out, at)
 }
 
 /// Converts the characters at the start of a text, if there are sixteen, from ISO-8859-1 to UTF-8.

@@ -9,6 +9,9 @@ mod sizes;
 mod source;
 mod target;
 mod utf16;
+mod utf32;
 mod utf8;
 
-pub use direct::{Direct, latin1_to_utf8, utf16_swapped, utf16_to_utf8};
+pub use direct::{
+    Direct, latin1_to_utf8, utf16_swapped, utf16_to_utf8, utf32_to_utf8, utf32_to_utf16,
+};

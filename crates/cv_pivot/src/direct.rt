@@ -13,6 +13,7 @@ ghost use Rattle.cv_wide.specs.Utf16.{utf16};
 
 use crate::copying::{copy_unchanged, may_copy};
 use crate::encoding::Encoding;
+use crate::from_utf32;
 use crate::outcome::States;
 use crate::step::Took;
 use cv_base::{Endian, ReadState, WriteState};
@@ -22,7 +23,7 @@ use cv_wide::Order;
 
 /// The byte order in which units are read in this state, if it stays.
 #[inline(always)]
-fn kept_reading(order: Order, state: ReadState) -> Option<Endian>
+pub(crate) fn kept_reading(order: Order, state: ReadState) -> Option<Endian>
     ensures { IfSome result (λ endian. KeepsReading order state endian) }
 {
     match (order, state) {
@@ -36,7 +37,7 @@ fn kept_reading(order: Order, state: ReadState) -> Option<Endian>
 
 /// The byte order in which units are written in this state, if it stays.
 #[inline(always)]
-fn kept_writing(order: Order, state: WriteState) -> Option<Endian>
+pub(crate) fn kept_writing(order: Order, state: WriteState) -> Option<Endian>
     ensures { IfSome result (λ endian. KeepsWriting order state endian) }
 {
     match (order, state) {
@@ -185,6 +186,12 @@ fn convert_directly(
         (Encoding::Utf16(order), Encoding::Utf16(target)) => {
             between_orders(*order, *target, states, rest, out, at)
         }
+        (Encoding::Utf32(order), Encoding::Utf8) => {
+            from_utf32::to_utf8(*order, states, rest, out, at)
+        }
+        (Encoding::Utf32(order), Encoding::Utf16(target)) => {
+            from_utf32::to_utf16(*order, *target, states, rest, out, at)
+        }
         _ => None,
     }
 }
@@ -206,6 +213,8 @@ pub(crate) fn may_take_at_once(from: &Encoding, to: &Encoding, bytes: usize, roo
         (Encoding::Utf16(_), Encoding::Utf8) => is_long,
         (Encoding::Utf16(_), Encoding::Utf16(_)) => is_long,
         (Encoding::Latin1, Encoding::Utf8) => is_long,
+        (Encoding::Utf32(_), Encoding::Utf8) => is_long,
+        (Encoding::Utf32(_), Encoding::Utf16(_)) => is_long,
         _ => false,
     }
 }

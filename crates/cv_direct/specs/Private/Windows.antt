@@ -1,7 +1,7 @@
 -- Sixteen characters that are read, or written, at once.
 use Rattle.std.specs.Prelude.{◌≡◌, ℕ, ◌+◌, ◌*◌, ◌/◌, ◌%◌, ◌<◌, List, length, get_or}
 use Rattle.std.specs.List.{flat_map}
-use Rattle.cv_base.specs.Scalars.{AreScalars}
+use Rattle.cv_base.specs.Scalars.{IsScalar, AreScalars}
 use Rattle.cv_base.specs.Items.{Begins}
 use Rattle.cv_base.specs.declared.endian.Endian.{Endian}
 use Rattle.cv_base.specs.declared.endian.Endian.TheVariants.{Big, Little}
@@ -25,3 +25,12 @@ pub record AreSixteen (bytes_of : BytesOf) (size : ℕ) (text units : List ℕ) 
 abbrev pub in_order : Endian → ℕ → ℕ
 in_order Big u = u / 0x100 + u % 0x100 * 0x100
 in_order Little u = u
+
+-- The unit is a number below 10000, or the number is from there on and the unit is none of a character.
+pub record IsNarrow (number unit : ℕ) : Type 0 where
+  pub few : unit < 0x10000
+  pub same : IsScalar unit → number ≡ unit
+
+-- The first n units are those of some numbers.
+abbrev pub AreNarrow : List ℕ → List ℕ → ℕ → Type 0
+AreNarrow numbers units n = (k : ℕ) → k < n → IsNarrow (get_or numbers k 0) (get_or units k 0)

@@ -8,8 +8,8 @@ loop-used-preserved g c =
     let i = c.loop-used.invariant in
     let used = c.loop-used.used in
     let end = c.loop-used.end in
-    let wrote = c.write_window-end.result in
-    let put = c.write_window-end.ensures in
+    let wrote = c.write_window-wrote.result in
+    let put = c.write_window-wrote.ensures in
     let place : end ≡ c.args.at + (end - c.args.at) = omega (arith, i.from) in
     let n : end - c.args.at + wrote ≡ end + wrote - c.args.at = omega (arith, i.from) in
     rw c.window_size-size.ensures.size (record {

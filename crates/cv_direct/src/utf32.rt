@@ -1,0 +1,77 @@
+//! UTF-32, sixteen units at once.
+ghost use Rattle.std.specs.Prelude.{◌≡◌, ◌≤◌, ◌<◌, ℕ, length, get_or};
+ghost use Rattle.cv_base.specs.declared.ascii_form.AsciiForm.TheVariants.{Four};
+ghost use Rattle.cv_block.specs.Units.{AreUnits};
+ghost use Rattle.cv_direct.specs.Private.Windows.{IsNarrow, AreNarrow};
+ghost use Rattle.cv_wide.specs.Utf32.{utf32};
+
+use crate::source::Source;
+use cv_block::{ByteOrder, MANY};
+use std::marker::PhantomData;
+use std::simd::prelude::*;
+
+/// The unit that stands for a number from 10000 on: a surrogate, which is no character.
+const NONE: u16 = 0xd800;
+
+/// The numbers of the units at the start of a text. None is tested, so that LLVM loads all at once.
+#[inline(always)]
+fn numbers_of<O: ByteOrder>(text: &[u8]) -> [u32; MANY]
+    requires { 64 ≤ length text.now }
+    ensures long { length result ≡ 16 }
+    ensures units { AreUnits (Four O.endian) text.now result 16 }
+{
+    let mut numbers = [0; MANY];
+    let mut at = 0;
+    for k in 0..MANY {
+        numbers[k] = O::four(text, at);
+        at += 4;
+    }
+    numbers
+}
+
+/// A number as a unit, computed without a branch.
+#[inline(always)]
+fn narrow(number: u32) -> u16
+    ensures { IsNarrow number result }
+{
+    if number < 0x1_0000 {
+        number as u16
+    } else {
+        NONE
+    }
+}
+
+/// Sixteen numbers as units.
+#[inline(always)]
+fn narrowed(numbers: &[u32; MANY]) -> u16x16
+    requires { length numbers.now ≡ 16 }
+    ensures long { length result ≡ 16 }
+    ensures units { AreNarrow numbers.now result 16 }
+{
+    let mut units = [0; MANY];
+    for k in 0..MANY {
+        units[k] = narrow(numbers[k]);
+    }
+    u16x16::from_array(units)
+}
+
+/// UTF-32 in a byte order.
+pub(crate) struct Utf32In<O> {
+    order: PhantomData<O>,
+}
+
+impl<O: ByteOrder> Source for Utf32In<O> {
+    ghost bytes_of = { utf32 O.endian };
+
+    ghost window_size = { 64 };
+
+    #[inline(always)]
+    fn window_size() -> usize {
+        64
+    }
+
+    #[inline(always)]
+    fn window(text: &[u8]) -> u16x16 {
+        narrowed(&numbers_of::<O>(text))
+    }
+}

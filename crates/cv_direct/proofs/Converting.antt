@@ -3,6 +3,8 @@ use Rattle.std.proofs.Common.{◌≡◌, ℕ, ◌+◌, ◌≤◌, List, [], ◌+
 use Rattle.std.specs.List.{flat_map}
 use Rattle.std.proofs.lemmas.Grind.{flat_map-append}
 use Rattle.cv_base.proofs.Front.{Begins-join}
+use Rattle.cv_base.specs.Items.{Begins}
+use Rattle.cv_base.specs.Scalars.{AreScalars}
 use Rattle.cv_block.specs.Spelled.{BytesOf}
 use Rattle.cv_block.proofs.SpelledRuns.{AreScalars-append}
 use Rattle.cv_direct.specs.Direct.{IsConverted}
@@ -20,21 +22,26 @@ none_converted from to text before at loose h = record {
   put = record { wrote = refl; fits = omega arith; stand = ap (λ i. take i before) (let e : at + 0 ≡ at = omega arith in e) ∙ sym (append-nil (take at before)); behind = refl; size = refl };
 }
 
--- a window more
-pub window_more : (from to : BytesOf) (text before : List ℕ) (at used size n m loose place : ℕ) (mid after units : List ℕ) → IsConvertedLoosely from to text before at used n 16 mid → place ≡ at + n → IsWindow from size (drop used text) units
-    → IsPutLoosely (flat_map to units) mid place m loose after → 16 ≤ m → IsConvertedLoosely from to text before at (used + size) (n + m) loose after
-window_more from to text before at used size n m loose place mid after units p place_is w put enough =
+-- characters more
+pub part_more : (from to : BytesOf) (text before : List ℕ) (at used size n m first loose place : ℕ) (mid after units : List ℕ) → IsConvertedLoosely from to text before at used n first mid → place ≡ at + n → AreScalars units → Begins (flat_map from units) (drop used text) → size ≡ length (flat_map from units)
+    → IsPutLoosely (flat_map to units) mid place m loose after → first ≤ m + loose → IsConvertedLoosely from to text before at (used + size) (n + m) loose after
+part_more from to text before at used size n m first loose place mid after units p place_is scalars begins uses put enough =
     let c = p.characters in
     let both : flat_map from (c ++ units) ≡ flat_map from c ++ flat_map from units = flat_map-append from c units in
     let out : flat_map to (c ++ units) ≡ flat_map to c ++ flat_map to units = flat_map-append to c units in
     let there : drop used text ≡ drop (length (flat_map from c)) text = ap (λ i. drop i text) p.uses in
     record {
       characters = c ++ units;
-      scalars = AreScalars-append c units p.scalars w.scalars;
-      begins = rw both (Begins-join (flat_map from c) (flat_map from units) text p.begins (rw there at w.begins));
-      uses = omega (arith, ap length both, length-append (flat_map from c) (flat_map from units), p.uses, w.uses);
-      put = rw out (put_more (flat_map to c) (flat_map to units) before at n 16 m loose place mid after p.put place_is put (omega (arith, enough)));
+      scalars = AreScalars-append c units p.scalars scalars;
+      begins = rw both (Begins-join (flat_map from c) (flat_map from units) text p.begins (rw there at begins));
+      uses = omega (arith, ap length both, length-append (flat_map from c) (flat_map from units), p.uses, uses);
+      put = rw out (put_more (flat_map to c) (flat_map to units) before at n first m loose place mid after p.put place_is put enough);
     }
+
+-- a window more
+pub window_more : (from to : BytesOf) (text before : List ℕ) (at used size n m loose place : ℕ) (mid after units : List ℕ) → IsConvertedLoosely from to text before at used n 16 mid → place ≡ at + n → IsWindow from size (drop used text) units
+    → IsPutLoosely (flat_map to units) mid place m loose after → 16 ≤ m → IsConvertedLoosely from to text before at (used + size) (n + m) loose after
+window_more from to text before at used size n m loose place mid after units p place_is w put enough = part_more from to text before at used size n m 16 loose place mid after units p place_is w.scalars w.begins w.uses put (omega (arith, enough))
 
 -- with nothing loose behind, the text is converted
 pub all_converted : (from to : BytesOf) (text before : List ℕ) (at used n : ℕ) (after : List ℕ) → IsConvertedLoosely from to text before at used n 0 after → IsConverted from to text before at (record { used = used; wrote = n }) after

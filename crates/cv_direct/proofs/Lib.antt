@@ -4,3 +4,4 @@ pub mod Fours
 pub mod Ordered
 pub mod Windows
 pub mod Converting
+pub mod UnitsPut

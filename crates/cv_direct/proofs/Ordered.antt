@@ -1,14 +1,16 @@
 -- Units in a byte order, as vectors compute their bytes.
-use Rattle.std.proofs.Common.{◌≡◌, ℕ, ◌+◌, ◌*◌, ◌/◌, ◌%◌, ◌^◌, ◌<◌, List, [], ◌∷◌, ◌++◌, length, get_or, map, refl, sym, ◌∙◌, ap, ap₂, arith, zero, suc}
+use Rattle.std.proofs.Common.{◌≡◌, ℕ, ◌+◌, ◌*◌, ◌/◌, ◌%◌, ◌^◌, ◌<◌, List, [], ◌∷◌, ◌++◌, length, take, get_or, map, refl, sym, ◌∙◌, ap, ap₂, arith, zero, suc, Fits, w16}
+use Rattle.std.proofs.Math.Seq.{take-append-add}
 use Rattle.std.specs.Prelude.{replicate}
 use Rattle.std.specs.List.{flat_map}
 use Rattle.std.specs.Simd.Lanes.{number_l, digits_l, zip2}
+use lib.Lanes.{Each1}
 use Rattle.cv_base.specs.Units.{unit_of}
 use Rattle.cv_base.specs.declared.ascii_form.AsciiForm.TheVariants.{Two}
 use Rattle.cv_base.specs.declared.endian.Endian.{Endian}
 use Rattle.cv_base.specs.declared.endian.Endian.TheVariants.{Big, Little}
 use Rattle.cv_wide.specs.Utf16.{utf16}
-use Rattle.cv_wide.proofs.Utf16Units.{one_unit}
+use Rattle.cv_wide.proofs.Utf16Units.{one_unit, size_one}
 use Rattle.cv_direct.specs.Private.Middle.{AreMiddle}
 use Rattle.cv_direct.specs.Private.Windows.{in_order}
 
@@ -65,3 +67,29 @@ bytes_of_units e (v ∷ vs) p =
 pub bytes_are : (e : Endian) (units ordered : List ℕ) → length units ≡ 16 → ((k : ℕ) → k < 16 → get_or units k 0 < 0x10000) → ordered ≡ map (in_order e) units → digits_l 256 32 (number_l 65536 ordered) ≡ flat_map (utf16 e) units
 bytes_are e units ordered long p is =
     ap (λ (l : List ℕ). digits_l 256 32 (number_l 65536 l)) is ∙ ap (λ n. digits_l 256 (twice n) (number_l 65536 (map (in_order e) units))) (sym long) ∙ bytes_of_units e units (λ k h. p k (omega (arith, long, h)))
+
+-- the bytes of eight
+pub eight_bytes : (e : Endian) (units ordered : List ℕ) → length units ≡ 8 → ((k : ℕ) → k < 8 → get_or units k 0 < 0x10000) → ordered ≡ map (in_order e) units → digits_l 256 16 (number_l 65536 ordered) ≡ flat_map (utf16 e) units
+eight_bytes e units ordered long p is =
+    ap (λ (l : List ℕ). digits_l 256 16 (number_l 65536 l)) is ∙ ap (λ n. digits_l 256 (twice n) (number_l 65536 (map (in_order e) units))) (sym long) ∙ bytes_of_units e units (λ k h. p k (omega (arith, long, h)))
+
+-- the bytes of the first of some units
+pub first_bytes : (e : Endian) (units : List ℕ) (n : ℕ) → AreMiddle units → take (2 * n) (flat_map (utf16 e) units) ≡ flat_map (utf16 e) (take n units)
+first_bytes e [] zero p = refl
+first_bytes e [] (suc n) p = ap (λ m. take m []) (let t : 2 * suc n ≡ suc (suc (2 * n)) = omega arith in t)
+first_bytes e (v ∷ vs) zero p = refl
+first_bytes e (v ∷ vs) (suc n) p =
+    let one : utf16 e v ≡ unit_of (Two e) v = one_unit e v (p 0 (omega arith)) in
+    let size : length (utf16 e v) ≡ 2 = size_one v (p 0 (omega arith)) e in
+    let there : 2 * suc n ≡ length (utf16 e v) + 2 * n = omega (arith, size) in
+    ap (λ m. take m (utf16 e v ++ flat_map (utf16 e) vs)) there ∙ take-append-add (utf16 e v) (flat_map (utf16 e) vs) (2 * n) ∙ ap (λ (x : List ℕ). utf16 e v ++ x) (first_bytes e vs n (behind_first v vs p))
+
+-- eight lanes are below 10000
+pub eight_few : (units : List ℕ) → Each1 (Fits w16) units → AreMiddle units
+eight_few [] p k h = absurd (omega arith)
+eight_few (v ∷ vs) p zero h = p.0.fits
+eight_few (v ∷ vs) p (suc k) h = eight_few vs p.1 k (omega arith)
+
+-- each of eight
+pub few_lanes : (units : List ℕ) → length units ≡ 8 → AreMiddle units → (k : ℕ) → k < 8 → get_or units k 0 < 0x10000
+few_lanes units long p k h = p k (omega (arith, long, h))

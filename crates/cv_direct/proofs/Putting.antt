@@ -29,9 +29,9 @@ put_more xs ys before at n first m loose place mid after p e q enough =
       size = q.size ∙ p.size;
     }
 
--- a vector whose first bytes are wanted
-pub put_front : (bytes lanes out : List ℕ) (at n wide : ℕ) → length lanes ≡ wide → at + wide ≤ length out → n ≤ wide → wide ≤ n + 16 → take n lanes ≡ bytes → IsPutLoosely bytes out at n 16 (put_chunk at out lanes)
-put_front bytes lanes out at n wide long room few most front =
+-- a vector whose first bytes are wanted, and how many more it has
+pub put_part : (bytes lanes out : List ℕ) (at n wide loose : ℕ) → length lanes ≡ wide → at + wide ≤ length out → n ≤ wide → wide ≤ n + loose → take n lanes ≡ bytes → IsPutLoosely bytes out at n loose (put_chunk at out lanes)
+put_part bytes lanes out at n wide loose long room few most front =
     let rest : List ℕ = drop (length lanes) (drop at out) in
     let is : put_chunk at out lanes ≡ take at out ++ (lanes ++ rest) = put_chunk_is at out lanes (omega (arith, long)) in
     let parts : put_chunk at out lanes ≡ (take at out ++ bytes) ++ (drop n lanes ++ rest) =
@@ -45,9 +45,13 @@ put_front bytes lanes out at n wide long room few most front =
       wrote = sym size;
       fits = omega arith;
       stand = ap (take (at + n)) parts ∙ take_at (take at out ++ bytes) (drop n lanes ++ rest) (at + n) prefix;
-      behind = further out (put_chunk at out lanes) (at + wide) (at + n + 16) (omega arith) behind;
+      behind = further out (put_chunk at out lanes) (at + wide) (at + n + loose) (omega arith) behind;
       size = length-put_chunk at out lanes;
     }
+
+-- a vector whose first bytes are wanted
+pub put_front : (bytes lanes out : List ℕ) (at n wide : ℕ) → length lanes ≡ wide → at + wide ≤ length out → n ≤ wide → wide ≤ n + 16 → take n lanes ≡ bytes → IsPutLoosely bytes out at n 16 (put_chunk at out lanes)
+put_front bytes lanes out at n wide long room few most front = put_part bytes lanes out at n wide 16 long room few most front
 
 -- bytes that were put and nothing else
 pub put_exactly : (bytes before : List ℕ) (at n : ℕ) (after : List ℕ) → n ≡ length bytes → at + n ≤ length before → after ≡ take at before ++ bytes ++ drop (at + n) before → IsPutLoosely bytes before at n 0 after

@@ -8,7 +8,7 @@ ghost use Rattle.cv_wide.specs.Utf32.{utf32};
 use crate::latin1::Latin1Bytes;
 use crate::source::{Source, are_characters};
 use crate::target::{ROOM, Target, write_last};
-use crate::utf8::Utf8Bytes;
+use crate::utf8::{Utf8Bytes, are_below};
 use crate::utf16::Utf16In;
 use crate::utf32::Utf32In;
 use cv_block::{ByteOrder, MANY};
@@ -22,20 +22,13 @@ pub struct Direct {
     pub wrote: usize,
 }
 
-/// After so many windows in a row that have one byte for each character the caller looks whether a run of ASCII is next, for which it has
-/// a faster way.
-const MANY_PLAIN: usize = 2;
-
-/// How many windows in a row have one byte for each character, behind one more that has, or has not.
-#[inline(always)]
-fn plain_behind(plain: usize, is_plain: bool) -> usize
-    requires { plain < 2 }
-{
-    if is_plain { plain + 1 } else { 0 }
-}
+/// How many windows a loop takes at least before it ends for a run of ASCII: what a loop costs besides is much for a few.
+pub(crate) const MANY_WINDOWS: usize = 32;
 
 /// Converts the windows at the start of a text, up to one that has other characters, or that is not whole, or for which there might be
-/// no room. Each is written over what was put behind the one before, and the last one by a buffer.
+/// no room. Each is written over what was put behind the one before, and the last one by a buffer. After many windows it
+/// ends too where two in a row have one byte for each character: the caller looks for a run of ASCII, for which it has a
+/// faster way.
 #[inline(always)]
 fn convert<S: Source, T: Target>(text: &[u8], out: &mut [u8], at: usize) -> Option<Direct>
     requires { at ≤ length out.old }
@@ -53,17 +46,19 @@ fn convert<S: Source, T: Target>(text: &[u8], out: &mut [u8], at: usize) -> Opti
     }
     let mut used = 0;
     let mut end = at;
-    let mut plain = 0;
-    while text.len() - used >= 2 * size && out.len() - end >= 2 * ROOM && plain < MANY_PLAIN {
+    let mut wrote = 0;
+    while text.len() - used >= 2 * size && out.len() - end >= 2 * ROOM {
+        if used >= MANY_WINDOWS * size && wrote == MANY && are_below(units, 0x80) {
+            break;
+        }
         let next = S::window(&text[used + size..]);
         if !are_characters(next) {
             break;
         }
-        let wrote = T::write_window(units, out, end);
+        wrote = T::write_window(units, out, end);
         end += wrote;
         used += size;
         units = next;
-        plain = plain_behind(plain, wrote == MANY);
     }
     end += write_last::<T>(units, out, end);
     Some(Direct {

@@ -24,7 +24,7 @@ pub(crate) trait Target {
 
 /// Puts the first `n` bytes of a buffer at a place.
 #[inline(always)]
-fn copy_front(front: &[u8], n: usize, out: &mut [u8], at: usize)
+pub(crate) fn copy_front(front: &[u8], n: usize, out: &mut [u8], at: usize)
     requires stand { n ≤ length front.now }
     requires fit { at + n ≤ length out.old }
     ensures { out.new ≡ take at out.old ++ take n front.now ++ drop (at + n) out.old }

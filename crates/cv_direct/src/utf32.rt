@@ -10,7 +10,7 @@ use cv_block::{ByteOrder, MANY};
 use std::marker::PhantomData;
 use std::simd::prelude::*;
 
-/// The unit that stands for a number from 10000 on: a surrogate, which is no character.
+/// The unit that stands for a number from U+10000 on: a surrogate, which is no character.
 const NONE: u16 = 0xd800;
 
 /// The numbers of the units at the start of a text. None is tested, so that LLVM loads all at once.

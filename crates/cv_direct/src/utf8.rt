@@ -12,7 +12,7 @@ use std::simd::prelude::*;
 
 /// Whether each of the units is below a limit.
 #[inline(always)]
-fn are_below(units: u16x16, limit: u16) -> bool
+pub(crate) fn are_below(units: u16x16, limit: u16) -> bool
     ensures { IsTrue result → (k : ℕ) → k < 16 → get_or units k 0 < limit }
 {
     units.simd_ge(u16x16::splat(limit)).to_bitmask() == 0

@@ -17,7 +17,8 @@ use Rattle.cv_block.specs.Spelled.{BytesOf}
 use Rattle.cv_block.proofs.SpelledBlocks.{ReadsSpelled, WritesSpelled, scalars_read, spelled_written}
 use Rattle.cv_direct.specs.Direct.{IsConverted}
 use Rattle.cv_direct.specs.declared.direct.Direct.{Direct}
-use Rattle.cv_utf8.specs.Utf8.{utf8_bytes, utf8_writes}
+use Rattle.cv_utf8.specs.Utf8.{utf8_bytes, utf8_reads, utf8_writes}
+use Rattle.cv_utf8.proofs.Utf8Spelled.{utf8_reads_spelled}
 use Rattle.cv_pivot.specs.declared.outcome.States.{States}
 use Rattle.cv_pivot.specs.Private.Steps.{TakesSome}
 use Rattle.cv_pivot.proofs.BlockSteps.{block_takes}
@@ -57,3 +58,7 @@ bytes_take writes policy from bytes_to rest before at run after e p w some q =
 -- UTF-8 is written as it is at the start
 pub utf8_spelled : (t : WriteState) → t ≡ write.Start → WritesSpelled utf8_writes t utf8_bytes
 utf8_spelled t e = subst (λ (s : WriteState). WritesSpelled utf8_writes s utf8_bytes) (sym e) (λ c. refl)
+
+-- UTF-8 is read as it is at the start
+pub utf8_read : (s : ReadState) → s ≡ read.Start → ReadsSpelled utf8_reads s utf8_bytes
+utf8_read s e = subst (λ (t : ReadState). ReadsSpelled utf8_reads t utf8_bytes) (sym e) utf8_reads_spelled

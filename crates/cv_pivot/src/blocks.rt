@@ -29,6 +29,15 @@ pub(crate) enum BlockSize {
 }
 
 impl BlockSize {
+    /// Whether the next block is no later one of several.
+    #[inline(always)]
+    pub(crate) fn is_short(self) -> bool {
+        match self {
+            BlockSize::Short => true,
+            BlockSize::Long => false,
+        }
+    }
+
     /// The size after a block, or after none.
     #[inline(always)]
     fn behind(took: &Option<Took>) -> BlockSize {

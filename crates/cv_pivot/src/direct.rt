@@ -11,11 +11,12 @@ ghost use Rattle.cv_wide.specs.Orders.{reads_in, writes_in};
 ghost use Rattle.cv_wide.specs.Private.Kept.{KeepsReading, KeepsWriting};
 ghost use Rattle.cv_wide.specs.Utf16.{utf16};
 
+use crate::blocks::BlockSize;
 use crate::copying::{copy_unchanged, may_copy};
 use crate::encoding::Encoding;
-use crate::from_utf32;
 use crate::outcome::States;
 use crate::step::Took;
+use crate::{from_utf8, from_utf32};
 use cv_base::{Endian, ReadState, WriteState};
 use cv_block::{BigEndian, ByteOrder, LittleEndian};
 use cv_direct::{latin1_to_utf8, utf16_swapped, utf16_to_utf8};
@@ -186,6 +187,9 @@ fn convert_directly(
         (Encoding::Utf16(order), Encoding::Utf16(target)) => {
             between_orders(*order, *target, states, rest, out, at)
         }
+        (Encoding::Utf8, Encoding::Utf16(target)) => {
+            from_utf8::to_utf16(*target, states, rest, out, at)
+        }
         (Encoding::Utf32(order), Encoding::Utf8) => {
             from_utf32::to_utf8(*order, states, rest, out, at)
         }
@@ -196,25 +200,41 @@ fn convert_directly(
     }
 }
 
-/// With fewer bytes a text goes by blocks: a window with a surrogate would be tried in vain too often.
+/// With fewer bytes a text goes by blocks: a window with a character from U+10000 on would be tried in vain too often.
 const MANY_BYTES: usize = 256;
+
+/// UTF-32 has as many characters in twice the bytes.
+const MANY_WIDE: usize = 512;
+
+/// From this byte on a character of UTF-8 that begins with it has four bytes, and no window takes it.
+const FOUR_BYTES: u8 = 0xf0;
 
 /// With less room no two windows are written, and a step of one costs more than it saves.
 const MANY_ROOM: usize = 128;
 
-/// Whether a text may be taken at once that has so many bytes, into so much room. It affects speed only.
+/// Whether the rest of a text may be taken at once, into so much room. It affects speed only. Behind a block of
+/// UTF-8 or UTF-32 it may not: likely it has characters from U+10000 on, at which a window would be tried in vain too often.
 #[inline(always)]
-pub(crate) fn may_take_at_once(from: &Encoding, to: &Encoding, bytes: usize, room: usize) -> bool {
+pub(crate) fn may_take_at_once(
+    from: &Encoding,
+    to: &Encoding,
+    size: BlockSize,
+    rest: &[u8],
+    room: usize,
+) -> bool {
     if may_copy(from, to) {
         return true;
     }
-    let is_long = bytes >= MANY_BYTES && room >= MANY_ROOM;
+    if rest.len() < MANY_BYTES || room < MANY_ROOM {
+        return false;
+    }
     match (from, to) {
-        (Encoding::Utf16(_), Encoding::Utf8) => is_long,
-        (Encoding::Utf16(_), Encoding::Utf16(_)) => is_long,
-        (Encoding::Latin1, Encoding::Utf8) => is_long,
-        (Encoding::Utf32(_), Encoding::Utf8) => is_long,
-        (Encoding::Utf32(_), Encoding::Utf16(_)) => is_long,
+        (Encoding::Utf16(_), Encoding::Utf8) => true,
+        (Encoding::Utf16(_), Encoding::Utf16(_)) => true,
+        (Encoding::Latin1, Encoding::Utf8) => true,
+        (Encoding::Utf8, Encoding::Utf16(_)) => size.is_short() && rest[0] < FOUR_BYTES,
+        (Encoding::Utf32(_), Encoding::Utf8) => size.is_short() && rest.len() >= MANY_WIDE,
+        (Encoding::Utf32(_), Encoding::Utf16(_)) => size.is_short() && rest.len() >= MANY_WIDE,
         _ => false,
     }
 }

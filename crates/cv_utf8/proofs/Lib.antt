@@ -17,3 +17,4 @@ pub mod Utf8WindowLanes
 pub mod Utf8Spelled
 pub mod Utf8ShortFront
 pub mod Utf8Front
+pub mod Utf8Units

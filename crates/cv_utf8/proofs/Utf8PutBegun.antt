@@ -18,7 +18,7 @@ use Rattle.cv_pack.specs.Packed.{kept}
 use Rattle.cv_utf8.specs.Private.Utf8Windows.{IsLane, AreBegun}
 
 -- The bytes of some characters are at a place of a text, used bytes together.
-abbrev IsRun : List ℕ → ℕ → List ℕ → ℕ → Type 0
+abbrev pub IsRun : List ℕ → ℕ → List ℕ → ℕ → Type 0
 IsRun text at cs used = AreScalars cs × Begins (flat_map utf8_bytes cs) (drop at text) × (used ≡ length (flat_map utf8_bytes cs))
 
 one_more : (text cs : List ℕ) (at used c size : ℕ) → IsRun text at cs used → IsSpelledAt utf8_bytes text (at + used) c size → IsRun text at (cs ++ c ∷ []) (used + size)
@@ -120,7 +120,7 @@ high_lanes text at numbers high begun used p long is j h =
     rw (is j l, high_bits begun j) (p.lanes (8 + j) (omega (arith, long)))
 
 -- the characters of both halves, one after the other
-both_run : (text : List ℕ) (at : ℕ) (numbers low high : List ℕ) (begun used : ℕ) (p : AreBegun text at numbers begun used) → length low ≡ 8 → length high ≡ 8 → ((k : ℕ) → k < 8 → get_or low k 0 ≡ get_or numbers k 0)
+pub both_run : (text : List ℕ) (at : ℕ) (numbers low high : List ℕ) (begun used : ℕ) (p : AreBegun text at numbers begun used) → length low ≡ 8 → length high ≡ 8 → ((k : ℕ) → k < 8 → get_or low k 0 ≡ get_or numbers k 0)
     → ((k : ℕ) → k < 8 → get_or high k 0 ≡ get_or numbers (8 + k) 0) → IsRun text at (kept (begun % 256) low ++ kept (begun / 256) high) used
 both_run text at numbers low high begun used p long also are these =
     let none : IsRun text at [] (p.reach 0) = (tt, tt, p.begins) in

@@ -14,6 +14,8 @@ mod utf8_pairs;
 mod utf8_reading;
 mod utf8_short;
 mod utf8_spelling;
+mod utf8_units;
 mod utf8_windows;
 
 pub use utf8::Utf8;
+pub use utf8_units::{Units, read_units};

@@ -44,7 +44,7 @@ fn short_high(first: u8x16) -> u8x16
 /// The numbers of the characters that begin at sixteen places, if they have one or two bytes. They are computed by bytes, because a
 /// vector has twice as many of them.
 #[inline(always)]
-fn short_values(input: &[u8], at: usize) -> [u16; MANY]
+pub(crate) fn short_values(input: &[u8], at: usize) -> [u16; MANY]
     requires { at + 17 ≤ length input.now }
     ensures { (k : ℕ) → k < 16 → get_or result k 0 ≡ short_value input.now (at + k) }
 {
@@ -93,7 +93,7 @@ fn high_bytes(first: u8x16, second: u8x16) -> u8x16
 
 /// The numbers of the characters that begin at sixteen places, if they have up to three bytes. All are scalar values, whatever the bytes are.
 #[inline(always)]
-fn whole_values(input: &[u8], at: usize) -> [u16; MANY]
+pub(crate) fn whole_values(input: &[u8], at: usize) -> [u16; MANY]
     requires { at + 18 ≤ length input.now }
     ensures { (k : ℕ) → k < 16 → get_or result k 0 ≡ whole_value input.now (at + k) }
 {
@@ -119,16 +119,16 @@ fn read_whole(input: &[u8], at: usize, buffer: &mut [Scalar], n: usize) -> Spell
 /// Whether a character of three or of four bytes may begin among sixteen bytes. It affects speed only, and texts of one
 /// script rarely change the branch that they take.
 #[inline(always)]
-fn may_be_high(input: &[u8], at: usize) -> bool
+pub(crate) fn may_be_high(input: &[u8], at: usize) -> bool
     requires { at + 16 ≤ length input.now }
 {
     among(u8x16::from_slice(&input[at..]), 0xe0, 0x20) != 0
 }
 
 /// Whether sixteen characters of three bytes may follow each other, by the first byte of some of them. It affects speed only: to read
-/// them at once costs as much if they are fewer.
+/// them as scalars at once costs as much if they are fewer.
 #[inline(always)]
-fn may_be_threes(input: &[u8], at: usize) -> bool
+pub(crate) fn may_be_threes(input: &[u8], at: usize) -> bool
     requires { at ≤ length input.now }
 {
     let text = &input[at..];

@@ -26,7 +26,7 @@ abbrev pub in_order : Endian → ℕ → ℕ
 in_order Big u = u / 0x100 + u % 0x100 * 0x100
 in_order Little u = u
 
--- The unit is a number below 10000, or the number is from there on and the unit is none of a character.
+-- The unit is below U+10000, and it is the number if it is a scalar value.
 pub record IsNarrow (number unit : ℕ) : Type 0 where
   pub few : unit < 0x10000
   pub same : IsScalar unit → number ≡ unit

@@ -21,4 +21,4 @@ pub use reply::Reply;
 pub use request::Request;
 pub use sizes::{LEAST_LENGTH, MOST_BODY, MOST_LENGTH};
 pub use status::Status;
-pub use writing::{write_reply, write_request};
+pub use writing::{reply_head, write_reply, write_request};

@@ -2,6 +2,7 @@
 
 ghost use Rattle.std.specs.Prelude.{◌≡◌, ◌≤◌, ◌+◌, ◌++◌, List, ℕ, OnOk, OnErr, length, vec_len, vec_capacity};
 ghost use Rattle.cv_frame.specs.Message.{FitsFrame, spelling};
+ghost use Rattle.cv_frame.specs.Status.{status_number};
 ghost use Rattle.cv_frame.specs.Bodies.{name_body, policy_body};
 ghost use Rattle.cv_frame.specs.Asks.{AskFits, ask_code, ask_body, request_of};
 
@@ -9,6 +10,7 @@ use crate::ask::Ask;
 use crate::ops::{BYE, CLOSE, CONV, DROP, OPEN, PART, PUT, RESET};
 use crate::reply::Reply;
 use crate::sizes::MOST_BODY;
+use crate::status::Status;
 use cv_base::{Memory, Policy};
 
 /// Appends bytes for which there is room.
@@ -72,6 +74,18 @@ pub fn write_reply(out: &mut Vec<u8>, reply: &Reply) -> Result<(), Memory>
     append(out, head);
     append(out, tail);
     Ok(())
+}
+
+/// What precedes a reply's body of n bytes in its frame: the length, the caller, the tag and the status.
+pub fn reply_head(caller: u32, tag: u32, status: Status, n: usize) -> [u8; 13]
+    requires { n ≤ MOST_BODY }
+    ensures { (body : List ℕ) → length body ≡ n → result ++ body ≡
+        spelling (record { caller = caller; tag = tag; code = status_number status; body = body }) }
+{
+    let [a, b, c, d] = (9 + n as u32).to_be_bytes();
+    let [e, f, g, h] = caller.to_be_bytes();
+    let [i, j, k, l] = tag.to_be_bytes();
+    [a, b, c, d, e, f, g, h, i, j, k, l, status.number()]
 }
 
 /// The number of an ask's op.

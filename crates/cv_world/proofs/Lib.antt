@@ -1,5 +1,6 @@
 pub mod Owned
 pub mod Buffers
+pub mod WrittenFrames
 pub mod TwoStages
 pub mod Keeping
 pub mod Changes
@@ -8,6 +9,7 @@ pub mod Converting
 pub mod OpeningSteps
 pub mod Leaving
 pub mod Answered
+pub mod Replying
 mod OneAnswer
 mod Retried
 mod SomeAnswer

@@ -12,9 +12,10 @@ use Rattle.cv_pivot.specs.declared.outcome.States.{States}
 use Rattle.cv_pivot.specs.declared.outcome.Stop.TheVariants.{Ill, Lacking, TooBig}
 use Rattle.cv_pivot.proofs.Stages.{joined, join_stages, more_room, bytes_follow}
 use Rattle.cv_world.specs.Private.Stages.{IsStage}
+use Rattle.cv_world.proofs.WrittenFrames.{behind_front, front_of_front}
 
 -- the front of a vector whose bytes behind a place were borrowed, written and given back
-front_lent : (b more rest over : List ℕ) (len e n : ℕ) → e ≤ length b → n ≤ length more → e + n ≤ len
+pub front_lent : (b more rest over : List ℕ) (len e n : ℕ) → e ≤ length b → n ≤ length more → e + n ≤ len
     → take (e + n) (take len ((take e b ++ (more ++ rest)) ++ over)) ≡ take e b ++ take n more
 front_lent b more rest over len e n within few room =
     let size : e + n ≡ length (take e b) + n = omega (arith, length-take e b) in
@@ -141,3 +142,17 @@ module _ (reads : ItemRelation) (writes : Writing) (policy : Policy) where
         room_left = omega (arith, there, both, q.room_left);
         buffer = ap (λ (k : ℕ). take k after) (omega (arith, there, both)) ∙ q.buffer ∙ ap (λ (x : List ℕ). x ++ q.output) (ap (λ (k : ℕ). take k between) (sym there) ∙ p.buffer) ∙ append_assoc (take at before) p.output q.output;
       }
+
+  -- a stage behind what stands there already, of which what was written is kept
+  pub behind_stage : (from to : States) (text before after : List ℕ) (at size end : ℕ) (o : Outcome) → at ≤ length before → at + size ≡ end → IsStage reads writes policy from text before at end o to after
+      → IsConverted reads writes policy from text size (record { left = o.left; count = o.count; stop = o.stop; output = drop at (take (end - o.room_left) after); states = to })
+  behind_stage from to text before after at size end o within whole p =
+      let n : end - o.room_left ≡ at + length p.output = omega (arith, p.room_left) in
+      let e : drop at (take (end - o.room_left) after) ≡ p.output = ap (λ (k : ℕ). drop at (take k after)) n ∙ ap (drop at) p.buffer ∙ behind_front before p.output at within in
+      let room : end - at ≡ size = omega (arith, whole) in
+      subst (λ (k : ℕ). IsConverted reads writes policy from text k (record { left = o.left; count = o.count; stop = o.stop; output = drop at (take (end - o.room_left) after); states = to })) room
+      (subst (λ (x : List ℕ). IsConverted reads writes policy from text (end - at) (record { left = o.left; count = o.count; stop = o.stop; output = x; states = to })) (sym e) p.converted)
+
+  -- what stands in front of a stage stays
+  pub front_of_stage : (from to : States) (text before after : List ℕ) (at end : ℕ) (o : Outcome) → at ≤ length before → IsStage reads writes policy from text before at end o to after → take at after ≡ take at before
+  front_of_stage from to text before after at end o within p = front_of_front before after p.output at (at + length p.output) (omega arith) within p.buffer

@@ -35,7 +35,7 @@ pub enum Answer {
     Refused(Status),
 }
 
-fn status_of(stop: Stop) -> Status
+pub(crate) fn status_of(stop: Stop) -> Status
     ensures { result ≡ stop_status stop }
 {
     match stop {
@@ -47,7 +47,7 @@ fn status_of(stop: Stop) -> Status
     }
 }
 
-fn number_piece(n: u32) -> Piece
+pub(crate) fn number_piece(n: u32) -> Piece
     ensures { result ≡ to_be_bytes w32 n }
 {
     let mut piece = Piece::new();
@@ -64,7 +64,7 @@ fn two_numbers(a: u32, b: u32) -> Piece
     piece
 }
 
-fn fault_piece(fault: MapFault) -> Piece
+pub(crate) fn fault_piece(fault: MapFault) -> Piece
     ensures { result ≡ to_be_bytes w32 fault.line ++ cause_number fault.cause ∷ [] }
 {
     let mut piece = number_piece(fault.line);

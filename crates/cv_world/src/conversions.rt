@@ -74,7 +74,7 @@ fn convert_in_stages(
     ensures err { OnErr result (conversion.new ≡ conversion.old) }
 {
     let mut bytes = Vec::with_capacity(alloc, size)?;
-    let outcome = convert_into(conversion, input, &mut bytes, size);
+    let outcome = convert_into(conversion, input, &mut bytes, 0, size);
     let end = size - outcome.room_left;
     bytes.truncate(end);
     Ok(Output {

@@ -2,18 +2,24 @@
 #![tactic(auto)]
 
 mod answer;
+mod appending;
+mod behind;
 mod callers;
 mod conversions;
 mod events;
+mod framing;
+mod into;
 mod kept;
 pub mod laws;
 mod op;
 mod opening;
 mod outcomes;
+mod replies;
 mod serving;
 mod stages;
 mod world;
 
 pub use answer::Answer;
 pub use op::Op;
+pub use replies::Replies;
 pub use world::World;

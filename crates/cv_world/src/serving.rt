@@ -36,7 +36,7 @@ fn compile_put<R, C: Compiler<R>>(
 }
 
 /// What a request asks for. The text of a PUT is compiled here, just before its step.
-fn read<'a, R, C: Compiler<R>>(
+pub(crate) fn read<'a, R, C: Compiler<R>>(
     world: &World,
     compiler: &C,
     rt: &R,

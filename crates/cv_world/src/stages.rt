@@ -1,5 +1,5 @@
 //! A conversion into memory that is cleared only as far as it comes to be used.
-ghost use Rattle.std.specs.Prelude.{◌≡◌, ◌≢◌, ◌⊎◌, ◌≤◌, ◌<◌, ◌+◌, ◌^◌, true, length, vec_capacity, vec_len};
+ghost use Rattle.std.specs.Prelude.{◌≡◌, ◌≢◌, ◌⊎◌, ◌≤◌, ◌<◌, ◌+◌, ◌^◌, ℕ, true, length, take, vec_capacity, vec_len};
 ghost use Rattle.cv_frame.specs.declared.sizes.TheConstants.{MOST_BODY};
 ghost use Rattle.cv_pivot.specs.Encodings.{form_of, form_reads, form_writes};
 ghost use Rattle.cv_world.specs.Private.Stages.{IsStage};
@@ -56,8 +56,21 @@ fn guessed_end(used: usize, at: usize, left: usize, size: usize) -> usize
     size.min(at + likely + left)
 }
 
-/// Converts into the memory of a vector, behind one place and before another.
-fn convert_stage(
+/// Clears the memory of a vector up to a place, where it isn't cleared already.
+fn make_end(bytes: &mut Vec<u8>, end: usize)
+    requires { end ≤ vec_capacity bytes.old }
+    ensures same { (at : ℕ) → at ≤ vec_len bytes.old → take at bytes.new.items ≡ take at bytes.old.items }
+    ensures len { (end ≤ vec_len bytes.new) × (vec_len bytes.old ≤ vec_len bytes.new) }
+    ensures capacity { vec_capacity bytes.old ≤ vec_capacity bytes.new }
+{
+    if bytes.len() < end {
+        // The vector has this memory, so nothing is asked for.
+        let _ = bytes.resize(end, 0);
+    }
+}
+
+/// Converts into the memory of a vector, behind one place and before another. It is cleared as far, if it isn't already.
+pub(crate) fn convert_stage(
     conversion: &mut Conversion,
     input: &[u8],
     bytes: &mut Vec<u8>,
@@ -72,12 +85,11 @@ fn convert_stage(
     ensures kept { conversion.new ≡ record conversion.old { states = conversion.new.states } }
     ensures few { (result.left ≤ length input.now) × (result.count ≤ length input.now) }
     ensures room_left { at + result.room_left ≤ end }
-    ensures len { vec_len bytes.new ≡ end }
+    ensures len { (end ≤ vec_len bytes.new) × (vec_len bytes.old ≤ vec_len bytes.new) }
     ensures capacity { vec_capacity bytes.old ≤ vec_capacity bytes.new }
 {
-    // The vector has this memory, so nothing is asked for.
-    let _ = bytes.resize(end, 0);
-    conversion.convert(input, &mut bytes[at..])
+    make_end(bytes, end);
+    conversion.convert(input, &mut bytes[at..end])
 }
 
 /// Converts the rest of a text into the memory of a vector, behind one place and before `size`. It is cleared up to `end` first, and as a
@@ -98,6 +110,7 @@ fn convert_rest(
         conversion.old.states input.now bytes.old.items at size result conversion.new.states bytes.new.items }
     ensures kept { conversion.new ≡ record conversion.old { states = conversion.new.states } }
     ensures few { (result.left ≤ length input.now) × (result.count ≤ length input.now) }
+    ensures len { (at + result.room_left ≤ size) × (size ≤ result.room_left + vec_len bytes.new) × (vec_len bytes.old ≤ vec_len bytes.new) }
 {
     conversion.from.assert_valid();
     let first = convert_stage(conversion, input, bytes, at, end);
@@ -116,26 +129,31 @@ fn convert_rest(
     joined(first, rest)
 }
 
-/// Converts into the memory of a vector, before `size`. It is one `Conversion::convert` into a buffer of that size, which is not cleared as
-/// a whole: the front of the text says how much the rest is likely to need.
+/// Converts into the memory of a vector, behind one place and before `size`. It is one `Conversion::convert` into a buffer
+/// that ends there, which is not cleared as a whole: the front of the text says how much the rest is likely to need.
 pub(crate) fn convert_into(
     conversion: &mut Conversion,
     input: &[u8],
     bytes: &mut Vec<u8>,
+    start: usize,
     size: usize,
 ) -> Outcome
+    requires from { start ≤ vec_len bytes.old }
+    requires to { start ≤ size }
     requires room { size ≤ vec_capacity bytes.old }
-    requires small { size < 2 ^ 32 }
+    requires small { size < start + 2 ^ 32 }
     requires short { length input.now ≤ MOST_BODY }
     ensures stage { IsStage (form_reads (form_of conversion.old.from)) (form_writes (form_of conversion.old.to)) conversion.old.policy
-        conversion.old.states input.now bytes.old.items 0 size result conversion.new.states bytes.new.items }
+        conversion.old.states input.now bytes.old.items start size result conversion.new.states bytes.new.items }
     ensures kept { conversion.new ≡ record conversion.old { states = conversion.new.states } }
     ensures few { (result.left ≤ length input.now) × (result.count ≤ length input.now) }
+    ensures len { (start + result.room_left ≤ size) × (size ≤ result.room_left + vec_len bytes.new) × (vec_len bytes.old ≤ vec_len bytes.new) }
 {
     conversion.from.assert_valid();
     let part = input.len().min(FRONT);
-    let room = size.min(conversion.most_output(part));
-    let front = convert_stage(conversion, &input[..part], bytes, 0, room);
+    let most = (size - start).min(conversion.most_output(part));
+    let room = start + most;
+    let front = convert_stage(conversion, &input[..part], bytes, start, room);
     if is_fault(front.stop) {
         return Outcome {
             left: front.left + (input.len() - part),
@@ -145,7 +163,7 @@ pub(crate) fn convert_into(
     }
     let used = part - front.left;
     let at = room - front.room_left;
-    let end = guessed_end(used, at, input.len() - used, size);
+    let end = start + guessed_end(used, at - start, input.len() - used, size - start);
     let rest = convert_rest(conversion, &input[used..], bytes, at, end, size);
     joined(front, rest)
 }

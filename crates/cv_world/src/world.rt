@@ -34,13 +34,13 @@ use std::marker::Model;
 use std::sync::Arc;
 
 /// The most room that a request may ask for, in bytes.
-const MOST_ROOM: u32 = 1_000_000;
+pub(crate) const MOST_ROOM: u32 = 1_000_000;
 
 /// The callers of a shard, each with its own table; their conversions are in one slab. Contracts see each caller's table.
 #[derive(Drop)]
 pub struct World {
-    callers: BTreeMap<u32, Kept>,
-    conversions: Slab<Conversion>,
+    pub(crate) callers: BTreeMap<u32, Kept>,
+    pub(crate) conversions: Slab<Conversion>,
 }
 
 impl Model for World {

@@ -3,7 +3,7 @@ use cv_cache::{Compiler, Plain};
 use cv_charmap::CompileFault;
 use cv_frame::{Request, Status};
 use cv_trie::Charmap;
-use cv_world::World;
+use cv_world::{Replies, World};
 use std::alloc::Global;
 use std::sync::{Arc, Mutex, Wait};
 use std::test::Fail;
@@ -33,20 +33,53 @@ impl<R: Wait> Compiler<R> for Hoard {
 /// A text of the charmap A, with one mapping.
 const SMALL: &[u8] = b"<code_set_name> A\nCHARMAP\n<question-mark> \\x6F\nEND CHARMAP\n";
 
-/// Asks for a charmap in a new world, by the op 1, and gives the status, and how many things the compiler keeps then.
+/// The upload of a charmap, by the op 1.
+const UPLOAD: Request = Request {
+    caller: 1,
+    tag: 1,
+    op: 1,
+    body: SMALL,
+};
+
+/// Uploads a charmap to a new world, and gives the status, and how many things the compiler keeps then.
 fn put<R: Wait>(rt: &R, alloc: Global, kept: u32) -> (Status, u32) {
     let hoard = Hoard {
         kept: Mutex::new(kept),
     };
-    let request = Request {
-        caller: 1,
-        tag: 1,
-        op: 1,
-        body: SMALL,
-    };
+    let request = UPLOAD;
     let mut world = World::new(alloc);
     let reply = world.answer(&hoard, rt, alloc, &request);
     (reply.status, hoard.kept.into_inner())
+}
+
+/// The same, with the reply appended: its status is the thirteenth byte.
+fn put_into<R: Wait>(rt: &R, alloc: Global, kept: u32) -> Result<(u8, u32), Fail> {
+    let hoard = Hoard {
+        kept: Mutex::new(kept),
+    };
+    let request = UPLOAD;
+    let mut world = World::new(alloc);
+    let mut replies = Replies::new(alloc);
+    world.answer_into(&hoard, rt, alloc, &request, &mut replies)?;
+    let Some(status) = replies.as_slice().get(12) else {
+        return Err("the reply is whole".into());
+    };
+    Ok((*status, hoard.kept.into_inner()))
+}
+
+/// The same where the reply is appended to others.
+#[test]
+fn what_is_kept_is_given_up_before_a_reply_is_appended(rt: HostRuntime) -> Result<(), Fail> {
+    let (status, kept) = put_into(&rt, rt.alloc(), 0)?;
+    assert_eq!(rt; status, Status::Ok.number());
+    assert_eq!(rt; kept, 0);
+    let (status, kept) = put_into(&rt, rt.alloc(), 1)?;
+    assert_eq!(rt; status, Status::Ok.number());
+    assert_eq!(rt; kept, 0);
+    let (status, kept) = put_into(&rt, rt.alloc(), 5)?;
+    assert_eq!(rt; status, Status::NoMemory.number());
+    assert_eq!(rt; kept, 4);
+    Ok(())
 }
 
 /// A request that finds no memory is tried once more, where something was given up, and no oftener.

@@ -1,0 +1,110 @@
+//! A conversion into the memory behind a place of a vector, which stays for others.
+ghost use Rattle.std.specs.Prelude.{◌≡◌, ◌≢◌, ◌≤◌, ◌<◌, ◌+◌, ◌^◌, ℕ, length, take, drop, vec_len, vec_capacity, Some, IfOk, OnErr};
+ghost use Rattle.slab.specs.Slab.{ContainsKey, get as held};
+ghost use Rattle.cv_frame.specs.declared.sizes.TheConstants.{MOST_BODY};
+ghost use Rattle.cv_pivot.specs.Conversions.{IsConverted};
+ghost use Rattle.cv_pivot.specs.Encodings.{form_of, form_reads, form_writes, IsForm};
+ghost use Rattle.cv_pivot.specs.declared.conversion.Conversion.{Conversion as Kept};
+ghost use Rattle.cv_world.specs.Private.Stages.{IsStage};
+
+use crate::framing::make_room;
+use crate::stages::{convert_into, convert_stage};
+use cv_base::{Codec, Memory};
+use cv_pivot::{Conversion, Outcome, States};
+use slab::Slab;
+
+/// How much memory is cleared at once.
+const AT_ONCE: usize = 4_096;
+
+/// The result of a conversion into the memory behind a place, and where its output ends.
+#[derive(Drop)]
+pub(crate) struct Behind {
+    pub(crate) outcome: Outcome,
+    pub(crate) end: usize,
+    pub(crate) states: States,
+}
+
+/// Converts into the memory of a vector, behind one place and before another. What was cleared before is not cleared again.
+fn convert_between(
+    conversion: &mut Conversion,
+    input: &[u8],
+    bytes: &mut Vec<u8>,
+    at: usize,
+    end: usize,
+) -> Outcome
+    requires from { at ≤ vec_len bytes.old }
+    requires to { at ≤ end }
+    requires room { end ≤ vec_capacity bytes.old }
+    requires small { end < at + 2 ^ 32 }
+    requires short { length input.now ≤ MOST_BODY }
+    ensures stage { IsStage (form_reads (form_of conversion.old.from)) (form_writes (form_of conversion.old.to)) conversion.old.policy
+        conversion.old.states input.now bytes.old.items at end result conversion.new.states bytes.new.items }
+    ensures kept { conversion.new ≡ record conversion.old { states = conversion.new.states } }
+    ensures few { (result.left ≤ length input.now) × (result.count ≤ length input.now) }
+    ensures len { (at + result.room_left ≤ end) × (end ≤ result.room_left + vec_len bytes.new) × (vec_len bytes.old ≤ vec_len bytes.new) }
+{
+    if end <= bytes.len() || end - bytes.len() <= AT_ONCE {
+        return convert_stage(conversion, input, bytes, at, end);
+    }
+    convert_into(conversion, input, bytes, at, end)
+}
+
+/// Converts as much of the input as fits in the room, behind a place. It takes memory for no more than the input can need.
+fn convert_behind(
+    conversion: &mut Conversion,
+    room: u32,
+    input: &[u8],
+    bytes: &mut Vec<u8>,
+    at: usize,
+) -> Result<Behind, Memory>
+    requires within { at ≤ vec_len bytes.old }
+    requires short { length input.now ≤ MOST_BODY }
+    ensures form { IsForm (form_of conversion.old.from) }
+    ensures converted { IfOk result (λ r. IsConverted (form_reads (form_of conversion.old.from)) (form_writes (form_of conversion.old.to)) conversion.old.policy conversion.old.states input.now room
+        (record { left = r.outcome.left; count = r.outcome.count; stop = r.outcome.stop; output = drop at (take r.end bytes.new.items); states = r.states })) }
+    ensures kept { IfOk result (λ r. conversion.new ≡ record conversion.old { states = r.states }) }
+    ensures few { IfOk result (λ r. (r.outcome.left ≤ length input.now) × (r.outcome.count ≤ length input.now)) }
+    ensures end { IfOk result (λ r. (at ≤ r.end) × (r.end ≤ at + room) × (r.end ≤ vec_len bytes.new)) }
+    ensures same { take at bytes.new.items ≡ take at bytes.old.items }
+    ensures len { vec_len bytes.old ≤ vec_len bytes.new }
+    ensures err { OnErr result (conversion.new ≡ conversion.old) }
+{
+    conversion.from.assert_form();
+    let size = (room as usize).min(conversion.most_output(input.len()));
+    make_room(bytes, at, size)?;
+    let end = at + size;
+    let outcome = convert_between(conversion, input, bytes, at, end);
+    Ok(Behind {
+        outcome,
+        end: end - outcome.room_left,
+        states: conversion.states,
+    })
+}
+
+/// Converts by the conversion under a key, behind a place.
+pub(crate) fn convert_behind_in(
+    conversions: &mut Slab<Conversion>,
+    key: usize,
+    room: u32,
+    input: &[u8],
+    bytes: &mut Vec<u8>,
+    at: usize,
+) -> Result<Behind, Memory>
+    requires there { ContainsKey conversions.old key }
+    requires within { at ≤ vec_len bytes.old }
+    requires short { length input.now ≤ MOST_BODY }
+    ensures form { (v : Kept) → held conversions.old key ≡ Some v → IsForm (form_of v.from) }
+    ensures converted { IfOk result (λ r. (v : Kept) → held conversions.old key ≡ Some v
+        → IsConverted (form_reads (form_of v.from)) (form_writes (form_of v.to)) v.policy v.states input.now room
+        (record { left = r.outcome.left; count = r.outcome.count; stop = r.outcome.stop; output = drop at (take r.end bytes.new.items); states = r.states })) }
+    ensures keeps { IfOk result (λ r. (v : Kept) → held conversions.old key ≡ Some v
+        → held conversions.new key ≡ Some (record v { states = r.states })) }
+    ensures others { (other : ℕ) → other ≢ key → held conversions.new other ≡ held conversions.old other }
+    ensures few { IfOk result (λ r. (r.outcome.left ≤ length input.now) × (r.outcome.count ≤ length input.now)) }
+    ensures end { IfOk result (λ r. (at ≤ r.end) × (r.end ≤ at + room) × (r.end ≤ vec_len bytes.new)) }
+    ensures same { take at bytes.new.items ≡ take at bytes.old.items }
+    ensures len { vec_len bytes.old ≤ vec_len bytes.new }
+    ensures err { OnErr result (held conversions.new key ≡ held conversions.old key) }
+{
+    convert_behind(&mut conversions[key], room, input, bytes, at)
+}

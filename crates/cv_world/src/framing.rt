@@ -1,0 +1,144 @@
+//! Frames that are written behind others, into memory that a vector has cleared already.
+ghost use Rattle.std.specs.Prelude.{◌≡◌, ◌≤◌, ◌+◌, ◌++◌, OnOk, IsOk, length, take, drop, vec_len, vec_capacity};
+ghost use Rattle.std.specs.Int.{w32, to_be_bytes};
+ghost use Rattle.cv_frame.specs.Message.{spelling};
+ghost use Rattle.cv_frame.specs.Status.{status_number};
+ghost use Rattle.cv_frame.specs.declared.sizes.TheConstants.{MOST_BODY};
+
+use cv_base::{Memory, Piece};
+use cv_frame::{Reply, Status, reply_head};
+
+/// How many bytes a frame has before its body.
+pub(crate) const FRAME_HEAD: usize = 13;
+
+/// How many bytes the frame of a reply has at most, if it isn't that of a conversion: its body is a piece. The output of a
+/// conversion begins behind as many.
+pub(crate) const SMALL: usize = 21;
+
+/// How many bytes more are cleared than are needed, so that the next replies need none.
+const AHEAD: usize = 1_024;
+
+/// Makes room in a vector for n bytes behind a place: twice what there was, or else just as much as is needed.
+pub(crate) fn make_room(bytes: &mut Vec<u8>, at: usize, n: usize) -> Result<(), Memory>
+    requires { at ≤ vec_len bytes.old }
+    ensures ok { OnOk result (at + n ≤ vec_capacity bytes.new) }
+    ensures items { bytes.new.items ≡ bytes.old.items }
+    ensures len { vec_len bytes.new ≡ vec_len bytes.old }
+{
+    let behind = bytes.len() - at;
+    if behind < n && bytes.reserve(n - behind).is_err() {
+        bytes.reserve_exact(n - behind)?;
+    }
+    Ok(())
+}
+
+/// Makes a vector so long that there are n bytes behind a place. What is in front of the place stays.
+pub(crate) fn make_long(bytes: &mut Vec<u8>, at: usize, n: usize) -> Result<(), Memory>
+    requires { at ≤ vec_len bytes.old }
+    ensures ok { OnOk result (at + n ≤ vec_len bytes.new) }
+    ensures same { take at bytes.new.items ≡ take at bytes.old.items }
+    ensures len { vec_len bytes.old ≤ vec_len bytes.new }
+{
+    if n <= bytes.len() - at {
+        return Ok(());
+    }
+    make_room(bytes, at, n)?;
+    let end = at + n;
+    let ahead = AHEAD.min(bytes.capacity() - end);
+    // The vector has this memory, so nothing is asked for.
+    let _ = bytes.resize(end + ahead, 0);
+    Ok(())
+}
+
+/// Writes bytes behind a place.
+fn put(out: &mut Vec<u8>, at: usize, bytes: &[u8])
+    requires { at + length bytes.now ≤ vec_len out.old }
+    ensures front { take (at + length bytes.now) out.new.items ≡ take at out.old.items ++ bytes.now }
+    ensures rest { drop (at + length bytes.now) out.new.items ≡ drop (at + length bytes.now) out.old.items }
+    ensures len { vec_len out.new ≡ vec_len out.old }
+{
+    out[at..at + bytes.len()].copy_from_slice(bytes);
+}
+
+/// Writes a frame behind a place, and says where it ends.
+fn put_frame(out: &mut Vec<u8>, at: usize, front: &[u8; 13], head: &[u8], tail: &[u8]) -> usize
+    requires { at + (13 + (length head.now + length tail.now)) ≤ vec_len out.old }
+    ensures frame { take result out.new.items ≡ take at out.old.items ++ (front.now ++ (head.now ++ tail.now)) }
+    ensures end { result ≡ at + (13 + (length head.now + length tail.now)) }
+    ensures len { vec_len out.new ≡ vec_len out.old }
+{
+    let behind = at + FRAME_HEAD;
+    let end = behind + head.len();
+    put(out, at, front);
+    put(out, behind, head);
+    put(out, end, tail);
+    end + tail.len()
+}
+
+/// Writes the frame of a reply behind a place, and says where it ends.
+pub(crate) fn put_reply(out: &mut Vec<u8>, at: usize, reply: &Reply) -> usize
+    requires { at + (13 + length reply.now.body) ≤ vec_len out.old }
+    ensures frame { take result out.new.items ≡ take at out.old.items ++ spelling reply.now }
+    ensures end { result ≤ vec_len out.new }
+{
+    let head = reply.head.as_slice();
+    let tail = reply.tail.as_slice();
+    let front = reply_head(
+        reply.caller,
+        reply.tag,
+        reply.status,
+        head.len() + tail.len(),
+    );
+    put_frame(out, at, &front, head, tail)
+}
+
+/// Writes the frame of a reply that has a small body, and says where it ends.
+pub(crate) fn put_small(
+    out: &mut Vec<u8>,
+    at: usize,
+    caller: u32,
+    tag: u32,
+    status: Status,
+    body: &Piece,
+) -> usize
+    requires { at + SMALL ≤ vec_len out.old }
+    ensures frame { take result out.new.items ≡ take at out.old.items
+        ++ spelling (record { caller = caller; tag = tag; code = status_number status; body = body.now }) }
+    ensures end { result ≤ vec_len out.new }
+{
+    let body = body.as_slice();
+    let front = reply_head(caller, tag, status, body.len());
+    let behind = at + FRAME_HEAD;
+    put(out, at, &front);
+    put(out, behind, body);
+    behind + body.len()
+}
+
+/// Writes what precedes the output of a conversion, which stands there already and ends there.
+pub(crate) fn put_in_front(
+    out: &mut Vec<u8>,
+    at: usize,
+    end: usize,
+    caller: u32,
+    tag: u32,
+    status: Status,
+    left: u32,
+    count: u32,
+)
+    requires output { at + SMALL ≤ end }
+    requires within { end ≤ vec_len out.old }
+    requires fits { end ≤ at + 13 + MOST_BODY }
+    ensures frame { take end out.new.items ≡ take at out.old.items ++ spelling (record {
+      caller = caller;
+      tag = tag;
+      code = status_number status;
+      body = to_be_bytes w32 left ++ (to_be_bytes w32 count ++ drop (at + SMALL) (take end out.old.items));
+    }) }
+    ensures len { vec_len out.new ≡ vec_len out.old }
+{
+    let behind = at + FRAME_HEAD;
+    let front = reply_head(caller, tag, status, end - behind);
+    put(out, at, &front);
+    put(out, behind, &left.to_be_bytes());
+    put(out, behind + 4, &count.to_be_bytes());
+}

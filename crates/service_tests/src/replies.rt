@@ -1,0 +1,230 @@
+//! A world that appends its replies answers as one that returns them: many made requests, whose rooms and lengths lie around the
+//! sizes at which conversions go another way.
+use cv_cache::Plain;
+use cv_frame::{Frame, Reply, next_request, write_reply};
+use cv_world::{Replies, World};
+use std::alloc::{AllocError, Global};
+use std::test::Fail;
+
+/// Numbers that are made by a rule.
+#[derive(Drop)]
+struct Numbers {
+    state: u64,
+}
+
+impl Numbers {
+    /// A number below a limit.
+    fn below(&mut self, limit: u32) -> u32 {
+        self.state = self
+            .state
+            .wrapping_mul(6_364_136_223_846_793_005)
+            .wrapping_add(1_442_695_040_888_963_407);
+        let limit = u64::from(limit.max(1));
+        u32::try_from((self.state >> 33) % limit).unwrap_or(0)
+    }
+
+    /// One of some numbers.
+    fn one_of(&mut self, numbers: &[u32]) -> u32 {
+        let count = u32::try_from(numbers.len()).unwrap_or(0);
+        let place = self.below(count);
+        numbers.get(place as usize).map_or(0, |number| *number)
+    }
+}
+
+/// The bodies of what isn't a conversion, each behind its op. Some are of no form.
+const OTHERS: [&[u8]; 20] = [
+    b"\x03\x05UTF-8\x08UTF-16LE",
+    b"\x03\x08UTF-16LE\x05UTF-8",
+    b"\x03\x05UTF-8\x05UTF-8\x01",
+    b"\x03\x05UTF-7\x05UTF-8",
+    b"\x03\x08US-ASCII\x05UTF-8",
+    b"\x03\x0aISO-8859-1\x05UTF-8\x01",
+    b"\x03\x01P\x05UTF-8",
+    b"\x03\x05UTF-8\x01P",
+    b"\x03\x05UTF-8\x0aISO-8859-1",
+    b"\x03\x05UTF-8",
+    b"\x01<code_set_name> P\nCHARMAP\n<question-mark> \\x3F\n<U0041>..<U005A> \\x41\n<U00E9> \\x80\nEND CHARMAP\n",
+    b"\x01CHARMAP\n<U0041>\n",
+    b"\x02\x01P",
+    b"\x08xyz",
+    b"\x08",
+    b"\x05\0\0\0\x03\0\0\0\x08",
+    b"\x05\0\0\0\x01\0\0\0\0",
+    b"\x06\0\0\0\x02",
+    b"\x07",
+    b"\x63",
+];
+
+/// Text of one to four bytes a character.
+const TEXT: &str =
+    "Les caf\u{e9}s de \u{41a}\u{438}\u{435}\u{432}, \u{4e2d}\u{6587} and \u{1f600}. All plain from here on, for some time. ";
+
+const ROOMS: [u32; 18] = [
+    0, 1, 2, 3, 7, 8, 9, 40, 63, 64, 1_024, 4_075, 4_096, 4_097, 16_384, 262_144, 1_000_000,
+    1_000_001,
+];
+
+const SIZES: [u32; 14] = [
+    0, 1, 2, 3, 5, 8, 11, 12, 64, 1_023, 1_024, 1_025, 4_100, 20_000,
+];
+
+/// Appends the frame of a request.
+fn push_frame(
+    frames: &mut Vec<u8>,
+    caller: u32,
+    tag: u32,
+    op: u8,
+    body: &[u8],
+) -> Result<(), AllocError> {
+    let length = u32::try_from(body.len()).unwrap_or(0).saturating_add(9);
+    frames.extend_from_slice(&length.to_be_bytes())?;
+    frames.extend_from_slice(&caller.to_be_bytes())?;
+    frames.extend_from_slice(&tag.to_be_bytes())?;
+    frames.push(op)?;
+    frames.extend_from_slice(body)
+}
+
+/// Appends a CONV. Every third text has a bad byte somewhere, and every eighth no body of its form.
+fn push_conversion(
+    alloc: Global,
+    numbers: &mut Numbers,
+    frames: &mut Vec<u8>,
+    caller: u32,
+    tag: u32,
+) -> Result<(), AllocError> {
+    let mut body = Vec::new(alloc);
+    if numbers.below(8) > 0 {
+        let number = numbers.below(4);
+        body.extend_from_slice(&number.to_be_bytes())?;
+        body.extend_from_slice(&numbers.one_of(&ROOMS).to_be_bytes())?;
+    }
+    let size = numbers.one_of(&SIZES);
+    let start = body.len();
+    // The text has more than 64 bytes.
+    for _time in 0..=size / 64 {
+        body.extend_from_slice(TEXT.as_bytes())?;
+    }
+    body.truncate(start.saturating_add(size as usize));
+    let bad = numbers.below(size.saturating_mul(3));
+    if let Some(byte) = body.get_mut(start.saturating_add(bad as usize)) {
+        *byte = 0xFF;
+    }
+    push_frame(frames, caller, tag, 4, &body)
+}
+
+/// Requests of three callers.
+fn made(alloc: Global, numbers: &mut Numbers, count: u32) -> Result<Vec<u8>, AllocError> {
+    let mut frames = Vec::new(alloc);
+    for tag in 0..count {
+        let caller = numbers.below(3);
+        if numbers.below(3) > 0 {
+            push_conversion(alloc, numbers, &mut frames, caller, tag)?;
+            continue;
+        }
+        let place = numbers.below(20) as usize;
+        if let Some([op, body @ ..]) = OTHERS.get(place) {
+            push_frame(&mut frames, caller, tag, *op, body)?;
+        }
+    }
+    Ok(frames)
+}
+
+/// Answers so many frames by both worlds, and says whether their replies are the same.
+fn are_same(
+    alloc: Global,
+    worlds: &mut (World, World),
+    frames: &[u8],
+    count: u32,
+    replies: &mut Replies,
+) -> Result<bool, Fail> {
+    let mut wanted = Vec::new(alloc);
+    let mut rest = frames;
+    for _turn in 0..count {
+        let Frame::Whole { request, n } = next_request(rest) else {
+            return Err("each frame is whole".into());
+        };
+        let reply: Reply = worlds.0.answer(&Plain, &(), alloc, &request);
+        write_reply(&mut wanted, &reply)?;
+        worlds.1.answer_into(&Plain, &(), alloc, &request, replies)?;
+        rest = rest.get(n..).unwrap_or(&[]);
+    }
+    Ok(replies.as_slice() == wanted.as_slice())
+}
+
+#[test]
+fn appended_replies_are_those_that_are_returned(rt: HostRuntime) -> Result<(), Fail> {
+    let alloc = rt.alloc();
+    let mut numbers = Numbers { state: 47 };
+    let mut worlds = (World::new(alloc), World::new(alloc));
+    let mut replies = Replies::new(alloc);
+    for size in [1u32, 2, 5, 30, 400, 3, 60, 1, 200] {
+        let frames = made(alloc, &mut numbers, size)?;
+        replies.clear();
+        let same = are_same(alloc, &mut worlds, &frames, size, &mut replies)?;
+        assert!(rt; same, "{size}");
+    }
+    Ok(())
+}
+
+/// Opens a descriptor of caller 0 in both worlds, whose number is 0.
+fn open_both(
+    alloc: Global,
+    worlds: &mut (World, World),
+    body: &[u8],
+    replies: &mut Replies,
+) -> Result<bool, Fail> {
+    let mut frames = Vec::new(alloc);
+    push_frame(&mut frames, 0, 0, 3, body)?;
+    are_same(alloc, worlds, &frames, 1, replies)
+}
+
+/// Conversions that have room for much more than they write are answered alike, again and again.
+#[test]
+fn room_to_spare_changes_no_reply(rt: HostRuntime) -> Result<(), Fail> {
+    let alloc = rt.alloc();
+    let mut worlds = (World::new(alloc), World::new(alloc));
+    let mut replies = Replies::new(alloc);
+    let opened = open_both(alloc, &mut worlds, b"\x08UTF-16LE\x05UTF-8", &mut replies)?;
+    assert!(rt; opened);
+    let mut body = Vec::new(alloc);
+    body.extend_from_slice(b"\0\0\0\0\x00\x0F\x42\x40")?;
+    body.resize(150_000, b'a')?;
+    // It is behind the front of the text, so that room is cleared for all of it.
+    if let Some(byte) = body.get_mut(1_500) {
+        *byte = 0xFF;
+    }
+    let mut frames = Vec::new(alloc);
+    push_frame(&mut frames, 0, 1, 4, &body)?;
+    for turn in 0..3u32 {
+        replies.clear();
+        let same = are_same(alloc, &mut worlds, &frames, 1, &mut replies)?;
+        assert!(rt; same, "{turn}");
+    }
+    Ok(())
+}
+
+/// A text whose rest takes much more room for each byte than its front does, behind another reply.
+#[test]
+fn rest_that_needs_more_than_the_front_says(rt: HostRuntime) -> Result<(), Fail> {
+    let alloc = rt.alloc();
+    let mut worlds = (World::new(alloc), World::new(alloc));
+    let mut replies = Replies::new(alloc);
+    let opened = open_both(alloc, &mut worlds, b"\x05UTF-7\x08UTF-16LE", &mut replies)?;
+    assert!(rt; opened);
+    let mut frames = Vec::new(alloc);
+    push_frame(&mut frames, 0, 1, 8, b"part")?;
+    let mut body = Vec::new(alloc);
+    body.extend_from_slice(b"\0\0\0\0\x00\x0F\x42\x40")?;
+    for _letter in 0..512u32 {
+        body.extend_from_slice(b"a\0")?;
+    }
+    // Each shift is a sequence of its own.
+    for _pair in 0..6_000u32 {
+        body.extend_from_slice(b"a\0\x2D\x4E")?;
+    }
+    push_frame(&mut frames, 0, 2, 4, &body)?;
+    replies.clear();
+    let same = are_same(alloc, &mut worlds, &frames, 2, &mut replies)?;
+    assert!(rt; same);
+    Ok(())
+}

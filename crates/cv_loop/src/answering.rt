@@ -1,53 +1,46 @@
 //! Answering one batch.
 
-ghost use Rattle.std.specs.Prelude.{◌≡◌, ◌-◌, ◌^◌, false, length, min, IfOk, IfErr, OnOk};
-ghost use Rattle.cv_frame.specs.Message.{joined};
+ghost use Rattle.std.specs.Prelude.{◌≡◌, ℕ, List, [], false, IfErr, OnErr, OnOk};
+ghost use Rattle.cv_frame.specs.Message.{Message};
 ghost use Rattle.cv_loop.specs.Private.Draining.{Answered, Broken};
+ghost use Rattle.cv_loop.specs.Replying.{AppendsReplies};
 
 use crate::ends::Sink;
 use crate::engine::Engine;
 use crate::fault::ServeFault;
 use crate::pushing::push_all;
 use cv_base::Memory;
-use cv_frame::{Reply, Request, write_reply};
+use cv_frame::Request;
+use cv_world::Replies;
 use std::alloc::Global;
 
-/// How many bytes a frame has before its body: the length, the caller, the tag and the status.
-const FRAME_HEAD: usize = 13;
-
-/// How many bytes the replies are, one after another.
-fn spelled_size(replies: &[Reply]) -> usize
-    ensures { result ≡ min (length (joined replies.now)) (2 ^ 64 - 1) }
+/// Answers requests. Their replies come in place of those that were there.
+fn reply_anew<R, E: Engine<R>>(
+    engine: &mut E,
+    rt: &R,
+    alloc: Global,
+    requests: &[Request],
+    replies: &mut Replies,
+) -> Result<(), Memory>
+    requires { E.ready engine.old }
+    ensures ready { E.ready engine.new }
+    ensures ok { OnOk result (AppendsReplies E.turn (E.tables engine.old) requests.now [] [] replies.new [] (E.tables engine.new)) }
+    ensures err { OnErr result ((later : List Message) × (missing : List ℕ)
+        × AppendsReplies E.turn (E.tables engine.old) requests.now later [] replies.new missing (E.tables engine.new)) }
 {
-    let mut size = 0usize;
-    for reply in replies {
-        let body = reply.head.as_slice().len() + reply.tail.as_slice().len();
-        size = size.saturating_add(FRAME_HEAD + body);
-    }
-    size
+    replies.clear();
+    engine.batch_into(rt, alloc, requests, replies)
 }
 
-/// Replies one after another, in place of what the buffer held.
-fn spell(bytes: &mut Vec<u8>, replies: &[Reply]) -> Result<(), Memory>
-    ensures { OnOk result (bytes.new.items ≡ joined replies.now) }
-{
-    bytes.clear();
-    bytes.reserve(spelled_size(replies))?;
-    for reply in replies {
-        write_reply(bytes, reply)?;
-    }
-    Ok(())
-}
-
-/// Answers requests, and writes the replies. `written` counts the bytes of the run that were written. The replies are spelled into
-/// `bytes`, which is only lent for its memory: given back after each batch it would be had anew for the next.
+/// Answers requests, and writes the replies. `written` counts the bytes of the run that were written. `replies` is
+/// only lent for its memory: given back after each batch it would be had anew for the next.
 pub fn answer<R, E: Engine<R>, W: Sink>(
     engine: &mut E,
     rt: &R,
     alloc: Global,
     writer: &mut W,
     requests: &[Request],
-    bytes: &mut Vec<u8>,
+    replies: &mut Replies,
     written: &mut u64,
 ) -> Result<(), ServeFault>
     requires ready { E.ready engine.old }
@@ -63,8 +56,8 @@ pub fn answer<R, E: Engine<R>, W: Sink>(
     if requests.is_empty() {
         return Ok(());
     }
-    let replies = engine.batch(rt, alloc, requests)?;
-    spell(bytes, &replies)?;
+    reply_anew(engine, rt, alloc, requests, replies)?;
+    let bytes = replies.as_slice();
     match push_all(writer, bytes) {
         Ok(()) => {
             *written = before.saturating_add(bytes.len() as u64);

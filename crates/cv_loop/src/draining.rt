@@ -10,6 +10,7 @@ use crate::batch::{End, next_batch};
 use crate::ends::Sink;
 use crate::engine::Engine;
 use crate::fault::ServeFault;
+use cv_world::Replies;
 use std::alloc::Global;
 
 /// How much was served in a run. A count that would not fit stays at its greatest value.
@@ -27,7 +28,7 @@ fn drain_batch<R, E: Engine<R>, W: Sink>(
     alloc: Global,
     writer: &mut W,
     bytes: &[u8],
-    replies: &mut Vec<u8>,
+    replies: &mut Replies,
     counts: &mut Counts,
 ) -> Result<(usize, End), ServeFault>
     requires ready { E.ready engine.old }
@@ -51,6 +52,8 @@ fn drain_batch<R, E: Engine<R>, W: Sink>(
         replies,
         &mut counts.written,
     )?;
+    // What a batch had room for and did not need goes back before the next read, which may wait.
+    replies.clear();
     counts.requests = counts.requests.saturating_add(n);
     Ok((batch.used, batch.end))
 }
@@ -62,7 +65,7 @@ pub fn drain<R, E: Engine<R>, W: Sink>(
     alloc: Global,
     writer: &mut W,
     bytes: &[u8],
-    replies: &mut Vec<u8>,
+    replies: &mut Replies,
     counts: &mut Counts,
 ) -> Result<usize, ServeFault>
     requires ready { E.ready engine.old }

@@ -1,11 +1,15 @@
 //! What answers requests.
 
-ghost use Rattle.std.specs.Prelude.{◌≡◌, ◌<◌, IfOk, OnErr};
+ghost use Rattle.std.specs.Prelude.{◌≡◌, ◌<◌, ℕ, List, [], IfOk, OnOk, OnErr};
+ghost use Rattle.cv_frame.specs.Message.{Message};
+ghost use Rattle.cv_loop.specs.Replying.{AppendsReplies};
 ghost use Rattle.cv_machine.specs.Machine.{Runs};
 
+use crate::spelling::push_each;
 use cv_base::Memory;
 use cv_frame::{Reply, Request};
 use cv_machine::Machine;
+use cv_world::Replies;
 use std::alloc::Global;
 
 /// Answers requests, in their order. `R` is the runtime that it may use.
@@ -19,6 +23,25 @@ pub trait Engine<R>: Machine {
         ensures ready { ready self.new }
         ensures runs { IfOk result (λ replies. Runs Self.turn (Self.tables self.old) requests.now replies.items (Self.tables self.new)) }
         ensures err { OnErr result (Self.tables self.new ≡ Self.tables self.old) };
+
+    /// Answers a batch, and appends the frame of each reply. After `Memory` a front of the requests has run, and a front of their replies
+    /// stands behind those that were there.
+    fn batch_into(
+        &mut self,
+        rt: &R,
+        alloc: Global,
+        requests: &[Request],
+        replies: &mut Replies,
+    ) -> Result<(), Memory>
+        requires { ready self.old }
+        ensures ready { ready self.new }
+        ensures ok { OnOk result (AppendsReplies Self.turn (Self.tables self.old) requests.now [] replies.old replies.new [] (Self.tables self.new)) }
+        ensures err { OnErr result ((later : List Message) × (missing : List ℕ)
+            × AppendsReplies Self.turn (Self.tables self.old) requests.now later replies.old replies.new missing (Self.tables self.new)) }
+    {
+        let told = self.batch(rt, alloc, requests)?;
+        push_each(replies, &told)
+    }
 
     /// How many uploads one batch may have. Compiling is what costs, so they are as many as the engine compiles at once: no reply
     /// waits for more.

@@ -8,6 +8,7 @@ use crate::ends::{Sink, Source};
 use crate::engine::Engine;
 use crate::fault::ServeFault;
 use crate::held::Held;
+use cv_world::Replies;
 use std::alloc::Global;
 
 /// A stream was served to its end.
@@ -36,7 +37,7 @@ fn serve_stream<R, E: Engine<R>, S: Source, W: Sink>(
     ensures ready { E.ready engine.new }
 {
     let mut held = Held::new(alloc);
-    let mut replies = Vec::new(alloc);
+    let mut replies = Replies::new(alloc);
     let mut counts = Counts {
         requests: 0,
         written: 0,
@@ -59,7 +60,7 @@ fn serve_stream<R, E: Engine<R>, S: Source, W: Sink>(
 /// Serves the frames that a source gives, and writes the replies to a sink, in batches of 64 requests at most. Uploads stand in
 /// batches of their own, as many as the engine runs at once. It makes at most `max_reads` reads, of 65,536 bytes at most.
 ///
-/// After a fault the engine is where the requests so far left it, and the replies before the fault have been written.
+/// After a fault the engine is where the requests so far left it, and the replies of the batches before it have been written.
 ///
 /// For every stream there is something that is served (`laws::some_service`), and one thing only (`one_service`). After a failed
 /// write the replies that were written whole, if none says that an allocation failed, are the first of it (`laws::first_served`).

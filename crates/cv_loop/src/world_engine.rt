@@ -1,7 +1,9 @@
 //! Worlds as engines.
 
-ghost use Rattle.std.specs.Prelude.{◌≡◌, IfOk, OnErr};
+ghost use Rattle.std.specs.Prelude.{◌≡◌, ℕ, List, [], IfOk, OnOk, OnErr};
 ghost use Rattle.cv_caller.specs.Tables.{Table as WorldTable};
+ghost use Rattle.cv_frame.specs.Message.{Message};
+ghost use Rattle.cv_loop.specs.Replying.{AppendsReplies};
 ghost use Rattle.cv_machine.specs.Machine.{Runs};
 ghost use Rattle.cv_world.specs.Requests.{turn};
 ghost use Rattle.cv_world.specs.Worlds.{world_tables, no_tables};
@@ -11,7 +13,7 @@ use cv_base::Memory;
 use cv_cache::{Compiler, Plain};
 use cv_frame::{Reply, Request};
 use cv_machine::Machine;
-use cv_world::World;
+use cv_world::{Replies, World};
 use std::alloc::Global;
 
 /// Answers requests in their order. The text of an upload is put together and compiled just before its own step.
@@ -35,9 +37,39 @@ fn answer_each<R, C: Compiler<R>>(
     Ok(replies)
 }
 
+/// Answers requests in their order, and appends the frame of each reply.
+fn answer_each_into<R, C: Compiler<R>>(
+    world: &mut World,
+    compiler: &C,
+    rt: &R,
+    alloc: Global,
+    requests: &[Request],
+    replies: &mut Replies,
+) -> Result<(), Memory>
+    requires { C.ready compiler.now }
+    ensures ok { OnOk result (AppendsReplies turn (world_tables world.old) requests.now [] replies.old replies.new [] (world_tables world.new)) }
+    ensures err { OnErr result ((later : List Message) × (missing : List ℕ)
+        × AppendsReplies turn (world_tables world.old) requests.now later replies.old replies.new missing (world_tables world.new)) }
+{
+    for request in requests {
+        world.answer_into(compiler, rt, alloc, request, replies)?;
+    }
+    Ok(())
+}
+
 impl<R> Engine<R> for World {
     fn batch(&mut self, rt: &R, alloc: Global, requests: &[Request]) -> Result<Vec<Reply>, Memory> {
         answer_each(self, &Plain, rt, alloc, requests)
+    }
+
+    fn batch_into(
+        &mut self,
+        rt: &R,
+        alloc: Global,
+        requests: &[Request],
+        replies: &mut Replies,
+    ) -> Result<(), Memory> {
+        answer_each_into(self, &Plain, rt, alloc, requests, replies)
     }
 }
 
@@ -78,5 +110,22 @@ impl<R, C: Compiler<R>> Engine<R> for WorldWith<C> {
 
     fn batch(&mut self, rt: &R, alloc: Global, requests: &[Request]) -> Result<Vec<Reply>, Memory> {
         answer_each(&mut self.world, &self.compiler, rt, alloc, requests)
+    }
+
+    fn batch_into(
+        &mut self,
+        rt: &R,
+        alloc: Global,
+        requests: &[Request],
+        replies: &mut Replies,
+    ) -> Result<(), Memory> {
+        answer_each_into(
+            &mut self.world,
+            &self.compiler,
+            rt,
+            alloc,
+            requests,
+            replies,
+        )
     }
 }

@@ -11,6 +11,7 @@ use cv_cache::Cached;
 use cv_frame::{Reply, Request};
 use cv_loop::Engine;
 use cv_machine::Machine;
+use cv_world::Replies;
 use cv_world::laws::{one_answer, some_answer};
 use std::alloc::Global;
 use std::sync::Wait;
@@ -38,6 +39,16 @@ impl<R: Threads + Wait + Sync> Engine<R> for Pool<Cached, Open> {
         self.batch(rt, alloc, requests)
     }
 
+    fn batch_into(
+        &mut self,
+        rt: &R,
+        alloc: Global,
+        requests: &[Request],
+        replies: &mut Replies,
+    ) -> Result<(), Memory> {
+        self.batch_into(rt, alloc, requests, replies)
+    }
+
     fn uploads_at_once(&self) -> usize {
         self.workers()
     }
@@ -48,6 +59,16 @@ impl<R: Threads + Wait + Sync> Engine<R> for Pool<&Cached, Open> {
 
     fn batch(&mut self, rt: &R, alloc: Global, requests: &[Request]) -> Result<Vec<Reply>, Memory> {
         self.batch(rt, alloc, requests)
+    }
+
+    fn batch_into(
+        &mut self,
+        rt: &R,
+        alloc: Global,
+        requests: &[Request],
+        replies: &mut Replies,
+    ) -> Result<(), Memory> {
+        self.batch_into(rt, alloc, requests, replies)
     }
 
     fn uploads_at_once(&self) -> usize {

@@ -1,4 +1,5 @@
 //! Pools, with ample memory.
+mod appended;
 mod at_once;
 mod gates;
 mod in_order;

@@ -1,0 +1,35 @@
+//! Spelling the replies of a batch.
+
+ghost use Rattle.std.specs.Prelude.{◌≡◌, ◌++◌, ℕ, List, OnOk, OnErr};
+ghost use Rattle.cv_frame.specs.Message.{joined};
+
+use cv_base::Memory;
+use cv_frame::Reply;
+use cv_world::Replies;
+
+/// How many bytes a frame has before its body: the length, the caller, the tag and the status.
+const FRAME_HEAD: usize = 13;
+
+/// How many bytes the replies are, one after another.
+fn spelled_size(replies: &[Reply]) -> usize {
+    let mut size = 0usize;
+    for reply in replies {
+        let body = reply.head.as_slice().len() + reply.tail.as_slice().len();
+        size = size.saturating_add(FRAME_HEAD + body);
+    }
+    size
+}
+
+/// Appends the frames of replies. If an allocation fails, a front of them was appended.
+pub fn push_each(replies: &mut Replies, told: &[Reply]) -> Result<(), Memory>
+    ensures ok { OnOk result (replies.new ≡ replies.old ++ joined told.now) }
+    ensures err { OnErr result ((more : List ℕ) × (missing : List ℕ) × (replies.new ≡ replies.old ++ more)
+        × (joined told.now ≡ more ++ missing)) }
+{
+    // Room for all at once. Where there is none, each asks for its own.
+    let _ = replies.reserve(spelled_size(told));
+    for reply in told {
+        replies.push(reply)?;
+    }
+    Ok(())
+}

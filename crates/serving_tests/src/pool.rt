@@ -1,5 +1,4 @@
 //! Pools, with ample memory.
-mod appended;
 mod at_once;
 mod gates;
 mod in_order;

@@ -5,7 +5,6 @@ use crate::words::sides;
 use cv_cache::Plain;
 use cv_frame::Request;
 use cv_pool::{Gate, Pool};
-use cv_world::Replies;
 use std::alloc::Global;
 use std::sync::atomic::{AtomicU64, Ordering};
 use std::test::Fail;
@@ -60,50 +59,12 @@ fn passes_of<R: Threads + Sync>(
     }
     let passes = AtomicU64::new(9);
     let mut pool = Pool::new(alloc, workers, Plain, Noting { passes: &passes })?;
-    let requests = closes(alloc, callers)?;
-    let replies = pool.batch(rt, alloc, &requests)?;
-    if replies.len() != requests.len() {
-        return Err("not one reply for each request".into());
-    }
-    Ok(passes.load(Ordering::SeqCst))
-}
-
-/// The CLOSEs of these callers.
-fn closes(alloc: Global, callers: &str) -> Result<Vec<Request<'static>>, Fail> {
-    let mut requests = Vec::new(alloc);
+    let mut requests: Vec<Request> = Vec::new(alloc);
     for caller in callers.split(' ') {
         requests.push(request(caller.parse::<u32>()?, 1, CLOSE, b""))?;
     }
-    Ok(requests)
-}
-
-#[test]
-fn each_request_passes_where_replies_are_appended(rt: HostRuntime) -> Result<(), Fail> {
-    for line in PASSES.trim().lines() {
-        let (asked, wanted) = sides(line, ": ")?;
-        let (workers, callers) = sides(asked, " ")?;
-        let passes = passes_into(&rt, rt.alloc(), workers.parse::<u32>()?, callers)?;
-        assert_eq!(rt; passes, wanted.parse::<u64>()?, "{line}");
-    }
-    Ok(())
-}
-
-/// What passes the gate of such a pool where the replies are appended to others.
-fn passes_into<R: Threads + Sync>(
-    rt: &R,
-    alloc: Global,
-    workers: u32,
-    callers: &str,
-) -> Result<u64, Fail> {
-    if workers == 0 || workers > 16 {
-        return Err("no pool has so many workers".into());
-    }
-    let passes = AtomicU64::new(9);
-    let mut pool = Pool::new(alloc, workers, Plain, Noting { passes: &passes })?;
-    let requests = closes(alloc, callers)?;
-    let mut replies = Replies::new(alloc);
-    pool.batch_into(rt, alloc, &requests, &mut replies)?;
-    if replies.as_slice().len() != 13 * requests.len().min(64) {
+    let replies = pool.batch(rt, alloc, &requests)?;
+    if replies.len() != requests.len() {
         return Err("not one reply for each request".into());
     }
     Ok(passes.load(Ordering::SeqCst))

@@ -18,7 +18,7 @@ all_below limit xs long e k h =
     let is : mask_l (map (top 15) (zip2 (λ a b. cond (leb a b) 0xffff 0) (replicate 16 limit) xs)) % 2 ^ 64 ≡ mask_l (map (leb limit) xs) = ap (λ ms. mask_l ms % 2 ^ 64) (tops_compared w16 leb (replicate 16 limit) xs ∙ zip2_splat_left leb limit 16 xs long) ∙ mask_l-mod (map (leb limit) xs) 64 (simp length-map (omega arith)) in
     leb-false limit (get_or xs k 0) (none_pass (leb limit) xs long (sym is ∙ e) k h)
 
-is_scalar : (u : ℕ) → u < 0x10000 → (u / 0x800 ≡ 27 → ⊥) → IsScalar u
+pub is_scalar : (u : ℕ) → u < 0x10000 → (u / 0x800 ≡ 27 → ⊥) → IsScalar u
 is_scalar u few h = (omega arith, λ s. omega (arith, h))
 
 -- if no lane is a surrogate, each is a character

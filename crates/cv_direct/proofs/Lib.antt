@@ -5,3 +5,7 @@ pub mod Ordered
 pub mod Windows
 pub mod Converting
 pub mod UnitsPut
+pub mod Joined
+pub mod AsciiRead
+pub mod Marks
+pub mod Parts

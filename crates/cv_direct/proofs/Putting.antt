@@ -11,7 +11,7 @@ use Rattle.cv_utf8.specs.Utf8.{utf8_bytes}
 use Rattle.cv_direct.specs.Private.Loose.{IsPutLoosely}
 
 -- bytes behind that stay, further on
-further : (before after : List ℕ) (i j : ℕ) → i ≤ j → drop i after ≡ drop i before → drop j after ≡ drop j before
+pub further : (before after : List ℕ) (i j : ℕ) → i ≤ j → drop i after ≡ drop i before → drop j after ≡ drop j before
 further before after i j h e =
     let there : i + (j - i) ≡ j = omega arith in
     ap (λ n. drop n after) (sym there) ∙ sym (drop-drop (j - i) i after) ∙ ap (drop (j - i)) e ∙ drop-drop (j - i) i before ∙ ap (λ n. drop n before) there

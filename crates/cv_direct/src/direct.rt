@@ -6,6 +6,7 @@ ghost use Rattle.cv_wide.specs.Utf16.{utf16};
 ghost use Rattle.cv_wide.specs.Utf32.{utf32};
 
 use crate::latin1::Latin1Bytes;
+use crate::mixed::convert_all;
 use crate::source::{Source, are_characters};
 use crate::target::{ROOM, Target, write_last};
 use crate::utf8::{Utf8Bytes, are_below};
@@ -23,14 +24,18 @@ pub struct Direct {
 }
 
 /// How many windows a loop takes at least before it ends for a run of ASCII: what a loop costs besides is much for a few.
-pub(crate) const MANY_WINDOWS: usize = 32;
+const MANY_WINDOWS: usize = 32;
 
-/// Converts the windows at the start of a text, up to one that has other characters, or that is not whole, or for which there might be
+/// Converts the windows at the start of a text, up to one that has a surrogate, or that is not whole, or for which there might be
 /// no room. Each is written over what was put behind the one before, and the last one by a buffer. After many windows it
 /// ends too where two in a row have one byte for each character: the caller looks for a run of ASCII, for which it has a
 /// faster way.
 #[inline(always)]
-fn convert<S: Source, T: Target>(text: &[u8], out: &mut [u8], at: usize) -> Option<Direct>
+pub(crate) fn convert<S: Source, T: Target>(
+    text: &[u8],
+    out: &mut [u8],
+    at: usize,
+) -> Option<Direct>
     requires { at ≤ length out.old }
     ensures some { IfSome result (λ run. 0 < run.used) }
     ensures run { MatchOption result (out.new ≡ out.old) (λ run.
@@ -67,7 +72,7 @@ fn convert<S: Source, T: Target>(text: &[u8], out: &mut [u8], at: usize) -> Opti
     })
 }
 
-/// Converts characters below U+10000 at the start of a text, if there are sixteen, from UTF-16 to UTF-8.
+/// Converts characters at the start of a text by windows of sixteen units, if it has one, from UTF-16 to UTF-8.
 #[inline(never)]
 pub fn utf16_to_utf8<O: ByteOrder>(text: &[u8], out: &mut [u8], at: usize) -> Option<Direct>
     requires { at ≤ length out.old }
@@ -75,10 +80,10 @@ pub fn utf16_to_utf8<O: ByteOrder>(text: &[u8], out: &mut [u8], at: usize) -> Op
     ensures run { MatchOption result (out.new ≡ out.old) (λ run.
         IsConverted (utf16 O.endian) utf8_bytes text.now out.old at run out.new) }
 {
-    convert::<Utf16In<O>, Utf8Bytes>(text, out, at)
+    convert_all::<Utf16In<O>, Utf8Bytes>(text, out, at)
 }
 
-/// Converts characters below U+10000 at the start of a text, if there are sixteen, from one byte order of UTF-16 to another.
+/// Converts characters at the start of a text by windows of sixteen units, if it has one, from one byte order of UTF-16 to another.
 #[inline(never)]
 pub fn utf16_swapped<O: ByteOrder, P: ByteOrder>(
     text: &[u8],
@@ -90,10 +95,10 @@ pub fn utf16_swapped<O: ByteOrder, P: ByteOrder>(
     ensures run { MatchOption result (out.new ≡ out.old) (λ run.
         IsConverted (utf16 O.endian) (utf16 P.endian) text.now out.old at run out.new) }
 {
-    convert::<Utf16In<O>, Utf16In<P>>(text, out, at)
+    convert_all::<Utf16In<O>, Utf16In<P>>(text, out, at)
 }
 
-/// Converts characters below U+10000 at the start of a text, if there are sixteen, from UTF-32 to UTF-8.
+/// Converts characters at the start of a text by windows of sixteen units, if it has one, from UTF-32 to UTF-8.
 #[inline(never)]
 pub fn utf32_to_utf8<O: ByteOrder>(text: &[u8], out: &mut [u8], at: usize) -> Option<Direct>
     requires { at ≤ length out.old }
@@ -101,10 +106,10 @@ pub fn utf32_to_utf8<O: ByteOrder>(text: &[u8], out: &mut [u8], at: usize) -> Op
     ensures run { MatchOption result (out.new ≡ out.old) (λ run.
         IsConverted (utf32 O.endian) utf8_bytes text.now out.old at run out.new) }
 {
-    convert::<Utf32In<O>, Utf8Bytes>(text, out, at)
+    convert_all::<Utf32In<O>, Utf8Bytes>(text, out, at)
 }
 
-/// Converts characters below U+10000 at the start of a text, if there are sixteen, from UTF-32 to UTF-16.
+/// Converts characters at the start of a text by windows of sixteen units, if it has one, from UTF-32 to UTF-16.
 #[inline(never)]
 pub fn utf32_to_utf16<O: ByteOrder, P: ByteOrder>(
     text: &[u8],
@@ -116,7 +121,7 @@ pub fn utf32_to_utf16<O: ByteOrder, P: ByteOrder>(
     ensures run { MatchOption result (out.new ≡ out.old) (λ run.
         IsConverted (utf32 O.endian) (utf16 P.endian) text.now out.old at run out.new) }
 {
-    convert::<Utf32In<O>, Utf16In<P>>(text, out, at)
+    convert_all::<Utf32In<O>, Utf16In<P>>(text, out, at)
 }
 
 /// Converts the characters at the start of a text, if there are sixteen, from ISO-8859-1 to UTF-8.

@@ -1,22 +1,47 @@
-//! From UTF-8 to UTF-16, by windows of sixteen bytes.
-ghost use Rattle.std.specs.Prelude.{◌≡◌, ◌+◌, ◌*◌, ◌≤◌, ◌<◌, ℕ, length, take, IfSome, IsTrue, MatchOption, map};
+//! From UTF-8 to UTF-16, by windows of sixteen bytes, and by characters of four bytes.
+ghost use Rattle.std.specs.Prelude.{◌≡◌, ◌+◌, ◌*◌, ◌≤◌, ◌<◌, ℕ, length, take, slice_index, IfSome, IsTrue, MatchOption, map};
 ghost use Rattle.std.specs.List.{flat_map};
+ghost use Rattle.cv_base.specs.Places.{IsPut};
 ghost use Rattle.cv_direct.specs.Direct.{IsConverted};
 ghost use Rattle.cv_direct.specs.Private.Loose.{IsPutLoosely};
-ghost use Rattle.cv_direct.specs.Private.Windows.{in_order};
-ghost use Rattle.cv_utf8.specs.Units.{characters_of};
+ghost use Rattle.cv_direct.specs.Private.Windows.{in_order, IsHigh};
+ghost use Rattle.cv_utf8.specs.Units.{characters_of, AreRead};
 ghost use Rattle.cv_utf8.specs.Utf8.{utf8_bytes};
 ghost use Rattle.cv_wide.specs.Utf16.{utf16};
 
-use crate::direct::{Direct, MANY_WINDOWS};
-use crate::target::{ROOM, copy_front};
+use crate::direct::Direct;
+use crate::target::{ROOM, Target};
+use crate::utf16::Utf16In;
 use cv_base::Endian;
-use cv_block::{ByteOrder, MANY};
+use cv_block::{ByteOrder, MANY, is_ascii_block};
 use cv_utf8::{Units, read_units};
 use std::simd::prelude::*;
 
 /// How many bytes are looked at for a window.
 const WINDOW: usize = 18;
+
+/// How many lanes a part of a window has.
+const EIGHT: usize = 8;
+
+/// Behind so many bytes of ASCII the loop ends: the caller has a faster way for them, but to end costs as much as a few windows.
+const MANY_ASCII: usize = 128;
+
+/// How many bytes of characters of four bytes are converted in a row.
+const MANY_HIGH: usize = 64;
+
+/// From this byte on a character that begins with it has four bytes.
+const FOUR_BYTES: u8 = 0xf0;
+
+/// How many bytes four such characters have.
+const FOUR_FOURS: usize = 16;
+
+/// Whether five characters of four bytes likely follow each other at the start of a text, by their first bytes. So many go by
+/// blocks, which read sixteen of them at once.
+#[inline(always)]
+pub fn begins_with_fours(text: &[u8]) -> bool {
+    text.len() > FOUR_FOURS
+        && text[0] & text[4] & text[8] & text[12] & text[FOUR_FOURS] >= FOUR_BYTES
+}
 
 /// Eight units as numbers whose low bytes are the first.
 #[inline(always)]
@@ -41,15 +66,34 @@ fn put_eight<O: ByteOrder>(units: u16x8, n: usize, out: &mut [u8], at: usize)
     bytes.copy_to_slice(&mut out[at..]);
 }
 
-/// Whether a window has so many characters that writing them covers what was written behind the window before.
+/// Sixteen characters of ASCII.
 #[inline(always)]
-fn are_many(units: &Units) -> bool
-    requires few { units.now.firsts ≤ 8 }
-    requires others { units.now.seconds ≤ 8 }
-    ensures second { IsTrue result → 2 ≤ units.now.seconds }
-    ensures both { IsTrue result → 6 ≤ units.now.firsts + units.now.seconds }
+fn ascii_units(text: &[u8], at: usize) -> Units
+    requires within { at + 16 ≤ length text.now }
+    requires ascii { (k : ℕ) → at ≤ k → k < at + 16 → slice_index text.now k < 128 }
+    ensures { AreRead text.now at result }
 {
-    units.seconds >= 2 && units.firsts + units.seconds >= 6
+    Units {
+        first: u8x8::from_slice(&text[at..]).cast::<u16>(),
+        firsts: EIGHT,
+        second: u8x8::from_slice(&text[at + EIGHT..]).cast::<u16>(),
+        seconds: EIGHT,
+        used: MANY,
+    }
+}
+
+/// The whole characters of up to three bytes at the start of a window, up to one that has four.
+#[inline(always)]
+#[tactic(auto, using(crate::proofs::UnitsPut::read_within))]
+fn next_units(text: &[u8], at: usize) -> Units
+    requires { at + 18 ≤ length text.now }
+    ensures read { AreRead text.now at result }
+    ensures within { at + result.used ≤ length text.now }
+{
+    if is_ascii_block(text, at) {
+        return ascii_units(text, at);
+    }
+    read_units(text, at)
 }
 
 /// Whether the characters of a window have a byte each.
@@ -61,44 +105,109 @@ fn are_ascii(units: &Units) -> bool
     units.used == units.firsts + units.seconds
 }
 
-/// Writes the characters of a window, and answers how many bytes they have. What follows them, up to twelve bytes, may be
-/// anything.
+/// Writes the characters of a window, and answers how many bytes they have. What is written behind them is put back.
 #[inline(always)]
 fn write_units<O: ByteOrder>(units: &Units, out: &mut [u8], at: usize) -> usize
     requires few { units.now.firsts ≤ 8 }
     requires others { units.now.seconds ≤ 8 }
-    requires second { 2 ≤ units.now.seconds }
-    requires room { at + 32 ≤ length out.old }
-    ensures size { result ≡ 2 * (units.now.firsts + units.now.seconds) }
-    ensures put { IsPutLoosely (flat_map (utf16 O.endian) (characters_of units.now)) out.old at
-        result 12 out.new }
+    requires room { at + 48 ≤ length out.old }
+    ensures put { IsPut (flat_map (utf16 O.endian) (characters_of units.now)) out.old at
+        result out.new }
+    ensures within { at + result ≤ length out.new }
 {
+    let n = 2 * (units.firsts + units.seconds);
+    let behind = u8x16::from_slice(&out[at + n..]);
     put_eight::<O>(units.first, units.firsts, out, at);
     put_eight::<O>(units.second, units.seconds, out, at + 2 * units.firsts);
-    2 * (units.firsts + units.seconds)
-}
-
-/// Writes the characters of a window by a buffer, so that what follows them stays.
-#[inline(always)]
-fn write_last_units<O: ByteOrder>(units: &Units, out: &mut [u8], at: usize) -> usize
-    requires few { units.now.firsts ≤ 8 }
-    requires others { units.now.seconds ≤ 8 }
-    requires second { 2 ≤ units.now.seconds }
-    requires room { at + 32 ≤ length out.old }
-    ensures size { result ≡ 2 * (units.now.firsts + units.now.seconds) }
-    ensures put { IsPutLoosely (flat_map (utf16 O.endian) (characters_of units.now)) out.old at
-        result 0 out.new }
-{
-    let mut front = [0u8; ROOM];
-    let n = write_units::<O>(units, &mut front, 0);
-    copy_front(&front, n, out, at);
+    behind.copy_to_slice(&mut out[at + n..]);
     n
 }
 
-/// Converts characters below U+10000 at the start of a text, if they are many, from UTF-8 to UTF-16. It ends before a window
-/// that is not well-formed, or that has a character of four bytes, or for which there might be no room. After many windows it
-/// ends too where one of ASCII follows one of sixteen characters: the caller looks for a run of ASCII, for which it has a
-/// faster way.
+/// The character of four bytes at the start of a text, if there is one.
+#[inline(always)]
+fn high(text: &[u8]) -> Option<u32>
+    requires { 4 ≤ length text.now }
+    ensures { IfSome result (λ c. IsHigh utf8_bytes text.now c) }
+{
+    let first = text[0] as u32;
+    let second = text[1] as u32;
+    let third = text[2] as u32;
+    let fourth = text[3] as u32;
+    if first / 8 != 30 || (second / 64) * 16 + (third / 64) * 4 + fourth / 64 != 42 {
+        return None;
+    }
+    let front = first % 8 * 0x4_0000 + second % 64 * 0x1000;
+    let number = front + third % 64 * 64 + fourth % 64;
+    if number < 0x1_0000 || number >= 0x11_0000 {
+        return None;
+    }
+    Some(number)
+}
+
+/// Converts the characters of four bytes at the start of a text, and answers how many bytes they have: as many as they have in
+/// UTF-16. If they are many, it leaves some of them.
+#[inline(always)]
+fn convert_high<O: ByteOrder>(text: &[u8], out: &mut [u8], at: usize) -> usize
+    requires { at ≤ length out.old }
+    ensures within { result ≤ length text.now }
+    ensures room { at + result ≤ length out.new }
+    ensures converted { IsConverted utf8_bytes (utf16 O.endian) text.now out.old at
+        (record { used = result; wrote = result }) out.new }
+{
+    let most = text.len().min(out.len() - at).min(MANY_HIGH);
+    let mut used = 0;
+    while most - used >= 4 {
+        let Some(value) = high(&text[used..]) else {
+            break;
+        };
+        Utf16In::<O>::write_high(value, out, at + used);
+        used += 4;
+    }
+    used
+}
+
+/// Converts the characters of four bytes behind a window whose characters have so many bytes, if it ended early, and if they
+/// are few.
+#[inline(always)]
+#[tactic(auto, using(crate::proofs::Joined::none_converted_exactly))]
+fn convert_behind<O: ByteOrder>(window: usize, text: &[u8], out: &mut [u8], at: usize) -> usize
+    requires { at ≤ length out.old }
+    ensures within { result ≤ length text.now }
+    ensures room { at + result ≤ length out.new }
+    ensures converted { IsConverted utf8_bytes (utf16 O.endian) text.now out.old at
+        (record { used = result; wrote = result }) out.new }
+{
+    if window >= MANY || begins_with_fours(text) {
+        return 0;
+    }
+    convert_high::<O>(text, out, at)
+}
+
+/// Whether more may follow behind a window whose characters have so many bytes, and the characters of four bytes behind it.
+#[inline(always)]
+fn may_go_on(window: usize, high: usize) -> bool
+    ensures { IsTrue result → 0 < window + high }
+{
+    window >= MANY || (high > 0 && high < MANY_HIGH)
+}
+
+/// Where the last characters that are not ASCII ended: at `end`, if there are some in the window, or behind it.
+#[inline(always)]
+fn last_other(units: &Units, high: usize, end: usize, other: usize) -> usize
+    requires few { units.now.firsts ≤ 8 }
+    requires others { units.now.seconds ≤ 8 }
+    requires before { other ≤ end }
+    ensures { result ≤ end }
+{
+    if high == 0 && are_ascii(units) {
+        return other;
+    }
+    end
+}
+
+/// Converts the characters at the start of a text from UTF-8 to UTF-16. It ends before one that is not well-formed, or for
+/// which there might be no room, and before the last few bytes. It ends too behind much ASCII, or before several characters
+/// of four bytes in a row: the caller has faster ways for them.
 #[inline(never)]
 pub fn utf8_to_utf16<O: ByteOrder>(text: &[u8], out: &mut [u8], at: usize) -> Option<Direct>
     requires { at ≤ length out.old }
@@ -106,32 +215,29 @@ pub fn utf8_to_utf16<O: ByteOrder>(text: &[u8], out: &mut [u8], at: usize) -> Op
     ensures run { MatchOption result (out.new ≡ out.old) (λ run.
         IsConverted utf8_bytes (utf16 O.endian) text.now out.old at run out.new) }
 {
-    if text.len() < WINDOW || out.len() - at < ROOM {
-        return None;
-    }
-    let mut units = read_units(text, 0);
-    if !are_many(&units) {
-        return None;
-    }
     let mut used = 0;
     let mut end = at;
-    let mut wrote = 0;
-    while text.len() - used >= units.used + WINDOW && out.len() - end >= 2 * ROOM {
-        if used >= MANY_WINDOWS * MANY && wrote == 2 * MANY && are_ascii(&units) {
-            break;
-        }
-        let next = read_units(text, used + units.used);
-        if !are_many(&next) {
-            break;
-        }
-        wrote = write_units::<O>(&units, out, end);
-        end += wrote;
+    let mut other = 0;
+    let mut on = true;
+    while on
+        && used - other < MANY_ASCII
+        && text.len() - used >= WINDOW
+        && out.len() - end >= ROOM
+    {
+        let units = next_units(text, used);
+        end += write_units::<O>(&units, out, end);
         used += units.used;
-        units = next;
+        let high = convert_behind::<O>(units.used, &text[used..], out, end);
+        end += high;
+        used += high;
+        other = last_other(&units, high, used, other);
+        on = may_go_on(units.used, high);
     }
-    end += write_last_units::<O>(&units, out, end);
+    if used == 0 {
+        return None;
+    }
     Some(Direct {
-        used: used + units.used,
+        used,
         wrote: end - at,
     })
 }

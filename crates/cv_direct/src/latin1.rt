@@ -21,4 +21,19 @@ impl Source for Latin1Bytes {
     fn window(text: &[u8]) -> u16x16 {
         u8x16::from_slice(text).cast::<u16>()
     }
+
+    #[inline(always)]
+    fn high(_text: &[u8]) -> Option<u32> {
+        None
+    }
+
+    #[inline(always)]
+    fn is_dense(_marks: u64) -> bool {
+        true
+    }
+
+    #[inline(always)]
+    fn part_size() -> usize {
+        8
+    }
 }

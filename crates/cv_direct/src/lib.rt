@@ -5,6 +5,7 @@ mod direct;
 mod from_utf8;
 mod latin1;
 mod middle;
+mod mixed;
 mod short;
 mod sizes;
 mod source;
@@ -16,4 +17,4 @@ mod utf8;
 pub use direct::{
     Direct, latin1_to_utf8, utf16_swapped, utf16_to_utf8, utf32_to_utf8, utf32_to_utf16,
 };
-pub use from_utf8::utf8_to_utf16;
+pub use from_utf8::{begins_with_fours, utf8_to_utf16};

@@ -1,9 +1,11 @@
 //! Encodings that are read by sixteen units at once.
-ghost use Rattle.std.specs.Prelude.{◌≡◌, ◌≤◌, ◌<◌, ℕ, IsTrue, length, get_or};
+ghost use Rattle.std.specs.Prelude.{◌≡◌, ◌-◌, ◌≤◌, ◌<◌, ◌++◌, ℕ, IfSome, IsTrue, length, get_or, map, replicate, take};
+ghost use Rattle.std.specs.Simd.Lanes.{mask_l};
 ghost use Rattle.cv_block.specs.Spelled.{BytesOf};
 ghost use Rattle.cv_block.specs.Units.{AreScalarsBelow};
-ghost use Rattle.cv_direct.specs.Private.Windows.{AreSixteen};
+ghost use Rattle.cv_direct.specs.Private.Windows.{AreSixteen, IsHigh, is_surrogate};
 
+use cv_block::MANY;
 use std::simd::prelude::*;
 
 /// An encoding in which sixteen characters below U+10000 have as many bytes, whatever they are.
@@ -22,6 +24,18 @@ pub(crate) trait Source {
     fn window(text: &[u8]) -> u16x16
         requires { window_size ≤ length text.now }
         ensures { AreSixteen bytes_of window_size text.now result };
+
+    /// The character from U+10000 on at the start of a text, if there is one. It has four bytes.
+    fn high(text: &[u8]) -> Option<u32>
+        requires { 4 ≤ length text.now }
+        ensures { IfSome result (λ c. IsHigh bytes_of text.now c) };
+
+    /// Whether so many of sixteen units are surrogates, or in so many places, that they go faster by blocks. It affects speed only.
+    fn is_dense(marks: u64) -> bool;
+
+    /// How many bytes each part of mixed text has at least, if it goes faster than by blocks. It affects speed only.
+    fn part_size() -> usize
+        ensures { 0 < result };
 }
 
 /// Whether none of sixteen units is a surrogate.
@@ -32,4 +46,37 @@ pub(crate) fn are_characters(units: u16x16) -> bool
 {
     let parts = units / u16x16::splat(0x800);
     parts.simd_eq(u16x16::splat(27)).to_bitmask() == 0
+}
+
+/// Which of sixteen units are surrogates, as bits, the lowest for the first.
+#[inline(always)]
+pub(crate) fn surrogates(units: u16x16) -> u64
+    ensures { result ≡ mask_l (map is_surrogate units) }
+{
+    let parts = units / u16x16::splat(0x800);
+    parts.simd_eq(u16x16::splat(27)).to_bitmask()
+}
+
+/// How many of sixteen units are before the first surrogate.
+#[inline(always)]
+pub(crate) fn count_characters(units: u16x16) -> usize
+    requires { (k : ℕ) → k < 16 → get_or units k 0 < 0x10000 }
+    ensures few { result ≤ 16 }
+    ensures characters { AreScalarsBelow units result }
+{
+    MANY.min(surrogates(units).trailing_zeros() as usize)
+}
+
+/// The places of sixteen units.
+const PLACES: [u16; 16] = [0, 1, 2, 3, 4, 5, 6, 7, 8, 9, 10, 11, 12, 13, 14, 15];
+
+/// The first `n` of sixteen units, and zeros in place of the others.
+#[inline(always)]
+pub(crate) fn first_units(units: u16x16, n: usize) -> u16x16
+    requires { n ≤ 16 }
+    ensures { result ≡ take n units ++ replicate (16 - n) 0 }
+{
+    u16x16::from_array(PLACES)
+        .simd_lt(u16x16::splat(n as u16))
+        .select(units, u16x16::splat(0))
 }

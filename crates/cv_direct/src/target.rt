@@ -1,6 +1,8 @@
 //! Encodings that are written by sixteen units at once.
 ghost use Rattle.std.specs.Prelude.{◌≡◌, ◌+◌, ◌≤◌, ◌<◌, ◌++◌, ℕ, length, get_or, take, drop};
 ghost use Rattle.std.specs.List.{flat_map};
+ghost use Rattle.cv_base.specs.Places.{IsPut};
+ghost use Rattle.cv_base.specs.Scalars.{IsScalar};
 ghost use Rattle.cv_block.specs.Spelled.{BytesOf};
 ghost use Rattle.cv_direct.specs.Private.Loose.{IsPutLoosely};
 
@@ -20,6 +22,18 @@ pub(crate) trait Target {
         ensures some { 16 ≤ result }
         ensures few { result ≤ 48 }
         ensures put { IsPutLoosely (flat_map bytes_of units) out.old at result 16 out.new };
+
+    /// How many bytes U+0000 has.
+    fn zero_size() -> usize
+        ensures size { result ≡ length (bytes_of 0) }
+        ensures few { result ≤ 2 };
+
+    /// Writes a character from U+10000 on, which has four bytes.
+    fn write_high(value: u32, out: &mut [u8], at: usize)
+        requires scalar { IsScalar value }
+        requires high { 0x10000 ≤ value }
+        requires room { at + 4 ≤ length out.old }
+        ensures { IsPut (bytes_of value) out.old at 4 out.new };
 }
 
 /// Puts the first `n` bytes of a buffer at a place.

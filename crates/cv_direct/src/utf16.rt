@@ -9,7 +9,7 @@ ghost use Rattle.cv_wide.specs.Utf16.{utf16};
 use crate::source::Source;
 use crate::target::Target;
 use cv_base::Endian;
-use cv_block::{ByteOrder, MANY};
+use cv_block::{ByteOrder, MANY, first_of, is_high, is_low, joined, second_of};
 use std::marker::PhantomData;
 use std::simd::prelude::*;
 
@@ -50,6 +50,12 @@ fn ordered<O: ByteOrder>(units: u16x16) -> u16x16
     }
 }
 
+/// How many runs of surrogates a window has at most that goes by windows. With more of them blocks are faster.
+const MOST_RUNS: u32 = 4;
+
+/// How many bytes parts have at least on average that are faster by windows than by blocks.
+const PART: usize = 8;
+
 /// UTF-16 in a byte order.
 pub(crate) struct Utf16In<O> {
     order: PhantomData<O>,
@@ -69,6 +75,27 @@ impl<O: ByteOrder> Source for Utf16In<O> {
     fn window(text: &[u8]) -> u16x16 {
         units_of::<O>(text)
     }
+
+    #[inline(always)]
+    fn high(text: &[u8]) -> Option<u32> {
+        let high = O::two(text, 0);
+        let low = O::two(text, 2);
+        if !is_high(high) || !is_low(low) {
+            return None;
+        }
+        Some(joined(high, low))
+    }
+
+    #[inline(always)]
+    fn is_dense(marks: u64) -> bool {
+        let begins = marks & !(marks % 0x8000 * 2);
+        begins.count_ones() > MOST_RUNS
+    }
+
+    #[inline(always)]
+    fn part_size() -> usize {
+        PART
+    }
 }
 
 impl<O: ByteOrder> Target for Utf16In<O> {
@@ -79,5 +106,16 @@ impl<O: ByteOrder> Target for Utf16In<O> {
         let bytes = ordered::<O>(units).to_le_bytes();
         bytes.copy_to_slice(&mut out[at..]);
         2 * MANY
+    }
+
+    #[inline(always)]
+    fn zero_size() -> usize {
+        2
+    }
+
+    #[inline(always)]
+    fn write_high(value: u32, out: &mut [u8], at: usize) {
+        O::write_two(out, at, first_of(value));
+        O::write_two(out, at + 2, second_of(value));
     }
 }

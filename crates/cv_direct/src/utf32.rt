@@ -55,6 +55,12 @@ fn narrowed(numbers: &[u32; MANY]) -> u16x16
     u16x16::from_array(units)
 }
 
+/// How many characters from U+10000 on a window has at most that goes by windows. With more of them blocks are faster.
+const MOST_MARKS: u32 = 2;
+
+/// How many bytes parts have at least on average that are faster by windows than by blocks.
+const PART: usize = 32;
+
 /// UTF-32 in a byte order.
 pub(crate) struct Utf32In<O> {
     order: PhantomData<O>,
@@ -73,5 +79,25 @@ impl<O: ByteOrder> Source for Utf32In<O> {
     #[inline(always)]
     fn window(text: &[u8]) -> u16x16 {
         narrowed(&numbers_of::<O>(text))
+    }
+
+    #[inline(always)]
+    fn high(text: &[u8]) -> Option<u32> {
+        let number = O::four(text, 0);
+        if number >= 0x1_0000 && number < 0x11_0000 {
+            Some(number)
+        } else {
+            None
+        }
+    }
+
+    #[inline(always)]
+    fn is_dense(marks: u64) -> bool {
+        marks.count_ones() > MOST_MARKS
+    }
+
+    #[inline(always)]
+    fn part_size() -> usize {
+        PART
     }
 }

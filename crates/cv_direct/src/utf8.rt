@@ -7,6 +7,7 @@ ghost use Rattle.cv_utf8.specs.Utf8.{utf8_bytes};
 use crate::middle::write_middle;
 use crate::short::write_short;
 use crate::target::Target;
+use cv_base::place::write_slice;
 use cv_block::MANY;
 use std::simd::prelude::*;
 
@@ -65,5 +66,18 @@ impl Target for Utf8Bytes {
         }
         let n = write_middle(first, out, at);
         n + write_middle(second, out, at + n)
+    }
+
+    #[inline(always)]
+    fn zero_size() -> usize {
+        1
+    }
+
+    #[inline(always)]
+    fn write_high(value: u32, out: &mut [u8], at: usize) {
+        let first = (0xf0 + value / 0x4_0000) as u8;
+        let second = (0x80 + value / 0x1000 % 64) as u8;
+        let third = (0x80 + value / 64 % 64) as u8;
+        write_slice(out, at, [first, second, third, (0x80 + value % 64) as u8]);
     }
 }

@@ -19,7 +19,7 @@ use crate::step::Took;
 use crate::{from_utf8, from_utf32};
 use cv_base::{Endian, ReadState, WriteState};
 use cv_block::{BigEndian, ByteOrder, LittleEndian};
-use cv_direct::{latin1_to_utf8, utf16_swapped, utf16_to_utf8};
+use cv_direct::{begins_with_fours, latin1_to_utf8, utf16_swapped, utf16_to_utf8};
 use cv_wide::Order;
 
 /// The byte order in which units are read in this state, if it stays.
@@ -200,20 +200,20 @@ fn convert_directly(
     }
 }
 
-/// With fewer bytes a text goes by blocks: a window with a character from U+10000 on would be tried in vain too often.
-const MANY_BYTES: usize = 256;
+/// With fewer bytes a text of UTF-8 goes by blocks, which cost less for a few characters.
+const MANY_BYTES: usize = 128;
+
+/// With fewer bytes a text of UTF-16 or ISO-8859-1 goes by blocks.
+const MANY_UNITS: usize = 256;
 
 /// UTF-32 has as many characters in twice the bytes.
 const MANY_WIDE: usize = 512;
-
-/// From this byte on a character of UTF-8 that begins with it has four bytes, and no window takes it.
-const FOUR_BYTES: u8 = 0xf0;
 
 /// With less room no two windows are written, and a step of one costs more than it saves.
 const MANY_ROOM: usize = 128;
 
 /// Whether the rest of a text may be taken at once, into so much room. It affects speed only. Behind a block of
-/// UTF-8 or UTF-32 it may not: likely it has characters from U+10000 on, at which a window would be tried in vain too often.
+/// UTF-32 it may not: likely it has many characters from U+10000 on, which go by blocks as fast.
 #[inline(always)]
 pub(crate) fn may_take_at_once(
     from: &Encoding,
@@ -229,10 +229,10 @@ pub(crate) fn may_take_at_once(
         return false;
     }
     match (from, to) {
-        (Encoding::Utf16(_), Encoding::Utf8) => true,
-        (Encoding::Utf16(_), Encoding::Utf16(_)) => true,
-        (Encoding::Latin1, Encoding::Utf8) => true,
-        (Encoding::Utf8, Encoding::Utf16(_)) => size.is_short() && rest[0] < FOUR_BYTES,
+        (Encoding::Utf16(_), Encoding::Utf8) => rest.len() >= MANY_UNITS,
+        (Encoding::Utf16(_), Encoding::Utf16(_)) => rest.len() >= MANY_UNITS,
+        (Encoding::Latin1, Encoding::Utf8) => rest.len() >= MANY_UNITS,
+        (Encoding::Utf8, Encoding::Utf16(_)) => !begins_with_fours(rest),
         (Encoding::Utf32(_), Encoding::Utf8) => size.is_short() && rest.len() >= MANY_WIDE,
         (Encoding::Utf32(_), Encoding::Utf16(_)) => size.is_short() && rest.len() >= MANY_WIDE,
         _ => false,

@@ -1,5 +1,5 @@
 -- Sixteen characters that are read, or written, at once.
-use Rattle.std.specs.Prelude.{◌≡◌, ℕ, ◌+◌, ◌*◌, ◌/◌, ◌%◌, ◌<◌, List, length, get_or}
+use Rattle.std.specs.Prelude.{Bool, nat_eq, take, ◌≡◌, ℕ, ◌+◌, ◌*◌, ◌/◌, ◌%◌, ◌<◌, ◌≤◌, List, length, get_or}
 use Rattle.std.specs.List.{flat_map}
 use Rattle.cv_base.specs.Scalars.{IsScalar, AreScalars}
 use Rattle.cv_base.specs.Items.{Begins}
@@ -16,10 +16,21 @@ pub record IsWindow (bytes_of : BytesOf) (size : ℕ) (text units : List ℕ) : 
   pub begins : Begins (flat_map bytes_of units) text
   pub uses : size ≡ length (flat_map bytes_of units)
 
--- The units are sixteen below U+10000. If all of them are characters, their bytes begin a text.
+-- The units are characters, whose bytes begin a text and are so many.
+pub record AreFirst (bytes_of : BytesOf) (used : ℕ) (text units : List ℕ) : Type 0 where
+  pub scalars : AreScalars units
+  pub begins : Begins (flat_map bytes_of units) text
+  pub uses : used ≡ length (flat_map bytes_of units)
+
+-- The units are sixteen below U+10000. If all of them are characters, their bytes begin a text; if some at the front are, so do theirs.
 pub record AreSixteen (bytes_of : BytesOf) (size : ℕ) (text units : List ℕ) : Type 0 where
   pub few : (k : ℕ) → k < 16 → get_or units k 0 < 0x10000
   pub window : AreScalarsBelow units 16 → IsWindow bytes_of size text units
+  pub front : (n : ℕ) → n ≤ 16 → AreScalarsBelow units n → AreFirst bytes_of (n * (size / 16)) text (take n units)
+
+-- whether a unit is a surrogate
+abbrev pub is_surrogate : ℕ → Bool
+is_surrogate u = nat_eq (u / 0x800) 27
 
 -- a unit as a number whose low byte is the first
 abbrev pub in_order : Endian → ℕ → ℕ
@@ -34,3 +45,10 @@ pub record IsNarrow (number unit : ℕ) : Type 0 where
 -- The first n units are those of some numbers.
 abbrev pub AreNarrow : List ℕ → List ℕ → ℕ → Type 0
 AreNarrow numbers units n = (k : ℕ) → k < n → IsNarrow (get_or numbers k 0) (get_or units k 0)
+
+-- A character from U+10000 on is at the start of a text, and has four bytes.
+pub record IsHigh (bytes_of : BytesOf) (text : List ℕ) (c : ℕ) : Type 0 where
+  pub scalar : IsScalar c
+  pub above : 0x10000 ≤ c
+  pub begins : Begins (bytes_of c) text
+  pub size : length (bytes_of c) ≡ 4

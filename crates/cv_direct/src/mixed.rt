@@ -1,0 +1,208 @@
+//! Conversions of text that has characters from U+10000 on among others.
+ghost use Rattle.std.specs.Prelude.{◌≡◌, ◌+◌, ◌≤◌, ◌<◌, ℕ, IfSome, IsTrue, MatchOption, length, get_or, take};
+ghost use Rattle.std.specs.List.{flat_map};
+ghost use Rattle.cv_direct.specs.Direct.{IsConverted};
+ghost use Rattle.cv_direct.specs.Private.Loose.{IsPutLoosely, IsConvertedLoosely};
+
+use crate::direct::{Direct, convert};
+use crate::source::{Source, count_characters, first_units, surrogates};
+use crate::target::{ROOM, Target, copy_front};
+use cv_block::MANY;
+use std::simd::prelude::*;
+
+/// How many bytes of mixed text are written to a buffer, before they are copied.
+const BUFFER: usize = 512;
+
+/// How many parts of mixed text are converted at least, before it is asked whether they are too small.
+const FEW: usize = 4;
+
+/// Converts the characters from U+10000 on at the start of a text, up to an end of the output, and answers how many bytes they have, which
+/// is the same in both.
+#[inline(always)]
+fn convert_highs<S: Source, T: Target>(text: &[u8], out: &mut [u8], at: usize, end: usize) -> usize
+    requires room { at ≤ end }
+    requires within { end ≤ length out.old }
+    ensures fit { at + result ≤ end }
+    ensures converted { IsConvertedLoosely S.bytes_of T.bytes_of text.now out.old at
+        result result 0 out.new }
+{
+    let most = text.len().min(end - at);
+    let mut used = 0;
+    while most - used >= 4 {
+        let Some(value) = S::high(&text[used..]) else {
+            break;
+        };
+        T::write_high(value, out, at + used);
+        used += 4;
+    }
+    used
+}
+
+/// Writes the first `n` of sixteen units, and answers how many bytes they have. What follows them, up to 48 bytes, may be anything.
+#[inline(always)]
+fn write_first<T: Target>(units: u16x16, n: usize, out: &mut [u8], at: usize) -> usize
+    requires few { n ≤ 16 }
+    requires room { at + 64 ≤ length out.old }
+    requires middle { (k : ℕ) → k < 16 → get_or units k 0 < 0x10000 }
+    ensures few { result ≤ 48 }
+    ensures put { IsPutLoosely (flat_map T.bytes_of (take n units)) out.old at result 48 out.new }
+{
+    let wrote = T::write_window(first_units(units, n), out, at);
+    wrote - (MANY - n) * T::zero_size()
+}
+
+/// Converts a window up to its first surrogate, and then the characters from U+10000 on, up to an end of the output. What follows what is
+/// written, up to 48 bytes, may be anything.
+#[inline(always)]
+fn convert_window<S: Source, T: Target>(
+    text: &[u8],
+    out: &mut [u8],
+    at: usize,
+    end: usize,
+) -> Direct
+    requires window { S.window_size ≤ length text.now }
+    requires room { at + 64 ≤ end }
+    requires within { end ≤ length out.old }
+    ensures fit { at + result.wrote ≤ end }
+    ensures converted { IsConvertedLoosely S.bytes_of T.bytes_of text.now out.old at
+        result.used result.wrote 48 out.new }
+{
+    let size = S::window_size();
+    let units = S::window(text);
+    let n = count_characters(units);
+    if n == MANY {
+        return Direct {
+            used: size,
+            wrote: T::write_window(units, out, at),
+        };
+    }
+    let used = n * (size / MANY);
+    let wrote = write_first::<T>(units, n, out, at);
+    let highs = convert_highs::<S, T>(&text[used..], out, at + wrote, end);
+    Direct {
+        used: used + highs,
+        wrote: wrote + highs,
+    }
+}
+
+/// Whether a window at the start of a text may have characters from U+10000 on, and few. It affects speed only.
+#[inline(always)]
+fn is_mixed<S: Source>(text: &[u8]) -> bool
+    ensures { IsTrue result → S.window_size ≤ length text.now }
+{
+    if text.len() < S::window_size() {
+        return false;
+    }
+    let marks = surrogates(S::window(text));
+    marks != 0 && !S::is_dense(marks)
+}
+
+/// Converts windows into a buffer, up to an end, and answers what was converted. It ends too where they had many
+/// parts for their bytes.
+#[inline(always)]
+fn fill<S: Source, T: Target>(text: &[u8], front: &mut [u8], end: usize) -> Direct
+    requires { end ≤ length front.old }
+    ensures fit { result.wrote ≤ end }
+    ensures converted { IsConvertedLoosely S.bytes_of T.bytes_of text.now front.old 0
+        result.used result.wrote 48 front.new }
+{
+    let size = S::window_size();
+    let part_size = S::part_size();
+    let mut used = 0;
+    let mut wrote = 0;
+    let mut parts = 0;
+    while text.len() - used >= size && end - wrote >= ROOM && parts <= FEW + used / part_size {
+        let run = convert_window::<S, T>(&text[used..], front, wrote, end);
+        used += run.used;
+        wrote += run.wrote;
+        if run.used == 0 {
+            break;
+        }
+        parts += 1;
+    }
+    Direct { used, wrote }
+}
+
+/// Converts the windows at the start of a text with their characters from U+10000 on, as many as a buffer takes, if there are any. Kept
+/// out of line, since a function clears its buffers on entry.
+#[inline(never)]
+fn convert_mixed<S: Source, T: Target>(text: &[u8], out: &mut [u8], at: usize) -> Option<Direct>
+    requires { at ≤ length out.old }
+    ensures some { IfSome result (λ run. 0 < run.used) }
+    ensures run { MatchOption result (out.new ≡ out.old) (λ run.
+        IsConverted S.bytes_of T.bytes_of text.now out.old at run out.new) }
+{
+    let room = BUFFER.min(out.len() - at);
+    let mut front = [0u8; BUFFER];
+    let run = fill::<S, T>(text, &mut front, room);
+    if run.used == 0 {
+        return None;
+    }
+    copy_front(&front, run.wrote, out, at);
+    Some(run)
+}
+
+/// Converts the windows at the start of a text, as `convert` does, if there are any.
+#[inline(always)]
+fn convert_plain<S: Source, T: Target>(text: &[u8], out: &mut [u8], at: usize) -> Direct
+    requires { at ≤ length out.old }
+    ensures none { result.used ≡ 0 → out.new ≡ out.old }
+    ensures run { IsConverted S.bytes_of T.bytes_of text.now out.old at result out.new }
+{
+    match convert::<S, T>(text, out, at) {
+        Some(run) => run,
+        None => Direct { used: 0, wrote: 0 },
+    }
+}
+
+/// Converts the windows at the start of a text, and then mixed text, and answers whether there was any.
+#[inline(always)]
+fn convert_both<S: Source, T: Target>(text: &[u8], out: &mut [u8], at: usize) -> (Direct, bool)
+    requires { at ≤ length out.old }
+    ensures none { result.0.used ≡ 0 → out.new ≡ out.old }
+    ensures more { IsTrue result.1 → 0 < result.0.used }
+    ensures run { IsConverted S.bytes_of T.bytes_of text.now out.old at result.0 out.new }
+{
+    let plain = convert_plain::<S, T>(text, out, at);
+    let rest = &text[plain.used..];
+    if !is_mixed::<S>(rest) {
+        return (plain, false);
+    }
+    let Some(mixed) = convert_mixed::<S, T>(rest, out, at + plain.wrote) else {
+        return (plain, false);
+    };
+    let run = Direct {
+        used: plain.used + mixed.used,
+        wrote: plain.wrote + mixed.wrote,
+    };
+    (run, true)
+}
+
+/// Converts the text that windows take, with the characters from U+10000 on among them. It ends where `convert` ends for another reason,
+/// or where such characters are many.
+#[inline(always)]
+pub(crate) fn convert_all<S: Source, T: Target>(
+    text: &[u8],
+    out: &mut [u8],
+    at: usize,
+) -> Option<Direct>
+    requires { at ≤ length out.old }
+    ensures some { IfSome result (λ run. 0 < run.used) }
+    ensures run { MatchOption result (out.new ≡ out.old) (λ run.
+        IsConverted S.bytes_of T.bytes_of text.now out.old at run out.new) }
+{
+    let mut used = 0;
+    let mut wrote = 0;
+    loop {
+        let (run, on) = convert_both::<S, T>(&text[used..], out, at + wrote);
+        used += run.used;
+        wrote += run.wrote;
+        if !on {
+            break;
+        }
+    }
+    if used == 0 {
+        return None;
+    }
+    Some(Direct { used, wrote })
+}

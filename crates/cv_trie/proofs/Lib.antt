@@ -5,6 +5,7 @@ pub mod OneByte
 pub mod TwoBytes
 pub mod EightAtOnce
 pub mod FourBytes
+pub mod ThreeBytes
 pub mod FirstWritten
 pub mod Written
 pub mod ReadyBytes

@@ -4,3 +4,4 @@ pub mod Starts
 pub mod Compiled
 pub mod Fronts
 pub mod Followed
+pub mod Longs

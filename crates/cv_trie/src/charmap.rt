@@ -4,11 +4,11 @@ ghost use Rattle.cv_charmap.specs.Maps.{IsMap};
 ghost use Rattle.cv_trie.specs.Charmaps.{map_reads, map_writes, map_closes};
 
 use crate::ascii::{does_read_ascii, does_write_ascii};
-use crate::fours::Fours;
+use crate::blocks::read_front;
 use crate::items::next_item;
 use crate::longest::longest;
+use crate::longs::Longs;
 use crate::ones::ones_of;
-use crate::reading::read_front;
 use crate::starts::starts_of;
 use crate::twos::twos_of;
 use crate::writing::{put_character, write_run};
@@ -37,8 +37,8 @@ pub struct Charmap {
     twos: Vec<u32>,
     /// Where in this table each byte's row or its own cell stands.
     starts: Vec<u32>,
-    /// Where the entries of four bytes are likely to stand, by the first two and the last two.
-    fours: Fours,
+    /// Where the entries of three and of four bytes are likely to stand, by the first two and those behind them.
+    longs: Longs,
     /// The place of each character's first pair.
     pages: Pages,
     /// How many bytes the longest pair has.
@@ -69,7 +69,7 @@ impl Charmap {
         let (name, trie) = pairs.into_parts();
         let mut ones = ones_of(alloc, &trie)?;
         let mut twos = twos_of(alloc, trie.entries(), &mut ones)?;
-        let fours = Fours::of(alloc, trie.entries(), &ones, &mut twos)?;
+        let longs = Longs::of(alloc, trie.entries(), &ones, &mut twos)?;
         let starts = starts_of(alloc, trie.entries(), &ones, &mut twos)?;
         let pages = Pages::of(alloc, trie.entries())?;
         let most = longest(trie.entries());
@@ -81,7 +81,7 @@ impl Charmap {
             ones,
             twos,
             starts,
-            fours,
+            longs,
             pages,
             most,
             reads_ascii,
@@ -108,7 +108,7 @@ impl Charmap {
     pub fn size(&self) -> usize
         ensures { 16 * length self.now.pairs ≤ result }
     {
-        let found = self.trie.size().saturating_add(self.fours.size());
+        let found = self.trie.size().saturating_add(self.longs.size());
         let starts = self.ones.capacity().saturating_add(self.starts.capacity());
         let cells = starts
             .saturating_add(self.twos.capacity())
@@ -170,7 +170,7 @@ impl BlockCodec for Charmap {
                 &self.ones,
                 &self.twos,
                 &self.starts,
-                &self.fours,
+                &self.longs,
                 input,
                 buffer,
             ),

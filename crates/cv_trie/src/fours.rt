@@ -17,22 +17,12 @@ use cv_byte_trie::{ByteTrie, Entry};
 use cv_pages::NOWHERE;
 use std::alloc::{AllocError, Global};
 
-/// How many bytes a cell takes.
-const CELL: usize = 4;
-
 /// How many cells a block has: for each third byte one for each value of the last four bits of the fourth.
 const BLOCK: u32 = 4096;
 
 /// How many strings of four bytes begin with two bytes that have a block, at the least. A block takes 16 KiB, so a map grows by at
 /// most 32 bytes for each of its pairs.
 const DENSE: u32 = 512;
-
-/// The places of entries of four bytes, in blocks by their first two, where there are rows. A place is a guess, since bytes whose last
-/// four bits are the same have one cell: who takes it sees whether the entry has the bytes.
-#[derive(Debug, Drop)]
-pub(crate) struct Fours {
-    cells: Vec<u32>,
-}
 
 /// The place in the rows of the first two of four bytes. 0: the first has no row, or there are not four.
 fn front_of(ones: &[u32], entry: &Entry) -> usize
@@ -91,7 +81,7 @@ fn number_blocks(_ones: &[u32], twos: &mut [u32]) -> u32
 
 /// The cell of the last two of four bytes, in the block of the first two.
 #[inline(always)]
-fn cell_of(number: u32, third: u8, fourth: u8) -> usize
+pub(crate) fn cell_of(number: u32, third: u8, fourth: u8) -> usize
     requires { no_character < number }
 {
     number as usize + third as usize * 16 + (fourth & 15) as usize - (NO_CHARACTER as usize + 1)
@@ -123,48 +113,36 @@ fn fill_blocks(
     Ok(cells)
 }
 
-impl Fours {
-    /// How many bytes they take.
-    pub(crate) fn size(&self) -> usize {
-        self.cells.capacity().saturating_mul(CELL)
-    }
-
-    /// The blocks of entries. The rows then say where each begins.
-    pub(crate) fn of(
-        alloc: Global,
-        entries: &[Entry],
-        ones: &[u32],
-        twos: &mut [u32],
-    ) -> Result<Fours, AllocError>
-        requires few { length entries.now ≤ most_pairs }
-        requires long { length ones.now ≡ 256 }
-        requires cells { length twos.old ≤ most_cells }
-        ensures size { length twos.new ≡ length twos.old }
-        ensures twos { (pairs : List Pair) → AreTwos pairs ones.now twos.old
-            → AreTwos pairs ones.now twos.new }
-    {
-        count_fronts(entries, ones, twos);
-        let size = number_blocks(ones, twos);
-        let cells = fill_blocks(alloc, entries, ones, twos, size)?;
-        Ok(Fours { cells })
-    }
-
-    /// Whether no string of four bytes has a cell.
-    #[inline(always)]
-    pub(crate) fn is_empty(&self) -> bool {
-        self.cells.is_empty()
-    }
+/// The places of entries of four bytes, in blocks by their first two, where there are rows. The rows then say where each begins. A place is
+/// a guess, since bytes whose last four bits are the same have one cell: who takes it sees whether the entry has the bytes.
+pub(crate) fn fours_of(
+    alloc: Global,
+    entries: &[Entry],
+    ones: &[u32],
+    twos: &mut [u32],
+) -> Result<Vec<u32>, AllocError>
+    requires few { length entries.now ≤ most_pairs }
+    requires long { length ones.now ≡ 256 }
+    requires cells { length twos.old ≤ most_cells }
+    ensures size { length twos.new ≡ length twos.old }
+    ensures twos { (pairs : List Pair) → AreTwos pairs ones.now twos.old
+        → AreTwos pairs ones.now twos.new }
+{
+    count_fronts(entries, ones, twos);
+    let size = number_blocks(ones, twos);
+    fill_blocks(alloc, entries, ones, twos, size)
 }
 
-/// Whether four bytes stand at a place of a text.
+/// Whether so many bytes stand at a place of a text.
 #[inline(always)]
-fn are_there(own: &[u8; 8], input: &[u8], used: usize) -> bool
+pub(crate) fn are_there(own: &[u8; 8], input: &[u8], used: usize, size: usize) -> bool
     requires long { length own.now ≡ 8 }
-    requires within { used + 4 ≤ length input.now }
-    ensures { IsTrue result → (k : ℕ) → k < 4
+    requires few { size ≤ 8 }
+    requires within { used + size ≤ length input.now }
+    ensures { IsTrue result → (k : ℕ) → k < size
         → slice_index own.now k ≡ slice_index input.now (used + k) }
 {
-    for k in 0..4 {
+    for k in 0..size {
         if own[k] != input[used + k] {
             return false;
         }
@@ -174,7 +152,13 @@ fn are_there(own: &[u8; 8], input: &[u8], used: usize) -> bool
 
 /// The character of the entry that a cell names, if it has the four bytes at a place of a text.
 #[inline(always)]
-fn four_at(entries: &[Entry], cells: &[u32], cell: usize, input: &[u8], used: usize) -> u32
+pub(crate) fn four_at(
+    entries: &[Entry],
+    cells: &[u32],
+    cell: usize,
+    input: &[u8],
+    used: usize,
+) -> u32
     requires within { used + 4 ≤ length input.now }
     ensures scalar { result < no_character → IsScalar result }
     ensures stands { result < no_character → Stands (map_reads entries.now) read.Start
@@ -188,7 +172,7 @@ fn four_at(entries: &[Entry], cells: &[u32], cell: usize, input: &[u8], used: us
         return NO_CHARACTER;
     }
     let entry = &entries[place];
-    if entry.len() != 4 || !are_there(entry.padded(), input, used) {
+    if entry.len() != 4 || !are_there(entry.padded(), input, used, 4) {
         return NO_CHARACTER;
     }
     entry.character().value()
@@ -201,7 +185,7 @@ pub(crate) fn read_fours(
     trie: &ByteTrie,
     ones: &[u32],
     twos: &[u32],
-    fours: &Fours,
+    cells: &[u32],
     input: &[u8],
     buffer: &mut [Scalar],
     front: Front,
@@ -214,7 +198,6 @@ pub(crate) fn read_fours(
     ensures on { front.n ≤ result.n }
 {
     let entries = trie.entries();
-    let cells = fours.cells.as_slice();
     let mut n = front.n;
     let mut used = front.used;
     let most = n + (buffer.len() - n).min((input.len() - used) / 4);

@@ -2,6 +2,7 @@
 #![tactic(auto)]
 
 mod ascii;
+mod blocks;
 mod charmap;
 mod fours;
 mod front;
@@ -9,9 +10,12 @@ mod front_writing;
 mod items;
 pub mod laws;
 mod longest;
+mod longs;
+mod mixed;
 mod ones;
 mod reading;
 mod starts;
+mod threes;
 mod twos;
 mod windows;
 mod writing;

@@ -4,12 +4,9 @@ ghost use Rattle.cv_byte_trie.specs.Entries.{AreEntries};
 ghost use Rattle.cv_charmap.specs.Entries.{Pair};
 ghost use Rattle.cv_trie.specs.Private.Ones.{AreOnes, no_character};
 ghost use Rattle.cv_trie.specs.Private.Twos.{AreRows, AreTwos, IsCell, most_cells};
-ghost use Rattle.cv_trie.specs.Private.Fronts.{IsReadFront};
 
-use crate::front::Front;
 use crate::ones::NO_CHARACTER;
-use cv_base::Scalar;
-use cv_byte_trie::{ByteTrie, Entry};
+use cv_byte_trie::Entry;
 use std::alloc::{AllocError, Global};
 
 /// How many characters a row has, one for each second byte.
@@ -18,18 +15,18 @@ const ROW: u32 = 256;
 /// How many cells are left behind the rows, one for each byte below 128.
 pub(crate) const SINGLES: usize = 128;
 
-/// How many strings of two or of four bytes begin with a byte that has a row, at the least. A row takes a kilobyte, so a map grows
+/// How many strings of two, three or four bytes begin with a byte that has a row, at the least. A row takes a kilobyte, so a map grows
 /// by at most 32 bytes for each of its pairs, by the row that all other bytes share, and by what `starts` takes.
 const DENSE: u8 = 32;
 
-/// How many strings of two or of four bytes begin with each byte, as far as it matters. It decides speed and memory alone.
+/// How many strings of two, three or four bytes begin with each byte, as far as it matters. It decides speed and memory alone.
 fn count_firsts(entries: &[Entry]) -> [u8; 256]
     ensures { length result ≡ 256 }
 {
     let mut counts = [0u8; 256];
     for place in 0..entries.len() {
         let bytes = entries[place].bytes();
-        if (bytes.len() == 2 || bytes.len() == 4) && counts[bytes[0] as usize] < DENSE {
+        if matches!(bytes.len(), 2..=4) && counts[bytes[0] as usize] < DENSE {
             counts[bytes[0] as usize] += 1;
         }
     }
@@ -116,45 +113,4 @@ pub(crate) fn twos_of(
         return Ok(Vec::new(alloc));
     }
     fill_rows(alloc, entries, ones, size)
-}
-
-/// Reads characters of one and of two bytes behind what was read, up to the first that stands in no table. As none has more
-/// bytes, the end of the text is looked for once, and the last of them may be left. It stands apart, so that its loop has the registers.
-#[inline(never)]
-pub(crate) fn read_twos(
-    _trie: &ByteTrie,
-    ones: &[u32],
-    twos: &[u32],
-    input: &[u8],
-    buffer: &mut [Scalar],
-    front: Front,
-) -> Front
-    requires read { IsReadFront _trie.now.entries input.now front buffer.old }
-    requires long { length ones.now ≡ 256 }
-    requires ones { AreOnes _trie.now.entries ones.now 256 }
-    requires twos { AreTwos _trie.now.entries ones.now twos.now }
-    ensures read { IsReadFront _trie.now.entries input.now result buffer.new }
-    ensures on { front.n ≤ result.n }
-{
-    let mut n = front.n;
-    let mut used = front.used;
-    let most = n + (buffer.len() - n).min((input.len() - used) / 2);
-    while n < most {
-        let first = ones[input[used] as usize];
-        if first < NO_CHARACTER {
-            buffer[n] = Scalar::known(first);
-            n += 1;
-            used += 1;
-            continue;
-        }
-        let second = input[used + 1] as usize;
-        let character = twos[first as usize + second - NO_CHARACTER as usize];
-        if character >= NO_CHARACTER {
-            break;
-        }
-        buffer[n] = Scalar::known(character);
-        n += 1;
-        used += 2;
-    }
-    Front { n, used }
 }

@@ -18,10 +18,13 @@ pub enum Form {
     /// `count` byte strings of two bytes, as in EUC-KR and GBK, except the first 32, which have one. One in the middle of the first bytes
     /// is a single byte too. Second bytes are 0x40 or above.
     Led { count: u32 },
+    /// `count` byte strings of one to four bytes, as in EUC-JP and GB18030: the first 32 have one, and of each four others two have two
+    /// bytes, one has three and one has four.
+    Various { count: u32 },
 }
 
 /// Each form, and its name.
-pub const FORMS: [(&str, Form); 14] = [
+pub const FORMS: [(&str, Form); 15] = [
     (
         "1 byte",
         Form::Sized {
@@ -106,6 +109,7 @@ pub const FORMS: [(&str, Form); 14] = [
     ),
     ("four bytes, dense", Form::Dense { count: 13_000 }),
     ("1 and 2 bytes", Form::Led { count: 8000 }),
+    ("1 to 4 bytes", Form::Various { count: 12_000 }),
 ];
 
 /// The bytes of a pair.
@@ -170,6 +174,35 @@ impl Bytes {
         }
     }
 
+    /// Two, three or four bytes. Those of three and of four have a first byte of their own.
+    fn long(n: u32) -> Bytes {
+        let turn = n / 4;
+        let row = 0xA1 + (turn / 94 % 32) as u8;
+        let cell = 0xA1 + (turn % 94) as u8;
+        let block = 0x30 + (turn / 1260 % 10) as u8;
+        let third = 0x81 + (turn / 10 % 126) as u8;
+        let fourth = 0x30 + (turn % 10) as u8;
+        let (all, size) = match n % 4 {
+            0 => ([row, cell, 0, 0, 0, 0, 0, 0], 2),
+            1 => ([row + 32, cell, 0, 0, 0, 0, 0, 0], 2),
+            2 => ([0x8F, row, cell, 0, 0, 0, 0, 0], 3),
+            _ => ([0x8E, block, third, fourth, 0, 0, 0, 0], 4),
+        };
+        Bytes { all, size }
+    }
+
+    /// One byte for the first 32, and two, three or four for others.
+    fn various(n: u32) -> Bytes {
+        if n < 32 {
+            Bytes {
+                all: [0x20 + n as u8, 0, 0, 0, 0, 0, 0, 0],
+                size: 1,
+            }
+        } else {
+            Bytes::long(n - 32)
+        }
+    }
+
     /// The same with the size in the first three bits, so that none begins another.
     fn marked(size: u8, n: u32) -> Bytes {
         let mark = size.saturating_sub(1) % 8 * 32;
@@ -207,6 +240,7 @@ impl Form {
             Form::Crowded { count } => count,
             Form::Dense { count } => count,
             Form::Led { count } => count,
+            Form::Various { count } => count,
         }
     }
 
@@ -219,6 +253,7 @@ impl Form {
             Form::Crowded { .. } => Bytes::of(3, n),
             Form::Dense { .. } => Bytes::dense(n),
             Form::Led { .. } => Bytes::led(n),
+            Form::Various { .. } => Bytes::various(n),
         }
     }
 
@@ -229,6 +264,7 @@ impl Form {
             Form::Mixed { .. } => counted(n, 5),
             Form::Dense { .. } => counted(n, 2),
             Form::Led { .. } => counted(n, 3),
+            Form::Various { .. } => counted(n, 7),
             Form::Crowded { .. } => counted(n.min(1), 0x4E00),
         }
     }

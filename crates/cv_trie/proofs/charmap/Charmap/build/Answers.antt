@@ -21,16 +21,16 @@ starts_of-requires-clause-twos c =
     let twos = c.of.new.twos in
     let pairs = c.into_parts-name.result.1.entries in
     let size : c.in_ok-ones.ones.len ≡ length ones = omega arith in
-    let rows : c.in_ok-twos.twos.len ≡ length twos = omega (arith, c.in_ok-fours.ensures.size) in
+    let rows : c.in_ok-twos.twos.len ≡ length twos = omega (arith, c.in_ok-longs.ensures.size) in
     let first : c.deref.result.now ≡ ones = rw (size, take-append_seam) at c.deref.ensures.value in
     let second : c.deref-2.result.now ≡ ones = rw (size, take-append_seam) at c.deref-2.ensures.value in
     let lent : c.deref_mut-2.result.now ≡ c.in_ok-twos.twos.items = c.deref_mut-2.ensures.value in
     let again : c.deref_mut-3.result.now ≡ twos = rw (rows, take-append_seam) at c.deref_mut-3.ensures.value in
     λ some. (
-    let held : 0 < length c.in_ok-twos.twos.items = omega (arith, some, c.in_ok-fours.ensures.size, ap length lent, ap length again) in
+    let held : 0 < length c.in_ok-twos.twos.items = omega (arith, some, c.in_ok-longs.ensures.size, ap length lent, ap length again) in
     let before : AreTwos pairs ones c.in_ok-twos.twos.items = subst (λ (x : List Entry). AreTwos x ones c.in_ok-twos.twos.items) c.entries.ensures.value (c.in_ok-twos.ensures.twos held) in
     let given : AreTwos pairs c.deref.result.now c.deref_mut-2.result.now = rw (first, lent) before in
-    let kept : AreTwos pairs ones twos = subst (λ (x : List ℕ). AreTwos pairs x twos) first (c.in_ok-fours.ensures.twos pairs given) in
+    let kept : AreTwos pairs ones twos = subst (λ (x : List ℕ). AreTwos pairs x twos) first (c.in_ok-longs.ensures.twos pairs given) in
     let there : AreTwos pairs c.deref-2.result.now c.deref_mut-3.result.now = rw (second, again) kept in
     subst (λ (x : List Entry). AreTwos x c.deref-2.result.now c.deref_mut-3.result.now) (sym c.entries-3.ensures.value) there)
 
@@ -42,7 +42,7 @@ invariant_of-result c =
     let pages = c.in_ok-pages.pages in
     let pairs = c.into_parts-name.result.1.entries in
     let size : c.in_ok-ones.ones.len ≡ length ones = omega arith in
-    let rows : c.in_ok-twos.twos.len ≡ length twos = omega (arith, c.in_ok-fours.ensures.size, c.in_ok-starts.ensures.size) in
+    let rows : c.in_ok-twos.twos.len ≡ length twos = omega (arith, c.in_ok-longs.ensures.size, c.in_ok-starts.ensures.size) in
     let second : c.deref-2.result.now ≡ ones = rw (size, take-append_seam) at c.deref-2.ensures.value in
     rw (size, rows, take-append_seam, take-append_seam) (record {
       map = subst (λ (x : List Entry). IsMap x) (sym c.into_parts-name.ensures.pairs) c.into_parts-name.ensures.map;

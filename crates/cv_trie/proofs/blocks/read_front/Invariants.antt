@@ -1,6 +1,6 @@
 use Rattle.std.proofs.Common.{◌≡◌, ◌-◌, length}
 use Rattle.cv_trie.specs.Private.Fronts.{IsReadFront}
-use Rattle.cv_trie.proofs.reading.read_front.Given as goal
+use Rattle.cv_trie.proofs.blocks.read_front.Given as goal
 
 abbrev pub invariant-loop-front : goal.invariant-loop-front
 invariant-loop-front l = record {

@@ -5,12 +5,12 @@ use Rattle.cv_trie.specs.Private.Twos.{IsTwo, two_at}
 use Rattle.cv_trie.proofs.Following.{front_more}
 use Rattle.cv_trie.proofs.OneByte.{one_stands}
 use Rattle.cv_trie.proofs.TwoBytes.{two_read, two_more}
-use Rattle.cv_trie.proofs.twos.read_twos.Goals as goal
+use Rattle.cv_trie.proofs.mixed.read_mixed.Goals as goal
 
 pub loop-n-preserved-then-first-lt-NO_CHARACTER : goal.loop-n-preserved-then-first-lt-NO_CHARACTER
 loop-n-preserved-then-first-lt-NO_CHARACTER c =
     let i = c.loop-n.invariant in
-    let pairs = c.args._trie.now.entries in
+    let pairs = c.args.trie.now.entries in
     let text = c.args.input.now in
     let n = c.loop-n.n in
     let used = c.loop-n.used in
@@ -26,19 +26,19 @@ loop-n-preserved-then-first-lt-NO_CHARACTER c =
       rest = omega arith;
     }
 
-pub known-requires-in-loop-n : goal.known-requires-in-loop-n
-known-requires-in-loop-n c =
+pub known-requires-then-number-lt-NO_CHARACTER : goal.known-requires-then-number-lt-NO_CHARACTER
+known-requires-then-number-lt-NO_CHARACTER c =
     let b = get_or c.args.input.now c.loop-n.used 0 in
     let d = get_or c.args.input.now (c.loop-n.used + 1) 0 in
     let byte : b < 256 = (let h = c.type_inv.input c.loop-n.used in omega arith) in
     let next : d < 256 = (let h = c.type_inv.input (c.loop-n.used + 1) in omega arith) in
     let same = two_read c.args.ones.now c.args.twos.now b d c.if-first-lt-NO_CHARACTER.false in
-    rw same (c.requires.twos.each b d byte next (omega (arith, c.if-character-ge-NO_CHARACTER.false))).0
+    rw same (c.requires.twos.each b d byte next (omega (arith, c.if-number-lt-NO_CHARACTER.true))).0
 
-pub loop-n-preserved : goal.loop-n-preserved
-loop-n-preserved c =
+pub loop-n-preserved-then-number-lt-NO_CHARACTER : goal.loop-n-preserved-then-number-lt-NO_CHARACTER
+loop-n-preserved-then-number-lt-NO_CHARACTER c =
     let i = c.loop-n.invariant in
-    let pairs = c.args._trie.now.entries in
+    let pairs = c.args.trie.now.entries in
     let text = c.args.input.now in
     let n = c.loop-n.n in
     let used = c.loop-n.used in
@@ -48,11 +48,26 @@ loop-n-preserved c =
     let next : d < 256 = (let h = c.type_inv.input (used + 1) in omega arith) in
     let character = two_at c.args.ones.now c.args.twos.now b d in
     let same = two_read c.args.ones.now c.args.twos.now b d c.if-first-lt-NO_CHARACTER.false in
-    let two : IsTwo pairs b d character = c.requires.twos.each b d byte next (omega (arith, c.if-character-ge-NO_CHARACTER.false)) in
+    let two : IsTwo pairs b d character = c.requires.twos.each b d byte next (omega (arith, c.if-number-lt-NO_CHARACTER.true)) in
     let low : used + 1 < length text = omega arith in
     record {
-      read = rw (c.known-in-loop-n.ensures, same) (two_more pairs text c.loop-n.buffer n used b d character i.read (omega arith) low refl refl two);
+      read = rw (c.known-then-number-lt-NO_CHARACTER.ensures, same) (two_more pairs text c.loop-n.buffer n used b d character i.read (omega arith) low refl refl two);
+      on = omega arith;
+      few = omega (arith, length-set c.loop-n.buffer n c.known-then-number-lt-NO_CHARACTER.result);
+      rest = omega arith;
+    }
+
+pub loop-n-preserved : goal.loop-n-preserved
+loop-n-preserved c =
+    let i = c.loop-n.invariant in
+    let text = c.args.input.now in
+    let n = c.loop-n.n in
+    let used = c.loop-n.used in
+    let long = c.long_at-long.ensures c.if-long-ge-NO_CHARACTER.false in
+    let character = c.long_at-long.result.character in
+    record {
+      read = rw c.known-in-loop-n.ensures (front_more c.args.trie.now.entries text c.loop-n.buffer n used c.long_at-long.result.size character i.read (omega arith) long.stands long.within);
       on = omega arith;
       few = omega (arith, length-set c.loop-n.buffer n c.known-in-loop-n.result);
-      rest = omega arith;
+      rest = omega (arith, length-drop used text, long.within);
     }

@@ -1,0 +1,34 @@
+-- Characters of three bytes, read by a guess that is tested.
+use Rattle.std.proofs.Common.{◌≡◌, ℕ, ◌<◌, ◌≤◌, ◌+◌, List, [], ◌∷◌, length, take, drop, get_or, suc, refl, sym, ◌∙◌, ap, arith, Some}
+use Rattle.std.proofs.Math.Seq.{drop-cons}
+use Rattle.cv_base.specs.Items.{taken, Begins, Stands}
+use Rattle.cv_base.specs.declared.state.ReadState.TheVariants as read
+use Rattle.cv_byte_trie.specs.Entries.{Entry, bytes_at, character_at}
+use Rattle.cv_byte_trie.proofs.ReadEntries.{entry_bytes, entry_character}
+use Rattle.cv_trie.specs.Charmaps.{map_reads}
+use Rattle.cv_trie.proofs.MapItems.{pair_stands}
+
+-- three bytes that are those at a place of a text
+three_begin : (bytes own text : List ℕ) (p : ℕ) → length bytes ≡ 3 → 3 ≤ length own → take (length bytes) own ≡ bytes → p + 3 ≤ length text
+    → get_or own 0 0 ≡ get_or text p 0 → get_or own 1 0 ≡ get_or text (p + 1) 0 → get_or own 2 0 ≡ get_or text (p + 2) 0
+    → Begins bytes (drop p text)
+three_begin bytes [] text p long room is fits e f g = absurd (omega arith)
+three_begin bytes (a ∷ []) text p long room is fits e f g = absurd (omega arith)
+three_begin bytes (a ∷ b ∷ []) text p long room is fits e f g = absurd (omega arith)
+three_begin bytes (a ∷ b ∷ c ∷ rest) text p long room is fits e f g =
+    let here : drop p text ≡ a ∷ drop (suc p) text = drop-cons text p 0 (omega arith) ∙ ap (λ (x : ℕ). x ∷ drop (suc p) text) (sym e) in
+    let second : drop (suc p) text ≡ b ∷ drop (suc (suc p)) text = drop-cons text (suc p) 0 (omega arith) ∙ ap (λ (x : ℕ). x ∷ drop (suc (suc p)) text) (ap (λ (k : ℕ). get_or text k 0) (omega arith) ∙ sym f) in
+    let third : drop (suc (suc p)) text ≡ c ∷ drop (suc (suc (suc p))) text = drop-cons text (suc (suc p)) 0 (omega arith) ∙ ap (λ (x : ℕ). x ∷ drop (suc (suc (suc p))) text) (ap (λ (k : ℕ). get_or text k 0) (omega arith) ∙ sym g) in
+    let spelled : a ∷ b ∷ c ∷ [] ≡ bytes = rw long at is in
+    rw (← spelled, here, second, third) (refl, (refl, (refl, tt)))
+
+-- an entry of three bytes stands where its bytes are those of a text
+pub three_stands : (entries : List Entry) (x : Entry) (place : ℕ) (own text : List ℕ) (p : ℕ) → place < length entries → x ≡ get_or entries place x → length x.0 ≡ 3 → 3 ≤ length own → take (length x.0) own ≡ x.0 → p + 3 ≤ length text
+    → get_or own 0 0 ≡ get_or text p 0 → get_or own 1 0 ≡ get_or text (p + 1) 0 → get_or own 2 0 ≡ get_or text (p + 2) 0
+    → Stands (map_reads entries) read.Start (drop p text) (taken 3 (Some x.1) read.Start)
+three_stands entries x place own text p low at long room is fits e f g =
+    let bytes : bytes_at entries place ≡ x.0 = entry_bytes entries place x low at in
+    let character : character_at entries place ≡ x.1 = entry_character entries place x low at in
+    let front : Begins (bytes_at entries place) (drop p text) = rw bytes (three_begin x.0 own text p long room is fits e f g) in
+    let size : length (bytes_at entries place) ≡ 3 = ap length bytes ∙ long in
+    rw (size, character) at (pair_stands entries read.Start (drop p text) place low front)

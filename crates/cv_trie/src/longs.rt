@@ -1,0 +1,117 @@
+//! Characters of more than two bytes.
+ghost use Rattle.std.specs.Prelude.{◌≡◌, ◌≤◌, ◌<◌, ◌+◌, List, length, drop};
+ghost use Rattle.cv_charmap.specs.Entries.{Pair};
+ghost use Rattle.cv_charmap.specs.Lists.{most_pairs};
+ghost use Rattle.cv_trie.specs.Private.Ones.{no_character};
+ghost use Rattle.cv_trie.specs.Private.Twos.{AreTwos, most_cells};
+ghost use Rattle.cv_trie.specs.Private.Longs.{IsLong};
+
+use crate::fours::{cell_of, four_at, fours_of};
+use crate::ones::NO_CHARACTER;
+use crate::reading::follow;
+use crate::threes::{THREES, three_at, threes_of};
+use cv_byte_trie::{ByteTrie, Entry, NONE};
+use std::alloc::{AllocError, Global};
+
+/// How many bytes a cell takes.
+const CELL: usize = 4;
+
+/// The places of entries of three and of four bytes, in blocks by their first two. Each is a guess.
+#[derive(Debug, Drop)]
+pub(crate) struct Longs {
+    threes: Vec<u32>,
+    fours: Vec<u32>,
+}
+
+/// The character at a place of a text.
+#[derive(Clone, Copy, Debug)]
+pub(crate) struct Long {
+    /// The character. [`NO_CHARACTER`]: none stands there.
+    pub(crate) character: u32,
+    /// How many bytes it has.
+    pub(crate) size: usize,
+}
+
+impl Longs {
+    /// How many bytes they take.
+    pub(crate) fn size(&self) -> usize {
+        let cells = self.threes.capacity().saturating_add(self.fours.capacity());
+        cells.saturating_mul(CELL)
+    }
+
+    /// The places of entries of four bytes.
+    #[inline(always)]
+    pub(crate) fn fours(&self) -> &[u32] {
+        self.fours.as_slice()
+    }
+
+    /// The blocks of entries. The rows then say where each begins.
+    pub(crate) fn of(
+        alloc: Global,
+        entries: &[Entry],
+        ones: &[u32],
+        twos: &mut [u32],
+    ) -> Result<Longs, AllocError>
+        requires few { length entries.now ≤ most_pairs }
+        requires long { length ones.now ≡ 256 }
+        requires cells { length twos.old ≤ most_cells }
+        ensures size { length twos.new ≡ length twos.old }
+        ensures twos { (pairs : List Pair) → AreTwos pairs ones.now twos.old
+            → AreTwos pairs ones.now twos.new }
+    {
+        let fours = fours_of(alloc, entries, ones, twos)?;
+        let threes = threes_of(alloc, entries, ones, twos)?;
+        Ok(Longs { threes, fours })
+    }
+}
+
+/// The character at a place of a text, found by following its bytes through the trie.
+#[inline(never)]
+fn followed_at(trie: &ByteTrie, input: &[u8], used: usize) -> Long
+    requires within { used < length input.now }
+    ensures { result.character < no_character
+        → IsLong trie.now.entries (drop used input.now) result.size result.character }
+{
+    let followed = follow(trie, trie.root(), input, used);
+    if followed.code >= NONE {
+        return Long {
+            character: NO_CHARACTER,
+            size: 0,
+        };
+    }
+    let entries = trie.entries();
+    Long {
+        character: entries[followed.code as usize].character().value(),
+        size: followed.size,
+    }
+}
+
+/// The character at a place of a text. The number that stands in the rows for the first two bytes says where to look.
+#[inline(always)]
+pub(crate) fn long_at(
+    trie: &ByteTrie,
+    longs: &Longs,
+    number: u32,
+    input: &[u8],
+    used: usize,
+) -> Long
+    requires within { used < length input.now }
+    ensures { result.character < no_character
+        → IsLong trie.now.entries (drop used input.now) result.size result.character }
+{
+    if input.len() - used >= 4 {
+        if number > THREES {
+            let character = three_at(trie.entries(), &longs.threes, number, input, used);
+            if character < NO_CHARACTER {
+                return Long { character, size: 3 };
+            }
+        } else if number > NO_CHARACTER {
+            let cell = cell_of(number, input[used + 2], input[used + 3]);
+            let character = four_at(trie.entries(), &longs.fours, cell, input, used);
+            if character < NO_CHARACTER {
+                return Long { character, size: 4 };
+            }
+        }
+    }
+    followed_at(trie, input, used)
+}

@@ -1,0 +1,64 @@
+//! Characters of any size, one after another.
+ghost use Rattle.std.specs.Prelude.{◌≡◌, ◌≤◌, ◌<◌, length};
+ghost use Rattle.cv_trie.specs.Private.Ones.{AreOnes};
+ghost use Rattle.cv_trie.specs.Private.Twos.{AreTwos};
+ghost use Rattle.cv_trie.specs.Private.Fronts.{IsReadFront};
+
+use crate::front::Front;
+use crate::longs::{Longs, long_at};
+use crate::ones::NO_CHARACTER;
+use cv_base::Scalar;
+use cv_byte_trie::ByteTrie;
+
+/// How many characters are read behind one of more than two bytes, before eight at once are tried again. It decides speed alone.
+const AT_ONCE: usize = 32;
+
+/// Reads characters behind what was read, up to one that is none, or to some of one and of two bytes that follow a longer one. It stands
+/// apart, so that its loop has the registers.
+#[inline(never)]
+pub(crate) fn read_mixed(
+    trie: &ByteTrie,
+    ones: &[u32],
+    twos: &[u32],
+    longs: &Longs,
+    input: &[u8],
+    buffer: &mut [Scalar],
+    front: Front,
+) -> Front
+    requires read { IsReadFront trie.now.entries input.now front buffer.old }
+    requires long { length ones.now ≡ 256 }
+    requires ones { AreOnes trie.now.entries ones.now 256 }
+    requires twos { AreTwos trie.now.entries ones.now twos.now }
+    ensures read { IsReadFront trie.now.entries input.now result buffer.new }
+    ensures on { front.n ≤ result.n }
+{
+    let mut n = front.n;
+    let mut used = front.used;
+    let mut most = buffer.len();
+    while n < most && input.len() - used >= 2 {
+        let first = ones[input[used] as usize];
+        if first < NO_CHARACTER {
+            buffer[n] = Scalar::known(first);
+            n += 1;
+            used += 1;
+            continue;
+        }
+        let second = input[used + 1] as usize;
+        let number = twos[first as usize + second - NO_CHARACTER as usize];
+        if number < NO_CHARACTER {
+            buffer[n] = Scalar::known(number);
+            n += 1;
+            used += 2;
+            continue;
+        }
+        let long = long_at(trie, longs, number, input, used);
+        if long.character >= NO_CHARACTER {
+            break;
+        }
+        buffer[n] = Scalar::known(long.character);
+        n += 1;
+        used += long.size;
+        most = n + AT_ONCE.min(buffer.len() - n);
+    }
+    Front { n, used }
+}

@@ -1,5 +1,5 @@
 //! What the ops do to the callers' tables.
-ghost use Rattle.std.specs.Prelude.{◌≡◌, ◌≢◌, ◌≤◌, ◌<◌, ◌++◌, ℕ, [], Some, None, IfSome, IfOk, IfErr, OnOk, OnErr};
+ghost use Rattle.std.specs.Prelude.{◌≡◌, ◌≢◌, ◌≤◌, ◌<◌, ◌++◌, ℕ, [], Some, None, false, IfSome, IfOk, IfErr, OnOk, OnErr};
 ghost use Rattle.std.specs.Arc.{arc_value};
 ghost use Rattle.cv_caller.specs.Keyed.{no_keys, place_at, with_place, keyed_with_part, AreHeld, IsKeyed};
 ghost use Rattle.cv_caller.specs.Results.{IsDropped, IsPart};
@@ -226,6 +226,16 @@ pub(crate) fn forget_empty(callers: &mut BTreeMap<u32, Kept>, caller: u32)
     };
     if kept.table.is_empty() {
         remove_in(callers, caller);
+    }
+}
+
+/// Whether a caller has sent a part of an upload.
+pub(crate) fn has_part_in(callers: &BTreeMap<u32, Kept>, caller: u32) -> bool
+    ensures { result ≡ false → (keyed_in callers.now caller).part ≡ [] }
+{
+    match callers.get(&caller) {
+        Some(kept) => !kept.table.part().is_empty(),
+        None => false,
     }
 }
 

@@ -1,5 +1,5 @@
 //! One request over a world, with a compiler of charmap texts.
-ghost use Rattle.std.specs.Prelude.{◌≡◌, ◌++◌, ◌≤◌, length};
+ghost use Rattle.std.specs.Prelude.{◌≡◌, ◌++◌, ◌≤◌, [], false, length};
 ghost use Rattle.cv_cache.specs.Compiled.{IsCompiled};
 ghost use Rattle.cv_frame.specs.declared.sizes.TheConstants.{MOST_BODY};
 ghost use Rattle.cv_machine.specs.Machine.{Steps};
@@ -7,6 +7,7 @@ ghost use Rattle.cv_world.specs.Actions.{asked, InputFits};
 ghost use Rattle.cv_world.specs.Requests.{Asks, turn};
 ghost use Rattle.cv_world.specs.Worlds.{world_tables};
 
+use crate::callers::has_part_in;
 use crate::op::Op;
 use crate::world::World;
 use cv_cache::Compiler;
@@ -17,7 +18,8 @@ use cv_trie::Charmap;
 use std::alloc::Global;
 use std::sync::Arc;
 
-/// Compiles what a PUT of a caller uploads: the part that it has sent, and then the body.
+/// Compiles what a PUT of a caller uploads: the part that it has sent, and then the body. Where it has sent no part, the body is the
+/// whole text, and is compiled where it was read.
 fn compile_put<R, C: Compiler<R>>(
     world: &World,
     compiler: &C,
@@ -29,6 +31,9 @@ fn compile_put<R, C: Compiler<R>>(
     requires { C.ready compiler.now }
     ensures { IsCompiled ((world_tables world.now caller).part ++ body.now) result }
 {
+    if !world.has_part(caller) {
+        return compiler.compile(rt, alloc, body);
+    }
     let Ok(text) = world.gather(alloc, caller, body) else {
         return Err(CompileFault::Memory);
     };
@@ -57,6 +62,13 @@ pub(crate) fn read<'a, R, C: Compiler<R>>(
 }
 
 impl World {
+    /// Whether a caller has sent a part of an upload.
+    fn has_part(&self, caller: u32) -> bool
+        ensures { result ≡ false → (world_tables self.now caller).part ≡ [] }
+    {
+        has_part_in(&self.callers, caller)
+    }
+
     /// The reply to one request, tried once.
     fn reply<R, C: Compiler<R>>(
         &mut self,

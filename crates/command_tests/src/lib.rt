@@ -20,6 +20,8 @@ mod interleavings;
 #[cfg(test)]
 mod large_uploads;
 #[cfg(test)]
+mod long_words;
+#[cfg(test)]
 mod longest_names;
 #[cfg(test)]
 mod many_reads;

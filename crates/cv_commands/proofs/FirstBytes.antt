@@ -25,3 +25,10 @@ pub first_in_block : (p : ℕ → Bool) (text : List ℕ) (n few : ℕ) → n + 
     → n + few ≡ position_or_len p text
 first_in_block p text n few room is none lt =
     sym (position_or_len_is p text (n + few) 0 (omega arith) (none_more p text n few room is none) (λ within. run_in_chunk_stops p text n 16 few 0 room is lt))
+
+-- of the bytes of long blocks none passes either
+pub none_past : (p : ℕ → Bool) (text : List ℕ) (n m : ℕ) → NonePasses p text n → ((k : ℕ) → n ≤ k → k < m → p (get_or text k 0) ≡ false) → NonePasses p text m
+none_past p text n m none more k lt = elim (cases_lt k n) [
+  | inl before ↦ none k before
+  | inr past ↦ more k past lt
+]

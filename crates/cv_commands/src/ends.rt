@@ -1,11 +1,14 @@
 //! Where a line or a word ends.
-ghost use Rattle.std.specs.Prelude.{◌≡◌, ◌≤◌, ◌<◌, ◌+◌, ◌==◌, ℕ, false, length, slice_index, take, drop};
+ghost use Rattle.std.specs.Prelude.{◌≡◌, ◌≤◌, ◌<◌, ◌+◌, ◌==◌, ℕ, true, false, length, get_or, slice_index, take, drop};
 ghost use Rattle.std.specs.List.{position_or_len};
 
 use std::simd::prelude::*;
 
 /// How many bytes are looked at together.
 const BLOCK: usize = 16;
+
+/// How many bytes of a long word or line are looked at together.
+const LONG_BLOCK: usize = 64;
 
 /// How many of the bytes of a block precede the first that is this one, or all of them.
 #[inline(always)]
@@ -23,7 +26,36 @@ fn before_in_block(byte: u8, text: &[u8], at: usize) -> usize
     }
 }
 
-/// How many bytes of a text precede the first that is this one, or all of them. The last few are looked at one by one.
+/// Whether none of the bytes of a long block is this one.
+#[inline(always)]
+fn is_without(byte: u8, text: &[u8], at: usize) -> bool
+    requires { at + 64 ≤ length text.now }
+    ensures { result ≡ true → (k : ℕ) → at ≤ k → k < at + 64 → (get_or text.now k 0 == byte) ≡ false }
+{
+    let found = u8x64::from_slice(&text[at..])
+        .simd_eq(u8x64::splat(byte))
+        .to_bitmask();
+    found == 0
+}
+
+/// Where the long blocks from a position on end, of whose bytes none is this one.
+#[inline(never)]
+fn past_long_blocks(byte: u8, text: &[u8], at: usize) -> usize
+    requires { at ≤ length text.now }
+    ensures from { at ≤ result }
+    ensures within { result ≤ length text.now }
+    ensures none { (k : ℕ) → at ≤ k → k < result → (get_or text.now k 0 == byte) ≡ false }
+{
+    let mut n = at;
+    while text.len() - n >= LONG_BLOCK && is_without(byte, text, n) {
+        n += LONG_BLOCK;
+    }
+    n
+}
+
+/// How many bytes of a text precede the first that is this one, or all of them. Long blocks are looked at only after 64 bytes
+/// without it, by a function that is not inlined, so that short words and lines take little longer. The last few bytes are
+/// looked at one by one.
 pub(crate) fn bytes_before(byte: u8, text: &[u8]) -> usize
     ensures value { result ≡ position_or_len (λ b. b == byte) text.now }
     ensures within { result ≤ length text.now }
@@ -34,6 +66,9 @@ pub(crate) fn bytes_before(byte: u8, text: &[u8]) -> usize
         n += before;
         if before < BLOCK {
             return n;
+        }
+        if n == LONG_BLOCK {
+            n = past_long_blocks(byte, text, n);
         }
     }
     while n < text.len() && text[n] != byte {

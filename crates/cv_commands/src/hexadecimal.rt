@@ -1,4 +1,4 @@
-//! Bytes in hexadecimal. No branch in a loop depends on a byte, so that the compiler makes vector code of it.
+//! Bytes in hexadecimal, read and written by vectors, and the last few one by one.
 ghost use Rattle.std.specs.Prelude.{◌≡◌, ◌*◌, ◌%◌, ◌<◌, ◌≤◌, ◌++◌, true, false, length, Some, None, IfOk, OnOk, OnErr, MatchBool};
 ghost use Rattle.std.specs.Char.{is_digit, digit_value};
 ghost use Rattle.std.specs.Fmt.{digit_glyph};
@@ -10,6 +10,7 @@ ghost use Rattle.cv_commands.specs.Words.{bytes_by_digits, bytes_in};
 
 use crate::eight_bytes::{EIGHT, read_eight};
 use crate::lines::is;
+use crate::sixteen_bytes::{SIXTEEN, sixteen_digits};
 use std::alloc::{AllocError, Global};
 
 /// How many bytes are read before it is looked whether all digits are such. A word that is at fault at its start is not read to its end.
@@ -38,15 +39,22 @@ fn write_digits(bytes: &[u8], digits: &mut [u8])
     }
 }
 
-/// Appends the digits of bytes, or nothing where memory lacks. Their room is cleared first, which costs little beside writing them.
+/// Appends the digits of bytes, or nothing where memory lacks: those of sixteen bytes at once, and then those of the last few.
+/// Room for all is asked for first, so none of it is refused later.
 fn push_digits(line: &mut Vec<u8>, bytes: &[u8]) -> Result<(), AllocError>
     ensures ok { OnOk result (line.new.items ≡ line.old.items ++ flat_map hexadecimal bytes.now) }
     ensures err { OnErr result (line.new.items ≡ line.old.items) }
 {
-    let start = line.len();
     line.reserve(2 * bytes.len())?;
-    line.resize(start + 2 * bytes.len(), 0)?;
-    write_digits(bytes, &mut line[start..]);
+    let blocks = bytes.len() / SIXTEEN;
+    for block in 0..blocks {
+        let n = SIXTEEN * block;
+        line.extend_from_slice(&sixteen_digits(&bytes[n..n + SIXTEEN]))?;
+    }
+    let last = &bytes[SIXTEEN * blocks..];
+    let mut digits = [0; 2 * SIXTEEN];
+    write_digits(last, &mut digits[..2 * last.len()]);
+    line.extend_from_slice(&digits[..2 * last.len()])?;
     Ok(())
 }
 

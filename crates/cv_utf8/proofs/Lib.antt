@@ -18,3 +18,4 @@ pub mod Utf8Spelled
 pub mod Utf8ShortFront
 pub mod Utf8Front
 pub mod Utf8Units
+pub mod Utf8Threes

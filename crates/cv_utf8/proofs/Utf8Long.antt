@@ -29,10 +29,10 @@ pub number_scalar : (size word number : ℕ) → IsNumberOf size word number →
 number_scalar size word number h = elim h [ inl e ↦ rw e (omega arith, λ p. omega arith) | inr p ↦ p.0 ]
 
 -- A character that has size bytes is at a place.
-record IsLongAt (size : ℕ) (text : List ℕ) (at number : ℕ) : Type 0 where
-  scalar : IsScalar number
-  begins : Begins (utf8_bytes number) (drop at text)
-  long : length (utf8_bytes number) ≡ size
+pub record IsLongAt (size : ℕ) (text : List ℕ) (at number : ℕ) : Type 0 where
+  pub scalar : IsScalar number
+  pub begins : Begins (utf8_bytes number) (drop at text)
+  pub long : length (utf8_bytes number) ≡ size
 
 long_at : (size : ℕ) (text : List ℕ) (at word number : ℕ) → size ≤ 4 → IsUnitAt (Four Little) text at word → IsNumberOf size word number → 0 < number → IsLongAt size text at number
 long_at size text at word number small unit is some = elim is [
@@ -43,12 +43,13 @@ long_at size text at word number small unit is some = elim is [
 ]
 
 -- The bytes of the first n characters begin a text, and each has size bytes.
-record Begun (size : ℕ) (text numbers : List ℕ) (n : ℕ) : Type 0 where
-  begins : Begins (flat_map utf8_bytes (take n numbers)) text
-  uses : length (flat_map utf8_bytes (take n numbers)) ≡ size * n
-  scalars : AreScalars (take n numbers)
+pub record Begun (size : ℕ) (text numbers : List ℕ) (n : ℕ) : Type 0 where
+  pub begins : Begins (flat_map utf8_bytes (take n numbers)) text
+  pub uses : length (flat_map utf8_bytes (take n numbers)) ≡ size * n
+  pub scalars : AreScalars (take n numbers)
 
-begun : (size : ℕ) (text numbers : List ℕ) (n : ℕ) → n ≤ length numbers → ((k : ℕ) → k < n → IsLongAt size text (size * k) (get_or numbers k 0)) → Begun size text numbers n
+-- characters that are at their places begin a text together
+pub begun : (size : ℕ) (text numbers : List ℕ) (n : ℕ) → n ≤ length numbers → ((k : ℕ) → k < n → IsLongAt size text (size * k) (get_or numbers k 0)) → Begun size text numbers n
 begun size text numbers zero h at = record { begins = tt; uses = sym (mul-zero size); scalars = tt }
 begun size text numbers (suc n) h at =
     let before = begun size text numbers n (omega arith) (λ k l. at k (omega arith)) in
@@ -97,8 +98,8 @@ low_zeros zero k h l = bit_at-zero k
 low_zeros (suc m) k h l = (bit_at-trailing_zeros w64 (suc m) (omega arith) h).2 k l
 
 -- the numbers before the first that is 0 are above 0
-pub before_zero : (numbers : List ℕ) (m k : ℕ) → length numbers ≡ 16 → m < 2 ^ 64 → m ≡ mask_l (map (λ a. ltb a 1) numbers) → k < 16 → k < trailing_zeros w64 m → 0 < get_or numbers k 0
-before_zero numbers m k long small is within l =
+pub before_zero : (numbers : List ℕ) (m k : ℕ) → m < 2 ^ 64 → m ≡ mask_l (map (λ a. ltb a 1) numbers) → k < length numbers → k < trailing_zeros w64 m → 0 < get_or numbers k 0
+before_zero numbers m k small is within l =
     let bit = sym (bit_mask_l (map (λ a. ltb a 1) numbers) k) ∙ ap (λ x. bit_at x k) (sym is) ∙ low_zeros m k small l in
     let at = sym (get_or-map (λ a. ltb a 1) numbers k 0 false (omega arith)) ∙ unset _ bit in
     let above : 1 ≤ get_or numbers k 0 = ltb-false _ _ at in

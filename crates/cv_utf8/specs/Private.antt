@@ -1,6 +1,7 @@
 -- What the contracts of private functions say, which no public contract cites.
 pub mod Utf8Bytes
 pub mod Utf8Short
+pub mod Utf8Threes
 pub mod Utf8Pairs
 pub mod Utf8Fours
 pub mod Utf8Windows

@@ -14,6 +14,7 @@ mod utf8_pairs;
 mod utf8_reading;
 mod utf8_short;
 mod utf8_spelling;
+mod utf8_threes;
 mod utf8_units;
 mod utf8_windows;
 

@@ -11,7 +11,7 @@ use std::simd::prelude::*;
 
 /// The words of a text, one at each third or each fourth byte. None is tested, so that all are loaded at once.
 #[inline(always)]
-pub(crate) fn words_of(text: &[u8], size: usize) -> [u32; MANY]
+fn words_of(text: &[u8], size: usize) -> [u32; MANY]
     requires size { (size ≡ 3) ⊎ (size ≡ 4) }
     requires room { size * 15 + 4 ≤ length text.now }
     ensures long { length result ≡ 16 }
@@ -57,7 +57,7 @@ fn four_of(word: u32) -> u32
 /// The numbers of the characters of `size` bytes with which words begin, and 0 for the others. The size is known at
 /// compile time, and LLVM vectorizes the loop.
 #[inline(always)]
-pub(crate) fn numbers_of(words: &[u32; MANY], size: usize) -> [u32; MANY]
+fn numbers_of(words: &[u32; MANY], size: usize) -> [u32; MANY]
     requires size { (size ≡ 3) ⊎ (size ≡ 4) }
     requires long { length words.now ≡ 16 }
     ensures long { length result ≡ 16 }
@@ -76,7 +76,7 @@ pub(crate) fn numbers_of(words: &[u32; MANY], size: usize) -> [u32; MANY]
 
 /// How many numbers there are before the first 0.
 #[inline(always)]
-pub(crate) fn before_none(numbers: &[u32; MANY]) -> usize
+fn before_none(numbers: &[u32; MANY]) -> usize
     requires { length numbers.now ≡ 16 }
     ensures many { result ≤ 16 }
     ensures some { (k : ℕ) → k < result → 0 < get_or numbers.now k 0 }

@@ -4,16 +4,16 @@ ghost use Rattle.cv_utf8.specs.Units.{AreRead};
 ghost use Rattle.cv_utf8.specs.Private.Utf8Short.{is_behind, IsShortAt};
 ghost use Rattle.cv_utf8.specs.Private.Utf8Windows.{AreBegun};
 
-use crate::utf8_long::{before_none, numbers_of, words_of};
-use crate::utf8_marks::{Front, among, beginnings, is_behind, whole};
+use crate::utf8_marks::{Front, beginnings, is_behind, whole};
 use crate::utf8_short::are_short;
-use crate::utf8_windows::{may_be_high, may_be_threes, short_values, whole_values};
+use crate::utf8_threes::{may_be_several, three_units};
+use crate::utf8_windows::{may_be_high, short_values, whole_values};
 use cv_block::MANY;
 use cv_pack::packed_numbers;
 use std::simd::prelude::*;
 
 /// How many lanes a part has.
-const EIGHT: usize = 8;
+pub(crate) const EIGHT: usize = 8;
 
 /// Characters of up to three bytes, in two parts.
 #[derive(Clone, Copy)]
@@ -72,64 +72,8 @@ fn whole_units(input: &[u8], at: usize) -> Units
     begun_units(&whole_values(input, at), begun, used)
 }
 
-/// Numbers as units.
-#[inline(always)]
-fn narrowed(numbers: &[u32; MANY]) -> [u16; MANY]
-    requires long { length numbers.now ≡ 16 }
-    requires few { (k : ℕ) → k < 16 → get_or numbers.now k 0 < 0x10000 }
-    ensures { result ≡ numbers.now }
-{
-    let mut units = [0; MANY];
-    for k in 0..MANY {
-        units[k] = numbers[k] as u16;
-    }
-    units
-}
-
-/// How many bytes sixteen characters of three bytes have.
-const THREES: usize = 48;
-
-/// The bits of the first bytes of sixteen characters of three bytes.
-const FIRSTS: u64 = 0x2492_4924_9249;
-
-/// Whether forty-eight bytes have the first bytes of sixteen characters of three bytes where these begin. It affects speed
-/// only: where fewer characters follow each other, looking at them all would be in vain.
-#[inline(always)]
-fn are_threes(text: &[u8]) -> bool
-    requires { 48 ≤ length text.now }
-{
-    let front = among(u8x16::from_slice(text), 0xe0, 0x10);
-    let middle = among(u8x16::from_slice(&text[MANY..]), 0xe0, 0x10);
-    let back = among(u8x16::from_slice(&text[2 * MANY..]), 0xe0, 0x10);
-    front | middle << 16 | back << 32 == FIRSTS
-}
-
-/// Sixteen characters of three bytes, if they are at the place, and a byte more.
-#[inline(always)]
-fn three_units(input: &[u8], at: usize) -> Option<Units>
-    requires { at ≤ length input.now }
-    ensures { IfSome result (λ units. AreRead input.now at units) }
-{
-    let text = &input[at..];
-    if text.len() <= THREES || !are_threes(text) {
-        return None;
-    }
-    let numbers = numbers_of(&words_of(text, 3), 3);
-    if before_none(&numbers) < MANY {
-        return None;
-    }
-    let units = narrowed(&numbers);
-    Some(Units {
-        first: u16x8::from_slice(&units),
-        firsts: EIGHT,
-        second: u16x8::from_slice(&units[EIGHT..]),
-        seconds: EIGHT,
-        used: THREES,
-    })
-}
-
-/// Reads sixteen characters of three bytes, or the whole characters of up to three bytes that begin among sixteen bytes, up to
-/// one that has four.
+/// Reads up to sixteen characters of three bytes, if several follow each other, or the whole characters of up to three bytes that
+/// begin among sixteen bytes, up to one that has four.
 #[inline(always)]
 pub fn read_units(input: &[u8], at: usize) -> Units
     requires { at + 18 ≤ length input.now }
@@ -139,7 +83,7 @@ pub fn read_units(input: &[u8], at: usize) -> Units
         if !is_behind(input[at]) && are_short(input, at) {
             return short_units(input, at);
         }
-    } else if may_be_threes(input, at) {
+    } else if may_be_several(input, at) {
         if let Some(units) = three_units(input, at) {
             return units;
         }

@@ -128,7 +128,7 @@ pub(crate) fn may_be_high(input: &[u8], at: usize) -> bool
 /// Whether sixteen characters of three bytes may follow each other, by the first byte of some of them. It affects speed only: to read
 /// them as scalars at once costs as much if they are fewer.
 #[inline(always)]
-pub(crate) fn may_be_threes(input: &[u8], at: usize) -> bool
+fn may_be_threes(input: &[u8], at: usize) -> bool
     requires { at ≤ length input.now }
 {
     let text = &input[at..];

@@ -7,4 +7,4 @@ use Rattle.cv_utf8.proofs.utf8_long.before_none.Goals as goal
 pub returns-clause-some : goal.returns-clause-some
 returns-clause-some c k h =
     let numbers = c.args.numbers.now in
-    before_zero numbers _ k c.requires (omega arith) (bitmask_splat w32 ltb numbers 16 1 c.requires (lit≤ tt)) (omega (arith, c.min.ensures, h)) (omega (arith, c.min.ensures, h))
+    before_zero numbers _ k (omega arith) (bitmask_splat w32 ltb numbers 16 1 c.requires (lit≤ tt)) (omega (arith, c.requires, c.min.ensures, h)) (omega (arith, c.min.ensures, h))

@@ -32,6 +32,12 @@ pub(crate) struct Long {
     pub(crate) size: usize,
 }
 
+/// No character.
+const NO_LONG: Long = Long {
+    character: NO_CHARACTER,
+    size: 0,
+};
+
 impl Longs {
     /// How many bytes they take.
     pub(crate) fn size(&self) -> usize {
@@ -67,17 +73,14 @@ impl Longs {
 
 /// The character at a place of a text, found by following its bytes through the trie.
 #[inline(never)]
-fn followed_at(trie: &ByteTrie, input: &[u8], used: usize) -> Long
+pub(crate) fn followed_at(trie: &ByteTrie, input: &[u8], used: usize) -> Long
     requires within { used < length input.now }
     ensures { result.character < no_character
         → IsLong trie.now.entries (drop used input.now) result.size result.character }
 {
     let followed = follow(trie, trie.root(), input, used);
     if followed.code >= NONE {
-        return Long {
-            character: NO_CHARACTER,
-            size: 0,
-        };
+        return NO_LONG;
     }
     let entries = trie.entries();
     Long {
@@ -86,9 +89,10 @@ fn followed_at(trie: &ByteTrie, input: &[u8], used: usize) -> Long
     }
 }
 
-/// The character at a place of a text. The number that stands in the rows for the first two bytes says where to look.
+/// The character of more than two bytes at a place of a text, if a table has it. The number that stands in the rows for the first two bytes
+/// says where to look.
 #[inline(always)]
-pub(crate) fn long_at(
+pub(crate) fn tabled_at(
     trie: &ByteTrie,
     longs: &Longs,
     number: u32,
@@ -99,19 +103,14 @@ pub(crate) fn long_at(
     ensures { result.character < no_character
         → IsLong trie.now.entries (drop used input.now) result.size result.character }
 {
-    if input.len() - used >= 4 {
-        if number > THREES {
-            let character = three_at(trie.entries(), &longs.threes, number, input, used);
-            if character < NO_CHARACTER {
-                return Long { character, size: 3 };
-            }
-        } else if number > NO_CHARACTER {
-            let cell = cell_of(number, input[used + 2], input[used + 3]);
-            let character = four_at(trie.entries(), &longs.fours, cell, input, used);
-            if character < NO_CHARACTER {
-                return Long { character, size: 4 };
-            }
-        }
+    if number <= NO_CHARACTER || input.len() - used < 4 {
+        return NO_LONG;
     }
-    followed_at(trie, input, used)
+    if number > THREES {
+        let character = three_at(trie.entries(), &longs.threes, number, input, used);
+        return Long { character, size: 3 };
+    }
+    let cell = cell_of(number, input[used + 2], input[used + 3]);
+    let character = four_at(trie.entries(), &longs.fours, cell, input, used);
+    Long { character, size: 4 }
 }

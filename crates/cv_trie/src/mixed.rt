@@ -5,16 +5,17 @@ ghost use Rattle.cv_trie.specs.Private.Twos.{AreTwos};
 ghost use Rattle.cv_trie.specs.Private.Fronts.{IsReadFront};
 
 use crate::front::Front;
-use crate::longs::{Longs, long_at};
+use crate::longs::{Longs, followed_at, tabled_at};
 use crate::ones::NO_CHARACTER;
+use crate::reading::read_longer;
 use cv_base::Scalar;
 use cv_byte_trie::ByteTrie;
 
 /// How many characters are read behind one of more than two bytes, before eight at once are tried again. It decides speed alone.
 const AT_ONCE: usize = 32;
 
-/// Reads characters behind what was read, up to one that is none, or to some of one and of two bytes that follow a longer one. It stands
-/// apart, so that its loop has the registers.
+/// Reads characters behind what was read, up to one that is none, or to some of one and of two bytes that follow a longer one. Where two
+/// in a row stand in no table, it asks none for the next. It stands apart, so that its loop has the registers.
 #[inline(never)]
 pub(crate) fn read_mixed(
     trie: &ByteTrie,
@@ -35,6 +36,7 @@ pub(crate) fn read_mixed(
     let mut n = front.n;
     let mut used = front.used;
     let mut most = buffer.len();
+    let mut followed = usize::MAX;
     while n < most && input.len() - used >= 2 {
         let first = ones[input[used] as usize];
         if first < NO_CHARACTER {
@@ -51,13 +53,25 @@ pub(crate) fn read_mixed(
             used += 2;
             continue;
         }
-        let long = long_at(trie, longs, number, input, used);
+        let tabled = tabled_at(trie, longs, number, input, used);
+        if tabled.character < NO_CHARACTER {
+            buffer[n] = Scalar::known(tabled.character);
+            n += 1;
+            used += tabled.size;
+            most = n + AT_ONCE.min(buffer.len() - n);
+            continue;
+        }
+        if n == followed {
+            return read_longer(trie, input, buffer, Front { n, used });
+        }
+        let long = followed_at(trie, input, used);
         if long.character >= NO_CHARACTER {
             break;
         }
         buffer[n] = Scalar::known(long.character);
         n += 1;
         used += long.size;
+        followed = n;
         most = n + AT_ONCE.min(buffer.len() - n);
     }
     Front { n, used }

@@ -9,7 +9,7 @@ use crate::latin1::Latin1Bytes;
 use crate::mixed::convert_all;
 use crate::source::{Source, are_characters};
 use crate::target::{ROOM, Target, write_last};
-use crate::utf8::{Utf8Bytes, are_below};
+use crate::utf8::Utf8Bytes;
 use crate::utf16::Utf16In;
 use crate::utf32::Utf32In;
 use cv_block::{ByteOrder, MANY};
@@ -23,12 +23,25 @@ pub struct Direct {
     pub wrote: usize,
 }
 
-/// How many windows a loop takes at least before it ends for a run of ASCII: what a loop costs besides is much for a few.
-const MANY_WINDOWS: usize = 32;
+/// Behind so many windows of ASCII in a row a loop ends: the caller has a faster way for them, but to end costs as much as a few
+/// windows.
+const MANY_ASCII: usize = 12;
+
+/// Where the last window that was not ASCII ended, behind one that wrote so many bytes.
+#[inline(always)]
+fn last_other(wrote: usize, used: usize, other: usize) -> usize
+    requires { other ≤ used }
+    ensures { result ≤ used }
+{
+    if wrote == MANY {
+        return other;
+    }
+    used
+}
 
 /// Converts the windows at the start of a text, up to one that has a surrogate, or that is not whole, or for which there might be
-/// no room. Each is written over what was put behind the one before, and the last one by a buffer. After many windows it
-/// ends too where two in a row have one byte for each character: the caller looks for a run of ASCII, for which it has a
+/// no room. Each is written over what was put behind the one before, and the last one by a buffer. It ends too behind many
+/// windows in a row that have one byte for each character in the output: the caller looks for a run of ASCII, for which it has a
 /// faster way.
 #[inline(always)]
 pub(crate) fn convert<S: Source, T: Target>(
@@ -51,18 +64,19 @@ pub(crate) fn convert<S: Source, T: Target>(
     }
     let mut used = 0;
     let mut end = at;
-    let mut wrote = 0;
-    while text.len() - used >= 2 * size && out.len() - end >= 2 * ROOM {
-        if used >= MANY_WINDOWS * size && wrote == MANY && are_below(units, 0x80) {
-            break;
-        }
+    let mut other = 0;
+    while text.len() - used >= 2 * size
+        && out.len() - end >= 2 * ROOM
+        && used - other < MANY_ASCII * size
+    {
         let next = S::window(&text[used + size..]);
         if !are_characters(next) {
             break;
         }
-        wrote = T::write_window(units, out, end);
+        let wrote = T::write_window(units, out, end);
         end += wrote;
         used += size;
+        other = last_other(wrote, used, other);
         units = next;
     }
     end += write_last::<T>(units, out, end);

@@ -1,10 +1,18 @@
-//! A row of texts with their charmaps.
-ghost use Rattle.std.specs.Prelude.{◌≡◌, ◌+◌, ◌<◌, ◌≤◌, ◌∷◌, ◌==◌, ◌&&◌, position, vec_len, vec_capacity};
-ghost use Rattle.std.specs.List.{remove};
-ghost use Rattle.std.specs.Str.{bytes_eq};
+//! The texts that are held, with their charmaps, in the order of their use.
+ghost use Rattle.std.specs.Prelude.{◌≡◌, ◌+◌, [], nat_eq, IfSome, OnOk, OnErr, IfOk, None, option_map};
+ghost use Rattle.std.specs.List.{find};
+ghost use Rattle.std.specs.Map.{lookup};
+ghost use Rattle.lru.specs.LruCache.{lru_cache, put_entries, IsValid};
 ghost use Rattle.cv_cache.specs.Held.{bytes_of};
+ghost use Rattle.cv_cache.specs.Private.Numbers.{matches, IsNumberFor};
 
+use crate::limits::MOST_TEXTS;
+use crate::text_hasher::HashKeys;
+use cv_base::Memory;
 use cv_trie::Charmap;
+use lru::LruCache;
+use std::alloc::Global;
+use std::num::NonZeroUsize;
 use std::sync::Arc;
 
 /// A text that is held, with its sum by the keys of its cache, the charmap that it means, and how many bytes both take.
@@ -16,34 +24,93 @@ pub(crate) struct Kept {
     pub(crate) size: usize,
 }
 
-/// The place of a text. Texts are compared where their sums are equal.
-pub(crate) fn place_of(entries: &[Kept], sum: u64, text: &[u8]) -> Option<usize>
-    ensures { result ≡ position (λ kept. (kept.sum == sum) && bytes_eq text.now kept.text.items) entries.now }
-{
-    entries
-        .iter()
-        .position(|kept| kept.sum == sum && text == kept.text.as_slice())
+/// The texts that are held, the last used first, and the keys by which they are summed. Each has a number, since the map hashes its key in
+/// each of its calls.
+#[derive(Drop)]
+pub(crate) struct Texts {
+    pub(crate) keys: HashKeys,
+    pub(crate) entries: LruCache<u64, Kept>,
 }
 
-/// An entry goes, where there is one at this place; and how many bytes it took.
-pub(crate) fn take_out(entries: &mut Vec<Kept>, place: usize) -> usize
-    ensures items { entries.new.items ≡ remove entries.old.items place }
-    ensures bytes { bytes_of entries.new.items + result ≡ bytes_of entries.old.items }
-    ensures room { vec_capacity entries.new ≡ vec_capacity entries.old }
-{
-    if place < entries.len() {
-        let gone = entries.remove(place);
-        gone.size
-    } else {
-        0
+impl Texts {
+    /// No text yet. A sum that was made while the lock was free counts only by the same keys, so they have to be those that it is given.
+    pub(crate) fn new(alloc: Global, keys: HashKeys) -> Result<Texts, Memory>
+        ensures keys { IfOk result (λ texts. texts.keys ≡ keys) }
+        ensures entries { IfOk result (λ texts. texts.entries ≡ lru_cache [] MOST_TEXTS) }
+    {
+        let Some(most) = NonZeroUsize::new(MOST_TEXTS) else {
+            return Err(Memory);
+        };
+        let entries = LruCache::new(alloc, most)?;
+        Ok(Texts { keys, entries })
     }
 }
 
-/// An entry comes first, for which there is a place.
-pub(crate) fn put_first(entries: &mut Vec<Kept>, kept: Kept)
-    requires { vec_len entries.old < vec_capacity entries.old }
-    ensures items { entries.new.items ≡ kept ∷ entries.old.items }
-    ensures room { vec_capacity entries.old ≤ vec_capacity entries.new }
+/// The entry of a text, and its number. Texts are compared where their sums are equal.
+pub(crate) fn entry_of<'a>(
+    entries: &'a LruCache<u64, Kept>,
+    sum: u64,
+    text: &[u8],
+) -> Option<(u64, &'a Kept)>
+    ensures entry { option_map (λ r. (r.0, r.1.now)) result
+        ≡ find (matches sum text.now) entries.now.entries }
+    ensures valid { IsValid nat_eq entries.now }
 {
-    entries.insert(0, kept).unwrap()
+    // So the cache says that its numbers differ.
+    let _ = entries.len();
+    for (number, kept) in entries {
+        if kept.sum == sum && text == kept.text.as_slice() {
+            return Some((*number, kept));
+        }
+    }
+    None
+}
+
+/// A number that no entry has: of one more than there may be entries there always is one. It is mostly the one after that of the last text
+/// that came.
+fn free_number(entries: &LruCache<u64, Kept>) -> Option<u64>
+    ensures { IfSome result (λ n. lookup (nat_eq n) entries.now.entries ≡ None) }
+{
+    let first = match entries.peek_mru() {
+        Some((number, _)) => number.wrapping_add(1),
+        None => 0,
+    };
+    for step in 0..=MOST_TEXTS as u64 {
+        let number = first.wrapping_add(step);
+        if !entries.contains(&number) {
+            return Some(number);
+        }
+    }
+    None
+}
+
+/// The number of a text that is held, or else one that is free.
+pub(crate) fn number_for(entries: &LruCache<u64, Kept>, sum: u64, text: &[u8]) -> Option<u64>
+    ensures number { IfSome result (IsNumberFor sum text.now entries.now.entries) }
+    ensures valid { IsValid nat_eq entries.now }
+{
+    match entry_of(entries, sum, text) {
+        Some((number, _)) => Some(number),
+        None => free_number(entries),
+    }
+}
+
+/// Puts an entry first, and answers how many bytes went: those of the one with its number, or of the last.
+pub(crate) fn put(
+    entries: &mut LruCache<u64, Kept>,
+    number: u64,
+    kept: Kept,
+) -> Result<usize, Memory>
+    ensures entries { OnOk result (entries.new
+        ≡ lru_cache (put_entries nat_eq entries.old number kept) entries.old.cap) }
+    ensures bytes { IfOk result (λ went. bytes_of entries.new.entries + went
+        ≡ bytes_of entries.old.entries + kept.size) }
+    ensures err { OnErr result (entries.new ≡ entries.old) }
+{
+    // So the cache says how many there are at most.
+    let _ = entries.len();
+    match entries.push(number, kept)? {
+        Some((_, gone)) => Ok(gone.size),
+        None => Ok(0),
+    }
 }

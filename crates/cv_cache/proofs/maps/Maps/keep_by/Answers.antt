@@ -1,47 +1,44 @@
-use Rattle.std.proofs.Common.{◌≡◌, ◌+◌, ◌∷◌, sym, ◌∙◌, ap, map, position, unwrap_or, arith}
-use Rattle.std.specs.List.{remove}
+use Rattle.std.proofs.Common.{ℕ, sym, ◌∙◌, ap, subst, arith}
 use Rattle.std.specs.Str.{bytes_eq}
-use Rattle.std.proofs.lemmas.List.Sums.{sum_by-cons}
-use Rattle.lru.specs.LruCache.{lru_cache, put_entries}
+use Rattle.lru.specs.LruCache.{LruCache, lru_cache, put_entries}
 use Rattle.cv_charmap.specs.Meaning.{meaning}
 use Rattle.cv_cache.specs.declared.kept.Kept.{Kept}
-use Rattle.cv_cache.specs.Held.{Held, shown, bytes_of, IsRight}
+use Rattle.cv_cache.specs.Held.{Held, IsRight}
 use Rattle.cv_cache.specs.Private.Sums.{sum_of}
-use Rattle.cv_cache.proofs.Rows.{IsPut, matches, value_of, put_at, put_sound}
+use Rattle.cv_cache.specs.Private.Numbers.{IsNumberFor}
+use Rattle.cv_cache.proofs.Entries.{AreRight, AreApart, value_of, put_shown, right_put, apart_put}
 use Rattle.cv_cache.proofs.maps.Maps.keep_by.Goals as goal
 
 -- the entry that is put
 abbrev kept : goal.After-self-1 → Kept
 kept c = record { sum = c.by-sum.result; text = c.in_ok-text.text; charmap = c.args.charmap; size = c.size_of-size.result }
 
-is_right : (c : goal.After-self-1) → IsRight c.self.inside.keys (kept c)
+is_right : (c : goal.After-self-1) → IsRight c.self.inside.texts.keys (kept c)
 is_right c = record {
-  summed = c.by-sum.ensures ∙ ap (sum_of c.self.inside.keys) (sym c.in_ok-text.ensures.items);
+  summed = c.by-sum.ensures ∙ ap (sum_of c.self.inside.texts.keys) (sym c.in_ok-text.ensures.items);
   means = ap meaning c.in_ok-text.ensures.items ∙ c.requires.means;
 }
 
-is_put : (c : goal.After-self-1) → IsPut c.args.text.now c.self.inside.entries.items (unwrap_or c.place_of.result 31) (kept c)
-is_put c =
-    put_at c.self.inside.keys c.args.text.now c.self.inside.entries c.self.inside.bytes c.by-sum.result c.place_of.result (kept c) c.self.invariant c.by-sum.ensures c.in_ok-text.ensures.items
-    (c.place_of.ensures ∙ ap (position (matches c.by-sum.result c.args.text.now)) c.deref-2.ensures.value)
+number : (c : goal.After-self-1) → IsNumberFor c.by-sum.result c.args.text.now c.self.inside.texts.entries.entries c.in-Some.number
+number c = c.in-Some.ensures.number
 
--- what is left
-items : (c : goal.After-self-1) → c.put_first.new.entries.items ≡ kept c ∷ remove c.self.inside.entries.items (unwrap_or c.place_of.result 31)
-items c = c.put_first.ensures.items ∙ ap (λ xs. kept c ∷ xs) (c.take_out-freed.ensures.items ∙ ap (remove c.self.inside.entries.items) c.unwrap_or-place.ensures)
-
--- what all take
-all : (c : goal.After-self-1) → bytes_of c.put_first.new.entries.items ≡ c.size_of-size.result + bytes_of c.take_out-freed.new.entries.items
-all c = ap bytes_of c.put_first.ensures.items ∙ sum_by-cons (λ (k : Kept). k.size) (kept c) c.take_out-freed.new.entries.items
-
-pub invariant_of-self : goal.invariant_of-self
-invariant_of-self c =
+pub invariant_of-self-2 : goal.invariant_of-self-2
+invariant_of-self-2 c =
+    let was : LruCache ℕ Kept = c.self.inside.texts.entries in
+    let is = c.in_ok-freed.ensures.entries in
     let room = c.if-not-has_room.ensures in
-    let freed = c.take_out-freed.ensures.bytes in
-    put_sound c.self.inside.keys c.args.text.now c.self.inside.entries c.put_first.new.entries c.self.inside.bytes c.saturating_sub-self-inside.result (unwrap_or c.place_of.result 31) (kept c)
-    c.self.invariant (is_put c) (is_right c) (items c) (omega (arith, c.put_first.ensures.room, c.take_out-freed.ensures.room))
-    (omega (arith, all c, freed, c.self.invariant.counted, c.saturating_sub-self-inside.ensures))
-    (grind (arith, room, c.self.invariant.light, c.saturating_sub-self-inside.ensures))
+    let bytes = c.in_ok-freed.ensures.bytes in
+    record {
+      room = ap (λ (e : LruCache ℕ Kept). e.cap) is ∙ c.self.invariant.room;
+      right = subst (λ (e : LruCache ℕ Kept). AreRight c.self.inside.texts.keys e.entries) (sym is) (right_put c.self.inside.texts.keys was c.in-Some.number (kept c) c.self.invariant.right (is_right c));
+      distinct = subst (λ (e : LruCache ℕ Kept). AreApart e.entries) (sym is) (apart_put c.args.text.now c.self.inside.texts.keys c.by-sum.result c.by-sum.ensures was c.in-Some.number (kept c) c.self.invariant.right c.number_for.ensures.valid.0 (number c) c.in_ok-text.ensures.items c.self.invariant.distinct);
+      counted = omega (arith, bytes, c.self.invariant.counted, c.saturating_sub-self-inside.ensures);
+      light = grind (arith, bytes, c.self.invariant.counted, c.self.invariant.light, c.saturating_sub-self-inside.ensures, room);
+    }
 
 pub returns-clause-ok : goal.returns-clause-ok
 returns-clause-ok c =
-    ap (map shown) (items c) ∙ (is_put c).order ∙ ap (λ (h : Held). put_entries bytes_eq (lru_cache h.entries 32) c.args.text.now (value_of (kept c))) c.self.view_is
+    let was : LruCache ℕ Kept = c.self.inside.texts.entries in
+    rw c.in_ok-freed.ensures.entries (sym (put_shown c.args.text.now c.self.inside.texts.keys c.by-sum.result c.by-sum.ensures was c.in-Some.number (kept c) c.self.invariant.right c.number_for.ensures.valid.0 (number c) c.in_ok-text.ensures.items)
+    ∙ ap (λ (h : Held). put_entries bytes_eq (lru_cache h.entries was.cap) c.args.text.now (value_of (kept c))) c.self.view_is
+    ∙ ap (λ n. put_entries bytes_eq (lru_cache c.args.self.now.entries n) c.args.text.now (value_of (kept c))) c.self.invariant.room)

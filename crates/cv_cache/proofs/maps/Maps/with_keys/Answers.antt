@@ -1,6 +1,14 @@
-use Rattle.std.proofs.Common.{arith}
-use Rattle.cv_cache.proofs.Rows.{empty_sound}
+use Rattle.std.proofs.Common.{refl, arith}
+use Rattle.std.specs.List.{IsDistinct}
+use Rattle.lru.proofs.Splits.{Contains-nil}
 use Rattle.cv_cache.proofs.maps.Maps.with_keys.Goals as goal
 
 pub invariant_of-result : goal.invariant_of-result
-invariant_of-result c = empty_sound c.args.keys c.in_ok-entries.entries c.in_ok-entries.ensures.items (omega (arith, c.in_ok-entries.ensures.exact))
+unfolding IsDistinct
+invariant_of-result c = rw c.in_ok-texts.ensures.entries (record {
+  room = refl;
+  right = λ e has. absurd (Contains-nil e has);
+  distinct = tt;
+  counted = refl;
+  light = omega arith;
+})

@@ -1,4 +1,4 @@
--- What the hash of a text is.
+-- What the hash of a text is. No program here runs it; the sums of texts have `folded` alone of it.
 use Rattle.std.specs.Prelude.{ℕ, ◌+◌, ◌-◌, ◌*◌, ◌/◌, ◌%◌, ◌^◌, bit_and, bit_xor}
 use Rattle.cv_cache.specs.declared.text_hasher.HashKeys.{HashKeys}
 use Rattle.cv_cache.specs.declared.text_hasher.TextHasher.{TextHasher}

@@ -1,4 +1,5 @@
-//! The keys of a cache, and a hash by them. The cache itself sums its texts by words (`text_sum.rt`).
+//! The keys of a cache, and a hash by them. The cache itself sums its texts by words (`text_sum.rt`): no program here runs the hash, which is
+//! for a map whose keys are texts.
 ghost use Rattle.std.specs.Prelude.{◌≡◌};
 ghost use Rattle.std.specs.List.{fold};
 ghost use Rattle.cv_cache.specs.Hashes.{begun, folded, with_byte, hash_of};

@@ -52,35 +52,49 @@ bool slot_ready(struct iconvd_pool *pool, struct slot *slot) {
     return false;
 }
 
-/* The first stream that nobody uses and that `suits`. Streams are tried in one order, so that a second connection is made only when
-   the first is in use. */
-static struct slot *take_free(struct iconvd_pool *pool, const struct pair *pair, bool any) {
+/* What a stream is to be that is taken. */
+enum wanted { WITH_PAIR, CONNECTED, ANY };
+
+static bool suits(const struct slot *slot, const struct pair *pair, enum wanted wanted) {
+    return wanted == ANY || (wanted == CONNECTED ? slot->stream.fd >= 0 : remote_has(&slot->remote, pair));
+}
+
+/* The first stream that nobody uses and that suits, locked. Streams are tried in one order, so that a second connection is made only
+   when the first is in use. */
+static struct slot *first_free(struct iconvd_pool *pool, const struct pair *pair, enum wanted wanted) {
     for (size_t i = 0; i < pool->slot_count; i++) {
         struct slot *slot = &pool->slots[i];
         if (pthread_mutex_trylock(&slot->mutex) != 0)
             continue;
-        if (any || remote_has(&slot->remote, pair))
+        if (suits(slot, pair, wanted))
             return slot;
         pthread_mutex_unlock(&slot->mutex);
     }
     return NULL;
 }
 
+/* A stream that nobody uses, locked: one that has the pair open, else one that is connected, since a server whose places are taken lets
+   a new connection wait, else any. NULL: all are in use. */
+static struct slot *take_free(struct iconvd_pool *pool, const struct pair *pair) {
+    struct slot *slot = first_free(pool, pair, WITH_PAIR);
+    if (!slot)
+        slot = first_free(pool, pair, CONNECTED);
+    return slot ? slot : first_free(pool, pair, ANY);
+}
+
 struct slot *pool_pick(struct iconvd_pool *pool) {
     static const struct pair NONE = {.to = NULL};
     fork_check(pool);
-    struct slot *slot = take_free(pool, &NONE, true);
+    struct slot *slot = take_free(pool, &NONE);
     if (slot)
         pthread_mutex_unlock(&slot->mutex);
     return slot ? slot : &pool->slots[atomic_fetch_add(&pool->next_wait, 1) % pool->slot_count];
 }
 
-/* A stream, locked: a free one that has the pair open, else a free one, else one that is waited for. */
+/* A stream, locked: a free one, else one that is waited for. */
 static struct slot *take(struct iconvd_pool *pool, const struct pair *pair) {
     fork_check(pool);
-    struct slot *slot = take_free(pool, pair, false);
-    if (!slot)
-        slot = take_free(pool, pair, true);
+    struct slot *slot = take_free(pool, pair);
     if (!slot) {
         slot = &pool->slots[atomic_fetch_add(&pool->next_wait, 1) % pool->slot_count];
         pthread_mutex_lock(&slot->mutex);
@@ -88,51 +102,74 @@ static struct slot *take(struct iconvd_pool *pool, const struct pair *pair) {
     return slot;
 }
 
+/* Gives those streams up that nobody uses and that have ended: whatever ended one may have ended others. */
+static void lose_ended(struct iconvd_pool *pool) {
+    for (size_t i = 0; i < pool->slot_count; i++) {
+        struct slot *slot = &pool->slots[i];
+        if (pthread_mutex_trylock(&slot->mutex) != 0)
+            continue;
+        if (slot->stream.fd >= 0 && stream_has_ended(&slot->stream))
+            slot_lose(pool, slot);
+        pthread_mutex_unlock(&slot->mutex);
+    }
+}
+
 /* What is done with a stream once the pair is open on it. */
 typedef iconvd_status pool_action(struct iconvd_pool *pool, struct slot *slot, const struct place *place, void *context);
 
-/* Opens the pair on a locked stream and acts. `again`: the stream is lost, and another try may do better. Where the time was up it would
-   only be up again. */
-static iconvd_status try_pair(struct iconvd_pool *pool, struct slot *slot, const struct pair *pair, pool_action *act, void *context,
-                              struct refusal *refusal, bool *again) {
-    struct place place;
-    refusal->encoding = NULL;
-    iconvd_status status = ICONVD_LOST;
-    *again = slot_ready(pool, slot);
-    if (*again) {
-        status = remote_find(&slot->remote, &slot->stream, pair, &place, refusal);
-        if (status == ICONVD_OK)
-            status = act(pool, slot, &place, context);
-    }
-    if (*again && status == ICONVD_LOST) {
-        *again = !slot->stream.timed_out;
-        slot_lose(pool, slot);
-    }
-    return status;
-}
+/* What is done, and what became of the try. */
+struct doing {
+    pool_action *act;
+    void *context;
+    bool again; /* the stream is lost, and another try may do better. Where the time was up it would only be up again */
+};
 
-/* The same, with two more tries where a stream is lost. They are made on a new connection: whatever ended this stream may have ended every
-   idle one. Where none is to be had, another stream may be there still. */
-static iconvd_status with_pair(struct iconvd_pool *pool, const struct pair *pair, pool_action *act, void *context) {
-    iconvd_status status = ICONVD_LOST;
-    bool again = true;
+/* Opens the pair on a stream that is locked, acts, and unlocks it. */
+static iconvd_status try_pair(struct iconvd_pool *pool, struct slot *slot, const struct pair *pair, struct doing *doing) {
     struct refusal refusal = {.encoding = NULL};
-    int cancelling = cancelling_off();
-    struct slot *slot = take(pool, pair);
-    for (int try = 0; try < 3 && status == ICONVD_LOST && again; try++) {
-        if (try > 0 && !slot_ready(pool, slot)) {
-            pthread_mutex_unlock(&slot->mutex);
-            slot = take(pool, pair);
-        }
-        status = try_pair(pool, slot, pair, act, context, &refusal, &again);
+    struct place place;
+    iconvd_status status = ICONVD_LOST;
+    bool ready = slot_ready(pool, slot);
+    if (ready) {
+        status = remote_find(&slot->remote, &slot->stream, pair, &place, &refusal);
+        if (status == ICONVD_OK)
+            status = doing->act(pool, slot, &place, doing->context);
     }
+    doing->again = ready && status == ICONVD_LOST && !slot->stream.timed_out;
+    if (ready && status == ICONVD_LOST)
+        slot_lose(pool, slot);
     pthread_mutex_unlock(&slot->mutex);
     pool_note(pool, &refusal);
-    cancelling_as(cancelling);
     if (!refusal.encoding || refusal.status != ICONVD_BADMAP)
         return status;
     atomic_store(&refusal.encoding->refused, true);
     return ICONVD_UNSUPPORTED;
+}
+
+/* The same, with two more tries where a stream is lost. The second is on another stream, where one lives that nobody uses: a new
+   connection may be refused, or wait for a place until the time is up. Where none lives it is on a new connection. The third is on a new
+   one in any case: where streams end one after the other, as those of a server that is being stopped, a third one would end too.
+
+   Why this ends: there are three tries. Each waits for one lock at most, holds no other meanwhile, and gives it back before the next, so
+   that fork(), whose handlers wait for all locks, waits for one try of each thread. Each wait for the service has the pool's time
+   limit. Once that was up, where no connection is to be had, and while none is made (`down_until`), there is no next try. */
+static iconvd_status with_pair(struct iconvd_pool *pool, const struct pair *pair, pool_action *act, void *context) {
+    struct doing doing = {.act = act, .context = context};
+    int cancelling = cancelling_off();
+    struct slot *slot = take(pool, pair);
+    iconvd_status status = try_pair(pool, slot, pair, &doing);
+    if (doing.again) {
+        lose_ended(pool);
+        slot = take(pool, pair);
+        status = try_pair(pool, slot, pair, &doing);
+    }
+    if (doing.again) {
+        /* Who used it meanwhile has connected it anew. */
+        pthread_mutex_lock(&slot->mutex);
+        status = try_pair(pool, slot, pair, &doing);
+    }
+    cancelling_as(cancelling);
+    return status;
 }
 
 static iconvd_status do_nothing(struct iconvd_pool *pool, struct slot *slot, const struct place *place, void *context) {

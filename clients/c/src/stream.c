@@ -1,7 +1,9 @@
 /* One connection. */
 #include "stream.h"
 
+#include <errno.h>
 #include <fcntl.h>
+#include <sys/socket.h>
 #include <sys/stat.h>
 #include <unistd.h>
 
@@ -36,6 +38,13 @@ bool stream_is_intact(const struct stream *stream) {
     struct stat status;
     return stream->fd >= 0 && fstat(stream->fd, &status) == 0 && status.st_dev == stream->device &&
            status.st_ino == stream->inode;
+}
+
+bool stream_has_ended(const struct stream *stream) {
+    char byte;
+    if (!stream_is_intact(stream))
+        return true;
+    return recv(stream->fd, &byte, 1, MSG_PEEK | MSG_DONTWAIT) >= 0 || (errno != EAGAIN && errno != EWOULDBLOCK);
 }
 
 void stream_close(struct stream *stream) {

@@ -40,6 +40,9 @@ bool stream_connect(struct stream *stream, const struct address *address);
 /* Whether `fd` is still the socket that it was. */
 bool stream_is_intact(const struct stream *stream);
 
+/* Whether a stream on which nothing is under way is known to be lost: it has an end, or bytes that nobody has asked for. */
+bool stream_has_ended(const struct stream *stream);
+
 /* Closes the connection, unless the host has closed it or something else has its number now. */
 void stream_close(struct stream *stream);
 

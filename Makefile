@@ -13,7 +13,7 @@ SOURCES := crates.txt $(shell find crates -name out -prune -o \( -name '*.rt' -o
 CRATES := $(shell sed -n 's/^\([a-z][a-z0-9_]*\).*:.*/\1/p' crates.txt)
 CLIENTS := $(patsubst %/Makefile,%,$(wildcard clients/*/Makefile))
 # What .ci/run runs behind the gate. Each ends with a line `N passed, N failed`.
-CHECKS := check-rules check-docs check-refuse check-nonblocking check-clients check-benchmark check-package check-units check-cluster check-crowd check-soak
+CHECKS := check-rules check-docs check-refuse check-instructions check-nonblocking check-clients check-benchmark check-package check-units check-cluster check-crowd check-soak
 
 # `rt` itself works on several crates at a time, and locks them.
 .NOTPARALLEL:
@@ -73,6 +73,11 @@ check-refuse: ## refuses each request for memory of each command in turn
 $(REFUSING): tools/refuse/refuse.c
 	@mkdir -p $(@D)
 	cc -O2 -Wall -Wextra -shared -fPIC -o $@ $<
+
+check-instructions: ## counts the instructions of the benchmark's jobs and of single requests, beside the lines of bench/instructions.tsv
+	@tools/need 'make $@' python3 valgrind
+	@iconvd=$$(tools/checked_program iconvd) && workloads=$$(tools/checked_program workloads) && \
+	    bench/instructions "$$iconvd" "$$workloads"
 
 check-package: ## installs the Debian packages in a root of their own, runs the manual's examples there, and removes them
 	@tools/need 'make $@' root dpkg-deb dpkg-shlibdeps strip git lintian mmdebstrap

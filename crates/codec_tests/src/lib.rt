@@ -24,6 +24,8 @@ mod items;
 #[cfg(test)]
 mod names_and_blocks;
 #[cfg(test)]
+mod room;
+#[cfg(test)]
 mod utf16_and_utf32;
 #[cfg(test)]
 mod utf7;

@@ -1,5 +1,5 @@
 //! Entries with a trie of them.
-ghost use Rattle.std.specs.Prelude.{◌≡◌, ◌<◌, ◌≤◌, ◌+◌, ◌-◌, ◌*◌, ◌^◌, ℕ, min, [], ◌++◌, length, slice_get, slice_index, OnErr, IfOk};
+ghost use Rattle.std.specs.Prelude.{◌≡◌, ◌<◌, ◌≤◌, ◌+◌, ◌-◌, ◌*◌, ◌^◌, ℕ, min, [], ◌++◌, length, slice_get, slice_index, vec_capacity, OnErr, IfOk};
 ghost use Rattle.std.specs.Option.{option_copied};
 ghost use Rattle.cv_base.specs.Items.{Begins};
 ghost use Rattle.cv_base.specs.Scalars.{IsScalar};
@@ -47,7 +47,8 @@ impl Model for ByteTrie {
 
 /// A list of no entries, with room for so many, if there is memory for it.
 fn roomy(alloc: Global, room: usize) -> Vec<Entry>
-    ensures { result.items ≡ [] }
+    ensures items { result.items ≡ [] }
+    ensures room { vec_capacity result ≤ room }
 {
     match Vec::with_capacity(alloc, room) {
         Ok(entries) => entries,

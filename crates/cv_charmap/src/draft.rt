@@ -1,5 +1,6 @@
 //! The list of pairs while it is read.
-ghost use Rattle.std.specs.Prelude.{◌≡◌, ◌<◌, ◌≤◌, ◌+◌, ◌-◌, ◌^◌, ℕ, [], ◌++◌, length, take, slice_index, IfOk};
+ghost use Rattle.std.specs.Prelude.{◌≡◌, ◌<◌, ◌≤◌, ◌+◌, ◌-◌, ◌*◌, ◌^◌, ℕ, [], ◌++◌, length, take, slice_index, IfOk};
+ghost use Rattle.std.specs.Int.{IsPowerOfTwo};
 ghost use Rattle.cv_base.specs.Scalars.{IsScalar};
 ghost use Rattle.cv_byte_trie.specs.Entries.{bytes_at, AreApart};
 ghost use Rattle.cv_byte_trie.specs.Runs.{run_of};
@@ -17,8 +18,8 @@ use std::marker::Model;
 /// How many pairs a charmap has at most.
 const MOST_PAIRS: usize = 262_144;
 
-/// How many bytes the shortest line of a mapping has, as `<U0041>/x41`, with the line feed.
-const SHORTEST: usize = 12;
+/// How many bytes of a text a mapping is taken to have, when room is asked for: about as many as the longest lines that are common.
+const LINE: usize = 48;
 
 /// Why a pair was not entered.
 #[derive(Clone, Copy, Debug)]
@@ -109,27 +110,27 @@ fn enter_into(trie: &mut ByteTrie, bytes: &[u8], character: Scalar) -> Result<us
     }
 }
 
-/// A list in which nothing is known of any pair, with room for so many, if there is memory for it.
-fn roomy(alloc: Global, room: usize) -> Vec<Reach>
-    ensures { result.items ≡ [] }
+/// For how many pairs a text of so many bytes gets room at first. It is a power of two: a list that doubles from there ends where one ends
+/// that began with no room.
+fn room_for(bytes: usize) -> usize
+    ensures few { result ≤ most_pairs }
+    ensures below { 48 * result ≤ bytes }
+    ensures power { 0 < result → IsPowerOfTwo result }
 {
-    match Vec::with_capacity(alloc, room) {
-        Ok(reach) => reach,
-        Err(_) => Vec::new(alloc),
-    }
+    let pairs = (bytes / LINE).min(MOST_PAIRS);
+    if pairs == 0 { 0 } else { 1 << pairs.ilog2() }
 }
 
 impl Draft {
-    /// No pairs, with room for as many as lines of one mapping each have place in so many bytes, if there is memory for it.
+    /// No pairs, with room for some of those that a text of so many bytes may have, if there is memory for it.
     pub(crate) fn new(alloc: Global, bytes: usize) -> Result<Draft, Memory>
         ensures { IfOk result (λ d. d ≡ []) }
     {
-        let room = (bytes / SHORTEST).min(MOST_PAIRS);
-        let trie = ByteTrie::with_room(alloc, room)?;
+        let trie = ByteTrie::with_room(alloc, room_for(bytes))?;
         Ok(Draft {
             alloc,
             trie,
-            reach: roomy(alloc, room),
+            reach: Vec::new(alloc),
         })
     }
 

@@ -93,14 +93,14 @@ pub fn read_plain(marks: &Marks, line: &[u8], bytes: &mut [u8; 8]) -> Option<(Sc
     ensures reading { IfSome result
         (λ p. reading_of marks.now line.now ≡ Ok (Maps (One p.0 (take p.1 bytes.new)))) }
 {
-    let escape = marks.escape;
-    if !is_apart(escape) {
-        return None;
-    }
     let [open, name @ ..] = line else {
         return None;
     };
     if *open != b'<' {
+        return None;
+    }
+    let escape = marks.escape;
+    if !is_apart(escape) {
         return None;
     }
     let (number, rest) = number_at(name)?;

@@ -1,5 +1,5 @@
 //! The list of pairs while it is read.
-ghost use Rattle.std.specs.Prelude.{◌≡◌, ◌<◌, ◌≤◌, ◌+◌, ◌-◌, ◌*◌, ◌^◌, ℕ, [], ◌++◌, length, take, slice_index, IfOk};
+ghost use Rattle.std.specs.Prelude.{◌≡◌, ◌<◌, ◌≤◌, ◌+◌, ◌-◌, ◌*◌, ◌/◌, ◌^◌, ℕ, min, [], ◌++◌, length, take, slice_index, IfOk};
 ghost use Rattle.std.specs.Int.{IsPowerOfTwo};
 ghost use Rattle.cv_base.specs.Scalars.{IsScalar};
 ghost use Rattle.cv_byte_trie.specs.Entries.{bytes_at, AreApart};
@@ -116,6 +116,7 @@ fn room_for(bytes: usize) -> usize
     ensures few { result ≤ most_pairs }
     ensures below { 48 * result ≤ bytes }
     ensures power { 0 < result → IsPowerOfTwo result }
+    ensures near { min (bytes / 48) most_pairs ≤ 2 * result }
 {
     let pairs = (bytes / LINE).min(MOST_PAIRS);
     if pairs == 0 { 0 } else { 1 << pairs.ilog2() }

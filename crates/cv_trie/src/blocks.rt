@@ -12,7 +12,7 @@ use crate::front::Front;
 use crate::longs::Longs;
 use crate::mixed::read_mixed;
 use crate::ones::{NO_CHARACTER, read_ones};
-use crate::reading::read_longer;
+use crate::reading::{LONGER_AT_ONCE, read_longer};
 use crate::windows::read_windows;
 use cv_base::{ReadBlock, ReadState, Scalar};
 use cv_byte_trie::ByteTrie;
@@ -34,15 +34,16 @@ pub(crate) fn read_front(
     requires long { length ones.now ≡ 256 }
     requires ones { AreOnes trie.now.entries ones.now 256 }
     requires twos { 0 < length twos.now → AreTwos trie.now.entries ones.now twos.now }
-    requires starts { 0 < length twos.now → AreStarts ones.now twos.now starts.now }
+    requires starts { 0 < length starts.now → AreStarts ones.now twos.now starts.now }
     ensures block { IsReadBlock (map_reads trie.now.entries) ReadState.Start input.now
         result buffer.new }
     ensures size { length buffer.new ≡ length buffer.old }
 {
     let mut front = Front { n: 0, used: 0 };
+    let windows = !twos.is_empty() && !starts.is_empty();
     while front.n < buffer.len() && front.used < input.len() {
         let before = front.n;
-        if !twos.is_empty() {
+        if windows {
             front = read_windows(trie, ones, twos, starts, input, buffer, front);
             if front.n > before && buffer.len() - front.n < MANY {
                 break;
@@ -60,7 +61,7 @@ pub(crate) fn read_front(
         }
         // Else the loop over mixed characters has followed what is next already.
         if front.n == before && (twos.is_empty() || input.len() - front.used < 2) {
-            front = read_longer(trie, input, buffer, front);
+            front = read_longer(trie, input, buffer, front, LONGER_AT_ONCE);
         }
         if front.n == before {
             break;

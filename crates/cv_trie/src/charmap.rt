@@ -1,10 +1,11 @@
 //! Compiled charmaps.
-ghost use Rattle.std.specs.Prelude.{◌≡◌, ◌≤◌, ◌*◌, length, IfOk};
+ghost use Rattle.std.specs.Prelude.{◌≡◌, ◌≤◌, ◌<◌, ◌+◌, ◌-◌, ◌*◌, ◌^◌, min, length, vec_capacity, IfOk};
 ghost use Rattle.cv_charmap.specs.Maps.{IsMap};
 ghost use Rattle.cv_trie.specs.Charmaps.{map_reads, map_writes, map_closes};
 
 use crate::ascii::{does_read_ascii, does_write_ascii};
 use crate::blocks::read_front;
+use crate::firsts::firsts_of;
 use crate::items::next_item;
 use crate::longest::longest;
 use crate::longs::Longs;
@@ -35,7 +36,7 @@ pub struct Charmap {
     ones: Vec<u32>,
     /// Rows of the characters of two bytes, for bytes with which many begin, and behind them what single bytes below 128 are.
     twos: Vec<u32>,
-    /// Where in this table each byte's row or its own cell stands.
+    /// Where in this table each byte's row or its own cell stands. There are none where eight at once are not to be tried.
     starts: Vec<u32>,
     /// Where the entries of three and of four bytes are likely to stand, by the first two and those behind them.
     longs: Longs,
@@ -61,6 +62,26 @@ impl Model for Charmap {
         m.pages.shorts.bytes.items m.pages.shorts.sizes.items m.most m.reads_ascii m.writes_ascii };
 }
 
+/// The rows, where eight characters at once or tables of longer strings need them.
+fn needed(alloc: Global, twos: Vec<u32>, starts: &[u32], longs: &Longs) -> Vec<u32>
+    ensures same { 0 < length result.items → result.items ≡ twos.items }
+    ensures starts { 0 < length starts.now → result.items ≡ twos.items }
+{
+    if starts.is_empty() && longs.is_empty() {
+        return Vec::new(alloc);
+    }
+    twos
+}
+
+/// How many bytes the tables of single bytes and of pairs take, with the room that is left for more.
+fn cells_size(ones: &Vec<u32>, twos: &Vec<u32>, starts: &Vec<u32>) -> usize
+    ensures { result ≡ min (4 * min (min (vec_capacity ones.now + vec_capacity starts.now) (2 ^ 64 - 1)
+        + vec_capacity twos.now) (2 ^ 64 - 1)) (2 ^ 64 - 1) }
+{
+    let bytes = ones.capacity().saturating_add(starts.capacity());
+    bytes.saturating_add(twos.capacity()).saturating_mul(CELL)
+}
+
 impl Charmap {
     /// Compiles a charmap: it keeps the trie that its reader made, and adds the pages by which it is written.
     pub fn build(alloc: Global, pairs: Pairs) -> Result<Charmap, Memory>
@@ -68,9 +89,11 @@ impl Charmap {
     {
         let (name, trie) = pairs.into_parts();
         let mut ones = ones_of(alloc, &trie)?;
-        let mut twos = twos_of(alloc, trie.entries(), &mut ones)?;
+        let firsts = firsts_of(trie.entries());
+        let mut twos = twos_of(alloc, trie.entries(), &firsts, &mut ones)?;
         let longs = Longs::of(alloc, trie.entries(), &ones, &mut twos)?;
-        let starts = starts_of(alloc, trie.entries(), &ones, &mut twos)?;
+        let starts = starts_of(alloc, trie.entries(), &firsts, &ones, &mut twos)?;
+        let twos = needed(alloc, twos, &starts, &longs);
         let pages = Pages::of(alloc, trie.entries())?;
         let most = longest(trie.entries());
         let reads_ascii = does_read_ascii(&trie);
@@ -109,10 +132,7 @@ impl Charmap {
         ensures { 16 * length self.now.pairs ≤ result }
     {
         let found = self.trie.size().saturating_add(self.longs.size());
-        let starts = self.ones.capacity().saturating_add(self.starts.capacity());
-        let cells = starts
-            .saturating_add(self.twos.capacity())
-            .saturating_mul(CELL);
+        let cells = cells_size(&self.ones, &self.twos, &self.starts);
         let written = self.pages.size().saturating_add(self.name.capacity());
         found.saturating_add(cells).saturating_add(written)
     }

@@ -4,6 +4,7 @@
 mod ascii;
 mod blocks;
 mod charmap;
+mod firsts;
 mod fours;
 mod front;
 mod front_writing;

@@ -1,5 +1,5 @@
 //! Characters of more than two bytes.
-ghost use Rattle.std.specs.Prelude.{◌≡◌, ◌≤◌, ◌<◌, ◌+◌, List, length, drop};
+ghost use Rattle.std.specs.Prelude.{◌≡◌, ◌≤◌, ◌<◌, ◌+◌, ◌-◌, ◌*◌, ◌^◌, min, List, length, drop, vec_capacity};
 ghost use Rattle.cv_charmap.specs.Entries.{Pair};
 ghost use Rattle.cv_charmap.specs.Lists.{most_pairs};
 ghost use Rattle.cv_trie.specs.Private.Ones.{no_character};
@@ -8,18 +8,19 @@ ghost use Rattle.cv_trie.specs.Private.Longs.{IsLong};
 
 use crate::fours::{cell_of, four_at, fours_of};
 use crate::ones::NO_CHARACTER;
-use crate::reading::follow;
 use crate::threes::{THREES, three_at, threes_of};
-use cv_byte_trie::{ByteTrie, Entry, NONE};
+use cv_byte_trie::{ByteTrie, Entry};
 use std::alloc::{AllocError, Global};
 
-/// How many bytes a cell takes.
+/// How many bytes a cell for a string of three bytes takes, and one for a string of four.
+const SMALL_CELL: usize = 2;
+
 const CELL: usize = 4;
 
 /// The places of entries of three and of four bytes, in blocks by their first two. Each is a guess.
 #[derive(Debug, Drop)]
 pub(crate) struct Longs {
-    threes: Vec<u32>,
+    threes: Vec<u16>,
     fours: Vec<u32>,
 }
 
@@ -39,10 +40,18 @@ const NO_LONG: Long = Long {
 };
 
 impl Longs {
-    /// How many bytes they take.
-    pub(crate) fn size(&self) -> usize {
-        let cells = self.threes.capacity().saturating_add(self.fours.capacity());
-        cells.saturating_mul(CELL)
+    /// How many bytes they take, with the room that is left for more.
+    pub(crate) fn size(&self) -> usize
+        ensures { result ≡ min (min (2 * vec_capacity self.now.threes) (2 ^ 64 - 1)
+            + min (4 * vec_capacity self.now.fours) (2 ^ 64 - 1)) (2 ^ 64 - 1) }
+    {
+        let threes = self.threes.capacity().saturating_mul(SMALL_CELL);
+        threes.saturating_add(self.fours.capacity().saturating_mul(CELL))
+    }
+
+    /// Whether none has a cell.
+    pub(crate) fn is_empty(&self) -> bool {
+        self.threes.is_empty() && self.fours.is_empty()
     }
 
     /// The places of entries of four bytes.
@@ -68,24 +77,6 @@ impl Longs {
         let fours = fours_of(alloc, entries, ones, twos)?;
         let threes = threes_of(alloc, entries, ones, twos)?;
         Ok(Longs { threes, fours })
-    }
-}
-
-/// The character at a place of a text, found by following its bytes through the trie.
-#[inline(never)]
-pub(crate) fn followed_at(trie: &ByteTrie, input: &[u8], used: usize) -> Long
-    requires within { used < length input.now }
-    ensures { result.character < no_character
-        → IsLong trie.now.entries (drop used input.now) result.size result.character }
-{
-    let followed = follow(trie, trie.root(), input, used);
-    if followed.code >= NONE {
-        return NO_LONG;
-    }
-    let entries = trie.entries();
-    Long {
-        character: entries[followed.code as usize].character().value(),
-        size: followed.size,
     }
 }
 

@@ -3,6 +3,7 @@ ghost use Rattle.std.specs.Prelude.{◌≡◌, ◌≤◌, ◌<◌, ◌+◌, ℕ,
 ghost use Rattle.cv_trie.specs.Private.Twos.{AreTwos, most_cells, row_of};
 ghost use Rattle.cv_trie.specs.Private.Starts.{AreStarts};
 
+use crate::firsts::Firsts;
 use crate::ones::NO_CHARACTER;
 use crate::twos::SINGLES;
 use cv_byte_trie::Entry;
@@ -38,10 +39,12 @@ fn start_of(ones: &[u32], place: usize, byte: usize) -> u32
     }
 }
 
-/// Where each byte's own cell stands, for those below 128, and the row of any other. There are none where no byte has a row.
+/// Where each byte's own cell stands, for those below 128, and the row of any other. There are none where no byte has a row, or eight at
+/// once are not to be tried.
 pub(crate) fn starts_of(
     alloc: Global,
     entries: &[Entry],
+    firsts: &Firsts,
     ones: &[u32],
     twos: &mut [u32],
 ) -> Result<Vec<u32>, AllocError>
@@ -51,9 +54,9 @@ pub(crate) fn starts_of(
     ensures size { length twos.new ≡ length twos.old }
     ensures twos { 0 < length twos.new → AreTwos entries.now ones.now twos.new }
     ensures starts { IfOk result
-        (λ starts. 0 < length twos.new → AreStarts ones.now twos.new starts.items) }
+        (λ starts. 0 < length starts.items → AreStarts ones.now twos.new starts.items) }
 {
-    if twos.is_empty() {
+    if twos.is_empty() || !firsts.try_eight() {
         return Ok(Vec::new(alloc));
     }
     let place = twos.len() - SINGLES;

@@ -12,19 +12,66 @@ ghost use Rattle.cv_trie.specs.Private.Twos.{AreTwos, most_cells};
 use crate::fours::are_there;
 use crate::ones::NO_CHARACTER;
 use cv_byte_trie::Entry;
-use cv_pages::NOWHERE;
 use std::alloc::{AllocError, Global};
 
-/// What stands in the rows for two bytes that have a block of this kind is above this number, by one and by where the block begins. It is
-/// above all numbers of blocks for four bytes.
+/// What stands in the rows for two bytes that have a block of this kind is above this number. It is above all numbers of blocks for four
+/// bytes.
 pub(crate) const THREES: u32 = 0x4000_0000;
 
-/// How many cells a block has, one for each third byte.
-const BLOCK: u32 = 256;
-
-/// How many strings of three bytes begin with two bytes that have a block, at the least. A block takes a kilobyte, so a map grows by
-/// at most 32 bytes for each of its pairs.
+/// How many strings of three bytes begin with two bytes that have a block, at the least.
 const DENSE: u32 = 32;
+
+/// Stands for no place, and so do places from here on: a cell has 16 bits, so that a map grows by at most three bytes for each string.
+const NO_PLACE: u16 = u16::MAX;
+
+/// What was seen of the strings of three bytes that begin with the same two: how many, up to 255, and the lowest and the highest third
+/// byte. While they are counted it stands in the rows.
+#[derive(Clone, Copy, Debug)]
+struct Span {
+    count: u8,
+    low: u8,
+    high: u8,
+}
+
+impl Span {
+    /// The span for which a number stands.
+    fn of(number: u32) -> Span {
+        Span {
+            count: (number / 0x1_0000 % 0x100) as u8,
+            low: (number / 0x100 % 0x100) as u8,
+            high: (number % 0x100) as u8,
+        }
+    }
+
+    /// The number that stands for it.
+    fn number(self) -> u32
+        ensures { 0x40000000 ≤ result }
+    {
+        THREES + self.count as u32 * 0x1_0000 + self.low as u32 * 0x100 + self.high as u32
+    }
+
+    /// One more string.
+    fn with(self, third: u8) -> Span {
+        Span {
+            count: self.count.saturating_add(1),
+            low: self.low.min(third),
+            high: self.high.max(third),
+        }
+    }
+
+    /// How many cells a block of them has, one for each third byte from the lowest to the highest. 0: they get no block, since they are
+    /// few, or a third of the cells would stay empty.
+    fn cells(self) -> u32
+        ensures { result ≤ 256 }
+    {
+        let count = self.count as u32;
+        let cells = (self.high as u32).saturating_sub(self.low as u32) + 1;
+        if count < DENSE || cells > count + count / 2 {
+            return 0;
+        }
+        cells
+    }
+}
 
 /// The place in the rows of the first two of three bytes. 0: the first has no row, or there are not three.
 fn front_of(ones: &[u32], entry: &Entry) -> usize
@@ -41,8 +88,7 @@ fn front_of(ones: &[u32], entry: &Entry) -> usize
     (number - NO_CHARACTER) as usize + bytes[1] as usize
 }
 
-/// Counts how many strings of three bytes begin with each two bytes, as far as it matters, in the rows, where these have no block for
-/// four bytes.
+/// Counts the strings of three bytes that begin with each two bytes, in the rows, where these have no block for four bytes.
 fn count_fronts(entries: &[Entry], ones: &[u32], twos: &mut [u32])
     requires long { length ones.now ≡ 256 }
     ensures size { length twos.new ≡ length twos.old }
@@ -52,18 +98,24 @@ fn count_fronts(entries: &[Entry], ones: &[u32], twos: &mut [u32])
     for place in 0..entries.len() {
         let front = front_of(ones, &entries[place]);
         if front > 0 && front < twos.len() {
-            let count = twos[front];
-            if count == NO_CHARACTER {
-                twos[front] = THREES + 1;
-            } else if count > THREES && count < THREES + DENSE {
-                twos[front] = count + 1;
+            let number = twos[front];
+            let third = entries[place].padded()[2];
+            if number == NO_CHARACTER {
+                let first = Span {
+                    count: 1,
+                    low: third,
+                    high: third,
+                };
+                twos[front] = first.number();
+            } else if number > THREES {
+                twos[front] = Span::of(number).with(third).number();
             }
         }
     }
 }
 
-/// Gives a block to each two bytes with which enough strings begin: the number that stands for them in the rows says where. It
-/// answers how many cells all blocks have.
+/// Gives a block to each two bytes with which enough strings begin: the number that stands for them in the rows says where its cell of a
+/// third byte 0 would be. It answers how many cells all blocks have.
 fn number_blocks(_ones: &[u32], twos: &mut [u32]) -> u32
     requires few { length twos.old ≤ most_cells }
     ensures size { length twos.new ≡ length twos.old }
@@ -72,23 +124,25 @@ fn number_blocks(_ones: &[u32], twos: &mut [u32]) -> u32
 {
     let mut size = 0;
     for front in 0..twos.len() {
-        let count = twos[front];
-        if count == THREES + DENSE {
-            twos[front] = THREES + 1 + size;
-            size += BLOCK;
-        } else if count > THREES {
-            twos[front] = NO_CHARACTER;
+        let number = twos[front];
+        if number > THREES {
+            let span = Span::of(number);
+            let cells = span.cells();
+            twos[front] = if cells > 0 {
+                THREES + 256 + size - span.low as u32
+            } else {
+                NO_CHARACTER
+            };
+            size += cells;
         }
     }
     size
 }
 
-/// The cell of the last of three bytes, in the block of the first two.
+/// The cell of the last of three bytes, in the block of the first two, or in another or none, where their block does not reach so far.
 #[inline(always)]
-fn cell_of(number: u32, third: u8) -> usize
-    requires { 0x40000000 < number }
-{
-    number as usize + third as usize - (THREES as usize + 1)
+fn cell_of(number: u32, third: u8) -> usize {
+    (number as usize + third as usize).wrapping_sub(THREES as usize + 256)
 }
 
 /// The cells of blocks, with the places of entries.
@@ -98,18 +152,18 @@ fn fill_blocks(
     ones: &[u32],
     twos: &[u32],
     size: u32,
-) -> Result<Vec<u32>, AllocError>
+) -> Result<Vec<u16>, AllocError>
     requires few { length entries.now ≤ most_pairs }
     requires long { length ones.now ≡ 256 }
 {
-    let mut cells = vec![in alloc; NOWHERE; size as usize]?;
+    let mut cells = vec![in alloc; NO_PLACE; size as usize]?;
     for place in 0..entries.len() {
         let entry = &entries[place];
         let front = front_of(ones, entry);
         if front > 0 && front < twos.len() && twos[front] > THREES {
             let cell = cell_of(twos[front], entry.padded()[2]);
-            if cell < cells.len() {
-                cells[cell] = place as u32;
+            if cell < cells.len() && place < NO_PLACE as usize {
+                cells[cell] = place as u16;
             }
         }
     }
@@ -123,7 +177,7 @@ pub(crate) fn threes_of(
     entries: &[Entry],
     ones: &[u32],
     twos: &mut [u32],
-) -> Result<Vec<u32>, AllocError>
+) -> Result<Vec<u16>, AllocError>
     requires few { length entries.now ≤ most_pairs }
     requires long { length ones.now ≡ 256 }
     requires cells { length twos.old ≤ most_cells }
@@ -140,12 +194,11 @@ pub(crate) fn threes_of(
 #[inline(always)]
 pub(crate) fn three_at(
     entries: &[Entry],
-    cells: &[u32],
+    cells: &[u16],
     number: u32,
     input: &[u8],
     used: usize,
 ) -> u32
-    requires number { 0x40000000 < number }
     requires within { used + 3 ≤ length input.now }
     ensures scalar { result < no_character → IsScalar result }
     ensures stands { result < no_character → Stands (map_reads entries.now) read.Start

@@ -5,6 +5,7 @@ ghost use Rattle.cv_charmap.specs.Entries.{Pair};
 ghost use Rattle.cv_trie.specs.Private.Ones.{AreOnes, no_character};
 ghost use Rattle.cv_trie.specs.Private.Twos.{AreRows, AreTwos, IsCell, most_cells};
 
+use crate::firsts::Firsts;
 use crate::ones::NO_CHARACTER;
 use cv_byte_trie::Entry;
 use std::alloc::{AllocError, Global};
@@ -15,27 +16,9 @@ const ROW: u32 = 256;
 /// How many cells are left behind the rows, one for each byte below 128.
 pub(crate) const SINGLES: usize = 128;
 
-/// How many strings of two, three or four bytes begin with a byte that has a row, at the least. A row takes a kilobyte, so a map grows
-/// by at most 32 bytes for each of its pairs, by the row that all other bytes share, and by what `starts` takes.
-const DENSE: u8 = 32;
-
-/// How many strings of two, three or four bytes begin with each byte, as far as it matters. It decides speed and memory alone.
-fn count_firsts(entries: &[Entry]) -> [u8; 256]
-    ensures { length result ≡ 256 }
-{
-    let mut counts = [0u8; 256];
-    for place in 0..entries.len() {
-        let bytes = entries[place].bytes();
-        if matches!(bytes.len(), 2..=4) && counts[bytes[0] as usize] < DENSE {
-            counts[bytes[0] as usize] += 1;
-        }
-    }
-    counts
-}
-
 /// Gives a row to each byte with which enough strings begin: the number that stands for the byte says where. It answers how many
 /// characters all rows have.
-fn number_rows(ones: &mut [u32], counts: &[u8; 256]) -> u32
+fn number_rows(ones: &mut [u32], firsts: &Firsts) -> u32
     requires long { length ones.old ≡ 256 }
     requires plain { (b : ℕ) → b < 256 → slice_index ones.old b ≤ no_character }
     ensures rows { AreRows ones.new 256 result }
@@ -44,7 +27,7 @@ fn number_rows(ones: &mut [u32], counts: &[u8; 256]) -> u32
 {
     let mut size = ROW;
     for byte in 0..256 {
-        if counts[byte] == DENSE {
+        if firsts.are_many(byte) {
             ones[byte] = NO_CHARACTER + size;
             size += ROW;
         }
@@ -96,6 +79,7 @@ fn fill_rows(
 pub(crate) fn twos_of(
     alloc: Global,
     entries: &[Entry],
+    firsts: &Firsts,
     ones: &mut [u32],
 ) -> Result<Vec<u32>, AllocError>
     requires entries { AreEntries entries.now }
@@ -107,8 +91,7 @@ pub(crate) fn twos_of(
     ensures few { IfOk result (λ twos. length twos.items ≤ most_cells) }
     ensures ones { AreOnes entries.now ones.new 256 }
 {
-    let counts = count_firsts(entries);
-    let size = number_rows(ones, &counts);
+    let size = number_rows(ones, firsts);
     if size == ROW {
         return Ok(Vec::new(alloc));
     }

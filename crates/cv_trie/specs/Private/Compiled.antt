@@ -19,13 +19,13 @@ pub record HaveAtMost (most : ℕ) (pairs : List Pair) : Type 0 where
   pub few : most ≤ 8
   pub each : (k : ℕ) → k < length pairs → length (bytes_at pairs k) ≤ most
 
--- The list is a charmap's; the bytes that are characters by themselves stand in their table, and characters of two bytes in the rows, if there are any, where each byte then has its start; its pages name the first place of each character and nothing else; bytes that stand ready are those of the entries there; and where ASCII stands for itself.
+-- The list is a charmap's; the bytes that are characters by themselves stand in their table, and characters of two bytes in the rows, if there are any; where starts are there, each byte has its own in these; its pages name the first place of each character and nothing else; bytes that stand ready are those of the entries there; and where ASCII stands for itself.
 pub record IsCompiled (pairs : List Pair) (ones twos starts tops cells : List ℕ) (ready : List (List ℕ)) (lengths : List ℕ) (most : ℕ) (reads writes : Bool) : Type 0 where
   pub map : IsMap pairs
   pub long : length ones ≡ 256
   pub singles : AreOnes pairs ones 256
   pub doubles : 0 < length twos → AreTwos pairs ones twos
-  pub begins : 0 < length twos → AreStarts ones twos starts
+  pub begins : 0 < length starts → AreStarts ones twos starts
   pub names : AreFirst tops cells pairs
   pub shorts : AreShorts cells ready lengths pairs
   pub sizes : HaveAtMost most pairs

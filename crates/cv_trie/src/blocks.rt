@@ -12,7 +12,7 @@ use crate::front::Front;
 use crate::longs::Longs;
 use crate::mixed::read_mixed;
 use crate::ones::{NO_CHARACTER, read_ones};
-use crate::reading::{LONGER_AT_ONCE, read_longer};
+use crate::reading::read_longer;
 use crate::windows::read_windows;
 use cv_base::{ReadBlock, ReadState, Scalar};
 use cv_byte_trie::ByteTrie;
@@ -61,7 +61,7 @@ pub(crate) fn read_front(
         }
         // Else the loop over mixed characters has followed what is next already.
         if front.n == before && (twos.is_empty() || input.len() - front.used < 2) {
-            front = read_longer(trie, input, buffer, front, LONGER_AT_ONCE);
+            front = read_longer(trie, input, buffer, front);
         }
         if front.n == before {
             break;

@@ -8,8 +8,9 @@ ghost use Rattle.cv_trie.specs.Private.Longs.{IsLong};
 
 use crate::fours::{cell_of, four_at, fours_of};
 use crate::ones::NO_CHARACTER;
+use crate::reading::follow;
 use crate::threes::{THREES, three_at, threes_of};
-use cv_byte_trie::{ByteTrie, Entry};
+use cv_byte_trie::{ByteTrie, Entry, NONE};
 use std::alloc::{AllocError, Global};
 
 /// How many bytes a cell for a string of three bytes takes, and one for a string of four.
@@ -77,6 +78,24 @@ impl Longs {
         let fours = fours_of(alloc, entries, ones, twos)?;
         let threes = threes_of(alloc, entries, ones, twos)?;
         Ok(Longs { threes, fours })
+    }
+}
+
+/// The character at a place of a text, found by following its bytes through the trie.
+#[inline(never)]
+pub(crate) fn followed_at(trie: &ByteTrie, input: &[u8], used: usize) -> Long
+    requires within { used < length input.now }
+    ensures { result.character < no_character
+        → IsLong trie.now.entries (drop used input.now) result.size result.character }
+{
+    let followed = follow(trie, trie.root(), input, used);
+    if followed.code >= NONE {
+        return NO_LONG;
+    }
+    let entries = trie.entries();
+    Long {
+        character: entries[followed.code as usize].character().value(),
+        size: followed.size,
     }
 }
 

@@ -5,18 +5,18 @@ ghost use Rattle.cv_trie.specs.Private.Twos.{AreTwos};
 ghost use Rattle.cv_trie.specs.Private.Fronts.{IsReadFront};
 
 use crate::front::Front;
-use crate::longs::{Longs, tabled_at};
+use crate::longs::{Longs, followed_at, tabled_at};
 use crate::ones::NO_CHARACTER;
-use crate::reading::{LONGER_AT_ONCE, read_longer};
+use crate::reading::read_longer;
 use cv_base::Scalar;
 use cv_byte_trie::ByteTrie;
 
 /// How many characters are read behind one of more than two bytes, before eight at once are tried again. It decides speed alone.
 const AT_ONCE: usize = 32;
 
-/// Reads characters behind what was read, up to one that is none, or to some of one and of two bytes that follow a longer one. One that
-/// stands in no table is followed through the trie, and so are those behind the second, where there are but single bytes between the
-/// two. It stands apart, so that its loop has the registers.
+/// Reads characters behind what was read, up to one that is none, or to some of one and of two bytes that follow a longer one. Where two
+/// stand in no table, with nothing but single bytes between, it asks none for the next. It stands apart, so that its loop has the
+/// registers.
 #[inline(never)]
 pub(crate) fn read_mixed(
     trie: &ByteTrie,
@@ -37,7 +37,8 @@ pub(crate) fn read_mixed(
     let mut n = front.n;
     let mut used = front.used;
     let mut most = buffer.len();
-    let mut followed = false;
+    // By how much there were more bytes than characters behind the last that was followed: single bytes leave it as it is.
+    let mut followed = usize::MAX;
     while n < most && input.len() - used >= 2 {
         let first = ones[input[used] as usize];
         if first < NO_CHARACTER {
@@ -52,7 +53,6 @@ pub(crate) fn read_mixed(
             buffer[n] = Scalar::known(number);
             n += 1;
             used += 2;
-            followed = false;
             continue;
         }
         let tabled = tabled_at(trie, longs, number, input, used);
@@ -60,18 +60,20 @@ pub(crate) fn read_mixed(
             buffer[n] = Scalar::known(tabled.character);
             n += 1;
             used += tabled.size;
-            followed = false;
             most = n + AT_ONCE.min(buffer.len() - n);
             continue;
         }
-        let at_once = if followed { LONGER_AT_ONCE } else { 1 };
-        let longer = read_longer(trie, input, buffer, Front { n, used }, at_once);
-        if longer.n == n {
-            return longer;
+        if followed == used.saturating_sub(n) {
+            return read_longer(trie, input, buffer, Front { n, used });
         }
-        n = longer.n;
-        used = longer.used;
-        followed = true;
+        let long = followed_at(trie, input, used);
+        if long.character >= NO_CHARACTER {
+            break;
+        }
+        buffer[n] = Scalar::known(long.character);
+        n += 1;
+        used += long.size;
+        followed = used.saturating_sub(n);
         most = n + AT_ONCE.min(buffer.len() - n);
     }
     Front { n, used }

@@ -10,15 +10,15 @@ use cv_base::Scalar;
 use cv_byte_trie::{ByteTrie, Entry, NODE, NONE, TAIL};
 
 /// How many characters are read one after another, however long, before the tables are tried again. It decides speed alone.
-pub(crate) const LONGER_AT_ONCE: usize = 32;
+const LONGER_AT_ONCE: usize = 32;
 
 /// The entry that stands at a place of a text, or none.
 #[derive(Clone, Copy, Debug)]
-struct Followed {
+pub(crate) struct Followed {
     /// The place of the entry, or the code of no edge, or that of the node at which the text ends.
-    code: u32,
+    pub(crate) code: u32,
     /// How many bytes were followed.
-    size: usize,
+    pub(crate) size: usize,
 }
 
 /// The entry at a place to which a front of its bytes leads, where all of them stand at a place of a text.
@@ -45,7 +45,7 @@ fn whole(entries: &[Entry], place: usize, input: &[u8], used: usize) -> Followed
 
 /// Follows the bytes at a place of a text through the trie. It answers two numbers and no option, which would go through memory.
 #[inline(always)]
-fn follow(trie: &ByteTrie, root: &[u32], input: &[u8], used: usize) -> Followed
+pub(crate) fn follow(trie: &ByteTrie, root: &[u32], input: &[u8], used: usize) -> Followed
     requires root { (b : ℕ) → b < 256 → slice_index root.now b ≡ edge_of trie.now.steps 0 b }
     requires size { length root.now ≡ 256 }
     requires within { used < length input.now }
@@ -67,14 +67,13 @@ fn follow(trie: &ByteTrie, root: &[u32], input: &[u8], used: usize) -> Followed
     Followed { code, size }
 }
 
-/// Reads so many characters at most behind what was read, however long. It stands apart, so that the loops around it keep their registers.
+/// Reads some characters behind what was read, however long. It stands apart, so that the loops around it keep their registers.
 #[inline(never)]
 pub(crate) fn read_longer(
     trie: &ByteTrie,
     input: &[u8],
     buffer: &mut [Scalar],
     front: Front,
-    at_once: usize,
 ) -> Front
     requires { IsReadFront trie.now.entries input.now front buffer.old }
     ensures read { IsReadFront trie.now.entries input.now result buffer.new }
@@ -84,7 +83,7 @@ pub(crate) fn read_longer(
     let entries = trie.entries();
     let mut n = front.n;
     let mut used = front.used;
-    let most = n + at_once.min(buffer.len() - n);
+    let most = n + LONGER_AT_ONCE.min(buffer.len() - n);
     while n < most && used < input.len() {
         let followed = follow(trie, root, input, used);
         if followed.code >= NONE {

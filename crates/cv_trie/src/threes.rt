@@ -18,6 +18,9 @@ use std::alloc::{AllocError, Global};
 /// bytes.
 pub(crate) const THREES: u32 = 0x4000_0000;
 
+/// What the numbers of blocks are counted from. A third byte below the lowest may lead before all blocks, to a cell that isn't there.
+const BASE: u32 = 0x8000_0000;
+
 /// How many strings of three bytes begin with two bytes that have a block, at the least.
 const DENSE: u32 = 32;
 
@@ -129,7 +132,7 @@ fn number_blocks(_ones: &[u32], twos: &mut [u32]) -> u32
             let span = Span::of(number);
             let cells = span.cells();
             twos[front] = if cells > 0 {
-                THREES + 256 + size - span.low as u32
+                BASE + size - span.low as u32
             } else {
                 NO_CHARACTER
             };
@@ -142,7 +145,7 @@ fn number_blocks(_ones: &[u32], twos: &mut [u32]) -> u32
 /// The cell of the last of three bytes, in the block of the first two, or in another or none, where their block does not reach so far.
 #[inline(always)]
 fn cell_of(number: u32, third: u8) -> usize {
-    (number as usize + third as usize).wrapping_sub(THREES as usize + 256)
+    (number as usize + third as usize) & (BASE as usize - 1)
 }
 
 /// The cells of blocks, with the places of entries.

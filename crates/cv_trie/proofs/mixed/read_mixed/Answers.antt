@@ -71,3 +71,18 @@ loop-n-preserved-then-tabled-lt-NO_CHARACTER c =
       few = omega (arith, length-set c.loop-n.buffer n c.known-then-tabled-lt-NO_CHARACTER.result);
       rest = omega (arith, length-drop used text, long.within);
     }
+
+pub loop-n-preserved : goal.loop-n-preserved
+loop-n-preserved c =
+    let i = c.loop-n.invariant in
+    let text = c.args.input.now in
+    let n = c.loop-n.n in
+    let used = c.loop-n.used in
+    let long = c.followed_at-long.ensures c.if-long-ge-NO_CHARACTER.false in
+    let character = c.followed_at-long.result.character in
+    record {
+      read = rw c.known-in-loop-n.ensures (front_more c.args.trie.now.entries text c.loop-n.buffer n used c.followed_at-long.result.size character i.read (omega arith) long.stands long.within);
+      on = omega arith;
+      few = omega (arith, length-set c.loop-n.buffer n c.known-in-loop-n.result);
+      rest = omega (arith, length-drop used text, long.within);
+    }

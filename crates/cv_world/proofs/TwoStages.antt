@@ -40,6 +40,11 @@ as_ok (Err x) is other now ok e = absurd (let never : false ≡ true = ok in cc)
 pub front_resized : (now old more : List ℕ) (at end : ℕ) → at ≤ end → at ≤ length old → now ≡ take end old ++ more → take at now ≡ take at old
 front_resized now old more at end to from e = ap (take at) e ∙ take-append-le at (take end old) more (omega (arith, to, from, length-take end old)) ∙ take-take at end old to
 
+-- what stands in front of both of two stages stays
+pub front_of_two : (before between after : List ℕ) (at behind : ℕ) → at ≤ behind → take behind after ≡ take behind between → take at between ≡ take at before → take at after ≡ take at before
+front_of_two before between after at behind within second first =
+    sym (take-take at behind after within) ∙ ap (take at) second ∙ take-take at behind between within ∙ first
+
 module _ (reads : ItemRelation) (writes : Writing) (policy : Policy) where
   -- one stage
   pub one_stage : (from to : States) (text before out held rest over old : List ℕ) (len at end : ℕ) (o : Outcome) → Converts reads writes policy from text before o to out

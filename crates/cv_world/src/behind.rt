@@ -7,14 +7,10 @@ ghost use Rattle.cv_pivot.specs.Encodings.{form_of, form_reads, form_writes, IsF
 ghost use Rattle.cv_pivot.specs.declared.conversion.Conversion.{Conversion as Kept};
 ghost use Rattle.cv_world.specs.Private.Stages.{IsStage};
 
-use crate::framing::make_room;
-use crate::stages::{convert_into, convert_stage};
+use crate::between::convert_between;
 use cv_base::{Codec, Memory};
 use cv_pivot::{Conversion, Outcome, States};
 use slab::Slab;
-
-/// How much memory is cleared at once.
-const AT_ONCE: usize = 4_096;
 
 /// The result of a conversion into the memory behind a place, and where its output ends.
 #[derive(Drop)]
@@ -22,31 +18,6 @@ pub(crate) struct Behind {
     pub(crate) outcome: Outcome,
     pub(crate) end: usize,
     pub(crate) states: States,
-}
-
-/// Converts into the memory of a vector, behind one place and before another. What was cleared before is not cleared again.
-fn convert_between(
-    conversion: &mut Conversion,
-    input: &[u8],
-    bytes: &mut Vec<u8>,
-    at: usize,
-    end: usize,
-) -> Outcome
-    requires from { at ≤ vec_len bytes.old }
-    requires to { at ≤ end }
-    requires room { end ≤ vec_capacity bytes.old }
-    requires small { end < at + 2 ^ 32 }
-    requires short { length input.now ≤ MOST_BODY }
-    ensures stage { IsStage (form_reads (form_of conversion.old.from)) (form_writes (form_of conversion.old.to)) conversion.old.policy
-        conversion.old.states input.now bytes.old.items at end result conversion.new.states bytes.new.items }
-    ensures kept { conversion.new ≡ record conversion.old { states = conversion.new.states } }
-    ensures few { (result.left ≤ length input.now) × (result.count ≤ length input.now) }
-    ensures len { (at + result.room_left ≤ end) × (end ≤ result.room_left + vec_len bytes.new) × (vec_len bytes.old ≤ vec_len bytes.new) }
-{
-    if end <= bytes.len() || end - bytes.len() <= AT_ONCE {
-        return convert_stage(conversion, input, bytes, at, end);
-    }
-    convert_into(conversion, input, bytes, at, end)
 }
 
 /// Converts as much of the input as fits in the room, behind a place. It takes memory for no more than the input can need.
@@ -71,14 +42,20 @@ fn convert_behind(
 {
     conversion.from.assert_form();
     let size = (room as usize).min(conversion.most_output(input.len()));
-    make_room(bytes, at, size)?;
     let end = at + size;
+    let states = conversion.states;
     let outcome = convert_between(conversion, input, bytes, at, end);
-    Ok(Behind {
-        outcome,
-        end: end - outcome.room_left,
-        states: conversion.states,
-    })
+    match outcome {
+        Ok(outcome) => Ok(Behind {
+            outcome,
+            end: end - outcome.room_left,
+            states: conversion.states,
+        }),
+        Err(lack) => {
+            conversion.states = states;
+            Err(lack)
+        }
+    }
 }
 
 /// Converts by the conversion under a key, behind a place.

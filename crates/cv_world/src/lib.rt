@@ -4,6 +4,7 @@
 mod answer;
 mod appending;
 mod behind;
+mod between;
 mod callers;
 mod conversions;
 mod events;

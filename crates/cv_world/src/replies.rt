@@ -1,6 +1,7 @@
 //! Replies that are spelled one after another.
-ghost use Rattle.std.specs.Prelude.{◌≡◌, ◌++◌, [], OnOk, OnErr};
+ghost use Rattle.std.specs.Prelude.{◌≡◌, ◌≤◌, ◌+◌, ◌*◌, ◌++◌, [], max, vec_len, vec_capacity, OnOk, OnErr};
 ghost use Rattle.cv_frame.specs.Message.{spelling};
+ghost use Rattle.cv_world.specs.declared.replies.TheConstants.{SURPLUS};
 
 use crate::framing::{FRAME_HEAD, make_long, make_room, put_reply};
 use cv_base::Memory;
@@ -8,9 +9,37 @@ use cv_frame::Reply;
 use std::alloc::Global;
 use std::marker::Model;
 
-/// The surplus that is kept behind replies: a CONV has room for the most that its input can need. At most twice as many bytes are kept as
-/// this and the longest replies of a batch are.
-const SURPLUS: usize = 65_536;
+/// How many bytes are kept besides an eighth more than the longest replies of a batch are.
+const SURPLUS: usize = 2_048;
+
+/// Gives back all the memory of a vector.
+fn free(bytes: &mut Vec<u8>)
+    ensures none { vec_len bytes.new ≡ 0 }
+    ensures lean { vec_capacity bytes.new ≡ 0 }
+{
+    bytes.clear();
+    bytes.shrink_to(0);
+}
+
+/// Forgets replies, and gives back memory that the longest of a batch, and a little more, would not have needed. What is kept stays
+/// cleared: a stream that is asked for as much again has nothing cleared again.
+fn forget(bytes: &mut Vec<u8>, used: &mut usize, most: &mut usize)
+    ensures none { used.new ≡ 0 }
+    ensures most { most.new ≡ max most.old used.old }
+    ensures lean { 8 * vec_capacity bytes.new ≤ 9 * most.new + 8 * SURPLUS }
+{
+    *most = (*most).max(*used);
+    *used = 0;
+    let kept = most.saturating_add(*most / 8 + SURPLUS);
+    if bytes.capacity() <= kept {
+        return;
+    }
+    bytes.truncate(kept);
+    bytes.shrink_to(kept);
+    if bytes.capacity() > kept {
+        free(bytes);
+    }
+}
 
 /// The frames of replies, one after another. Contracts see their bytes. The vector is longer than they are: what is behind them
 /// stays from earlier replies, so that a conversion finds memory there that needs no clearing.
@@ -44,17 +73,19 @@ impl Replies {
         }
     }
 
-    /// Forgets all replies. Their memory is kept for others, as far as `SURPLUS` says.
+    /// Forgets all replies. Their memory is kept for others, an eighth more and `SURPLUS` at most.
     pub fn clear(&mut self)
         ensures { self.new ≡ [] }
     {
-        self.most = self.most.max(self.used);
+        forget(&mut self.bytes, &mut self.used, &mut self.most);
+    }
+
+    /// Forgets all replies, and keeps no memory.
+    pub fn give_back(&mut self)
+        ensures { self.new ≡ [] }
+    {
         self.used = 0;
-        let kept = self.most.saturating_add(SURPLUS);
-        if self.bytes.capacity() / 2 > kept {
-            self.bytes.truncate(kept);
-            self.bytes.shrink_to(kept);
-        }
+        free(&mut self.bytes);
     }
 
     /// Their bytes.

@@ -21,7 +21,7 @@ fn is_fault(stop: Stop) -> bool
 }
 
 /// Whether a conversion stops for no want of room.
-fn has_room(stop: Stop) -> bool
+pub(crate) fn has_room(stop: Stop) -> bool
     ensures { result ≡ true → stop ≢ Stop.TooBig }
 {
     match stop {
@@ -31,7 +31,7 @@ fn has_room(stop: Stop) -> bool
 }
 
 /// What is converted first, and then the rest.
-fn joined(first: Outcome, rest: Outcome) -> Outcome
+pub(crate) fn joined(first: Outcome, rest: Outcome) -> Outcome
     requires { first.count + rest.count < 2 ^ 64 }
     ensures { result ≡ record { left = rest.left; room_left = rest.room_left; count = first.count + rest.count; stop = rest.stop } }
 {
@@ -45,7 +45,7 @@ fn joined(first: Outcome, rest: Outcome) -> Outcome
 
 /// Up to where a buffer is cleared for the rest of a text: if each byte is written as those before it were, there are as many bytes over as
 /// the rest has. So markup in front of letters that are written by two bytes, or by three from two, doesn't mislead it.
-fn guessed_end(used: usize, at: usize, left: usize, size: usize) -> usize
+pub(crate) fn guessed_end(used: usize, at: usize, left: usize, size: usize) -> usize
     requires within { at ≤ size }
     requires small { size < 2 ^ 32 }
     requires short { left ≤ MOST_BODY }

@@ -1,0 +1,185 @@
+//! A conversion into memory that is asked for, and cleared, only as far as it comes to be used.
+ghost use Rattle.std.specs.Prelude.{◌≡◌, ◌≤◌, ◌<◌, ◌+◌, ◌^◌, length, take, vec_len, IfOk};
+ghost use Rattle.cv_frame.specs.declared.sizes.TheConstants.{MOST_BODY};
+ghost use Rattle.cv_pivot.specs.Encodings.{form_of, form_reads, form_writes};
+ghost use Rattle.cv_world.specs.Private.Stages.{IsStage};
+
+use crate::framing::make_room;
+use crate::stages::{convert_stage, guessed_end, has_room, joined};
+use cv_base::{Codec, Memory};
+use cv_pivot::{Conversion, Outcome};
+
+/// How much memory is cleared at once.
+const AT_ONCE: usize = 4_096;
+
+/// From how many bytes on memory that was cleared before is tried first.
+const ENOUGH: usize = 1_024;
+
+/// Up to where a conversion goes first: what was cleared before, or a little that is cleared now. So a stream that asks for the same
+/// again asks for no memory and has none cleared, though little more is kept than its replies took.
+fn first_end(len: usize, at: usize, end: usize) -> usize
+    requires within { at ≤ len }
+    requires to { at ≤ end }
+    ensures from { at ≤ result }
+    ensures to { result ≤ end }
+{
+    if len - at < ENOUGH {
+        at + (end - at).min(AT_ONCE)
+    } else {
+        end.min(len)
+    }
+}
+
+/// Up to where a buffer is cleared at first for the rest of a text: an eighth more than it needs if each byte is written as those before
+/// it were. As much is kept for what comes next.
+fn likely_end(used: usize, at: usize, left: usize, size: usize) -> usize
+    requires within { at ≤ size }
+    requires small { size < 2 ^ 32 }
+    requires short { left ≤ MOST_BODY }
+    ensures from { at ≤ result }
+    ensures to { result ≤ size }
+{
+    let likely = left * at / used.max(1);
+    size.min(at + likely + likely / 8)
+}
+
+/// Converts into the memory of a vector, behind one place and before another. Room is made first, where there is none. The stack of each
+/// stream has its frames down to here, so it has none of its own.
+#[inline(always)]
+fn convert_reserved(
+    conversion: &mut Conversion,
+    input: &[u8],
+    bytes: &mut Vec<u8>,
+    at: usize,
+    end: usize,
+) -> Result<Outcome, Memory>
+    requires from { at ≤ vec_len bytes.old }
+    requires to { at ≤ end }
+    ensures stage { IfOk result (λ o. IsStage (form_reads (form_of conversion.old.from)) (form_writes (form_of conversion.old.to)) conversion.old.policy
+        conversion.old.states input.now bytes.old.items at end o conversion.new.states bytes.new.items) }
+    ensures kept { conversion.new ≡ record conversion.old { states = conversion.new.states } }
+    ensures few { IfOk result (λ o. (o.left ≤ length input.now) × (o.count ≤ length input.now)) }
+    ensures len { IfOk result (λ o. (at + o.room_left ≤ end) × (end ≤ vec_len bytes.new)) }
+    ensures same { take at bytes.new.items ≡ take at bytes.old.items }
+    ensures grows { vec_len bytes.old ≤ vec_len bytes.new }
+{
+    make_room(bytes, at, end - at)?;
+    Ok(convert_stage(conversion, input, bytes, at, end))
+}
+
+/// Converts into the memory of a vector, behind one place and before `size`: up to `end` first, and further only if that was too little.
+fn convert_guessed(
+    conversion: &mut Conversion,
+    input: &[u8],
+    bytes: &mut Vec<u8>,
+    at: usize,
+    end: usize,
+    size: usize,
+) -> Result<Outcome, Memory>
+    requires from { at ≤ vec_len bytes.old }
+    requires to { (at ≤ end) × (end ≤ size) }
+    requires short { length input.now ≤ MOST_BODY }
+    ensures stage { IfOk result (λ o. IsStage (form_reads (form_of conversion.old.from)) (form_writes (form_of conversion.old.to)) conversion.old.policy
+        conversion.old.states input.now bytes.old.items at size o conversion.new.states bytes.new.items) }
+    ensures kept { conversion.new ≡ record conversion.old { states = conversion.new.states } }
+    ensures few { IfOk result (λ o. (o.left ≤ length input.now) × (o.count ≤ length input.now)) }
+    ensures len { IfOk result (λ o. (at + o.room_left ≤ size) × (size ≤ o.room_left + vec_len bytes.new)) }
+    ensures same { take at bytes.new.items ≡ take at bytes.old.items }
+    ensures grows { vec_len bytes.old ≤ vec_len bytes.new }
+{
+    conversion.from.assert_valid();
+    let first = convert_reserved(conversion, input, bytes, at, end)?;
+    if end == size {
+        return Ok(first);
+    }
+    if has_room(first.stop) {
+        return Ok(Outcome {
+            room_left: first.room_left + (size - end),
+            ..first
+        });
+    }
+    let used = input.len() - first.left;
+    let behind = end - first.room_left;
+    let rest = convert_reserved(conversion, &input[used..], bytes, behind, size)?;
+    Ok(joined(first, rest))
+}
+
+/// Converts into the memory of a vector, behind one place and before `size`: up to `end` first, then as far as the rest is likely to need
+/// after this, and all the way only if both were too little.
+fn convert_likely(
+    conversion: &mut Conversion,
+    input: &[u8],
+    bytes: &mut Vec<u8>,
+    at: usize,
+    end: usize,
+    size: usize,
+) -> Result<Outcome, Memory>
+    requires from { at ≤ vec_len bytes.old }
+    requires to { (at ≤ end) × (end ≤ size) }
+    requires small { size < at + 2 ^ 32 }
+    requires short { length input.now ≤ MOST_BODY }
+    ensures stage { IfOk result (λ o. IsStage (form_reads (form_of conversion.old.from)) (form_writes (form_of conversion.old.to)) conversion.old.policy
+        conversion.old.states input.now bytes.old.items at size o conversion.new.states bytes.new.items) }
+    ensures kept { conversion.new ≡ record conversion.old { states = conversion.new.states } }
+    ensures few { IfOk result (λ o. (o.left ≤ length input.now) × (o.count ≤ length input.now)) }
+    ensures len { IfOk result (λ o. (at + o.room_left ≤ size) × (size ≤ o.room_left + vec_len bytes.new)) }
+    ensures same { take at bytes.new.items ≡ take at bytes.old.items }
+    ensures grows { vec_len bytes.old ≤ vec_len bytes.new }
+{
+    conversion.from.assert_valid();
+    let first = convert_reserved(conversion, input, bytes, at, end)?;
+    if end == size {
+        return Ok(first);
+    }
+    if has_room(first.stop) {
+        return Ok(Outcome {
+            room_left: first.room_left + (size - end),
+            ..first
+        });
+    }
+    let used = input.len() - first.left;
+    let behind = end - first.room_left;
+    let guess = at + guessed_end(used, behind - at, first.left, size - at);
+    let rest = convert_guessed(conversion, &input[used..], bytes, behind, guess, size)?;
+    Ok(joined(first, rest))
+}
+
+/// Converts into the memory of a vector, behind one place and before `size`. It is one `Conversion::convert` into a buffer that ends
+/// there. Memory that was cleared before comes first; what was written there says how much the rest is likely to need.
+pub(crate) fn convert_between(
+    conversion: &mut Conversion,
+    input: &[u8],
+    bytes: &mut Vec<u8>,
+    at: usize,
+    size: usize,
+) -> Result<Outcome, Memory>
+    requires from { at ≤ vec_len bytes.old }
+    requires to { at ≤ size }
+    requires small { size < at + 2 ^ 32 }
+    requires short { length input.now ≤ MOST_BODY }
+    ensures stage { IfOk result (λ o. IsStage (form_reads (form_of conversion.old.from)) (form_writes (form_of conversion.old.to)) conversion.old.policy
+        conversion.old.states input.now bytes.old.items at size o conversion.new.states bytes.new.items) }
+    ensures kept { conversion.new ≡ record conversion.old { states = conversion.new.states } }
+    ensures few { IfOk result (λ o. (o.left ≤ length input.now) × (o.count ≤ length input.now)) }
+    ensures len { IfOk result (λ o. (at + o.room_left ≤ size) × (size ≤ o.room_left + vec_len bytes.new)) }
+    ensures same { take at bytes.new.items ≡ take at bytes.old.items }
+    ensures grows { vec_len bytes.old ≤ vec_len bytes.new }
+{
+    conversion.from.assert_valid();
+    let end = first_end(bytes.len(), at, size);
+    let first = convert_reserved(conversion, input, bytes, at, end)?;
+    if end == size {
+        return Ok(first);
+    }
+    if has_room(first.stop) {
+        return Ok(Outcome {
+            room_left: first.room_left + (size - end),
+            ..first
+        });
+    }
+    let used = input.len() - first.left;
+    let behind = end - first.room_left;
+    let likely = at + likely_end(used, behind - at, first.left, size - at);
+    let rest = convert_likely(conversion, &input[used..], bytes, behind, likely, size)?;
+    Ok(joined(first, rest))
+}

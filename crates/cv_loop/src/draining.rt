@@ -1,6 +1,6 @@
 //! Answering all whole frames that are held.
 
-ghost use Rattle.std.specs.Prelude.{◌≡◌, false, IfOk, IfErr, OnOk, drop};
+ghost use Rattle.std.specs.Prelude.{◌≡◌, false, [], IfOk, IfErr, OnOk, drop};
 ghost use Rattle.cv_frame.specs.Cut.{front_of};
 ghost use Rattle.cv_frame.specs.declared.reading.Frame.TheVariants as front;
 ghost use Rattle.cv_loop.specs.Private.Draining.{Drained, Stopped, EndsBatch};
@@ -37,6 +37,7 @@ fn drain_batch<R, E: Engine<R>, W: Sink>(
     ensures ok { IfOk result (λ r. Drained E.turn (E.tables engine.old) (W.held writer.old) (W.held writer.new) bytes.now r.0
         (E.tables engine.new) counts.old.written counts.new.written counts.old.requests counts.new.requests) }
     ensures works { OnOk result (W.has_failed writer.new ≡ false) }
+    ensures cleared { OnOk result (replies.new ≡ []) }
     ensures end { IfOk result (λ r. EndsBatch r.1 r.0 (drop r.0 bytes.now)) }
     ensures err { IfErr result (λ f. Stopped E.turn f (E.tables engine.old) (W.held writer.old) (W.held writer.new) bytes.now
         (E.tables engine.new) counts.old.written (W.has_failed writer.new)) }
@@ -74,6 +75,7 @@ pub fn drain<R, E: Engine<R>, W: Sink>(
     ensures ok { IfOk result (λ used. Drained E.turn (E.tables engine.old) (W.held writer.old) (W.held writer.new) bytes.now used
         (E.tables engine.new) counts.old.written counts.new.written counts.old.requests counts.new.requests) }
     ensures works { OnOk result (W.has_failed writer.new ≡ false) }
+    ensures cleared { OnOk result (replies.new ≡ []) }
     ensures end { IfOk result (λ used. front_of (drop used bytes.now) ≡ front.Partial) }
     ensures err { IfErr result (λ f. Stopped E.turn f (E.tables engine.old) (W.held writer.old) (W.held writer.new) bytes.now
         (E.tables engine.new) counts.old.written (W.has_failed writer.new)) }

@@ -1,6 +1,6 @@
 //! The bytes of a stream that were read and are not answered yet.
 
-ghost use Rattle.std.specs.Prelude.{◌≡◌, ◌≤◌, ◌<◌, ◌+◌, ◌-◌, ◌*◌, ◌^◌, ◌==◌, nat_lt, [], ℕ, List, true, false, IfOk, IfErr, OnOk, vec_len, length, min, take, drop, slice_range, if◌then◌else◌};
+ghost use Rattle.std.specs.Prelude.{◌≡◌, ◌≤◌, ◌<◌, ◌+◌, ◌-◌, ◌*◌, ◌^◌, ◌==◌, nat_lt, [], ℕ, List, true, false, IfOk, IfErr, OnOk, OnErr, vec_len, length, min, take, drop, slice_range, if◌then◌else◌};
 ghost use Rattle.std.specs.Io.KnownBytes.{Consumes, IsAtEnd};
 ghost use Rattle.cv_loop.specs.Private.Buffers.{MakesRoom};
 ghost use Rattle.cv_loop.specs.Private.Draining.{ReadsMore};
@@ -9,6 +9,7 @@ ghost use Rattle.cv_loop.specs.declared.held.TheConstants.{MOST_READ};
 use crate::ends::Source;
 use crate::fault::ServeFault;
 use cv_base::Memory;
+use cv_world::Replies;
 use std::alloc::Global;
 use std::marker::Model;
 
@@ -66,6 +67,7 @@ fn make_room(
     ensures same { slice_range buffer.new.items start.new end.new ≡ slice_range buffer.old.items start.old end.old }
     ensures room { OnOk result (end.new + room ≤ vec_len buffer.new) }
     ensures cost { OnOk result (MakesRoom room start.old end.old (vec_len buffer.old) start.new (vec_len buffer.new)) }
+    ensures err { OnErr result ((start.new ≡ start.old) × (end.new ≡ end.old) × (vec_len buffer.new ≡ vec_len buffer.old)) }
 {
     let held = *end - *start;
     if held > 0 && buffer.len() - *end >= room {
@@ -80,6 +82,31 @@ fn make_room(
     let size = (2 * buffer.len()).max(*end + room);
     buffer.resize(size, 0)?;
     Ok(())
+}
+
+/// `make_room`. Where memory is refused, what replies keep is given back, and it is tried once more.
+fn find_room(
+    buffer: &mut Vec<u8>,
+    start: &mut usize,
+    end: &mut usize,
+    room: usize,
+    replies: &mut Replies,
+) -> Result<(), Memory>
+    requires start { start.old ≤ end.old }
+    requires end { end.old ≤ vec_len buffer.old }
+    requires room { room ≤ MOST_READ }
+    ensures start { start.new ≤ end.new }
+    ensures end { end.new ≤ vec_len buffer.new }
+    ensures same { slice_range buffer.new.items start.new end.new ≡ slice_range buffer.old.items start.old end.old }
+    ensures room { OnOk result (end.new + room ≤ vec_len buffer.new) }
+    ensures cost { OnOk result (MakesRoom room start.old end.old (vec_len buffer.old) start.new (vec_len buffer.new)) }
+    ensures gave_back { OnErr result (replies.new ≡ []) }
+{
+    if make_room(buffer, start, end, room).is_ok() {
+        return Ok(());
+    }
+    replies.give_back();
+    make_room(buffer, start, end, room)
 }
 
 /// How many bytes the next read takes at most, where a read of so many at most brought so many: twice as many if it brought all.
@@ -142,8 +169,13 @@ impl Held {
         self.start += n;
     }
 
-    /// Reads once, and holds what came. At the end of the stream it answers false.
-    pub fn read_more<S: Source>(&mut self, reader: &mut S) -> Result<bool, ServeFault>
+    /// Reads once, and holds what came. At the end of the stream it answers false. Where there is no memory for it, what `replies` keeps is
+    /// given back first.
+    pub fn read_more<S: Source>(
+        &mut self,
+        reader: &mut S,
+        replies: &mut Replies,
+    ) -> Result<bool, ServeFault>
         requires pulls { S.pulls reader.old < 2 ^ 64 - 1 }
         requires goes_on { S.met_end reader.old ≡ false }
         requires works { S.has_failed reader.old ≡ false }
@@ -154,7 +186,13 @@ impl Held {
         ensures counts { OnOk result (S.pulls reader.new ≡ S.pulls reader.old + 1) }
     {
         let room = self.room;
-        make_room(&mut self.buffer, &mut self.start, &mut self.end, room)?;
+        find_room(
+            &mut self.buffer,
+            &mut self.start,
+            &mut self.end,
+            room,
+            replies,
+        )?;
         let n = read_once(reader, &mut self.buffer[self.end..self.end + room])?;
         self.end += n;
         self.room = next_room(room, n);

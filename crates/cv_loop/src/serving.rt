@@ -43,7 +43,7 @@ fn serve_stream<R, E: Engine<R>, S: Source, W: Sink>(
         written: 0,
     };
     for _read in 0..max_reads {
-        if !held.read_more(reader)? {
+        if !held.read_more(reader, &mut replies)? {
             if held.as_slice().is_empty() {
                 let requests = counts.requests;
                 return Ok(Served { requests });

@@ -7,9 +7,9 @@ pub returns-clause-bytes : goal.returns-clause-bytes
 returns-clause-bytes g c =
     let n : ℕ = c.in_ok-n.n in
     let came : List ℕ = take n c.read_once.new.buf in
-    let start : ℕ = c.make_room.new.start in
-    let end : ℕ = c.make_room.new.end in
-    let before = c.in_ok-make_room.ensures in
+    let start : ℕ = c.find_room.new.start in
+    let end : ℕ = c.find_room.new.end in
+    let before = c.in_ok-find_room.ensures in
     let held = range_lent c.deref_mut.result.now c.read_once.new.buf _ _ _ start end n before.start (omega (arith, before.end, c.deref_mut.ensures.len)) c.in_ok-n.ensures.came.0 (omega (arith, before.room, c.in_ok-n.ensures.came.0, c.read_once.auto.buf, c.deref_mut.ensures.len))
     ∙ ap (λ (b : List ℕ). slice_range b start end ++ came) c.deref_mut.ensures.value
     ∙ ap (λ (x : List ℕ). x ++ came) (before.same ∙ c.self.view_is) in

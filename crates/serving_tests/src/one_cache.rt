@@ -1,11 +1,11 @@
-//! Charmaps of several callers over one cache, by a world and by a pool of two workers.
+//! Charmaps of several callers over one cache, by a world and by a pool of two workers, however they are asked.
+use crate::asking::{WAYS, Way, told};
 use crate::charmap_texts::charmap_text;
-use crate::ops::{CONV, DROP, OPEN, PUT};
-use crate::requests::request;
-use cv_base::Memory;
+use crate::ops::{CONV, DROP, OK, OPEN, PUT};
+use crate::requests::{push_frame, request};
 use cv_cache::Cached;
-use cv_frame::{Reply, Request, Status};
-use cv_loop::{Engine, WorldWith};
+use cv_frame::Request;
+use cv_loop::WorldWith;
 use cv_pool::{Open, Pool};
 use std::alloc::Global;
 use std::sync::Wait;
@@ -20,34 +20,45 @@ enum Looked<'a> {
 }
 
 impl Looked<'_> {
-    fn batch<R: Threads + Wait + Sync>(
+    /// Asks in a way, and fails where other frames come than are wanted.
+    fn ask<R: Threads + Wait + Sync>(
         &mut self,
         rt: &R,
         alloc: Global,
+        way: Way,
         requests: &[Request],
-    ) -> Result<Vec<Reply>, Memory> {
-        match self {
-            Looked::World(world) => world.batch(rt, alloc, requests),
-            Looked::Pool(pool) => pool.batch(rt, alloc, requests),
+        wanted: &[u8],
+    ) -> Result<(), Fail> {
+        let frames = match self {
+            Looked::World(world) => told(rt, alloc, way, world, requests)?,
+            Looked::Pool(pool) => told(rt, alloc, way, pool, requests)?,
+        };
+        if frames.as_slice() != wanted {
+            return Err("other replies".into());
         }
+        Ok(())
     }
 }
 
 #[test]
 fn a_world_compiles_a_text_once_for_all_callers(rt: HostRuntime) -> Result<(), Fail> {
-    let cached = Cached::new(rt.alloc())?;
-    let mut world = Looked::World(WorldWith::new(rt.alloc(), &cached));
-    let counts = counts_of(&rt, rt.alloc(), &mut world, &cached)?;
-    assert_eq!(rt; counts, (1, 2));
+    for way in WAYS {
+        let cached = Cached::new(rt.alloc())?;
+        let mut world = Looked::World(WorldWith::new(rt.alloc(), &cached));
+        let counts = counts_of(&rt, rt.alloc(), way, &mut world, &cached)?;
+        assert_eq!(rt; counts, (1, 2), "{way:?}");
+    }
     Ok(())
 }
 
 #[test]
 fn a_pool_compiles_a_text_once_for_all_callers(rt: HostRuntime) -> Result<(), Fail> {
-    let cached = Cached::new(rt.alloc())?;
-    let mut pool = Looked::Pool(Pool::new(rt.alloc(), 2, &cached, Open)?);
-    let counts = counts_of(&rt, rt.alloc(), &mut pool, &cached)?;
-    assert_eq!(rt; counts, (1, 2));
+    for way in WAYS {
+        let cached = Cached::new(rt.alloc())?;
+        let mut pool = Looked::Pool(Pool::new(rt.alloc(), 2, &cached, Open)?);
+        let counts = counts_of(&rt, rt.alloc(), way, &mut pool, &cached)?;
+        assert_eq!(rt; counts, (1, 2), "{way:?}");
+    }
     Ok(())
 }
 
@@ -56,17 +67,18 @@ fn a_pool_compiles_a_text_once_for_all_callers(rt: HostRuntime) -> Result<(), Fa
 fn counts_of<R: Threads + Wait + Sync>(
     rt: &R,
     alloc: Global,
+    way: Way,
     engine: &mut Looked<'_>,
     cached: &Cached,
 ) -> Result<(u64, u64), Fail> {
-    put_toy(rt, alloc, engine, 1)?;
-    put_toy(rt, alloc, engine, 2)?;
-    put_others(rt, alloc, engine)?;
-    put_toy(rt, alloc, engine, 4)?;
+    put_toy(rt, alloc, way, engine, 1)?;
+    put_toy(rt, alloc, way, engine, 2)?;
+    put_others(rt, alloc, way, engine)?;
+    put_toy(rt, alloc, way, engine, 4)?;
     let first = cached.found(rt);
-    put_toy(rt, alloc, engine, 5)?;
+    put_toy(rt, alloc, way, engine, 5)?;
     let second = cached.found(rt);
-    read_toys(rt, alloc, engine)?;
+    read_toys(rt, alloc, way, engine)?;
     Ok((first, second))
 }
 
@@ -74,23 +86,26 @@ fn counts_of<R: Threads + Wait + Sync>(
 fn put_toy<R: Threads + Wait + Sync>(
     rt: &R,
     alloc: Global,
+    way: Way,
     engine: &mut Looked<'_>,
     caller: u32,
 ) -> Result<(), Fail> {
     let text = charmap_text(alloc, "TOY", "<U0100> \\x80")?;
     let requests = [request(caller, 1, PUT, text.as_bytes())];
-    let replies = engine.batch(rt, alloc, &requests)?;
-    all_ok(&replies)
+    let mut wanted = Vec::new(alloc);
+    push_frame(&mut wanted, caller, 1, OK, b"\0\0\0\x02")?;
+    engine.ask(rt, alloc, way, &requests, &wanted)
 }
 
 /// Caller 3 puts 33 other texts, and drops each charmap in the same batch.
 fn put_others<R: Threads + Wait + Sync>(
     rt: &R,
     alloc: Global,
+    way: Way,
     engine: &mut Looked<'_>,
 ) -> Result<(), Fail> {
     for other in 0..33 {
-        put_and_drop(rt, alloc, engine, other)?;
+        put_and_drop(rt, alloc, way, engine, other)?;
     }
     Ok(())
 }
@@ -98,6 +113,7 @@ fn put_others<R: Threads + Wait + Sync>(
 fn put_and_drop<R: Threads + Wait + Sync>(
     rt: &R,
     alloc: Global,
+    way: Way,
     engine: &mut Looked<'_>,
     other: u32,
 ) -> Result<(), Fail> {
@@ -108,28 +124,21 @@ fn put_and_drop<R: Threads + Wait + Sync>(
         request(3, other, PUT, text.as_bytes()),
         request(3, other, DROP, body.as_bytes()),
     ];
-    let replies = engine.batch(rt, alloc, &requests)?;
-    all_ok(&replies)
-}
-
-/// Whether each reply has the status OK.
-fn all_ok(replies: &[Reply]) -> Result<(), Fail> {
-    for reply in replies {
-        if reply.status != Status::Ok {
-            return Err("refused".into());
-        }
-    }
-    Ok(())
+    let mut wanted = Vec::new(alloc);
+    push_frame(&mut wanted, 3, other, OK, b"\0\0\0\x02")?;
+    push_frame(&mut wanted, 3, other, OK, b"")?;
+    engine.ask(rt, alloc, way, &requests, &wanted)
 }
 
 /// The bytes 3f and 80 of TOY are `?` and U+0100 in UTF-8, for each caller that has it.
 fn read_toys<R: Threads + Wait + Sync>(
     rt: &R,
     alloc: Global,
+    way: Way,
     engine: &mut Looked<'_>,
 ) -> Result<(), Fail> {
     for caller in [1, 2, 4, 5] {
-        read_toy(rt, alloc, engine, caller)?;
+        read_toy(rt, alloc, way, engine, caller)?;
     }
     Ok(())
 }
@@ -137,6 +146,7 @@ fn read_toys<R: Threads + Wait + Sync>(
 fn read_toy<R: Threads + Wait + Sync>(
     rt: &R,
     alloc: Global,
+    way: Way,
     engine: &mut Looked<'_>,
     caller: u32,
 ) -> Result<(), Fail> {
@@ -144,9 +154,8 @@ fn read_toy<R: Threads + Wait + Sync>(
         request(caller, 8, OPEN, b"\x05UTF-8\x03TOY"),
         request(caller, 9, CONV, b"\0\0\0\0\0\0\0\x09?\x80"),
     ];
-    let replies = engine.batch(rt, alloc, &requests)?;
-    match replies.get(1) {
-        Some(converted) if converted.tail.as_slice() == b"?\xc4\x80".as_slice() => Ok(()),
-        _ => Err("read as another text".into()),
-    }
+    let mut wanted = Vec::new(alloc);
+    push_frame(&mut wanted, caller, 8, OK, b"\0\0\0\0")?;
+    push_frame(&mut wanted, caller, 9, OK, b"\0\0\0\0\0\0\0\0?\xc4\x80")?;
+    engine.ask(rt, alloc, way, &requests, &wanted)
 }

@@ -20,3 +20,6 @@ pub const BYE: u8 = 7;
 
 /// Holds a part of a charmap's text.
 pub const PART: u8 = 8;
+
+/// The status of a reply to a request that was done. It stands in the frame where a request has its op.
+pub const OK: u8 = 0;

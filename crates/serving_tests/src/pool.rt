@@ -1,8 +1,10 @@
 //! Pools, with ample memory.
+mod appended;
 mod at_once;
 mod gates;
 mod in_order;
 mod uploads;
+mod watched;
 
 use cv_cache::Cached;
 use cv_pool::{Open, Pool};

@@ -1,15 +1,23 @@
 //! Shards that wait for one another: a pool that ran them one after another, or under one lock, would be late.
+ghost use Rattle.std.specs.Thread.{IsSync};
+
+use super::watched::Watched;
+use crate::asking::{WAYS, Way, told};
 use crate::charmap_texts::text_of_size;
-use crate::ops::{CONV, PUT};
-use crate::requests::request;
+use crate::ops::{CONV, OK, PUT};
+use crate::requests::{push_frame, request};
 use crate::words::sides;
+use cv_base::Memory;
 use cv_cache::{Compiler, Plain};
 use cv_charmap::CompileFault;
+use cv_frame::{Reply, Request};
+use cv_loop::Engine;
 use cv_pool::{Gate, Open, Pool};
 use cv_trie::Charmap;
+use cv_world::Replies;
 use std::alloc::Global;
-use std::sync::Arc;
 use std::sync::atomic::{AtomicU64, Ordering};
+use std::sync::{Arc, Wait};
 use std::test::Fail;
 use std::thread::{self, Threads};
 
@@ -52,56 +60,88 @@ impl Gate for Held<'_> {
     }
 }
 
+impl<R: Threads + Wait + Sync> Engine<R> for Watched<Plain, Held<'_>> {
+    ghost ready = { λ _. IsSync R.row };
+
+    fn batch(&mut self, rt: &R, alloc: Global, requests: &[Request]) -> Result<Vec<Reply>, Memory> {
+        self.pool.batch(rt, alloc, requests)
+    }
+
+    fn batch_into(
+        &mut self,
+        rt: &R,
+        alloc: Global,
+        requests: &[Request],
+        replies: &mut Replies,
+    ) -> Result<(), Memory> {
+        self.pool.batch_into(rt, alloc, requests, replies)
+    }
+
+    fn uploads_at_once(&self) -> usize {
+        self.pool.workers()
+    }
+}
+
 /// How many workers there are, and which two callers ask: neighbours, those at the ends, and two whose numbers are larger than the pool.
 const PAIRS: &str = "2 0 1, 3 1 2, 16 3 4, 16 0 15, 5 12 19";
 
 /// They ask as little as may be.
 #[test]
 fn a_shard_runs_while_another_is_held(rt: HostRuntime) -> Result<(), Fail> {
-    for pair in PAIRS.split(", ") {
-        let late = one_is_late(&rt, rt.alloc(), pair, 12)?;
-        assert!(rt; !late, "{pair}");
+    for way in WAYS {
+        for pair in PAIRS.split(", ") {
+            let late = one_is_late(&rt, rt.alloc(), way, pair, 12)?;
+            assert!(rt; !late, "{way:?} {pair}");
+        }
     }
     Ok(())
 }
 
-/// They ask so much that threads are started where nothing may wait, however many workers there are.
+/// They ask so much that threads are started where nothing may wait, however many workers there are. No stream has so much in one batch:
+/// what a read of it brought is answered before the next.
 #[test]
 fn much_is_answered_at_once(rt: HostRuntime) -> Result<(), Fail> {
-    for pair in PAIRS.split(", ") {
-        let late = one_is_late(&rt, rt.alloc(), pair, 200_000)?;
-        assert!(rt; !late, "{pair}");
+    for way in [Way::Batch, Way::Appended] {
+        for pair in PAIRS.split(", ") {
+            let late = one_is_late(&rt, rt.alloc(), way, pair, 200_000)?;
+            assert!(rt; !late, "{way:?} {pair}");
+        }
     }
     Ok(())
 }
 
 /// Whether one of two callers waits in vain for the other, whichever is held. Their requests have so many bytes.
-fn one_is_late<R: Threads + Sync>(
+fn one_is_late<R: Threads + Wait + Sync>(
     rt: &R,
     alloc: Global,
+    way: Way,
     pair: &str,
     size: usize,
 ) -> Result<bool, Fail> {
     let (workers, callers) = sides(pair, " ")?;
     let (first, second) = sides(callers, " ")?;
     let workers = workers.parse::<u32>()?;
-    let callers = [first.parse::<u32>()?, second.parse::<u32>()?];
+    let first = first.parse::<u32>()?;
+    let second = second.parse::<u32>()?;
     let body = vec![in alloc; 0u8; size]?;
-    let [first, second] = callers;
+    let requests = [
+        request(first, 1, CONV, &body),
+        request(second, 1, CONV, &body),
+    ];
     Ok(
-        is_late(rt, alloc, workers, callers, first, &body)?
-            || is_late(rt, alloc, workers, callers, second, &body)?,
+        is_late(rt, alloc, way, workers, &requests, first)?
+            || is_late(rt, alloc, way, workers, &requests, second)?,
     )
 }
 
 /// Whether one of two callers waits in vain for the other, of a pool of so many workers.
-fn is_late<R: Threads + Sync>(
+fn is_late<R: Threads + Wait + Sync>(
     rt: &R,
     alloc: Global,
+    way: Way,
     workers: u32,
-    callers: [u32; 2],
+    requests: &[Request],
     held: u32,
-    body: &[u8],
 ) -> Result<bool, Fail> {
     if workers == 0 || workers > 16 {
         return Err("no pool has so many workers".into());
@@ -110,18 +150,14 @@ fn is_late<R: Threads + Sync>(
     let late = AtomicU64::new(0);
     let gate = Held {
         held: (held % workers) as usize,
-        tells: body.len() < 1_000,
+        tells: requests.iter().all(|request| request.body.len() < 1_000),
         answered: &answered,
         late: &late,
     };
-    let mut pool = Pool::new(alloc, workers, Plain, gate)?;
-    let [first, second] = callers;
-    let requests = [
-        request(first, 1, CONV, body),
-        request(second, 1, CONV, body),
-    ];
-    let replies = pool.batch(rt, alloc, &requests)?;
-    Ok(replies.len() != 2 || late.load(Ordering::SeqCst) != 0)
+    let pool = Pool::new(alloc, workers, Plain, gate)?;
+    let frames = told(rt, alloc, way, &mut Watched { pool }, requests)?;
+    // Each of two replies has no body.
+    Ok(frames.len() != 26 || late.load(Ordering::SeqCst) != 0)
 }
 
 /// Compiles a text once another text is being compiled too.
@@ -145,10 +181,45 @@ impl<R> Compiler<R> for Meeting<'_> {
     }
 }
 
+impl<R: Threads + Wait + Sync> Engine<R> for Watched<Meeting<'_>, Open> {
+    ghost ready = { λ _. IsSync R.row };
+
+    fn batch(&mut self, rt: &R, alloc: Global, requests: &[Request]) -> Result<Vec<Reply>, Memory> {
+        self.pool.batch(rt, alloc, requests)
+    }
+
+    fn batch_into(
+        &mut self,
+        rt: &R,
+        alloc: Global,
+        requests: &[Request],
+        replies: &mut Replies,
+    ) -> Result<(), Memory> {
+        self.pool.batch_into(rt, alloc, requests, replies)
+    }
+
+    fn uploads_at_once(&self) -> usize {
+        self.pool.workers()
+    }
+}
+
 #[test]
 fn texts_are_compiled_at_once(rt: HostRuntime) -> Result<(), Fail> {
-    let text = text_of_size(rt.alloc(), 100)?;
-    let longer = text_of_size(rt.alloc(), 101)?;
+    for way in WAYS {
+        let late = one_text_is_late(&rt, rt.alloc(), way)?;
+        assert!(rt; !late, "{way:?}");
+    }
+    Ok(())
+}
+
+/// Whether one of two texts that two callers put waits in vain for the other, or one is compiled to another charmap.
+fn one_text_is_late<R: Threads + Wait + Sync>(
+    rt: &R,
+    alloc: Global,
+    way: Way,
+) -> Result<bool, Fail> {
+    let text = text_of_size(alloc, 100)?;
+    let longer = text_of_size(alloc, 101)?;
     let even = AtomicU64::new(0);
     let odd = AtomicU64::new(0);
     let late = AtomicU64::new(0);
@@ -157,13 +228,11 @@ fn texts_are_compiled_at_once(rt: HostRuntime) -> Result<(), Fail> {
         odd: &odd,
         late: &late,
     };
-    let mut pool = Pool::new(rt.alloc(), 2, meeting, Open)?;
+    let pool = Pool::new(alloc, 2, meeting, Open)?;
     let requests = [request(0, 1, PUT, &text), request(1, 1, PUT, &longer)];
-    let replies = pool.batch(&rt, rt.alloc(), &requests)?;
-    for reply in &replies {
-        assert_eq!(rt; reply.head.as_slice(), b"\0\0\0\x01".as_slice());
-    }
-    assert_eq!(rt; replies.len(), 2);
-    assert_eq!(rt; late.load(Ordering::SeqCst), 0);
-    Ok(())
+    let mut wanted = Vec::new(alloc);
+    push_frame(&mut wanted, 0, 1, OK, b"\0\0\0\x01")?;
+    push_frame(&mut wanted, 1, 1, OK, b"\0\0\0\x01")?;
+    let frames = told(rt, alloc, way, &mut Watched { pool }, &requests)?;
+    Ok(frames.as_slice() != wanted.as_slice() || late.load(Ordering::SeqCst) != 0)
 }

@@ -1,11 +1,19 @@
 //! What a gate is told where no thread is started.
+ghost use Rattle.std.specs.Thread.{IsSync};
+
+use super::watched::Watched;
+use crate::asking::{WAYS, Way, told};
 use crate::ops::CLOSE;
 use crate::requests::request;
 use crate::words::sides;
+use cv_base::Memory;
 use cv_cache::Plain;
-use cv_frame::Request;
+use cv_frame::{Reply, Request};
+use cv_loop::Engine;
 use cv_pool::{Gate, Pool};
+use cv_world::Replies;
 use std::alloc::Global;
+use std::sync::Wait;
 use std::sync::atomic::{AtomicU64, Ordering};
 use std::test::Fail;
 use std::thread::Threads;
@@ -28,6 +36,28 @@ impl Gate for Noting<'_> {
     }
 }
 
+impl<R: Threads + Wait + Sync> Engine<R> for Watched<Plain, Noting<'_>> {
+    ghost ready = { λ _. IsSync R.row };
+
+    fn batch(&mut self, rt: &R, alloc: Global, requests: &[Request]) -> Result<Vec<Reply>, Memory> {
+        self.pool.batch(rt, alloc, requests)
+    }
+
+    fn batch_into(
+        &mut self,
+        rt: &R,
+        alloc: Global,
+        requests: &[Request],
+        replies: &mut Replies,
+    ) -> Result<(), Memory> {
+        self.pool.batch_into(rt, alloc, requests, replies)
+    }
+
+    fn uploads_at_once(&self) -> usize {
+        self.pool.workers()
+    }
+}
+
 /// How many workers there are and whose requests a batch has, and the passes: of each the shard and the turn, behind a 9.
 const PASSES: &str = "
 1 5: 90001
@@ -38,34 +68,43 @@ const PASSES: &str = "
 
 #[test]
 fn each_request_passes_the_gate(rt: HostRuntime) -> Result<(), Fail> {
-    for line in PASSES.trim().lines() {
-        let (asked, wanted) = sides(line, ": ")?;
-        let (workers, callers) = sides(asked, " ")?;
-        let passes = passes_of(&rt, rt.alloc(), workers.parse::<u32>()?, callers)?;
-        assert_eq!(rt; passes, wanted.parse::<u64>()?, "{line}");
+    for way in WAYS {
+        for line in PASSES.trim().lines() {
+            let (asked, wanted) = sides(line, ": ")?;
+            let passes = passes_of(&rt, rt.alloc(), way, asked)?;
+            assert_eq!(rt; passes, wanted.parse::<u64>()?, "{way:?} {line}");
+        }
     }
     Ok(())
 }
 
 /// What passes the gate of a pool of so many workers in a batch of these callers.
-fn passes_of<R: Threads + Sync>(
+fn passes_of<R: Threads + Wait + Sync>(
     rt: &R,
     alloc: Global,
-    workers: u32,
-    callers: &str,
+    way: Way,
+    asked: &str,
 ) -> Result<u64, Fail> {
+    let (workers, callers) = sides(asked, " ")?;
+    let workers = workers.parse::<u32>()?;
     if workers == 0 || workers > 16 {
         return Err("no pool has so many workers".into());
     }
     let passes = AtomicU64::new(9);
-    let mut pool = Pool::new(alloc, workers, Plain, Noting { passes: &passes })?;
-    let mut requests: Vec<Request> = Vec::new(alloc);
-    for caller in callers.split(' ') {
-        requests.push(request(caller.parse::<u32>()?, 1, CLOSE, b""))?;
-    }
-    let replies = pool.batch(rt, alloc, &requests)?;
-    if replies.len() != requests.len() {
+    let pool = Pool::new(alloc, workers, Plain, Noting { passes: &passes })?;
+    let requests = closes(alloc, callers)?;
+    let frames = told(rt, alloc, way, &mut Watched { pool }, &requests)?;
+    if frames.len() != 13 * requests.len().min(64) {
         return Err("not one reply for each request".into());
     }
     Ok(passes.load(Ordering::SeqCst))
+}
+
+/// A CLOSE of each of these callers, of no form.
+fn closes(alloc: Global, callers: &str) -> Result<Vec<Request<'static>>, Fail> {
+    let mut requests = Vec::new(alloc);
+    for caller in callers.split(' ') {
+        requests.push(request(caller.parse::<u32>()?, 1, CLOSE, b""))?;
+    }
+    Ok(requests)
 }

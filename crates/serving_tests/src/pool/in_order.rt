@@ -33,7 +33,7 @@ fn replies_stand_in_the_order_of_the_requests(rt: HostRuntime) -> Result<(), Fai
 }
 
 /// The body of a CONV of so many letters A on descriptor 0, with just the room that they need.
-fn letters(alloc: Global, size: usize) -> Result<Vec<u8>, AllocError> {
+pub fn letters(alloc: Global, size: usize) -> Result<Vec<u8>, AllocError> {
     let mut body = Vec::new(alloc);
     body.extend_from_slice(b"\0\0\0\0")?;
     body.extend_from_slice(&(size.min(65_535) as u32).to_be_bytes())?;
@@ -58,7 +58,7 @@ fn all_answered<R: Threads + Wait + Sync>(
 }
 
 /// OPENs of all callers in order.
-fn opens(alloc: Global) -> Result<Vec<Request<'static>>, Fail> {
+pub fn opens(alloc: Global) -> Result<Vec<Request<'static>>, Fail> {
     let mut opens = Vec::new(alloc);
     for caller in 0..CALLERS {
         opens.push(request(caller, caller + 100, OPEN, TO_UTF8))?;
@@ -67,7 +67,7 @@ fn opens(alloc: Global) -> Result<Vec<Request<'static>>, Fail> {
 }
 
 /// CONVs of all callers in the opposite order.
-fn convs(alloc: Global, body: &[u8]) -> Result<Vec<Request<'_>>, Fail> {
+pub fn convs(alloc: Global, body: &[u8]) -> Result<Vec<Request<'_>>, Fail> {
     let mut convs = Vec::new(alloc);
     for caller in 0..CALLERS {
         let last = CALLERS - 1 - caller;

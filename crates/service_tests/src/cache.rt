@@ -223,6 +223,18 @@ fn texts_and_charmaps_have_64_mib_at_most(rt: HostRuntime) -> Result<(), Fail> {
     Ok(())
 }
 
+/// Room is asked for as many pairs as a text of so many bytes may have, and what they don't need goes back.
+#[test]
+fn a_long_comment_makes_no_charmap_larger(rt: HostRuntime) -> Result<(), Fail> {
+    let short = text_of_size(rt.alloc(), 100)?;
+    let long = text_of_size(rt.alloc(), 100_000)?;
+    let small = Plain.compile(&rt, rt.alloc(), &short)?;
+    let large = Plain.compile(&rt, rt.alloc(), &long)?;
+    assert_eq!(rt; large.len(), 1);
+    assert_eq!(rt; large.size(), small.size());
+    Ok(())
+}
+
 /// A text of the charmap A, with one mapping.
 const SMALL: &[u8] = b"<code_set_name> A\nCHARMAP\n<question-mark> \\x6F\nEND CHARMAP\n";
 

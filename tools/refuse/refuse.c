@@ -1,5 +1,6 @@
 /* refuse.so, a library to be preloaded: it refuses one request for memory, that whose number FAIL_NTH is, counted from 1. sweep.py
-   runs programs with 1, 2 and so on, until a run has fewer requests than that.
+   runs programs with 1, 2 and so on, until a run has fewer requests than that. Those of fewer bytes than FAIL_FROM, if there is one,
+   are not counted.
 
    They are counted in the file that COUNT_TO names, as a long, so that the count is there however the program ends; and from
    just before the program's own start, since those of the loader are none of its. Those of threads are counted as they come.
@@ -17,10 +18,12 @@ void *__libc_realloc(void *block, size_t size);
 void *__libc_memalign(size_t alignment, size_t size);
 
 static atomic_long alone, *asked = &alone;
-static long refused;
+static long refused, least;
 
-static int is_refused(void)
+static int is_refused(size_t size)
 {
+    if ((long)size < least)
+        return 0;
     if (atomic_fetch_add(asked, 1) + 1 != refused)
         return 0;
     errno = ENOMEM;
@@ -29,7 +32,7 @@ static int is_refused(void)
 
 __attribute__((constructor)) static void begin(void)
 {
-    const char *nth = getenv("FAIL_NTH"), *file = getenv("COUNT_TO");
+    const char *nth = getenv("FAIL_NTH"), *from = getenv("FAIL_FROM"), *file = getenv("COUNT_TO");
     int descriptor = file ? open(file, O_RDWR | O_CREAT | O_CLOEXEC, 0644) : -1;
     if (descriptor >= 0 && ftruncate(descriptor, sizeof *asked) == 0) {
         void *shared = mmap(NULL, sizeof *asked, PROT_READ | PROT_WRITE, MAP_SHARED, descriptor, 0);
@@ -39,35 +42,36 @@ __attribute__((constructor)) static void begin(void)
     if (descriptor >= 0)
         close(descriptor);
     refused = nth ? strtol(nth, NULL, 10) : 0;
+    least = from ? strtol(from, NULL, 10) : 0;
     atomic_store(asked, 0);
 }
 
 void *malloc(size_t size)
 {
-    return is_refused() ? NULL : __libc_malloc(size);
+    return is_refused(size) ? NULL : __libc_malloc(size);
 }
 
 void *calloc(size_t count, size_t size)
 {
-    return is_refused() ? NULL : __libc_calloc(count, size);
+    return is_refused(count * size) ? NULL : __libc_calloc(count, size);
 }
 
 /* For no bytes it gives memory back, and is no request. */
 void *realloc(void *block, size_t size)
 {
-    return size > 0 && is_refused() ? NULL : __libc_realloc(block, size);
+    return size > 0 && is_refused(size) ? NULL : __libc_realloc(block, size);
 }
 
 void *aligned_alloc(size_t alignment, size_t size)
 {
-    return is_refused() ? NULL : __libc_memalign(alignment, size);
+    return is_refused(size) ? NULL : __libc_memalign(alignment, size);
 }
 
 int posix_memalign(void **block, size_t alignment, size_t size)
 {
     if (alignment == 0 || alignment % sizeof(void *) != 0 || (alignment & (alignment - 1)) != 0)
         return EINVAL;
-    void *found = is_refused() ? NULL : __libc_memalign(alignment, size);
+    void *found = is_refused(size) ? NULL : __libc_memalign(alignment, size);
     if (!found)
         return ENOMEM;
     *block = found;

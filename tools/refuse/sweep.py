@@ -6,7 +6,8 @@ the ample answer, which is that of a run where nothing is refused; replies of wh
 requests come to without those; or status 1 and the line `iconvd: out of memory`, with nothing printed or, where replies are written as
 they come, a front of the ample ones that ends with a whole one. A stream of `listen` may end so while the others are served whole, and
 the status is 0. Or `listen` has the ample answers, and one line says that it serves fewer streams at once than it was asked to.
-`refusals` has the ample answer alone; it says on standard error which call it made again, and that is counted.
+`refusals` has the ample answer alone; it says on standard error which call it made again, and that is counted. It runs once more with
+its large requests refused in turn, those of a guess among them, which no call may fail for: only calls that NEEDY names are made again.
 Any other run is named, and the status is then 1. The last line is `N passed, N failed`, and counts the runs.
 """
 import collections
@@ -26,12 +27,16 @@ SAYS = b"iconvd: out of memory\n"
 FEWER_THREADS = re.compile(rb"iconvd: only [0-9]+ streams at once: cannot start more threads\n")
 OUTCOMES = AMPLE, FEWER, ENOMEM, NOTHING, FRONT = ["ample", "fewer threads", "ENOMEM", "no memory", "after replies"]
 SECONDS = 20  # a run that takes longer stands still
+LARGE = 16384  # how many bytes a large request has at least
+# Calls of `refusals` that need large requests: for what a stream or a part brought, and not for a guess of what may come.
+NEEDY = {"what calls are given", "World::answer", *(f"{engine}::{call}" for engine in ("World", "WorldWith", "Pool") for call in ("batch", "batch_into")),
+         "serve", "serve, WorldWith", "serve, Pool", "serve, a text held", "serve_bytes"}
 CHARMAP = rb"<code_set_name> TOY|CHARMAP|<question-mark> \x3F|<U0100> \x80|END CHARMAP".replace(b"|", b"\n")
 
 Run = collections.namedtuple("Run", "status printed said streams", defaults=[()])
 # A command: its words and what it is given; the form and bytes of the requests that it answers, and by which command they are answered
-# where memory is ample; and with which status it ends behind some of its replies.
-Case = collections.namedtuple("Case", "words given form requests answering broken", defaults=[None, b"", (), None])
+# where memory is ample; with which status it ends behind some of its replies; and how many bytes a request has at least that is refused.
+Case = collections.namedtuple("Case", "words given form requests answering broken least", defaults=[None, b"", (), None, 0])
 
 
 class Lines:
@@ -69,10 +74,10 @@ class Frames:
         return b"\0\0\0\x09" + request[4:12] + b"\x06"
 
 
-def served(words, given, nth=0):
-    """A run whose request for memory of this number is refused, and how many it had."""
+def served(words, given, nth=0, least=0):
+    """A run whose request for memory of this number is refused, and how many it had; those of fewer bytes than the least are not counted."""
     with tempfile.NamedTemporaryFile() as count:
-        refusing = dict(os.environ, FAIL_NTH=str(nth), COUNT_TO=count.name, LD_PRELOAD=LIBRARY)
+        refusing = dict(os.environ, FAIL_NTH=str(nth), FAIL_FROM=str(least), COUNT_TO=count.name, LD_PRELOAD=LIBRARY)
         child = subprocess.Popen(words, stdin=subprocess.PIPE, stdout=subprocess.PIPE, stderr=subprocess.PIPE, env=refusing)
         try:
             run = given(child) if callable(given) else Run(None, *child.communicate(given, SECONDS))
@@ -158,14 +163,16 @@ def judge(case, whole, run):
 def sweep(name, case):
     """Refuses each request of a command in turn, and prints what the runs came to. It gives their number, and that of the bad ones."""
     start, counts, again, bad = time.perf_counter(), collections.Counter(), collections.Counter(), 0
-    whole, asked = served(case.words, case.given)
+    whole, asked = served(case.words, case.given, 0, case.least)
     if asked == 0:
         sys.exit(f"{name}: no request was counted: {LIBRARY} is not loaded")
     for nth in itertools.count(1):
-        run, asked = served(case.words, case.given, nth)
+        run, asked = served(case.words, case.given, nth, case.least)
         if case.words == [REFUSALS]:
-            again.update(run.said.decode(errors="replace").splitlines())
-            run = run._replace(said=whole.said)
+            said = run.said.decode(errors="replace").splitlines()
+            again.update(said)
+            if not case.least or NEEDY.issuperset(said):
+                run = run._replace(said=whole.said)
         outcome = judge(case, whole, run)
         counts[outcome] += 1
         if outcome is None:
@@ -203,6 +210,7 @@ def main():
         ("listen --at-once", Case([*listen, "--streams", "3", "--at-once", "3"], functools.partial(streams, at_once, frames), Frames, frames, ("pipe",), 0)),
         ("call", Case([PROGRAM, "call", address], short, Lines, broken=1)),
         ("refusals", Case([REFUSALS], b"")),
+        ("refusals, large", Case([REFUSALS], b"", least=LARGE)),
     ]))
     server.terminate()
     server.wait()

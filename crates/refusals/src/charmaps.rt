@@ -2,7 +2,7 @@
 
 use crate::again::{Trouble, ample, say_lacking};
 use crate::lines::{add_bytes, add_count};
-use crate::texts::{FAULTY, joined};
+use crate::texts::{FAULTY, roomy};
 use cv_base::Memory;
 use cv_cache::{Compiler, Plain};
 use cv_charmap::{CompileFault, MapFault, Pairs, read};
@@ -61,7 +61,7 @@ fn tell_compiled<R: Eprint>(
 /// A charmap, and the line of the first fault of a text that is none.
 pub fn tell<R: Eprint>(rt: &R, alloc: Global) -> Result<Vec<u8>, Trouble> {
     let mut lines = Vec::new(alloc);
-    let text = joined(alloc)?;
+    let text = roomy(alloc)?;
     tell_built(rt, alloc, &text, &mut lines)?;
     tell_compiled(rt, alloc, &text, &mut lines)?;
     let fault = again!(rt, "read, of a fault", fault_of(alloc))?;

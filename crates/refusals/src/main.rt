@@ -27,14 +27,17 @@ mod asked;
 mod cache;
 mod charmaps;
 mod commands;
+mod convs;
 mod engines;
 mod frames;
+mod kinds;
 mod lines;
 mod serving;
 mod texts;
 mod worlds;
 
 use again::{Trouble, say_lacking};
+use kinds::Kind;
 use serving::Way;
 use std::alloc::Global;
 use std::io::{self, Write};
@@ -54,8 +57,9 @@ enum Layer {
     World,
     WorldWith,
     Pool,
-    Serve,
-    ServeBytes,
+    Convs,
+    /// An engine of a kind, which is asked in a way.
+    Asked(Kind, Way),
     AskScript,
     ShowReplies,
     RunScript,
@@ -63,7 +67,7 @@ enum Layer {
     CheckText,
 }
 
-const LAYERS: [(Layer, &str); 15] = [
+const LAYERS: [(Layer, &str); 24] = [
     (Layer::Frames, "frames"),
     (Layer::Charmaps, "charmaps"),
     (Layer::Cache, "cache"),
@@ -72,8 +76,38 @@ const LAYERS: [(Layer, &str); 15] = [
     (Layer::World, "World, by batches"),
     (Layer::WorldWith, "WorldWith"),
     (Layer::Pool, "Pool"),
-    (Layer::Serve, "serve"),
-    (Layer::ServeBytes, "serve_bytes"),
+    (Layer::Convs, "World, CONVs appended"),
+    (
+        Layer::Asked(Kind::World, Way::Appended),
+        "World::batch_into",
+    ),
+    (
+        Layer::Asked(Kind::WithCache, Way::Appended),
+        "WorldWith::batch_into",
+    ),
+    (
+        Layer::Asked(Kind::TwoWorkers, Way::Appended),
+        "Pool::batch_into",
+    ),
+    (Layer::Asked(Kind::World, Way::Through), "serve"),
+    (
+        Layer::Asked(Kind::WithCache, Way::Through),
+        "serve, WorldWith",
+    ),
+    (Layer::Asked(Kind::TwoWorkers, Way::Through), "serve, Pool"),
+    (Layer::Asked(Kind::World, Way::InMemory), "serve_bytes"),
+    (
+        Layer::Asked(Kind::HoldingOne, Way::Appended),
+        "WorldWith::batch_into, a text held",
+    ),
+    (
+        Layer::Asked(Kind::HoldingTwo, Way::Appended),
+        "Pool::batch_into, a text held",
+    ),
+    (
+        Layer::Asked(Kind::HoldingOne, Way::Through),
+        "serve, a text held",
+    ),
     (Layer::AskScript, "ask_script"),
     (Layer::ShowReplies, "show_replies"),
     (Layer::RunScript, "run_script"),
@@ -85,6 +119,7 @@ fn tell<R: Eprint + RandomSource + Threads + Wait + Sync>(
     rt: &R,
     alloc: Global,
     layer: Layer,
+    name: &str,
 ) -> Result<Vec<u8>, Trouble> {
     match layer {
         Layer::Frames => frames::tell(rt, alloc),
@@ -95,8 +130,8 @@ fn tell<R: Eprint + RandomSource + Threads + Wait + Sync>(
         Layer::World => engines::tell_world(rt, alloc),
         Layer::WorldWith => engines::tell_world_with(rt, alloc),
         Layer::Pool => engines::tell_pool(rt, alloc),
-        Layer::Serve => serving::tell(rt, alloc, Way::Through),
-        Layer::ServeBytes => serving::tell(rt, alloc, Way::InMemory),
+        Layer::Convs => convs::tell(alloc),
+        Layer::Asked(kind, way) => serving::tell(rt, alloc, kind, way, name),
         Layer::AskScript => commands::tell_ask(rt, alloc),
         Layer::ShowReplies => commands::tell_show(rt, alloc),
         Layer::RunScript => commands::tell_run(rt, alloc, 1),
@@ -112,10 +147,10 @@ fn show<R: Print + Eprint + RandomSource + Threads + Wait + Sync>(
     layer: Layer,
     name: &str,
 ) -> io::Result<()> {
-    let mut told = tell(rt, alloc, layer);
+    let mut told = tell(rt, alloc, layer, name);
     if matches!(&told, Err(Trouble::Memory)) {
         say_lacking(rt, "what calls are given");
-        told = tell(rt, alloc, layer);
+        told = tell(rt, alloc, layer, name);
     }
     println!(rt; "{name}:")?;
     match told {

@@ -19,10 +19,20 @@ pub const FAULTY: &[u8] = b"CHARMAP\n<U0041> \\x41\n<U0042> \\x41\nEND CHARMAP\n
 /// So many bytes that two uploads of them in one batch are worth threads.
 const LONG: usize = 20_000;
 
+/// So many bytes that room for the pairs of a text of them is large.
+const GUESSED: usize = 100_000;
+
 /// The first charmap, whole.
 pub fn joined(alloc: Global) -> Result<Vec<u8>, AllocError> {
     let mut text = Vec::from_slice(alloc, HEAD)?;
     text.extend_from_slice(REST)?;
+    Ok(text)
+}
+
+/// The first charmap, with so long a comment behind it that room is asked for many more pairs than it has.
+pub fn roomy(alloc: Global) -> Result<Vec<u8>, AllocError> {
+    let mut text = joined(alloc)?;
+    text.resize(GUESSED.max(text.len()), b'#')?;
     Ok(text)
 }
 

@@ -20,6 +20,8 @@ mod conversions;
 #[cfg(test)]
 mod converting;
 #[cfg(test)]
+mod direct;
+#[cfg(test)]
 mod items;
 #[cfg(test)]
 mod names_and_blocks;

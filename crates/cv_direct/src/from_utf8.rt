@@ -82,7 +82,25 @@ fn ascii_units(text: &[u8], at: usize) -> Units
     }
 }
 
-/// The whole characters of up to three bytes at the start of a window, up to one that has four.
+/// One character of ASCII.
+#[inline(always)]
+fn ascii_unit(text: &[u8], at: usize) -> Units
+    requires within { at + 16 ≤ length text.now }
+    requires ascii { slice_index text.now at < 128 }
+    ensures { AreRead text.now at result }
+{
+    let units = u8x8::from_slice(&text[at..]).cast::<u16>();
+    Units {
+        first: units,
+        firsts: 1,
+        second: units,
+        seconds: 0,
+        used: 1,
+    }
+}
+
+/// The whole characters of up to three bytes at the start of a window, up to one that has four. Where a single one of ASCII is
+/// before that, a window is not read for it.
 #[inline(always)]
 #[tactic(auto, using(crate::proofs::UnitsPut::read_within))]
 fn next_units(text: &[u8], at: usize) -> Units
@@ -92,6 +110,9 @@ fn next_units(text: &[u8], at: usize) -> Units
 {
     if is_ascii_block(text, at) {
         return ascii_units(text, at);
+    }
+    if text[at + 1] >= FOUR_BYTES && text[at] < 128 {
+        return ascii_unit(text, at);
     }
     read_units(text, at)
 }
@@ -166,18 +187,45 @@ fn convert_high<O: ByteOrder>(text: &[u8], out: &mut [u8], at: usize) -> usize
     used
 }
 
+/// Whether none of sixteen bytes begins a character of four.
+#[inline(always)]
+fn have_no_fours(text: &[u8]) -> bool
+    requires { 16 ≤ length text.now }
+{
+    u8x16::from_slice(text)
+        .simd_ge(u8x16::splat(FOUR_BYTES))
+        .to_bitmask()
+        == 0
+}
+
+/// Whether the text before a row of characters of four bytes has no other near its end. To end for one row costs more than to
+/// convert it one by one, but rows one behind another go faster by blocks. It affects speed only.
+#[inline(always)]
+fn are_apart(before: &[u8]) -> bool {
+    let n = before.len();
+    n >= MANY
+        && have_no_fours(&before[n - MANY..])
+        && (n < 2 * MANY || have_no_fours(&before[n - 2 * MANY..]))
+}
+
 /// Converts the characters of four bytes behind a window whose characters have so many bytes, if it ended early, and if they
-/// are few.
+/// are few, or apart from others.
 #[inline(always)]
 #[tactic(auto, using(crate::proofs::Joined::none_converted_exactly))]
-fn convert_behind<O: ByteOrder>(window: usize, text: &[u8], out: &mut [u8], at: usize) -> usize
+fn convert_behind<O: ByteOrder>(
+    window: usize,
+    before: &[u8],
+    text: &[u8],
+    out: &mut [u8],
+    at: usize,
+) -> usize
     requires { at ≤ length out.old }
     ensures within { result ≤ length text.now }
     ensures room { at + result ≤ length out.new }
     ensures converted { IsConverted utf8_bytes (utf16 O.endian) text.now out.old at
         (record { used = result; wrote = result }) out.new }
 {
-    if window >= MANY || begins_with_fours(text) {
+    if window >= MANY || begins_with_fours(text) && !are_apart(before) {
         return 0;
     }
     convert_high::<O>(text, out, at)
@@ -207,7 +255,7 @@ fn last_other(units: &Units, high: usize, end: usize, other: usize) -> usize
 
 /// Converts the characters at the start of a text from UTF-8 to UTF-16. It ends before one that is not well-formed, or for
 /// which there might be no room, and before the last few bytes. It ends too behind much ASCII, or before several characters
-/// of four bytes in a row: the caller has faster ways for them.
+/// of four bytes in a row that are near others: the caller has faster ways for them.
 #[inline(never)]
 pub fn utf8_to_utf16<O: ByteOrder>(text: &[u8], out: &mut [u8], at: usize) -> Option<Direct>
     requires { at ≤ length out.old }
@@ -227,7 +275,7 @@ pub fn utf8_to_utf16<O: ByteOrder>(text: &[u8], out: &mut [u8], at: usize) -> Op
         let units = next_units(text, used);
         end += write_units::<O>(&units, out, end);
         used += units.used;
-        let high = convert_behind::<O>(units.used, &text[used..], out, end);
+        let high = convert_behind::<O>(units.used, &text[..used], &text[used..], out, end);
         end += high;
         used += high;
         other = last_other(&units, high, used, other);

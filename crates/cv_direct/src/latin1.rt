@@ -33,7 +33,7 @@ impl Source for Latin1Bytes {
     }
 
     #[inline(always)]
-    fn part_size() -> usize {
+    fn part_size(_zero_size: usize) -> usize {
         8
     }
 }

@@ -4,9 +4,10 @@ ghost use Rattle.std.specs.List.{flat_map};
 ghost use Rattle.cv_direct.specs.Direct.{IsConverted};
 ghost use Rattle.cv_direct.specs.Private.Loose.{IsPutLoosely, IsConvertedLoosely};
 
-use crate::direct::{Direct, convert};
-use crate::source::{Source, count_characters, first_units, surrogates};
+use crate::direct::{Direct, convert, last_other};
+use crate::source::{Source, are_characters, count_characters, first_units, surrogates};
 use crate::target::{ROOM, Target, copy_front};
+use crate::utf8::are_below;
 use cv_block::MANY;
 use std::simd::prelude::*;
 
@@ -15,6 +16,9 @@ const BUFFER: usize = 512;
 
 /// How many parts of mixed text are converted at least, before it is asked whether they are too small.
 const FEW: usize = 4;
+
+/// Behind so many windows of ASCII in a row mixed text ends.
+const MANY_ASCII: usize = 6;
 
 /// Converts the characters from U+10000 on at the start of a text, up to an end of the output, and answers how many bytes they have, which
 /// is the same in both.
@@ -107,11 +111,17 @@ fn fill<S: Source, T: Target>(text: &[u8], front: &mut [u8], end: usize) -> Dire
         result.used result.wrote 48 front.new }
 {
     let size = S::window_size();
-    let part_size = S::part_size();
+    let part_size = S::part_size(T::zero_size());
     let mut used = 0;
     let mut wrote = 0;
     let mut parts = 0;
-    while text.len() - used >= size && end - wrote >= ROOM && parts <= FEW + used / part_size {
+    let mut other = 0;
+    let many = MANY_ASCII * size;
+    while text.len() - used >= size
+        && end - wrote >= ROOM
+        && parts <= FEW + used / part_size
+        && used - other < many
+    {
         let run = convert_window::<S, T>(&text[used..], front, wrote, end);
         used += run.used;
         wrote += run.wrote;
@@ -119,6 +129,7 @@ fn fill<S: Source, T: Target>(text: &[u8], front: &mut [u8], end: usize) -> Dire
             break;
         }
         parts += 1;
+        other = last_other::<S, T>(run.wrote, &text[used..], used, other, many);
     }
     Direct { used, wrote }
 }
@@ -155,6 +166,20 @@ fn convert_plain<S: Source, T: Target>(text: &[u8], out: &mut [u8], at: usize) -
     }
 }
 
+/// Whether windows go on behind mixed text that has so many bytes in the output: not if it ended because it had many parts, or much ASCII.
+/// It affects speed only.
+#[inline(always)]
+fn goes_on<S: Source>(behind: &[u8], wrote: usize) -> bool {
+    if wrote > BUFFER - ROOM {
+        return true;
+    }
+    if behind.len() < S::window_size() {
+        return false;
+    }
+    let units = S::window(behind);
+    are_characters(units) && !are_below(units, 0x80)
+}
+
 /// Converts the windows at the start of a text, and then mixed text, and answers whether there was any.
 #[inline(always)]
 fn convert_both<S: Source, T: Target>(text: &[u8], out: &mut [u8], at: usize) -> (Direct, bool)
@@ -175,7 +200,9 @@ fn convert_both<S: Source, T: Target>(text: &[u8], out: &mut [u8], at: usize) ->
         used: plain.used + mixed.used,
         wrote: plain.wrote + mixed.wrote,
     };
-    (run, true)
+    let behind = &rest[mixed.used..];
+    let on = goes_on::<S>(behind, mixed.wrote);
+    (run, on)
 }
 
 /// Converts the text that windows take, with the characters from U+10000 on among them. It ends where `convert` ends for another reason,

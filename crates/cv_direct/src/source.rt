@@ -33,8 +33,9 @@ pub(crate) trait Source {
     /// Whether so many of sixteen units are surrogates, or in so many places, that they go faster by blocks. It affects speed only.
     fn is_dense(marks: u64) -> bool;
 
-    /// How many bytes each part of mixed text has at least, if it goes faster than by blocks. It affects speed only.
-    fn part_size() -> usize
+    /// How many bytes each part of mixed text has at least, if it goes faster than by blocks to an encoding in which U+0000 has so many bytes.
+    /// It affects speed only.
+    fn part_size(zero_size: usize) -> usize
         ensures { 0 < result };
 }
 

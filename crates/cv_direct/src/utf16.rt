@@ -54,7 +54,10 @@ fn ordered<O: ByteOrder>(units: u16x16) -> u16x16
 const MOST_RUNS: u32 = 4;
 
 /// How many bytes parts have at least on average that are faster by windows than by blocks.
-const PART: usize = 8;
+const PART: usize = 16;
+
+/// The same where a window is written as it is.
+const SHORT_PART: usize = 8;
 
 /// UTF-16 in a byte order.
 pub(crate) struct Utf16In<O> {
@@ -93,8 +96,8 @@ impl<O: ByteOrder> Source for Utf16In<O> {
     }
 
     #[inline(always)]
-    fn part_size() -> usize {
-        PART
+    fn part_size(zero_size: usize) -> usize {
+        if zero_size == 1 { PART } else { SHORT_PART }
     }
 }
 

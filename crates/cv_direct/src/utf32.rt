@@ -59,7 +59,7 @@ fn narrowed(numbers: &[u32; MANY]) -> u16x16
 const MOST_MARKS: u32 = 2;
 
 /// How many bytes parts have at least on average that are faster by windows than by blocks.
-const PART: usize = 32;
+const PART: usize = 80;
 
 /// UTF-32 in a byte order.
 pub(crate) struct Utf32In<O> {
@@ -97,7 +97,7 @@ impl<O: ByteOrder> Source for Utf32In<O> {
     }
 
     #[inline(always)]
-    fn part_size() -> usize {
+    fn part_size(_zero_size: usize) -> usize {
         PART
     }
 }

@@ -6,6 +6,7 @@ abbrev pub invariant-loop-used : goal.invariant-loop-used
 invariant-loop-used g l = record {
   within : l.used ≤ length l.text;
   few : l.parts ≤ l.used;
+  behind : l.other ≤ l.used;
   fit : l.wrote ≤ l.end;
   converted : IsConvertedLoosely g.S.Source.bytes_of g.T.Target.bytes_of l.text l.fn.front 0 l.used l.wrote 48 l.front;
 }

@@ -26,6 +26,8 @@ pub(crate) enum BlockSize {
     Short,
     /// The next ones after a block, while enough bytes are left.
     Long,
+    /// The next ones after windows that took few bytes: windows are not tried before them.
+    Alone,
 }
 
 impl BlockSize {
@@ -34,7 +36,26 @@ impl BlockSize {
     pub(crate) fn is_short(self) -> bool {
         match self {
             BlockSize::Short => true,
-            BlockSize::Long => false,
+            BlockSize::Long | BlockSize::Alone => false,
+        }
+    }
+
+    /// Whether windows are tried before the next block.
+    #[inline(always)]
+    pub(crate) fn allows_windows(self) -> bool {
+        match self {
+            BlockSize::Short | BlockSize::Long => true,
+            BlockSize::Alone => false,
+        }
+    }
+
+    /// The size after windows that took so many bytes. Behind fewer than `many` more windows are likely to take few again.
+    #[inline(always)]
+    pub(crate) fn behind_windows(used: usize, many: usize) -> BlockSize {
+        if used >= many {
+            BlockSize::Short
+        } else {
+            BlockSize::Alone
         }
     }
 
@@ -169,7 +190,7 @@ pub(crate) fn sized_block<F: BlockCodec, T: BlockCodec>(
         out.old at took states.new out.new) }
 {
     let took = match *size {
-        BlockSize::Long if rest.len() >= LONG_BLOCK => {
+        BlockSize::Long | BlockSize::Alone if rest.len() >= LONG_BLOCK => {
             long_blocks(from, to, policy, states, rest, out, at)
         }
         _ => short_block(from, to, policy, states, rest, out, at),

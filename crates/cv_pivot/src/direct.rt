@@ -209,8 +209,8 @@ const MANY_UNITS: usize = 256;
 /// UTF-32 has as many characters in twice the bytes.
 const MANY_WIDE: usize = 512;
 
-/// With less room no two windows are written, and a step of one costs more than it saves.
-const MANY_ROOM: usize = 128;
+/// With less room few windows are written, and a step of them may cost more than it saves.
+const MANY_ROOM: usize = 256;
 
 /// Whether the rest of a text may be taken at once, into so much room. It affects speed only. Behind a block of
 /// UTF-32 it may not: likely it has many characters from U+10000 on, which go by blocks as fast.
@@ -225,7 +225,7 @@ pub(crate) fn may_take_at_once(
     if may_copy(from, to) {
         return true;
     }
-    if rest.len() < MANY_BYTES || room < MANY_ROOM {
+    if rest.len() < MANY_BYTES || room < MANY_ROOM || !size.allows_windows() {
         return false;
     }
     match (from, to) {
@@ -236,6 +236,22 @@ pub(crate) fn may_take_at_once(
         (Encoding::Utf32(_), Encoding::Utf8) => size.is_short() && rest.len() >= MANY_WIDE,
         (Encoding::Utf32(_), Encoding::Utf16(_)) => size.is_short() && rest.len() >= MANY_WIDE,
         _ => false,
+    }
+}
+
+/// The size of the next block behind so many bytes that were taken at once. It affects speed only.
+#[inline(always)]
+pub(crate) fn size_behind(
+    from: &Encoding,
+    to: &Encoding,
+    size: BlockSize,
+    used: usize,
+) -> BlockSize {
+    match (from, to) {
+        (Encoding::Utf16(_), Encoding::Utf8) => BlockSize::behind_windows(used, MANY_UNITS),
+        (Encoding::Utf32(_), Encoding::Utf8) => BlockSize::behind_windows(used, MANY_WIDE),
+        (Encoding::Utf32(_), Encoding::Utf16(_)) => BlockSize::behind_windows(used, MANY_WIDE),
+        _ => size.behind_many(used),
     }
 }
 

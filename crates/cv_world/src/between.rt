@@ -10,7 +10,7 @@ use cv_base::{Codec, Memory};
 use cv_pivot::{Conversion, Outcome};
 
 /// How much memory is cleared at once.
-const AT_ONCE: usize = 4_096;
+const AT_ONCE: usize = 2_048;
 
 /// From how many bytes on memory that was cleared before is tried first.
 const ENOUGH: usize = 1_024;
@@ -144,9 +144,9 @@ fn convert_likely(
     Ok(joined(first, rest))
 }
 
-/// Converts into the memory of a vector, behind one place and before `size`. It is one `Conversion::convert` into a buffer that ends
-/// there. Memory that was cleared before comes first; what was written there says how much the rest is likely to need.
-pub(crate) fn convert_between(
+/// Converts into the memory of a vector, behind one place and before `size`. Memory that was cleared before comes first; what was
+/// written there says how much the rest is likely to need.
+fn convert_parts(
     conversion: &mut Conversion,
     input: &[u8],
     bytes: &mut Vec<u8>,
@@ -182,4 +182,31 @@ pub(crate) fn convert_between(
     let likely = at + likely_end(used, behind - at, first.left, size - at);
     let rest = convert_likely(conversion, &input[used..], bytes, behind, likely, size)?;
     Ok(joined(first, rest))
+}
+
+/// Converts into the memory of a vector, behind one place and before `size`. It is one `Conversion::convert` into a buffer that ends
+/// there, which is not cleared as a whole. Where it is cleared already, there is nothing to ask for.
+pub(crate) fn convert_between(
+    conversion: &mut Conversion,
+    input: &[u8],
+    bytes: &mut Vec<u8>,
+    at: usize,
+    size: usize,
+) -> Result<Outcome, Memory>
+    requires from { at ≤ vec_len bytes.old }
+    requires to { at ≤ size }
+    requires small { size < at + 2 ^ 32 }
+    requires short { length input.now ≤ MOST_BODY }
+    ensures stage { IfOk result (λ o. IsStage (form_reads (form_of conversion.old.from)) (form_writes (form_of conversion.old.to)) conversion.old.policy
+        conversion.old.states input.now bytes.old.items at size o conversion.new.states bytes.new.items) }
+    ensures kept { conversion.new ≡ record conversion.old { states = conversion.new.states } }
+    ensures few { IfOk result (λ o. (o.left ≤ length input.now) × (o.count ≤ length input.now)) }
+    ensures len { IfOk result (λ o. (at + o.room_left ≤ size) × (size ≤ o.room_left + vec_len bytes.new)) }
+    ensures same { take at bytes.new.items ≡ take at bytes.old.items }
+    ensures grows { vec_len bytes.old ≤ vec_len bytes.new }
+{
+    if size <= bytes.len() {
+        return Ok(convert_stage(conversion, input, bytes, at, size));
+    }
+    convert_parts(conversion, input, bytes, at, size)
 }

@@ -5,7 +5,7 @@ use Rattle.cv_pivot.specs.declared.conversion.Conversion.{Conversion}
 use Rattle.cv_pivot.proofs.RoomForTheMost.{few_converted}
 use Rattle.cv_world.specs.Private.Stages.{IsStage}
 use Rattle.cv_world.proofs.TwoStages.{wider_stage, two_stages, front_of_two}
-use Rattle.cv_world.proofs.between.convert_between.Goals as goal
+use Rattle.cv_world.proofs.between.convert_parts.Goals as goal
 
 pub returns-then-has_room-clause-stage : goal.returns-then-has_room-clause-stage
 returns-then-has_room-clause-stage c =

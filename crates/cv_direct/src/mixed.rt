@@ -5,9 +5,8 @@ ghost use Rattle.cv_direct.specs.Direct.{IsConverted};
 ghost use Rattle.cv_direct.specs.Private.Loose.{IsPutLoosely, IsConvertedLoosely};
 
 use crate::direct::{Direct, convert, last_other};
-use crate::source::{Source, are_characters, count_characters, first_units, surrogates};
+use crate::source::{Source, count_characters, first_units, surrogates};
 use crate::target::{ROOM, Target, copy_front};
-use crate::utf8::are_below;
 use cv_block::MANY;
 use std::simd::prelude::*;
 
@@ -166,21 +165,8 @@ fn convert_plain<S: Source, T: Target>(text: &[u8], out: &mut [u8], at: usize) -
     }
 }
 
-/// Whether windows go on behind mixed text that has so many bytes in the output: not if it ended because it had many parts, or much ASCII.
-/// It affects speed only.
-#[inline(always)]
-fn goes_on<S: Source>(behind: &[u8], wrote: usize) -> bool {
-    if wrote > BUFFER - ROOM {
-        return true;
-    }
-    if behind.len() < S::window_size() {
-        return false;
-    }
-    let units = S::window(behind);
-    are_characters(units) && !are_below(units, 0x80)
-}
-
-/// Converts the windows at the start of a text, and then mixed text, and answers whether there was any.
+/// Converts the windows at the start of a text, and then mixed text, and answers whether windows go on behind it: not if it ended before
+/// its buffer was full, because its parts were small, or ASCII follows.
 #[inline(always)]
 fn convert_both<S: Source, T: Target>(text: &[u8], out: &mut [u8], at: usize) -> (Direct, bool)
     requires { at ≤ length out.old }
@@ -200,9 +186,8 @@ fn convert_both<S: Source, T: Target>(text: &[u8], out: &mut [u8], at: usize) ->
         used: plain.used + mixed.used,
         wrote: plain.wrote + mixed.wrote,
     };
-    let behind = &rest[mixed.used..];
-    let on = goes_on::<S>(behind, mixed.wrote);
-    (run, on)
+    let is_full = mixed.wrote > BUFFER - ROOM;
+    (run, is_full)
 }
 
 /// Converts the text that windows take, with the characters from U+10000 on among them. It ends where `convert` ends for another reason,

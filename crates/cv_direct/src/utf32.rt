@@ -61,6 +61,9 @@ const MOST_MARKS: u32 = 2;
 /// How many bytes parts have at least on average that are faster by windows than by blocks.
 const PART: usize = 80;
 
+/// The same where a window is written as it is.
+const SHORT_PART: usize = 52;
+
 /// UTF-32 in a byte order.
 pub(crate) struct Utf32In<O> {
     order: PhantomData<O>,
@@ -97,7 +100,7 @@ impl<O: ByteOrder> Source for Utf32In<O> {
     }
 
     #[inline(always)]
-    fn part_size(_zero_size: usize) -> usize {
-        PART
+    fn part_size(zero_size: usize) -> usize {
+        if zero_size == 1 { PART } else { SHORT_PART }
     }
 }

@@ -10,12 +10,6 @@ slice_bounds-rest-count g c = converted_within _ _ _ _ _ _ _ c.convert_plain-pla
 pub slice_bounds-rest-start : goal.slice_bounds-rest-start
 slice_bounds-rest-start g c = converted_within _ _ _ _ _ _ _ c.convert_plain-plain.ensures.run
 
-pub slice_bounds-behind-count : goal.slice_bounds-behind-count
-slice_bounds-behind-count g c = converted_within _ _ _ _ _ _ _ c.in-Some.ensures.run
-
-pub slice_bounds-behind-start : goal.slice_bounds-behind-start
-slice_bounds-behind-start g c = converted_within _ _ _ _ _ _ _ c.in-Some.ensures.run
-
 pub overflow_add-run : goal.overflow_add-run
 overflow_add-run g c =
     let few = converted_within _ _ _ _ _ _ _ c.convert_plain-plain.ensures.run in

@@ -16,8 +16,8 @@ const BUFFER: usize = 512;
 /// How many parts of mixed text are converted at least, before it is asked whether they are too small.
 const FEW: usize = 4;
 
-/// Behind so many windows of ASCII in a row mixed text ends.
-const MANY_ASCII: usize = 6;
+/// Behind so many bytes of ASCII mixed text ends: 14 windows from UTF-32. From UTF-16 its buffer is full before.
+const MANY_ASCII: usize = 896;
 
 /// Converts the characters from U+10000 on at the start of a text, up to an end of the output, and answers how many bytes they have, which
 /// is the same in both.
@@ -115,11 +115,10 @@ fn fill<S: Source, T: Target>(text: &[u8], front: &mut [u8], end: usize) -> Dire
     let mut wrote = 0;
     let mut parts = 0;
     let mut other = 0;
-    let many = MANY_ASCII * size;
     while text.len() - used >= size
         && end - wrote >= ROOM
         && parts <= FEW + used / part_size
-        && used - other < many
+        && used - other < MANY_ASCII
     {
         let run = convert_window::<S, T>(&text[used..], front, wrote, end);
         used += run.used;
@@ -128,7 +127,7 @@ fn fill<S: Source, T: Target>(text: &[u8], front: &mut [u8], end: usize) -> Dire
             break;
         }
         parts += 1;
-        other = last_other::<S, T>(run.wrote, &text[used..], used, other, many);
+        other = last_other::<S, T>(run.wrote, &text[used..], used, other, MANY_ASCII);
     }
     Direct { used, wrote }
 }

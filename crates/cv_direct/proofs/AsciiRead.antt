@@ -1,5 +1,5 @@
 -- Sixteen bytes of ASCII that are read as units, in two parts.
-use Rattle.std.proofs.Common.{◌≡◌, ℕ, ◌+◌, ◌<◌, ◌≤◌, List, ◌++◌, length, length-take, length-drop, append-nil, take, drop, get_or, sym, ◌∙◌, ap, ap₂, subst, refl, arith, lit≤, take-append-drop}
+use Rattle.std.proofs.Common.{◌≡◌, ℕ, ◌+◌, ◌<◌, ◌≤◌, List, ◌++◌, length, length-take, length-drop, take, drop, get_or, sym, ◌∙◌, ap, ap₂, subst, refl, arith, lit≤, take-append-drop}
 use Rattle.std.proofs.lemmas.List.{take_all, drop-drop, drop-take, take-take}
 use Rattle.cv_base.specs.Scalars.{AreScalars}
 use Rattle.cv_utf8.specs.Units.{AreRead}
@@ -22,17 +22,4 @@ ascii_read text first second at within ascii f g =
     let whole : take 16 units ≡ units = take_all 16 units (omega (arith, size)) in
     let r = read_front text at units units 0 16 within (lit≤ tt) ascii (omega (arith, size)) refl whole in
     let is : r.characters ≡ take 8 first ++ take 8 second = sym r.stand ∙ whole ∙ sym (halves text first second at f g) in
-    record { few = lit≤ tt; others = lit≤ tt; scalars = subst AreScalars is r.scalars; begins = rw is at r.begins; uses = rw is at r.uses }
-
--- the first of eight bytes, as a part of one character
-pub one_read : (text first second : List ℕ) (at : ℕ) → at + 16 ≤ length text → get_or text at 0 < 128 → first ≡ take 8 (drop at text) → AreRead text at (record { first = first; firsts = 1; second = second; seconds = 0; used = 1 })
-one_read text first second at within ascii f =
-    let rest : List ℕ = drop at text in
-    let units : List ℕ = take 16 rest in
-    let size : length units ≡ 16 = omega (arith, length-take 16 (drop at text), length-drop at text) in
-    let whole : take 16 units ≡ units = take_all 16 units (omega (arith, size)) in
-    let below : (k : ℕ) → k < 1 → get_or text (at + k) 0 < 128 = (λ k h. let here : at ≡ at + k = omega (arith, h) in subst (λ (i : ℕ). get_or text i 0 < 128) here ascii) in
-    let r = read_front text at units units 0 1 within (lit≤ tt) below (omega (arith, size)) refl whole in
-    let same : take 1 units ≡ take 1 first = take-take 1 16 rest (lit≤ tt) ∙ sym (take-take 1 8 rest (lit≤ tt)) ∙ sym (ap (take 1) f) in
-    let is : r.characters ≡ take 1 first ++ take 0 second = sym r.stand ∙ same ∙ sym (append-nil (take 1 first)) in
     record { few = lit≤ tt; others = lit≤ tt; scalars = subst AreScalars is r.scalars; begins = rw is at r.begins; uses = rw is at r.uses }

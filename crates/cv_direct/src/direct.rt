@@ -9,7 +9,7 @@ use crate::latin1::Latin1Bytes;
 use crate::mixed::convert_all;
 use crate::source::{Source, are_characters};
 use crate::target::{ROOM, Target, write_last};
-use crate::utf8::{Utf8Bytes, are_below};
+use crate::utf8::Utf8Bytes;
 use crate::utf16::Utf16In;
 use crate::utf32::Utf32In;
 use cv_block::{ByteOrder, MANY};
@@ -27,34 +27,29 @@ pub struct Direct {
 /// windows.
 const MANY_ASCII: usize = 12;
 
-/// Whether four windows at the start of a text are ASCII. It affects speed only.
+/// Behind so many windows a loop to UTF-16 ends, in which ASCII has the size of other text, so that it is not told from it: the
+/// caller looks for a run of ASCII.
+const MANY_WINDOWS: usize = 128;
+
+/// Behind so many windows in a row that may be ASCII a loop ends. It affects speed only.
 #[inline(always)]
-fn begins_with_ascii<S: Source>(text: &[u8]) -> bool {
-    let size = S::window_size();
-    text.len() >= 4 * size
-        && are_below(S::window(text), 0x80)
-        && are_below(S::window(&text[size..]), 0x80)
-        && are_below(S::window(&text[2 * size..]), 0x80)
-        && are_below(S::window(&text[3 * size..]), 0x80)
+fn many_windows<T: Target>() -> usize
+    ensures { result ≤ MANY_WINDOWS }
+{
+    if T::zero_size() == 1 {
+        MANY_ASCII
+    } else {
+        MANY_WINDOWS
+    }
 }
 
-/// Where the last part that was not ASCII ended, behind one that wrote so many bytes. Where ASCII has no size of its own, it is asked
-/// behind `many` bytes whether what follows is ASCII.
+/// Where the last window that is known not to be ASCII ended, behind one that wrote so many bytes.
 #[inline(always)]
-pub(crate) fn last_other<S: Source, T: Target>(
-    wrote: usize,
-    rest: &[u8],
-    used: usize,
-    other: usize,
-    many: usize,
-) -> usize
+fn last_other<T: Target>(wrote: usize, used: usize, other: usize) -> usize
     requires { other ≤ used }
     ensures { result ≤ used }
 {
-    if T::zero_size() == 1 {
-        return if wrote == MANY { other } else { used };
-    }
-    if used - other < many || begins_with_ascii::<S>(rest) {
+    if T::zero_size() != 1 || wrote == MANY {
         return other;
     }
     used
@@ -86,7 +81,7 @@ pub(crate) fn convert<S: Source, T: Target>(
     let mut used = 0;
     let mut end = at;
     let mut other = 0;
-    let many = MANY_ASCII * size;
+    let many = many_windows::<T>() * size;
     while text.len() - used >= 2 * size && out.len() - end >= 2 * ROOM && used - other < many {
         let next = S::window(&text[used + size..]);
         if !are_characters(next) {
@@ -95,7 +90,7 @@ pub(crate) fn convert<S: Source, T: Target>(
         let wrote = T::write_window(units, out, end);
         end += wrote;
         used += size;
-        other = last_other::<S, T>(wrote, &text[used..], used, other, many);
+        other = last_other::<T>(wrote, used, other);
         units = next;
     }
     end += write_last::<T>(units, out, end);

@@ -82,25 +82,7 @@ fn ascii_units(text: &[u8], at: usize) -> Units
     }
 }
 
-/// One character of ASCII.
-#[inline(always)]
-fn ascii_unit(text: &[u8], at: usize) -> Units
-    requires within { at + 16 ≤ length text.now }
-    requires ascii { slice_index text.now at < 128 }
-    ensures { AreRead text.now at result }
-{
-    let units = u8x8::from_slice(&text[at..]).cast::<u16>();
-    Units {
-        first: units,
-        firsts: 1,
-        second: units,
-        seconds: 0,
-        used: 1,
-    }
-}
-
-/// The whole characters of up to three bytes at the start of a window, up to one that has four. Where a single one of ASCII is
-/// before that, a window is not read for it.
+/// The whole characters of up to three bytes at the start of a window, up to one that has four.
 #[inline(always)]
 #[tactic(auto, using(crate::proofs::UnitsPut::read_within))]
 fn next_units(text: &[u8], at: usize) -> Units
@@ -110,9 +92,6 @@ fn next_units(text: &[u8], at: usize) -> Units
 {
     if is_ascii_block(text, at) {
         return ascii_units(text, at);
-    }
-    if text[at + 1] >= FOUR_BYTES && text[at] < 128 {
-        return ascii_unit(text, at);
     }
     read_units(text, at)
 }

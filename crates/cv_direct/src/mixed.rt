@@ -4,7 +4,7 @@ ghost use Rattle.std.specs.List.{flat_map};
 ghost use Rattle.cv_direct.specs.Direct.{IsConverted};
 ghost use Rattle.cv_direct.specs.Private.Loose.{IsPutLoosely, IsConvertedLoosely};
 
-use crate::direct::{Direct, convert, last_other};
+use crate::direct::{Direct, convert};
 use crate::source::{Source, count_characters, first_units, surrogates};
 use crate::target::{ROOM, Target, copy_front};
 use cv_block::MANY;
@@ -16,8 +16,11 @@ const BUFFER: usize = 512;
 /// How many parts of mixed text are converted at least, before it is asked whether they are too small.
 const FEW: usize = 4;
 
-/// Behind so many bytes of ASCII mixed text ends: 14 windows from UTF-32. From UTF-16 its buffer is full before.
+/// Behind so many bytes of ASCII mixed text from UTF-32 to UTF-8 ends: 14 windows. Its buffer would take 28.
 const MANY_ASCII: usize = 896;
+
+/// How many bytes a window of UTF-32 has.
+const WIDE: usize = 64;
 
 /// Converts the characters from U+10000 on at the start of a text, up to an end of the output, and answers how many bytes they have, which
 /// is the same in both.
@@ -100,6 +103,19 @@ fn is_mixed<S: Source>(text: &[u8]) -> bool
     marks != 0 && !S::is_dense(marks)
 }
 
+/// Where the last part ended that was not ASCII, behind one that wrote so many bytes. From UTF-16 a buffer is soon full of ASCII, and to
+/// UTF-16 it is not told from other text: there each part counts as another.
+#[inline(always)]
+fn last_other<S: Source, T: Target>(wrote: usize, used: usize, other: usize) -> usize
+    requires { other ≤ used }
+    ensures { result ≤ used }
+{
+    if S::window_size() == WIDE && T::zero_size() == 1 && wrote == MANY {
+        return other;
+    }
+    used
+}
+
 /// Converts windows into a buffer, up to an end, and answers what was converted. It ends too where they had many
 /// parts for their bytes.
 #[inline(always)]
@@ -127,7 +143,7 @@ fn fill<S: Source, T: Target>(text: &[u8], front: &mut [u8], end: usize) -> Dire
             break;
         }
         parts += 1;
-        other = last_other::<S, T>(run.wrote, &text[used..], used, other, MANY_ASCII);
+        other = last_other::<S, T>(run.wrote, used, other);
     }
     Direct { used, wrote }
 }

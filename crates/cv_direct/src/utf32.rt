@@ -59,7 +59,7 @@ fn narrowed(numbers: &[u32; MANY]) -> u16x16
 const MOST_MARKS: u32 = 2;
 
 /// How many bytes parts have at least on average that are faster by windows than by blocks.
-const PART: usize = 64;
+const PART: usize = 48;
 
 /// The same where a window is written as it is.
 const SHORT_PART: usize = 40;

@@ -36,15 +36,3 @@ returns-then-run-eq0-clause-converted g c =
     let more = c.convert_window-run.result in
     let place : wrote ≡ 0 + wrote = omega arith in
     converted_more g.S.Source.bytes_of g.T.Target.bytes_of c.args.text.now c.args.front.now 0 used wrote 48 more.used more.wrote 48 48 wrote c.loop-used.front c.convert_window-run.new.out i.converted place (rw take_rest at c.convert_window-run.ensures.converted) (omega arith) (omega arith)
-
-pub slice_bounds-last_other-count : goal.slice_bounds-last_other-count
-slice_bounds-last_other-count g c =
-    let run = rw take_rest at c.convert_window-run.ensures.converted in
-    let few = loosely_within _ _ _ _ _ _ _ _ _ run in
-    omega (arith, few, length-drop c.loop-used.used c.args.text.now, c.loop-used.invariant.within)
-
-pub slice_bounds-last_other-start : goal.slice_bounds-last_other-start
-slice_bounds-last_other-start g c =
-    let run = rw take_rest at c.convert_window-run.ensures.converted in
-    let few = loosely_within _ _ _ _ _ _ _ _ _ run in
-    omega (arith, few, length-drop c.loop-used.used c.args.text.now, c.loop-used.invariant.within)

@@ -30,7 +30,7 @@ build: $(PROGRAM) ## proves and builds the program; CPU=x86-64-v3: for processor
 	@echo $(PROGRAM)
 
 # The program gets the time at which its build began: it is older than a source that was edited meanwhile.
-$(PROVED) crates/refusals/out/refusals $(BENCH): $(SOURCES)
+$(PROVED) crates/refusals/out/refusals crates/workloads/out/workloads $(BENCH): $(SOURCES)
 	@tools/need 'make build' rt python3
 	@tools/build $(@F) $@
 

@@ -101,6 +101,10 @@ runs_join limit form text at n m e p q k h = elim (cases_lt k n) [
 pub unit_more : (form : AsciiForm) (n : ℕ) → unit_size form * (n + 1) ≡ unit_size form * n + unit_size form
 unit_more form n = ap (λ (k : ℕ). unit_size form * k) (omega arith) ∙ mul-suc (unit_size form) n ∙ omega arith
 
+-- the places of one block more
+pub block_more : (form : AsciiForm) (n : ℕ) → unit_size form * (16 * (n + 1)) ≡ unit_size form * (16 * n) + unit_size form * 16
+block_more form n = ap (λ (k : ℕ). unit_size form * k) (omega arith) ∙ mul-add (unit_size form) (16 * n) 16
+
 -- one unit more fits if all do
 pub unit_fits : (form : AsciiForm) (k n : ℕ) → k < n → unit_size form * k + unit_size form ≤ unit_size form * n
 unit_fits form k n h =

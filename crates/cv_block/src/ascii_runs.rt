@@ -1,101 +1,15 @@
 //! Runs of small characters: units of one form that are written in another.
-ghost use Rattle.std.specs.Prelude.{◌≡◌, ◌≤◌, ◌<◌, ◌+◌, ◌*◌, ◌++◌, ℕ, length, take, drop, get_or, IsTrue};
+ghost use Rattle.std.specs.Prelude.{◌≡◌, ◌≤◌, ◌+◌, ◌*◌, ◌++◌, length, take, drop};
 ghost use Rattle.cv_base.specs.Units.{unit_size};
 ghost use Rattle.cv_base.specs.declared.ascii_form.AsciiForm.{AsciiForm};
-ghost use Rattle.cv_block.specs.AsciiRuns.{IsBelowAt, IsRunBelow, characters_in, offset, units_of};
+ghost use Rattle.cv_block.specs.AsciiRuns.{IsRunBelow, characters_in, units_of};
 
 use crate::byte_order::{BigEndian, LittleEndian};
 use crate::repertoire::Repertoire;
-use crate::small_units::{BLOCK, are_below, form_may_run, is_below};
+use crate::small_units::{BLOCK, form_may_run, is_below};
 use crate::unit::{Byte, Four, Two, Unit};
+use crate::unit_blocks::{character, take_all_blocks};
 use cv_base::{AsciiForm, Endian};
-
-/// The character of the unit here if it is one byte, and otherwise its lowest byte.
-#[inline(always)]
-#[tactic(auto, using(crate::proofs::UnitBytes::low_byte))]
-fn character<U: Unit>(bytes: &[u8], at: usize) -> u32
-    requires { at + unit_size U.form ≤ length bytes.now }
-    ensures few { result < 0x100 }
-    ensures lowest { result ≡ get_or bytes.now (at + offset U.form) 0 }
-{
-    U::number(bytes, at) % 0x100
-}
-
-/// Writes the characters of the first `n` units of one form in another. No unit is tested.
-#[inline(always)]
-fn write_units<From: Unit, To: Unit>(rest: &[u8], n: usize, out: &mut [u8], at: usize)
-    requires stand { unit_size From.form * n ≤ length rest.now }
-    requires fit { at + unit_size To.form * n ≤ length out.old }
-    ensures { out.new
-        ≡ take at out.old ++ units_of To.form (characters_in From.form rest.now n)
-        ++ drop (at + unit_size To.form * n) out.old }
-{
-    let mut used = 0;
-    let mut end = at;
-    for _unit in 0..n {
-        To::write(out, end, character::<From>(rest, used));
-        used += From::size();
-        end += To::size();
-    }
-}
-
-/// The lowest bytes of a block of units.
-#[inline(always)]
-fn low_bytes<U: Unit>(units: &[u8]) -> [u8; BLOCK]
-    requires { unit_size U.form * 16 ≤ length units.now }
-    ensures { result ≡ characters_in U.form units.now 16 }
-{
-    let mut low = [0; BLOCK];
-    let mut place = 0;
-    for k in 0..BLOCK {
-        low[k] = character::<U>(units, place) as u8;
-        place += U::size();
-    }
-    low
-}
-
-/// Writes the characters of a block of units of one form in another. They are copied into an array of their own before the first is
-/// written: LLVM does not know that the slices are disjoint, and would process them one by one.
-#[inline(always)]
-fn write_block<From: Unit, To: Unit>(units: &[u8], out: &mut [u8], at: usize)
-    requires stand { unit_size From.form * 16 ≤ length units.now }
-    requires fit { at + unit_size To.form * 16 ≤ length out.old }
-    ensures { out.new
-        ≡ take at out.old ++ units_of To.form (characters_in From.form units.now 16)
-        ++ drop (at + unit_size To.form * 16) out.old }
-{
-    let low = low_bytes::<From>(units);
-    write_units::<Byte, To>(&low, BLOCK, out, at);
-}
-
-/// Writes the blocks of a run's units at the start in another form, of `most` units at most, and answers how many units they
-/// are. Each block is tested and written in one pass.
-#[inline(always)]
-fn take_blocks<R: Repertoire, From: Unit, To: Unit>(
-    rest: &[u8],
-    most: usize,
-    out: &mut [u8],
-    at: usize,
-) -> usize
-    requires stand { unit_size From.form * most ≤ length rest.now }
-    requires fit { at + unit_size To.form * most ≤ length out.old }
-    ensures within { result ≤ most }
-    ensures small { IsRunBelow R.limit From.form rest.now result }
-    ensures out { out.new
-        ≡ take at out.old ++ units_of To.form (characters_in From.form rest.now result)
-        ++ drop (at + unit_size To.form * result) out.old }
-{
-    let mut n = 0;
-    let mut used = 0;
-    let mut end = at;
-    while most - n >= BLOCK && are_below::<R, From>(rest, used) {
-        write_block::<From, To>(&rest[used..], out, end);
-        n += BLOCK;
-        used += From::size() * BLOCK;
-        end += To::size() * BLOCK;
-    }
-    n
-}
 
 /// Writes the units of a run at the start of a text in another form one by one, `most` at most, and answers how many they are.
 #[inline(always)]
@@ -151,7 +65,7 @@ fn take_in<R: Repertoire, From: Unit, To: Unit>(rest: &[u8], out: &mut [u8], at:
         ++ drop (at + unit_size To.form * result) out.old }
 {
     let most = (rest.len() / From::size()).min((out.len() - at) / To::size());
-    let n = take_blocks::<R, From, To>(rest, most, out, at);
+    let n = take_all_blocks::<R, From, To>(rest, most, out, at);
     if n == most || n == 0 && most >= BLOCK {
         return n;
     }

@@ -13,6 +13,7 @@ mod spelled_writing;
 mod spelling;
 mod surrogates;
 mod unit;
+mod unit_blocks;
 mod unit_fronts;
 mod unit_runs;
 mod words;

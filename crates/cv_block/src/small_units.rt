@@ -69,6 +69,21 @@ pub(crate) fn are_below<R: Repertoire, U: Unit>(bytes: &[u8], at: usize) -> bool
     }
 }
 
+/// Whether the first `BLOCKS` blocks of units are of characters of the run. All are tested, so that one branch decides for all.
+#[inline(always)]
+pub(crate) fn are_blocks_below<R: Repertoire, U: Unit, const BLOCKS: usize>(units: &[u8]) -> bool
+    requires { unit_size U.form * (16 * BLOCKS) ≤ length units.now }
+    ensures { IsTrue result → IsRunBelow R.limit U.form units.now (16 * BLOCKS) }
+{
+    let mut all = true;
+    let mut place = 0;
+    for _block in 0..BLOCKS {
+        all &= are_below::<R, U>(units, place);
+        place += U::size() * BLOCK;
+    }
+    all
+}
+
 /// Whether a run may be at the start: a block of its units, or in a text shorter than a block its first unit. It affects speed
 /// only: in longer texts a test of fewer units would often look for a run when there is none.
 #[inline(always)]

@@ -5,6 +5,7 @@ ghost use Rattle.cv_base.specs.declared.ascii_form.AsciiForm.{AsciiForm};
 ghost use Rattle.cv_block.specs.Units.{IsUnitAt};
 
 use crate::byte_order::ByteOrder;
+use cv_base::Endian;
 use cv_base::place::write_slice;
 use std::marker::PhantomData;
 
@@ -19,6 +20,9 @@ pub trait Unit {
     /// Whether it is one byte.
     fn is_byte() -> bool
         ensures { IsTrue result → form ≡ AsciiForm.Byte };
+
+    /// Whether many blocks of it are taken faster at once than one by one. It affects speed only.
+    fn takes_many() -> bool;
 
     /// The number of the unit here.
     fn number(bytes: &[u8], at: usize) -> u32
@@ -54,6 +58,11 @@ impl Unit for Byte {
     }
 
     #[inline(always)]
+    fn takes_many() -> bool {
+        true
+    }
+
+    #[inline(always)]
     fn number(bytes: &[u8], at: usize) -> u32 {
         bytes[at] as u32
     }
@@ -66,6 +75,15 @@ impl Unit for Byte {
     #[inline(always)]
     fn write(out: &mut [u8], at: usize, number: u32) {
         write_slice(out, at, [number as u8]);
+    }
+}
+
+/// Whether many blocks of units in an order are taken faster at once. LLVM reads many blocks of big-endian ones byte by byte.
+#[inline(always)]
+fn many_pay<O: ByteOrder>() -> bool {
+    match O::order() {
+        Endian::Little => true,
+        Endian::Big => false,
     }
 }
 
@@ -85,6 +103,11 @@ impl<O: ByteOrder> Unit for Two<O> {
     #[inline(always)]
     fn is_byte() -> bool {
         false
+    }
+
+    #[inline(always)]
+    fn takes_many() -> bool {
+        many_pay::<O>()
     }
 
     #[inline(always)]
@@ -119,6 +142,11 @@ impl<O: ByteOrder> Unit for Four<O> {
     #[inline(always)]
     fn is_byte() -> bool {
         false
+    }
+
+    #[inline(always)]
+    fn takes_many() -> bool {
+        many_pay::<O>()
     }
 
     #[inline(always)]

@@ -1,6 +1,6 @@
 use Rattle.std.proofs.Common.{◌≡◌, ◌∙◌, length, ap}
 use Rattle.cv_block.proofs.AsciiRuns.{sixteen_are, length-characters}
-use Rattle.cv_block.proofs.ascii_runs.write_block.Goals as goal
+use Rattle.cv_block.proofs.unit_blocks.write_block.Goals as goal
 
 pub returns : goal.returns
 returns g c =

@@ -3,7 +3,7 @@ use Rattle.std.proofs.Math.Seq.{take-suc-set}
 use Rattle.cv_base.specs.Units.{unit_size}
 use Rattle.cv_block.specs.AsciiRuns.{characters_in, offset}
 use Rattle.cv_block.proofs.AsciiRuns.{unit_more, unit_fits}
-use Rattle.cv_block.proofs.ascii_runs.low_bytes.Goals as goal
+use Rattle.cv_block.proofs.unit_blocks.low_bytes.Goals as goal
 
 pub character-requires : goal.character-requires
 character-requires g c = omega (arith, unit_fits g.U.Unit.form c.loop-k.k 16 c.loop-k-test.true)

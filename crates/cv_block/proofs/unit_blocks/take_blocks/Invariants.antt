@@ -2,7 +2,7 @@ use Rattle.std.proofs.Common.{◌-◌, ◌≡◌, ◌≤◌, ◌+◌, ◌*◌}
 use Rattle.cv_base.specs.Units.{unit_size}
 use Rattle.cv_block.specs.AsciiRuns.{IsRunBelow}
 use Rattle.cv_block.proofs.AsciiRuns.{put_run}
-use Rattle.cv_block.proofs.ascii_runs.take_blocks.Given as goal
+use Rattle.cv_block.proofs.unit_blocks.take_blocks.Given as goal
 
 abbrev pub invariant-loop-n : goal.invariant-loop-n
 invariant-loop-n g l = record {

@@ -1,7 +1,7 @@
 use Rattle.std.proofs.Common.{arith, add-one, add-zero, mul-zero}
 use Rattle.cv_block.proofs.UnitBytes.{byte_fits}
 use Rattle.cv_block.proofs.AsciiRuns.{unit_more, unit_fits, put_none, put_more}
-use Rattle.cv_block.proofs.ascii_runs.write_units.Goals as goal
+use Rattle.cv_block.proofs.unit_blocks.write_units.Goals as goal
 
 pub character-requires : goal.character-requires
 character-requires g c = omega (arith, unit_fits g.From.Unit.form c.loop-unit._unit c.args.n c.loop-unit-test.true)

@@ -1,7 +1,7 @@
 use Rattle.std.proofs.Common.{◌≡◌, ◌+◌, ◌*◌}
 use Rattle.cv_base.specs.Units.{unit_size}
 use Rattle.cv_block.proofs.AsciiRuns.{put_run}
-use Rattle.cv_block.proofs.ascii_runs.write_units.Given as goal
+use Rattle.cv_block.proofs.unit_blocks.write_units.Given as goal
 
 abbrev pub invariant-loop-unit : goal.invariant-loop-unit
 invariant-loop-unit g l = record {

@@ -1,7 +1,7 @@
 use Rattle.std.proofs.Common.{◌≡◌, ◌*◌, length, take}
 use Rattle.cv_base.specs.Units.{unit_size}
 use Rattle.cv_block.specs.AsciiRuns.{characters_in}
-use Rattle.cv_block.proofs.ascii_runs.low_bytes.Given as goal
+use Rattle.cv_block.proofs.unit_blocks.low_bytes.Given as goal
 
 abbrev pub invariant-loop-k : goal.invariant-loop-k
 invariant-loop-k g l = record {

@@ -42,9 +42,20 @@ fn repeated(alloc: Global, words: &str) -> Result<Vec<u8>, Fail> {
     Ok(text)
 }
 
+/// The words, 600 times a letter of ASCII, and the words again.
+fn apart(alloc: Global, words: &str, letter: &str) -> Result<Vec<u8>, Fail> {
+    let mut text = repeated(alloc, words)?;
+    let bytes = bytes_of(alloc, letter)?;
+    for _letter in 0..600usize {
+        text.extend_from_slice(&bytes)?;
+    }
+    text.extend_from_slice(&repeated(alloc, words)?)?;
+    Ok(text)
+}
+
 /// Room for what any of the texts here is converted to.
 fn room(alloc: Global) -> Result<Vec<u8>, Fail> {
-    Ok(vec![in alloc; 0u8; 2048]?)
+    Ok(vec![in alloc; 0u8; 8192]?)
 }
 
 /// Whether a loop took a text, up to its last `left` bytes, and wrote what is wanted.
@@ -105,6 +116,29 @@ fn latin1_to_utf8_takes_text(rt: HostRuntime) -> Result<(), Fail> {
     let mut out = room(rt.alloc())?;
     let run = latin1_to_utf8(&text, &mut out, 0);
     assert!(rt; is_taken(run, &text, 0, &out, &wanted));
+    Ok(())
+}
+
+/// A run of ASCII ends windows, and they go on behind it.
+#[test]
+fn runs_of_ascii_are_taken_from_utf32(rt: HostRuntime) -> Result<(), Fail> {
+    let text = apart(rt.alloc(), UTF32LE, "61000000")?;
+    let mut out = room(rt.alloc())?;
+    let run = utf32_to_utf8::<LittleEndian>(&text, &mut out, 0);
+    assert!(rt; is_taken(run, &text, 0, &out, &apart(rt.alloc(), UTF8, "61")?));
+    let run = utf32_to_utf16::<LittleEndian, BigEndian>(&text, &mut out, 0);
+    assert!(rt; is_taken(run, &text, 0, &out, &apart(rt.alloc(), UTF16BE, "0061")?));
+    Ok(())
+}
+
+#[test]
+fn runs_of_ascii_are_taken_from_utf16(rt: HostRuntime) -> Result<(), Fail> {
+    let text = apart(rt.alloc(), UTF16LE, "6100")?;
+    let mut out = room(rt.alloc())?;
+    let run = utf16_to_utf8::<LittleEndian>(&text, &mut out, 0);
+    assert!(rt; is_taken(run, &text, 0, &out, &apart(rt.alloc(), UTF8, "61")?));
+    let run = utf16_swapped::<LittleEndian, BigEndian>(&text, &mut out, 0);
+    assert!(rt; is_taken(run, &text, 0, &out, &apart(rt.alloc(), UTF16BE, "0061")?));
     Ok(())
 }
 

@@ -9,3 +9,4 @@ pub mod Joined
 pub mod AsciiRead
 pub mod Marks
 pub mod Parts
+pub mod AsciiConverted

@@ -1,5 +1,5 @@
 //! Conversions by windows of sixteen characters.
-ghost use Rattle.std.specs.Prelude.{◌≡◌, ◌≤◌, ◌<◌, [], ◌∷◌, length, IfSome, MatchOption};
+ghost use Rattle.std.specs.Prelude.{◌≡◌, ◌≤◌, ◌<◌, ◌+◌, ◌^◌, [], ◌∷◌, length, IfSome, MatchOption};
 ghost use Rattle.cv_direct.specs.Direct.{IsConverted};
 ghost use Rattle.cv_utf8.specs.Utf8.{utf8_bytes};
 ghost use Rattle.cv_wide.specs.Utf16.{utf16};
@@ -9,10 +9,11 @@ use crate::latin1::Latin1Bytes;
 use crate::mixed::convert_all;
 use crate::source::{Source, are_characters};
 use crate::target::{ROOM, Target, write_last};
-use crate::utf8::Utf8Bytes;
+use crate::utf8::{Utf8Bytes, are_below};
 use crate::utf16::Utf16In;
 use crate::utf32::Utf32In;
 use cv_block::{ByteOrder, MANY};
+use std::simd::prelude::*;
 
 /// What was converted.
 #[derive(Clone, Copy, Debug, PartialEq, Eq)]
@@ -23,15 +24,13 @@ pub struct Direct {
     pub wrote: usize,
 }
 
-/// Behind so many windows of ASCII in a row a loop ends: the caller has a faster way for them, but to end costs as much as a few
-/// windows.
+/// Behind so many windows of ASCII in a row a loop ends: runs of it have a faster way, but to end costs as much as a few windows.
 const MANY_ASCII: usize = 12;
 
-/// Behind so many windows a loop to UTF-16 ends, in which ASCII has the size of other text, so that it is not told from it: the
-/// caller looks for a run of ASCII.
-const MANY_WINDOWS: usize = 128;
+/// Behind so many windows to UTF-16, where ASCII has the size of other text, it is looked at whether the next two are ASCII.
+const MANY_WINDOWS: usize = 32;
 
-/// Behind so many windows in a row that may be ASCII a loop ends. It affects speed only.
+/// Behind so many windows in a row that may be ASCII a loop asks whether it ends. It affects speed only.
 #[inline(always)]
 fn many_windows<T: Target>() -> usize
     ensures { result ≤ MANY_WINDOWS }
@@ -43,22 +42,27 @@ fn many_windows<T: Target>() -> usize
     }
 }
 
-/// Where the last window that is known not to be ASCII ended, behind one that wrote so many bytes.
+/// Up to where windows go on if all of them may be ASCII, behind one that wrote so many bytes.
 #[inline(always)]
-fn last_other<T: Target>(wrote: usize, used: usize, other: usize) -> usize
-    requires { other ≤ used }
-    ensures { result ≤ used }
+fn next_stop<T: Target>(wrote: usize, used: usize, many: usize, stop: usize) -> usize
+    requires { used + many < 2 ^ 64 }
 {
     if T::zero_size() != 1 || wrote == MANY {
-        return other;
+        return stop;
     }
-    used
+    used + many
+}
+
+/// Whether a run of ASCII is likely to follow, behind many windows that may be ASCII, if these are the units of the next two. It affects
+/// speed only.
+#[inline(always)]
+fn is_run_likely<T: Target>(units: u16x16, next: u16x16) -> bool {
+    T::zero_size() == 1 || are_below(units, 0x80) && are_below(next, 0x80)
 }
 
 /// Converts the windows at the start of a text, up to one that has a surrogate, or that is not whole, or for which there might be
 /// no room. Each is written over what was put behind the one before, and the last one by a buffer. It ends too behind many
-/// windows in a row that have one byte for each character in the output: the caller looks for a run of ASCII, for which it has a
-/// faster way.
+/// windows in a row that are ASCII, or may be: the caller looks for a run of it, for which it has a faster way.
 #[inline(always)]
 pub(crate) fn convert<S: Source, T: Target>(
     text: &[u8],
@@ -80,17 +84,23 @@ pub(crate) fn convert<S: Source, T: Target>(
     }
     let mut used = 0;
     let mut end = at;
-    let mut other = 0;
     let many = many_windows::<T>() * size;
-    while text.len() - used >= 2 * size && out.len() - end >= 2 * ROOM && used - other < many {
+    let mut stop = many;
+    while text.len() - used >= 2 * size && out.len() - end >= 2 * ROOM {
         let next = S::window(&text[used + size..]);
         if !are_characters(next) {
             break;
         }
+        if used >= stop {
+            if is_run_likely::<T>(units, next) {
+                break;
+            }
+            stop = used + many;
+        }
         let wrote = T::write_window(units, out, end);
         end += wrote;
         used += size;
-        other = last_other::<T>(wrote, used, other);
+        stop = next_stop::<T>(wrote, used, many, stop);
         units = next;
     }
     end += write_last::<T>(units, out, end);

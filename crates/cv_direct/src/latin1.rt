@@ -1,7 +1,9 @@
 //! ISO-8859-1, sixteen bytes at once.
 ghost use Rattle.std.specs.Prelude.{[], ◌∷◌};
+ghost use Rattle.cv_base.specs.declared.ascii_form.AsciiForm.{AsciiForm};
 
 use crate::source::Source;
+use cv_base::AsciiForm;
 use std::simd::prelude::*;
 
 /// ISO-8859-1: each byte is the character of its number.
@@ -12,9 +14,16 @@ impl Source for Latin1Bytes {
 
     ghost window_size = { 16 };
 
+    ghost form = { AsciiForm.Byte };
+
     #[inline(always)]
     fn window_size() -> usize {
         16
+    }
+
+    #[inline(always)]
+    fn form() -> AsciiForm {
+        AsciiForm::Byte
     }
 
     #[inline(always)]

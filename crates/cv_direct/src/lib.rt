@@ -6,6 +6,7 @@ mod from_utf8;
 mod latin1;
 mod middle;
 mod mixed;
+mod runs;
 mod short;
 mod sizes;
 mod source;

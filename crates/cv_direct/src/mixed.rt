@@ -5,6 +5,7 @@ ghost use Rattle.cv_direct.specs.Direct.{IsConverted};
 ghost use Rattle.cv_direct.specs.Private.Loose.{IsPutLoosely, IsConvertedLoosely};
 
 use crate::direct::{Direct, convert};
+use crate::runs::convert_ascii;
 use crate::source::{Source, count_characters, first_units, surrogates};
 use crate::target::{ROOM, Target, copy_front};
 use cv_block::MANY;
@@ -16,8 +17,8 @@ const BUFFER: usize = 512;
 /// How many parts of mixed text are converted at least, before it is asked whether they are too small.
 const FEW: usize = 4;
 
-/// Behind so many bytes of ASCII mixed text from UTF-32 to UTF-8 ends: 14 windows. Its buffer would take 28.
-const MANY_ASCII: usize = 896;
+/// Behind so many bytes of ASCII mixed text from UTF-32 to UTF-8 ends: eight windows. Its buffer would take 28.
+const MANY_ASCII: usize = 512;
 
 /// How many bytes a window of UTF-32 has.
 const WIDE: usize = 64;
@@ -205,8 +206,28 @@ fn convert_both<S: Source, T: Target>(text: &[u8], out: &mut [u8], at: usize) ->
     (run, is_full)
 }
 
-/// Converts the text that windows take, with the characters from U+10000 on among them. It ends where `convert` ends for another reason,
-/// or where such characters are many.
+/// Converts what `convert_both` does, and then a run of ASCII if windows do not go on, and answers whether they go on behind it.
+#[inline(always)]
+fn convert_some<S: Source, T: Target>(text: &[u8], out: &mut [u8], at: usize) -> (Direct, bool)
+    requires { at ≤ length out.old }
+    ensures none { result.0.used ≡ 0 → out.new ≡ out.old }
+    ensures more { IsTrue result.1 → 0 < result.0.used }
+    ensures run { IsConverted S.bytes_of T.bytes_of text.now out.old at result.0 out.new }
+{
+    let (both, on) = convert_both::<S, T>(text, out, at);
+    if on {
+        return (both, true);
+    }
+    let ascii = convert_ascii::<S, T>(&text[both.used..], out, at + both.wrote);
+    let run = Direct {
+        used: both.used + ascii.used,
+        wrote: both.wrote + ascii.wrote,
+    };
+    (run, ascii.used > 0)
+}
+
+/// Converts the text that windows take, with the characters from U+10000 on and the runs of ASCII among them. It ends where `convert` ends
+/// for another reason, or where characters from U+10000 on are many.
 #[inline(always)]
 pub(crate) fn convert_all<S: Source, T: Target>(
     text: &[u8],
@@ -221,7 +242,7 @@ pub(crate) fn convert_all<S: Source, T: Target>(
     let mut used = 0;
     let mut wrote = 0;
     loop {
-        let (run, on) = convert_both::<S, T>(&text[used..], out, at + wrote);
+        let (run, on) = convert_some::<S, T>(&text[used..], out, at + wrote);
         used += run.used;
         wrote += run.wrote;
         if !on {

@@ -1,10 +1,13 @@
 //! Encodings that are read by sixteen units at once.
 ghost use Rattle.std.specs.Prelude.{◌≡◌, ◌-◌, ◌≤◌, ◌<◌, ◌++◌, ℕ, IfSome, IsTrue, length, get_or, map, replicate, take};
 ghost use Rattle.std.specs.Simd.Lanes.{mask_l};
+ghost use Rattle.cv_base.specs.Units.{unit_of};
+ghost use Rattle.cv_base.specs.declared.ascii_form.AsciiForm.{AsciiForm};
 ghost use Rattle.cv_block.specs.Spelled.{BytesOf};
 ghost use Rattle.cv_block.specs.Units.{AreScalarsBelow};
 ghost use Rattle.cv_direct.specs.Private.Windows.{AreSixteen, IsHigh, is_surrogate};
 
+use cv_base::AsciiForm;
 use cv_block::MANY;
 use std::simd::prelude::*;
 
@@ -14,11 +17,18 @@ pub(crate) trait Source {
 
     ghost window_size: { ℕ };
 
+    ghost form: { AsciiForm };
+
     /// How many bytes they have.
     fn window_size() -> usize
         ensures size { result ≡ window_size }
         ensures some { 0 < result }
         ensures few { result ≤ 64 };
+
+    /// The form of its ASCII characters.
+    fn form() -> AsciiForm
+        ensures value { result ≡ form }
+        ensures spells { (c : ℕ) → c < 128 → bytes_of c ≡ unit_of form c };
 
     /// The numbers of the sixteen at the start of a text, if all of them are characters. None is tested.
     fn window(text: &[u8]) -> u16x16

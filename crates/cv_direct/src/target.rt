@@ -3,9 +3,12 @@ ghost use Rattle.std.specs.Prelude.{◌≡◌, ◌+◌, ◌≤◌, ◌<◌, ◌+
 ghost use Rattle.std.specs.List.{flat_map};
 ghost use Rattle.cv_base.specs.Places.{IsPut};
 ghost use Rattle.cv_base.specs.Scalars.{IsScalar};
+ghost use Rattle.cv_base.specs.Units.{unit_of};
+ghost use Rattle.cv_base.specs.declared.ascii_form.AsciiForm.{AsciiForm};
 ghost use Rattle.cv_block.specs.Spelled.{BytesOf};
 ghost use Rattle.cv_direct.specs.Private.Loose.{IsPutLoosely};
 
+use cv_base::AsciiForm;
 use std::simd::prelude::*;
 
 /// How many bytes a window may overwrite.
@@ -14,6 +17,13 @@ pub(crate) const ROOM: usize = 64;
 /// An encoding that has all characters.
 pub(crate) trait Target {
     ghost bytes_of: { BytesOf };
+
+    ghost form: { AsciiForm };
+
+    /// The form of its ASCII characters.
+    fn form() -> AsciiForm
+        ensures value { result ≡ form }
+        ensures spells { (c : ℕ) → c < 128 → bytes_of c ≡ unit_of form c };
 
     /// Writes sixteen characters, and answers how many bytes they have. What follows them, up to sixteen bytes, may be anything.
     fn write_window(units: u16x16, out: &mut [u8], at: usize) -> usize

@@ -8,7 +8,7 @@ ghost use Rattle.cv_wide.specs.Utf16.{utf16};
 
 use crate::source::Source;
 use crate::target::Target;
-use cv_base::Endian;
+use cv_base::{AsciiForm, Endian};
 use cv_block::{ByteOrder, MANY, first_of, is_high, is_low, joined, second_of};
 use std::marker::PhantomData;
 use std::simd::prelude::*;
@@ -54,7 +54,7 @@ fn ordered<O: ByteOrder>(units: u16x16) -> u16x16
 const MOST_RUNS: u32 = 4;
 
 /// How many bytes parts have at least on average that are faster by windows than by blocks.
-const PART: usize = 16;
+const PART: usize = 20;
 
 /// The same where a window is written as it is.
 const SHORT_PART: usize = 8;
@@ -69,9 +69,16 @@ impl<O: ByteOrder> Source for Utf16In<O> {
 
     ghost window_size = { 32 };
 
+    ghost form = { Two O.endian };
+
     #[inline(always)]
     fn window_size() -> usize {
         32
+    }
+
+    #[inline(always)]
+    fn form() -> AsciiForm {
+        AsciiForm::Two(O::order())
     }
 
     #[inline(always)]
@@ -103,6 +110,13 @@ impl<O: ByteOrder> Source for Utf16In<O> {
 
 impl<O: ByteOrder> Target for Utf16In<O> {
     ghost bytes_of = { utf16 O.endian };
+
+    ghost form = { Two O.endian };
+
+    #[inline(always)]
+    fn form() -> AsciiForm {
+        AsciiForm::Two(O::order())
+    }
 
     #[inline(always)]
     fn write_window(units: u16x16, out: &mut [u8], at: usize) -> usize {

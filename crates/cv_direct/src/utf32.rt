@@ -6,6 +6,7 @@ ghost use Rattle.cv_direct.specs.Private.Windows.{IsNarrow, AreNarrow};
 ghost use Rattle.cv_wide.specs.Utf32.{utf32};
 
 use crate::source::Source;
+use cv_base::AsciiForm;
 use cv_block::{ByteOrder, MANY};
 use std::marker::PhantomData;
 use std::simd::prelude::*;
@@ -74,9 +75,16 @@ impl<O: ByteOrder> Source for Utf32In<O> {
 
     ghost window_size = { 64 };
 
+    ghost form = { Four O.endian };
+
     #[inline(always)]
     fn window_size() -> usize {
         64
+    }
+
+    #[inline(always)]
+    fn form() -> AsciiForm {
+        AsciiForm::Four(O::order())
     }
 
     #[inline(always)]

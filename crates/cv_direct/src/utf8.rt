@@ -1,12 +1,14 @@
 //! UTF-8, sixteen characters at once.
 ghost use Rattle.std.specs.Prelude.{◌≡◌, ◌+◌, ◌≤◌, ◌<◌, ℕ, IsTrue, length, get_or, take, drop};
 ghost use Rattle.std.specs.List.{flat_map};
+ghost use Rattle.cv_base.specs.declared.ascii_form.AsciiForm.{AsciiForm};
 ghost use Rattle.cv_direct.specs.Private.Loose.{IsPutLoosely};
 ghost use Rattle.cv_utf8.specs.Utf8.{utf8_bytes};
 
 use crate::middle::write_middle;
 use crate::short::write_short;
 use crate::target::Target;
+use cv_base::AsciiForm;
 use cv_base::place::write_slice;
 use cv_block::MANY;
 use std::simd::prelude::*;
@@ -51,6 +53,13 @@ pub(crate) struct Utf8Bytes;
 
 impl Target for Utf8Bytes {
     ghost bytes_of = { utf8_bytes };
+
+    ghost form = { AsciiForm.Byte };
+
+    #[inline(always)]
+    fn form() -> AsciiForm {
+        AsciiForm::Byte
+    }
 
     #[inline(always)]
     fn write_window(units: u16x16, out: &mut [u8], at: usize) -> usize {

@@ -16,7 +16,6 @@ loop-used-preserved g c =
       within = omega (arith, c.loop-used-test.true, c.window_size-size.ensures.size);
       room = omega (arith, c.if-out-end.true, put.few, put.put.size);
       from = omega (arith, i.from);
-      behind = omega (arith, c.last_other-other.ensures);
       window = rw (c.window_size-size.ensures.size, take_rest) at (c.window-next.ensures.window (c.if-not-are_characters-2.ensures refl));
       converted = rw n at (window_more _ _ c.args.text.now c.args.out.now c.args.at used _ (end - c.args.at) wrote 16 end _ _ _ i.converted place i.window put.put put.some);
     })

@@ -8,7 +8,6 @@ invariant-loop-used g l = record {
   within : l.used + g.S.Source.window_size ≤ length l.text;
   room : l.end + 64 ≤ length l.out;
   from : l.at ≤ l.end;
-  behind : l.other ≤ l.used;
   window : IsWindow g.S.Source.bytes_of g.S.Source.window_size (drop l.used l.text) l.units;
   converted : IsConvertedLoosely g.S.Source.bytes_of g.T.Target.bytes_of l.text l.fn.out l.at l.used (l.end - l.at) 16 l.out;
 }

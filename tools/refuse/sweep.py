@@ -193,6 +193,9 @@ def main():
     long = short.replace(b"#|", 170 * (b"#" + 98 * b"-" + b"|"))
     # With so many requests a stream has more batches than one, and is written in parts.
     frames = 3 * ample(("ask",), short)
+    # A conversion of which a stream keeps the replies' memory, and then a request that needs nothing large but the stream's read buffer.
+    grows = b"7 1 open UTF-8 ISO-8859-1\n7 2 conv 0 99999 " + 40_000 * b"e9" + b"\n7 3 raw 9 " + 300_000 * b"00" + b"\n7 4 bye\n"
+    grows = ample(("ask",), grows)
     server = subprocess.Popen([PROGRAM, "listen", "127.0.0.1:0", "--streams", "1000000"], stdout=subprocess.PIPE, stderr=subprocess.DEVNULL)
     address = server.stdout.readline().split()[1].decode()
     two = ["run", "--workers", "2"]
@@ -203,6 +206,7 @@ def main():
         ("run --workers 2", Case([PROGRAM, *two], long, Lines, long, tuple(two))),
         ("ask", Case([PROGRAM, "ask"], short)),
         ("pipe", Case([PROGRAM, "pipe"], frames, Frames, frames, ("pipe",), 1)),
+        ("pipe, large", Case([PROGRAM, "pipe"], grows, Frames, grows, ("pipe",), least=LARGE)),
         ("show", Case([PROGRAM, "show"], ample(("pipe",), frames))),
         ("checkmap", Case([PROGRAM, "checkmap", "-"], CHARMAP)),
         ("checkmap, faulty", Case([PROGRAM, "checkmap", "-"], b"CHARMAP\n")),

@@ -70,7 +70,7 @@ int address_connect(const struct address *address, int timeout) {
         return connect_unix(address->text, timeout);
     if (address->kind == ADDRESS_TCP)
         return connect_tcp(address, timeout);
-    int fd = spawn_connected(address);
+    int fd = address_has_program(address) ? spawn_connected(address) : -1;
     if (fd >= 0)
         limit_time(fd, timeout);
     return fd;

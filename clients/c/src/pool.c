@@ -1,6 +1,8 @@
 /* Shares the streams of a process among its threads. */
 #include "pool.h"
 
+#include <errno.h>
+
 #include "transfer.h"
 
 /* How long no connection is tried after one was refused, or after so many in a row have ended without any answer, in milliseconds. The
@@ -27,7 +29,8 @@ void slot_reset(struct slot *slot) {
 
 void slot_lose(struct iconvd_pool *pool, struct slot *slot) {
     bool timed_out = slot->stream.timed_out;
-    pool_log(pool, timed_out ? "the service does not answer" : "a connection is lost");
+    if (timed_out || !stream_may_be_used_up(&slot->stream))
+        pool_log(pool, timed_out ? "the service does not answer" : "a connection is lost");
     int silent = slot->stream.answered ? 0 : atomic_load(&pool->silent) + 1;
     atomic_store(&pool->silent, silent);
     if (timed_out || silent >= SILENT_CONNECTIONS)
@@ -47,7 +50,9 @@ bool slot_ready(struct iconvd_pool *pool, struct slot *slot) {
         atomic_fetch_add(&pool->connections, 1);
         return true;
     }
-    pool_log(pool, "no connection to the service");
+    char why[300];
+    address_explain(&pool->address, errno, why, sizeof why);
+    pool_log(pool, "no connection to the service: %s", why);
     atomic_store(&pool->down_until, now_in_milliseconds() + REST);
     return false;
 }

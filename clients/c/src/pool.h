@@ -50,6 +50,10 @@ iconvd_status pool_begin(const char *where, const iconvd_options *options, struc
 /* Writes a line to the log, if there is one. */
 __attribute__((format(printf, 2, 3))) void pool_log(const struct iconvd_pool *pool, const char *format, ...);
 
+/* The encoding of a name that name_parse() has taken apart (missing.c). A charmap that cannot be read is UNSUPPORTED, and a line in the
+   log says why. */
+iconvd_status pool_find(struct iconvd_pool *pool, const char *name, struct encoding **found);
+
 /* Whether the service opens the pair. It is asked once. */
 iconvd_status pool_open(struct iconvd_pool *pool, const struct pair *pair);
 

@@ -9,6 +9,9 @@
 
 #include "transfer.h"
 
+/* How many reads of a stream a server makes. */
+enum { MOST_READS = 1000000 };
+
 /* Above what programs that close "all" descriptors one by one usually count to, and within the usual limit of 1,024. */
 enum { HIGH_DESCRIPTOR = 400 };
 
@@ -31,6 +34,7 @@ bool stream_connect(struct stream *stream, const struct address *address) {
     stream->inode = status.st_ino;
     stream->timed_out = false;
     stream->answered = false;
+    stream->reads = 0;
     return true;
 }
 
@@ -45,6 +49,10 @@ bool stream_has_ended(const struct stream *stream) {
     if (!stream_is_intact(stream))
         return true;
     return recv(stream->fd, &byte, 1, MSG_PEEK | MSG_DONTWAIT) >= 0 || (errno != EAGAIN && errno != EWOULDBLOCK);
+}
+
+bool stream_may_be_used_up(const struct stream *stream) {
+    return stream->reads >= MOST_READS;
 }
 
 void stream_close(struct stream *stream) {

@@ -15,6 +15,7 @@ struct stream {
     int timeout;      /* of one call, in milliseconds; below 0 without end */
     bool timed_out;   /* why it was lost */
     bool answered;    /* something, since it was connected */
+    uint64_t reads;   /* how many the server has made of it at most */
 };
 
 /* A request with its reply. The bodies stand in two parts each, so that text is neither copied on its way out nor in. */
@@ -42,6 +43,10 @@ bool stream_is_intact(const struct stream *stream);
 
 /* Whether a stream on which nothing is under way is known to be lost: it has an end, or bytes that nobody has asked for. */
 bool stream_has_ended(const struct stream *stream);
+
+/* Whether the server may have made as many reads of the stream as it makes of one, after which it ends it. This is no fault, and the
+   client cannot tell: it knows what it sent, and not how that was cut. */
+bool stream_may_be_used_up(const struct stream *stream);
 
 /* Closes the connection, unless the host has closed it or something else has its number now. */
 void stream_close(struct stream *stream);

@@ -33,7 +33,19 @@ static void test_many(void) {
             ours.close(open[i][k]);
 }
 
-/* More calls than a stream of the service serves. */
+/* How many lines of the log that ICONVD_LOG names have a word. */
+static int lines_with(const char *word) {
+    char line[500];
+    int count = 0;
+    FILE *log = fopen(wanted("ICONVD_LOG"), "r");
+    while (log && fgets(line, sizeof line, log))
+        count += strstr(line, word) != NULL;
+    if (log)
+        fclose(log);
+    return count;
+}
+
+/* More calls than a stream of the service serves, which is no fault: the log has no line of it. */
 static void test_million(void) {
     const char *count = getenv("LIFE_CALLS");
     long calls = count ? atol(count) : 1100000;
@@ -45,6 +57,7 @@ static void test_million(void) {
         wrong += ours.convert(cd, &in, &left, &at, &room) != 0 || at - out != 8 || left != 0;
     }
     check(wrong == 0, "%ld of %ld calls failed", wrong, calls);
+    check(lines_with("lost") == 0, "a stream that was used up is told as a lost connection");
     ours.close(cd);
 }
 

@@ -36,7 +36,7 @@ struct settings {
     const char *from;
     const char *to;
     const char *output;
-    const char *service;
+    const char *service; /* NULL: what the environment says */
     int policy;
     int stats;
 };
@@ -192,9 +192,11 @@ static void log_line(void *context, const char *line) {
 static int run(const struct settings *settings, int out, char **files) {
     iconvd_pool *pool = NULL;
     iconvd_options options = {.streams = 1, .log = log_line};
-    iconvd_status status = iconvd_connect(settings->service, &options, &pool);
+    const char *usual = iconvd_environment(&options);
+    const char *service = settings->service ? settings->service : usual;
+    iconvd_status status = iconvd_connect(service, &options, &pool);
     if (status != ICONVD_OK)
-        return complain("%s: %s", settings->service, iconvd_status_text(status));
+        return complain("%s: %s", service, iconvd_status_text(status));
     struct job job = {.out = out, .in_bytes = malloc(IN_ROOM), .out_bytes = malloc(OUT_ROOM)};
     int result = 1;
     status = iconvd_open(pool, settings->to, settings->from, settings->policy, &job.cd);
@@ -249,8 +251,7 @@ static int read_options(struct settings *settings, int count, char **words) {
 }
 
 int main(int count, char **words) {
-    const char *service = getenv("ICONVD");
-    struct settings settings = {.from = "", .to = "", .output = "-", .service = service && *service ? service : "exec:iconvd pipe"};
+    struct settings settings = {.from = "", .to = "", .output = "-"};
     int result = read_options(&settings, count, words);
     if (result >= 0)
         return result;

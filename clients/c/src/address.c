@@ -18,7 +18,8 @@ static char **words_of(char *text) {
     return words;
 }
 
-/* The file that a command's first word names: as it is where it has a slash, else the first that PATH has. */
+/* The file that a command's first word names: as it is where it has a slash, else the first that PATH has. Empty where PATH has none.
+   Folders that are not absolute are passed over: they name another folder wherever the host is, and anybody may have written there. */
 static char *program_file(const char *word) {
     if (strchr(word, '/'))
         return strdup(word);
@@ -30,13 +31,14 @@ static char *program_file(const char *word) {
         size_t length = strcspn(path, ":");
         memcpy(file, path, length);
         file[length] = '/';
-        strcpy(file + length + (length > 0), word);
-        if (length > 0 && access(file, X_OK) == 0)
+        strcpy(file + length + 1, word);
+        if (*path == '/' && access(file, X_OK) == 0)
             return file;
         path += length + (path[length] == ':');
     }
-    free(file);
-    return strdup(word);
+    if (file)
+        *file = 0;
+    return file;
 }
 
 /* A copy of the environment, without what would load this library into the service. One block: pointers, then strings. */

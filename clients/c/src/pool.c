@@ -50,7 +50,8 @@ bool slot_ready(struct iconvd_pool *pool, struct slot *slot) {
         atomic_fetch_add(&pool->connections, 1);
         return true;
     }
-    pool_log(pool, "no connection to the service");
+    const char *refused = pool->address.kind == ADDRESS_EXEC ? spawn_refused() : NULL;
+    pool_log(pool, "%s", refused ? refused : "no connection to the service");
     atomic_store(&pool->down_until, now_in_milliseconds() + REST);
     return false;
 }

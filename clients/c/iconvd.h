@@ -137,7 +137,8 @@ ICONVD_API iconvd_status iconvd_dial(const char *where, int timeout, int *descri
 typedef struct iconvd_pool iconvd_pool;
 
 typedef struct iconvd_options {
-    unsigned streams;     /* connections at most, 1 to 16; 0 is 4. A connection is made when all others are in use */
+    unsigned streams;     /* connections at most, 1 to 16; 0 is the number of processors that the process may use, but 4 at least. A
+                             connection is made when all others are in use */
     int timeout;          /* how long a call waits for the service; 0 is 10,000, below 0 is without end */
     const char *charmaps; /* the folder of charmap files, NAME.gz; NULL is /usr/share/i18n/charmaps */
     void (*log)(void *context, const char *line); /* told of lost connections, of a service that cannot be reached, and of charmaps
@@ -149,13 +150,23 @@ typedef struct iconvd_options {
 /* Connects to a service. `where` is one of
  *
  *   exec:PROGRAM ARGUMENT ..    starts a program that serves its standard input: "exec:iconvd pipe". Words are separated by
- *                               blanks; the program is looked for by PATH; it gets this process's environment without LD_PRELOAD
+ *                               blanks; the program is looked for in those folders of PATH that are absolute; it gets this
+ *                               process's environment without LD_PRELOAD, and no descriptor of it. No program is started, and the
+ *                               connection is LOST, in a process that runs with other rights than its caller's (set-user-ID,
+ *                               set-group-ID, file capabilities), and in process 1 and subreapers, which the program would get for
+ *                               its parent
  *   unix:PATH                   a Unix socket
  *   tcp:HOST:PORT               TCP; a numeric IPv6 host stands in brackets
  *
  * NULL options are the defaults. Where it fails, LOST or BADADDRESS or ENOMEM, nothing is left. LOST is also a program that is not
  * there: the log names it. */
 ICONVD_API iconvd_status iconvd_connect(const char *where, const iconvd_options *options, iconvd_pool **pool);
+
+/* What the environment says, for a program that leaves the service to its user. Returns ICONVD, and sets `timeout`, `streams` and
+ * `charmaps` by ICONVD_TIMEOUT, ICONVD_STREAMS and ICONVD_CHARMAPS (iconvd-preload(7)). What they do not say stays as it is; the log is
+ * told of values that are none. Without ICONVD it returns "exec:iconvd pipe", or "unix:/run/iconvd.sock" where no program is started.
+ * In a program that runs with other rights than its caller's no variable counts. The strings are the environment's. */
+ICONVD_API const char *iconvd_environment(iconvd_options *options);
 
 /* Closes all connections. Every iconvd_cd of the pool has been closed before. NULL is nothing. */
 ICONVD_API void iconvd_disconnect(iconvd_pool *pool);

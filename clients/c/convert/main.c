@@ -2,7 +2,6 @@
 #include <errno.h>
 #include <signal.h>
 #include <stdio.h>
-#include <stdlib.h>
 #include <string.h>
 #include <unistd.h>
 
@@ -10,12 +9,6 @@
 #include "options.h"
 #include "output.h"
 #include "text.h"
-
-/* A variable of the environment, unless it is empty. */
-static const char *variable(const char *name) {
-    const char *value = getenv(name);
-    return value && *value ? value : NULL;
-}
 
 /* Passes on what the library has to say, and notes whether it was a charmap that is missing or refused. */
 static void log_line(void *context, const char *line) {
@@ -44,8 +37,8 @@ static int convert(const struct settings *settings, struct job *job) {
 static int run(const struct settings *settings, struct job *job) {
     int no_charmap = 0;
     iconvd_pool *pool = NULL;
-    iconvd_options options = {.streams = 1, .charmaps = variable("ICONVD_CHARMAPS"), .log = log_line, .context = &no_charmap};
-    const char *usual = variable("ICONVD"), *service = settings->service ? settings->service : usual ? usual : "exec:iconvd pipe";
+    iconvd_options options = {.streams = 1, .log = log_line, .context = &no_charmap};
+    const char *usual = iconvd_environment(&options), *service = settings->service ? settings->service : usual;
     iconvd_status status = iconvd_connect(service, &options, &pool);
     if (status != ICONVD_OK)
         return complain(exit_for(status), "%s: %s", service, iconvd_status_text(status));

@@ -21,16 +21,14 @@ static char **words_of(char *text) {
     return words;
 }
 
-/* Whether a file can be started, as far as a look at it tells. Otherwise errno says why not. */
+/* Whether a file can be started, as far as a look at it tells: a folder may have the name, too. */
 static bool is_program(const char *file) {
     struct stat status;
-    if (stat(file, &status) != 0 || access(file, X_OK) != 0)
-        return false;
-    errno = EACCES;
-    return S_ISREG(status.st_mode);
+    return stat(file, &status) == 0 && S_ISREG(status.st_mode) && access(file, X_OK) == 0;
 }
 
-/* The file that a command's first word names: as it is where it has a slash, else the first that PATH has. Empty where PATH has none. */
+/* The file that a command's first word names: as it is where it has a slash, else the first that PATH has. Empty where PATH has none.
+   Folders that are not absolute are passed over: they name another folder wherever the host is, and anybody may have written there. */
 static char *program_file(const char *word) {
     if (strchr(word, '/'))
         return strdup(word);
@@ -42,8 +40,8 @@ static char *program_file(const char *word) {
         size_t length = strcspn(path, ":");
         memcpy(file, path, length);
         file[length] = '/';
-        strcpy(file + length + (length > 0), word);
-        if (length > 0 && is_program(file))
+        strcpy(file + length + 1, word);
+        if (*path == '/' && is_program(file))
             return file;
         path += length + (path[length] == ':');
     }
@@ -133,18 +131,15 @@ void address_free(struct address *address) {
     *address = (struct address){.kind = ADDRESS_EXEC};
 }
 
-bool address_has_program(const struct address *address) {
-    return is_program(address->program);
-}
-
 /* What an error of connecting means. A connect() that has waited for its time limit says that it is under way. */
 static const char *error_text(int error) {
     return error == EINPROGRESS || error == EAGAIN ? "it does not answer" : strerror(error);
 }
 
 void address_explain(const struct address *address, int error, char *text, size_t room) {
-    if (address->kind != ADDRESS_EXEC)
-        snprintf(text, room, "%s: %s", address->where, error_text(error));
+    const char *refused = address->kind == ADDRESS_EXEC ? spawn_refused() : NULL;
+    if (refused || address->kind != ADDRESS_EXEC)
+        snprintf(text, room, "%s: %s", address->where, refused ? refused : error_text(error));
     else if (!*address->program)
         snprintf(text, room, "%s: the program %s was not found in PATH", address->where, address->argv[0]);
     else

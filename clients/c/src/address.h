@@ -6,6 +6,8 @@
 
 #include "../iconvd.h"
 
+struct stream;
+
 enum address_kind { ADDRESS_EXEC, ADDRESS_UNIX, ADDRESS_TCP };
 
 /* Everything is copied: a host may change its environment, and the strings that getenv() gave. */
@@ -22,16 +24,16 @@ struct address {
 iconvd_status address_read(struct address *address, const char *where);
 void address_free(struct address *address);
 
-/* A connected socket with its time limits set, or -1 with errno. */
-int address_connect(const struct address *address, int timeout);
-
-/* Whether the file of an exec: address can be started, as far as a look at it tells. Otherwise errno says why not. */
-bool address_has_program(const struct address *address);
+/* Connects a stream, by its time limit. False: errno says why. */
+bool address_connect(const struct address *address, struct stream *stream);
 
 /* Writes why address_connect() failed with an errno: "exec:iconvd pipe: the program iconvd was not found in PATH". */
 void address_explain(const struct address *address, int error, char *text, size_t room);
 
-/* Starts the program of an exec: address (spawn.c). */
+/* spawn.c: starts the program of an exec: address. A connected socket, or -1 with errno. */
 int spawn_connected(const struct address *address);
+
+/* Why this process starts no programs; NULL: it does. */
+const char *spawn_refused(void);
 
 #endif

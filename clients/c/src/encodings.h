@@ -20,7 +20,8 @@ struct encoding {
 };
 
 struct encodings {
-    pthread_mutex_t mutex;
+    pthread_mutex_t mutex;   /* of what follows; never held for long */
+    pthread_mutex_t reading; /* held while a file is read, and taken before the other one */
     char *directory;
     struct encoding **files; /* one for each charmap file; NULL: not read yet */
     struct encoding *added;
@@ -28,6 +29,9 @@ struct encodings {
 
 bool encodings_begin(struct encodings *encodings, const char *directory);
 void encodings_end(struct encodings *encodings);
+
+/* In a child: mutexes that threads of its parent held are made anew. */
+void encodings_renew(struct encodings *encodings);
 
 /* The encoding of a name that name_parse() has taken apart. UNSUPPORTED, ENOMEM. */
 iconvd_status encodings_find(struct encodings *encodings, const char *name, struct encoding **found);

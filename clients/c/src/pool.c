@@ -9,6 +9,9 @@
    latter is what a program that cannot be started looks like. */
 enum { REST = 1000, SILENT_CONNECTIONS = 3 };
 
+/* From how many bytes on a text is long. */
+enum { LONG = 16384 };
+
 void pool_note(struct iconvd_pool *pool, struct refusal *refusal) {
     atomic_fetch_add(&pool->uploads, refusal->uploads);
     const struct encoding *encoding = refusal->encoding;
@@ -57,65 +60,15 @@ bool slot_ready(struct iconvd_pool *pool, struct slot *slot) {
     return false;
 }
 
-/* What a stream is to be that is taken. */
-enum wanted { WITH_PAIR, CONNECTED, ANY };
-
-static bool suits(const struct slot *slot, const struct pair *pair, enum wanted wanted) {
-    return wanted == ANY || (wanted == CONNECTED ? slot->stream.fd >= 0 : remote_has(&slot->remote, pair));
-}
-
-/* The first stream that nobody uses and that suits, locked. Streams are tried in one order, so that a second connection is made only
-   when the first is in use. */
-static struct slot *first_free(struct iconvd_pool *pool, const struct pair *pair, enum wanted wanted) {
-    for (size_t i = 0; i < pool->slot_count; i++) {
-        struct slot *slot = &pool->slots[i];
-        if (pthread_mutex_trylock(&slot->mutex) != 0)
-            continue;
-        if (suits(slot, pair, wanted))
-            return slot;
-        pthread_mutex_unlock(&slot->mutex);
-    }
-    return NULL;
-}
-
-/* A stream that nobody uses, locked: one that has the pair open, else one that is connected, since a server whose places are taken lets
-   a new connection wait, else any. NULL: all are in use. */
-static struct slot *take_free(struct iconvd_pool *pool, const struct pair *pair) {
-    struct slot *slot = first_free(pool, pair, WITH_PAIR);
-    if (!slot)
-        slot = first_free(pool, pair, CONNECTED);
-    return slot ? slot : first_free(pool, pair, ANY);
-}
-
-struct slot *pool_pick(struct iconvd_pool *pool) {
-    static const struct pair NONE = {.to = NULL};
-    fork_check(pool);
-    struct slot *slot = take_free(pool, &NONE);
-    if (slot)
-        pthread_mutex_unlock(&slot->mutex);
-    return slot ? slot : &pool->slots[atomic_fetch_add(&pool->next_wait, 1) % pool->slot_count];
-}
-
-/* A stream, locked: a free one, else one that is waited for. */
-static struct slot *take(struct iconvd_pool *pool, const struct pair *pair) {
-    fork_check(pool);
-    struct slot *slot = take_free(pool, pair);
-    if (!slot) {
-        slot = &pool->slots[atomic_fetch_add(&pool->next_wait, 1) % pool->slot_count];
-        pthread_mutex_lock(&slot->mutex);
-    }
-    return slot;
-}
-
 /* Gives those streams up that nobody uses and that have ended: whatever ended one may have ended others. */
 static void lose_ended(struct iconvd_pool *pool) {
     for (size_t i = 0; i < pool->slot_count; i++) {
         struct slot *slot = &pool->slots[i];
-        if (pthread_mutex_trylock(&slot->mutex) != 0)
+        if (!slot_try(slot))
             continue;
         if (slot->stream.fd >= 0 && stream_has_ended(&slot->stream))
             slot_lose(pool, slot);
-        pthread_mutex_unlock(&slot->mutex);
+        slot_unlock(pool, slot);
     }
 }
 
@@ -143,7 +96,7 @@ static iconvd_status try_pair(struct iconvd_pool *pool, struct slot *slot, const
     doing->again = ready && status == ICONVD_LOST && !slot->stream.timed_out;
     if (ready && status == ICONVD_LOST)
         slot_lose(pool, slot);
-    pthread_mutex_unlock(&slot->mutex);
+    slot_unlock(pool, slot);
     pool_note(pool, &refusal);
     if (!refusal.encoding || refusal.status != ICONVD_BADMAP)
         return status;
@@ -155,22 +108,22 @@ static iconvd_status try_pair(struct iconvd_pool *pool, struct slot *slot, const
    connection may be refused, or wait for a place until the time is up. Where none lives it is on a new connection. The third is on a new
    one in any case: where streams end one after the other, as those of a server that is being stopped, a third one would end too.
 
-   Why this ends: there are three tries. Each waits for one lock at most, holds no other meanwhile, and gives it back before the next, so
-   that fork(), whose handlers wait for all locks, waits for one try of each thread. Each wait for the service has the pool's time
-   limit. Once that was up, where no connection is to be had, and while none is made (`down_until`), there is no next try. */
-static iconvd_status with_pair(struct iconvd_pool *pool, const struct pair *pair, pool_action *act, void *context) {
+   Why this ends: there are three tries. Each waits for one stream, holds no other meanwhile, and gives it back before the next. Each
+   wait for the service has the pool's time limit. Once that was up, where no connection is to be had, and while none is made
+   (`down_until`), there is no next try. */
+static iconvd_status with_pair(struct iconvd_pool *pool, const struct pair *pair, enum text text, pool_action *act, void *context) {
     struct doing doing = {.act = act, .context = context};
     int cancelling = cancelling_off();
-    struct slot *slot = take(pool, pair);
+    struct slot *slot = pool_take(pool, pair, text);
     iconvd_status status = try_pair(pool, slot, pair, &doing);
     if (doing.again) {
         lose_ended(pool);
-        slot = take(pool, pair);
+        slot = pool_take(pool, pair, text);
         status = try_pair(pool, slot, pair, &doing);
     }
     if (doing.again) {
         /* Who used it meanwhile has connected it anew. */
-        pthread_mutex_lock(&slot->mutex);
+        slot_lock(slot);
         status = try_pair(pool, slot, pair, &doing);
     }
     cancelling_as(cancelling);
@@ -189,7 +142,7 @@ static iconvd_status convert_one(struct iconvd_pool *pool, struct slot *slot, co
 
 iconvd_status pool_convert(struct iconvd_pool *pool, const struct pair *pair, struct work *work) {
     work->used = work->produced = work->replaced = 0;
-    return with_pair(pool, pair, convert_one, work);
+    return with_pair(pool, pair, work->in_length < LONG ? SHORT_TEXT : LONG_TEXT, convert_one, work);
 }
 
 static iconvd_status convert_many(struct iconvd_pool *pool, struct slot *slot, const struct place *place, void *context) {
@@ -201,7 +154,7 @@ static iconvd_status convert_many(struct iconvd_pool *pool, struct slot *slot, c
 
 iconvd_status pool_convert_batch(struct iconvd_pool *pool, const struct pair *pair, struct batch *batch) {
     batch->done = 0;
-    return with_pair(pool, pair, convert_many, batch);
+    return with_pair(pool, pair, LONG_TEXT, convert_many, batch);
 }
 
 static bool is_known(struct iconvd_pool *pool, const struct pair *pair) {
@@ -228,7 +181,7 @@ iconvd_status pool_open(struct iconvd_pool *pool, const struct pair *pair) {
     fork_check(pool);
     if (is_known(pool, pair))
         return ICONVD_OK;
-    iconvd_status status = with_pair(pool, pair, do_nothing, NULL);
+    iconvd_status status = with_pair(pool, pair, SHORT_TEXT, do_nothing, NULL);
     if (status == ICONVD_OK)
         remember(pool, pair);
     return status;

@@ -6,6 +6,7 @@
 #include <sys/types.h>
 
 #include "address.h"
+#include "gate.h"
 
 struct stream {
     int fd;           /* -1: not connected */
@@ -16,6 +17,7 @@ struct stream {
     bool timed_out;   /* why it was lost */
     bool answered;    /* something, since it was connected */
     uint64_t reads;   /* how many the server has made of it at most */
+    struct pass pass; /* with which who uses it is inside the gate, but while it waits for the service */
 };
 
 /* A request with its reply. The bodies stand in two parts each, so that text is neither copied on its way out nor in. */
@@ -37,6 +39,9 @@ struct call {
 
 /* Connects. The descriptor is moved to a high number, out of the way of hosts that close the low ones. */
 bool stream_connect(struct stream *stream, const struct address *address);
+
+/* Takes a socket that is not connected yet, or is. False: it is none, and closed. */
+bool stream_register(struct stream *stream, int fd);
 
 /* Whether `fd` is still the socket that it was. */
 bool stream_is_intact(const struct stream *stream);

@@ -57,6 +57,7 @@ class Root:
 
     def __init__(self, folder: Path, path: str, user: str = "root", home: str = "/") -> None:
         self.folder, self.path, self.user, self.home = folder, path, user, home
+        self.seconds = SECONDS
 
     def unpack(self, base: Path, included: str) -> None:
         """Makes the root anew, from what an earlier run got from Debian, with the same packages, where there is that."""
@@ -87,10 +88,10 @@ class Root:
         try:
             ran = subprocess.run(
                 self.words(command), stdin=subprocess.DEVNULL, stdout=subprocess.PIPE, stderr=subprocess.DEVNULL, text=True,
-                errors="replace", check=False, timeout=SECONDS,
+                errors="replace", check=False, timeout=self.seconds,
             )
         except subprocess.TimeoutExpired:
-            return f"it had not ended after {SECONDS} seconds"
+            return f"it had not ended after {self.seconds} seconds"
         return ran.stdout
 
     def check_row(self, row: Row, counts: Counts) -> None:

@@ -10,7 +10,9 @@ enum { LINE = 512 };
 /* A file that is being read. */
 struct reading {
     struct charmap *charmap;
+    struct charmap *light;
     struct buffer last; /* the mappings that are read and never written */
+    struct buffer light_last;
     char escape;
     char comment;
     bool inside; /* behind the line CHARMAP */
@@ -124,9 +126,15 @@ static uint32_t count_mappings(const char *line, const char *name_end) {
     return *name_end == '.' && charmap_points(line, &points) ? points.last - points.first + 1 : 1;
 }
 
-/* Keeps of a mapping's line the name and the encoding. False: out of memory. */
-static bool keep_mapping(struct reading *reading, const char *line, struct buffer *to) {
-    struct charmap *charmap = reading->charmap;
+/* Counts the mappings of a line and the bytes of their encodings. */
+static void count(struct charmap *charmap, uint32_t mappings, unsigned bytes) {
+    charmap->most_bytes = bytes > charmap->most_bytes ? bytes : charmap->most_bytes;
+    charmap->least_bytes = bytes < charmap->least_bytes ? bytes : charmap->least_bytes;
+    charmap->mappings += mappings;
+}
+
+/* Keeps of a mapping's line the name and the encoding, and also for the light charmap if it is for that. False: out of memory. */
+static bool keep_mapping(struct reading *reading, const char *line, struct buffer *to, struct buffer *light) {
     const char *end = name_end(line);
     unsigned bytes = 0, others = 0;
     if (!buffer_reserve(to, LINE + 2))
@@ -139,10 +147,12 @@ static bool keep_mapping(struct reading *reading, const char *line, struct buffe
     if (*end != '>' || end[1] == '<' || length == 0)
         return true;
     to->length += name + length + 2;
-    charmap->most_bytes = bytes > charmap->most_bytes ? bytes : charmap->most_bytes;
-    charmap->least_bytes = bytes < charmap->least_bytes ? bytes : charmap->least_bytes;
-    charmap->mappings += count_mappings(line, end + 1);
-    return true;
+    uint32_t mappings = count_mappings(line, end + 1);
+    count(reading->charmap, mappings, bytes);
+    if (bytes > LIGHT_BYTES)
+        return true;
+    count(reading->light, mappings, bytes);
+    return buffer_append(light, out, name + length + 2);
 }
 
 /* False: out of memory. */
@@ -161,8 +171,10 @@ static bool read_line(struct reading *reading, const char *line) {
     reading->inside = true;
     line = skip_blanks(line);
     if (*line == '%' && strncmp(line, ONE_WAY, sizeof ONE_WAY - 1) == 0)
-        return keep_mapping(reading, line + sizeof ONE_WAY - 1, &reading->last);
-    return *line == '<' && *line != reading->comment ? keep_mapping(reading, line, &reading->charmap->text) : true;
+        return keep_mapping(reading, line + sizeof ONE_WAY - 1, &reading->last, &reading->light_last);
+    if (*line != '<' || *line == reading->comment)
+        return true;
+    return keep_mapping(reading, line, &reading->charmap->text, &reading->light->text);
 }
 
 /* Reads lines up to END CHARMAP. False: out of memory. */
@@ -180,17 +192,16 @@ static bool read_lines(struct reading *reading, gzFile file) {
 }
 
 /* Puts the header in front and the end behind. False: out of memory. */
-static bool compose(struct reading *reading, const char *name) {
-    struct charmap *charmap = reading->charmap;
+static bool compose(const struct reading *reading, struct charmap *charmap, const struct buffer *last, const char *name) {
     char header[400];
     int length = snprintf(header, sizeof header,
                           "<code_set_name> %s\n<escape_char> %c\n<comment_char> %c\n<mb_cur_min> %u\n<mb_cur_max> %u\nCHARMAP\n", name,
                           reading->escape, reading->comment, charmap->least_bytes, charmap->most_bytes);
     struct buffer text = {.bytes = NULL};
-    bool well = buffer_reserve(&text, charmap->text.length + reading->last.length + (size_t)length + 20) &&
+    bool well = buffer_reserve(&text, charmap->text.length + last->length + (size_t)length + 20) &&
                 buffer_append(&text, header, (size_t)length) &&
                 buffer_append(&text, charmap->text.bytes, charmap->text.length) &&
-                buffer_append(&text, reading->last.bytes, reading->last.length) && buffer_append(&text, "END CHARMAP\n", 12);
+                buffer_append(&text, last->bytes, last->length) && buffer_append(&text, "END CHARMAP\n", 12);
     buffer_free(&charmap->text);
     charmap->text = text;
     return well;
@@ -202,9 +213,21 @@ static gzFile open_file(const char *directory, const char *file) {
     return length > 0 && (size_t)length < sizeof path ? gzopen(path, "rbe") : NULL;
 }
 
-iconvd_status charmap_read(struct charmap *charmap, const char *directory, const char *file, const char *name) {
-    *charmap = (struct charmap){.least_bytes = 8, .most_bytes = 1};
-    struct reading reading = {.charmap = charmap, .escape = '\\', .comment = '#'};
+/* Both charmaps from what was read. False: out of memory. */
+static bool compose_both(struct reading *reading, const char *name) {
+    char light_name[100];
+    snprintf(light_name, sizeof light_name, "%s-light", name);
+    if (!compose(reading, reading->charmap, &reading->last, name))
+        return false;
+    if (reading->charmap->mappings >= LARGE_CHARMAP && reading->light->mappings > 0)
+        return compose(reading, reading->light, &reading->light_last, light_name);
+    buffer_free(&reading->light->text);
+    return true;
+}
+
+iconvd_status charmap_read(struct charmap *charmap, struct charmap *light, const char *directory, const char *file, const char *name) {
+    *charmap = *light = (struct charmap){.least_bytes = 8, .most_bytes = 1};
+    struct reading reading = {.charmap = charmap, .light = light, .escape = '\\', .comment = '#'};
     gzFile from = open_file(directory, file);
     if (!from)
         return ICONVD_UNSUPPORTED;
@@ -212,11 +235,13 @@ iconvd_status charmap_read(struct charmap *charmap, const char *directory, const
     bool memory = read_lines(&reading, from);
     gzclose(from);
     bool empty = charmap->mappings == 0;
-    memory = memory && compose(&reading, name);
+    memory = memory && compose_both(&reading, name);
     buffer_free(&reading.last);
+    buffer_free(&reading.light_last);
     if (memory && !empty)
         return ICONVD_OK;
     buffer_free(&charmap->text);
+    buffer_free(&light->text);
     return memory ? ICONVD_UNSUPPORTED : ICONVD_ENOMEM;
 }
 

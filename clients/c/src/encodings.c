@@ -28,6 +28,7 @@ bool encodings_begin(struct encodings *encodings, const char *directory) {
 void encoding_free(struct encoding *encoding) {
     if (!encoding)
         return;
+    encoding_free(encoding->light);
     buffer_free(&encoding->map.text);
     free(atomic_load(&encoding->repertoire));
     free(atomic_load(&encoding->leads));
@@ -63,14 +64,36 @@ static struct encoding *find_read(struct encodings *encodings, size_t number) {
     return found;
 }
 
+/* Gives an encoding its light one, if it has a text. False: out of memory. */
+static bool add_light(struct encoding *encoding, struct charmap *light) {
+    if (!light->text.bytes)
+        return true;
+    encoding->light = calloc(1, sizeof *encoding->light);
+    if (!encoding->light) {
+        buffer_free(&light->text);
+        return false;
+    }
+    encoding->light->kind = BUILTIN_COUNT;
+    encoding->light->map = *light;
+    snprintf(encoding->light->name, sizeof encoding->light->name, "%.70s-light", encoding->name);
+    return true;
+}
+
+struct encoding *encoding_first(struct encoding *encoding) {
+    return encoding->light && !atomic_load(&encoding->needed) ? encoding->light : encoding;
+}
+
 /* Reads a charmap file. `reading` is held, and not the mutex: fork() waits for that. */
 static iconvd_status read_file(struct encodings *encodings, size_t number, struct encoding **found) {
     struct encoding *encoding = calloc(1, sizeof *encoding);
+    struct charmap light;
     if (!encoding)
         return ICONVD_ENOMEM;
     encoding->kind = BUILTIN_COUNT;
     snprintf(encoding->name, sizeof encoding->name, "map-%s", charmap_file(number));
-    iconvd_status status = charmap_read(&encoding->map, encodings->directory, charmap_file(number), encoding->name);
+    iconvd_status status = charmap_read(&encoding->map, &light, encodings->directory, charmap_file(number), encoding->name);
+    if (status == ICONVD_OK && !add_light(encoding, &light))
+        status = ICONVD_ENOMEM;
     if (status != ICONVD_OK) {
         encoding_free(encoding);
         return status;

@@ -130,6 +130,28 @@ static iconvd_status with_pair(struct iconvd_pool *pool, const struct pair *pair
     return status;
 }
 
+/* The pair by which a text is tried first. It has light charmaps only where the whole ones fit in one caller, too, and where a character
+   that the target lacks stops the conversion. */
+static struct pair first_pair(const struct pair *pair) {
+    struct pair first = *pair;
+    if (pair->strict && (uint64_t)pair->to->map.mappings + pair->from->map.mappings <= CALLER_MAPPINGS) {
+        first.to = encoding_first(pair->to);
+        first.from = encoding_first(pair->from);
+    }
+    return first;
+}
+
+/* Whether a conversion stopped at what a light charmap may lack. From now on the whole one is used. */
+static bool needs_more(const struct pair *pair, const struct pair *first, iconvd_status status) {
+    bool from = first->from != pair->from && (status == ICONVD_EILSEQ || status == ICONVD_UNSUPPORTED);
+    bool to = first->to != pair->to && (status == ICONVD_ENOCHAR || status == ICONVD_UNSUPPORTED);
+    if (from)
+        atomic_store(&pair->from->needed, true);
+    if (to)
+        atomic_store(&pair->to->needed, true);
+    return from || to;
+}
+
 static iconvd_status do_nothing(struct iconvd_pool *pool, struct slot *slot, const struct place *place, void *context) {
     (void)pool, (void)slot, (void)place, (void)context;
     return ICONVD_OK;
@@ -141,8 +163,15 @@ static iconvd_status convert_one(struct iconvd_pool *pool, struct slot *slot, co
 }
 
 iconvd_status pool_convert(struct iconvd_pool *pool, const struct pair *pair, struct work *work) {
-    work->used = work->produced = work->replaced = 0;
-    return with_pair(pool, pair, work->in_length < LONG ? SHORT_TEXT : LONG_TEXT, convert_one, work);
+    iconvd_status status;
+    struct pair first;
+    do {
+        first = first_pair(pair);
+        work->used = work->produced = work->replaced = 0;
+        status = with_pair(pool, &first, work->in_length < LONG ? SHORT_TEXT : LONG_TEXT, convert_one, work);
+    } while (needs_more(pair, &first, status));
+    /* The whole charmap is refused, in the middle of a text. */
+    return status == ICONVD_UNSUPPORTED ? ICONVD_LOST : status;
 }
 
 static iconvd_status convert_many(struct iconvd_pool *pool, struct slot *slot, const struct place *place, void *context) {
@@ -153,8 +182,17 @@ static iconvd_status convert_many(struct iconvd_pool *pool, struct slot *slot, c
 }
 
 iconvd_status pool_convert_batch(struct iconvd_pool *pool, const struct pair *pair, struct batch *batch) {
+    struct pair first = first_pair(pair);
     batch->done = 0;
-    return with_pair(pool, pair, LONG_TEXT, convert_many, batch);
+    iconvd_status status = with_pair(pool, &first, LONG_TEXT, convert_many, batch);
+    while (needs_more(pair, &first, status)) {
+        /* The piece that stopped is sent again, with those after it. */
+        batch->done -= batch->done > 0;
+        batch->status = ICONVD_OK;
+        first = first_pair(pair);
+        status = with_pair(pool, &first, LONG_TEXT, convert_many, batch);
+    }
+    return status == ICONVD_UNSUPPORTED ? ICONVD_LOST : status;
 }
 
 static bool is_known(struct iconvd_pool *pool, const struct pair *pair) {
@@ -181,7 +219,12 @@ iconvd_status pool_open(struct iconvd_pool *pool, const struct pair *pair) {
     fork_check(pool);
     if (is_known(pool, pair))
         return ICONVD_OK;
-    iconvd_status status = with_pair(pool, pair, SHORT_TEXT, do_nothing, NULL);
+    iconvd_status status;
+    struct pair first;
+    do {
+        first = first_pair(pair);
+        status = with_pair(pool, &first, SHORT_TEXT, do_nothing, NULL);
+    } while (needs_more(pair, &first, status));
     if (status == ICONVD_OK)
         remember(pool, pair);
     return status;

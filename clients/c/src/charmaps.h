@@ -14,6 +14,9 @@ struct charmap {
     unsigned most_bytes;
 };
 
+/* Of a charmap with so many mappings or more there is also a light one. */
+enum { LARGE_CHARMAP = 100000, LIGHT_BYTES = 2 };
+
 /* Reads `directory`/`file`.gz and mends it, so that the service reads it as the C library does:
  *
  *   - it gets the name `name`, since two files of Debian have one name;
@@ -22,8 +25,11 @@ struct charmap {
  *   - combining sequences, which are no mappings of one character, are left out, and so is everything but mappings;
  *   - a line CHARMAP is added where there is none.
  *
+ * `light` gets the mappings of at most LIGHT_BYTES bytes of a large charmap, with the name `name`-light; else it has no text. A text
+ * that it converts without a stop is converted so by the whole charmap.
+ *
  * UNSUPPORTED: there is no such file, or no mapping in it. */
-iconvd_status charmap_read(struct charmap *charmap, const char *directory, const char *file, const char *name);
+iconvd_status charmap_read(struct charmap *charmap, struct charmap *light, const char *directory, const char *file, const char *name);
 
 /* The characters of a charmap: a bit for each code point, or NULL where memory lacks. `symbols` is set where the text has names
    other than <Uxxxx>, which are not among the bits. */

@@ -169,15 +169,21 @@ iconvd_status iconvd_convert(iconvd_cd *cd, const char **in, size_t *in_left, ch
     return status;
 }
 
+static bool is_policy(int policy) {
+    return policy == ICONVD_SUBSTITUTE || (policy & ~(ICONVD_IGNORE | ICONVD_TRANSLIT)) == 0;
+}
+
 /* The two encodings of a conversion, with what stands behind the target's name. */
 static iconvd_status find_encodings(struct iconvd_cd *cd, const char *to, const char *from) {
     struct parsed_name target, source;
     if (!name_parse(&target, to) || !name_parse(&source, from))
         return ICONVD_UNSUPPORTED;
     cd->policy |= (target.translit ? ICONVD_TRANSLIT : 0) | (target.ignore ? ICONVD_IGNORE : 0);
-    iconvd_status status = encodings_find(&cd->pool->encodings, target.name, &cd->to);
+    if (!is_policy(cd->policy))
+        return ICONVD_BADPOLICY;
+    iconvd_status status = pool_find(cd->pool, target.name, &cd->to);
     if (status == ICONVD_OK)
-        status = encodings_find(&cd->pool->encodings, source.name, &cd->from);
+        status = pool_find(cd->pool, source.name, &cd->from);
     return status;
 }
 

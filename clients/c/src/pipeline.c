@@ -65,8 +65,9 @@ static enum transfer receive_more(struct pipeline *line) {
     return state;
 }
 
-bool stream_pipeline(struct stream *stream, struct call *calls, size_t number, size_t *answered, stream_place *place,
-                     void *context) {
+/* All round trips. */
+static bool send_and_receive(struct stream *stream, struct call *calls, size_t number, size_t *answered, stream_place *place,
+                             void *context) {
     struct pipeline line = {.stream = stream, .calls = calls, .number = number, .first_tag = stream->tag + 1};
     size_t placed = 0;
     stream->tag += (uint32_t)number;
@@ -88,4 +89,12 @@ bool stream_pipeline(struct stream *stream, struct call *calls, size_t number, s
     }
     *answered = line.answered;
     return line.answered == number;
+}
+
+bool stream_pipeline(struct stream *stream, struct call *calls, size_t number, size_t *answered, stream_place *place,
+                     void *context) {
+    gate_leave(&stream->pass);
+    bool whole = send_and_receive(stream, calls, number, answered, place, context);
+    gate_enter(&stream->pass);
+    return whole;
 }

@@ -15,6 +15,9 @@ struct pair {
     bool strict; /* stops before what the target lacks; otherwise `?` is written */
 };
 
+/* How many mappings the charmaps of a pair may have together. */
+enum { CALLER_MAPPINGS = 262144 };
+
 /* Where a descriptor is. */
 struct place {
     uint32_t caller;

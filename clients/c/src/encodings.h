@@ -6,6 +6,7 @@
 #include <stdatomic.h>
 
 #include "charmaps.h"
+#include "codes.h"
 #include "names.h"
 
 struct encoding {
@@ -15,7 +16,7 @@ struct encoding {
     char known_as[NAME_ROOM]; /* of a charmap that the host has added: its name as name_parse() writes it */
     atomic_bool refused; /* the service has refused the charmap: it is not sent again */
     unsigned char *_Atomic repertoire; /* made when a conversion first asks what the encoding has */
-    unsigned char *_Atomic leads; /* the bytes that its characters begin with; made when a conversion first meets a faulty one */
+    struct codes *_Atomic codes; /* of a charmap; made when a conversion first meets bytes that are no character */
     struct encoding *next; /* of those that the host has added */
 };
 
@@ -44,8 +45,8 @@ iconvd_status encodings_publish(struct encodings *encodings, struct encoding *ma
 /* Frees an encoding that was made and not published. NULL is nothing. */
 void encoding_free(struct encoding *encoding);
 
-/* Whether a character of a charmap may begin with a byte. True where memory lacks to know it. */
-bool encoding_has_lead(struct encoding *encoding, unsigned char byte);
+/* The codes of a charmap, which are made the first time. NULL: out of memory. */
+const struct codes *encoding_codes(struct encoding *encoding);
 
 /* How many bytes a character has at most and at least. */
 unsigned encoding_most_bytes(const struct encoding *encoding);

@@ -6,6 +6,7 @@
 
 #include <stdint.h>
 #include <stdlib.h>
+#include <string.h>
 
 #include "charmaps.h"
 
@@ -122,11 +123,20 @@ static size_t find(const struct codes *codes, unsigned char lead, uint64_t numbe
     return low;
 }
 
+/* The first eight bytes as a number, the first byte the highest; zero for those that are not there. */
+static uint64_t number_of(const unsigned char *in, size_t there) {
+    unsigned char bytes[CODE_BYTES] = {0};
+    memcpy(bytes, in, there);
+    uint64_t number = 0;
+    for (size_t i = 0; i < CODE_BYTES; i++)
+        number = number << 8 | bytes[i];
+    return number;
+}
+
 enum front codes_front(const struct codes *codes, const unsigned char *in, size_t left, size_t *length) {
     size_t there = left < CODE_BYTES ? left : CODE_BYTES;
-    uint64_t number = 0, following = there < CODE_BYTES ? UINT64_MAX >> 8 * there : 0;
-    for (size_t i = 0; i < there; i++)
-        number |= (uint64_t)in[i] << (56 - 8 * i);
+    uint64_t number = left < CODE_BYTES ? number_of(in, left) : number_of(in, CODE_BYTES);
+    uint64_t following = there < CODE_BYTES ? UINT64_MAX >> 8 * there : 0;
     size_t at = find(codes, in[0], number);
     if (at == codes->count || codes->intervals[at].first > (number | following))
         return FAULTY;

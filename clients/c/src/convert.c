@@ -3,7 +3,7 @@
 
 /* A server reads 65,536 bytes at a time: a request of one read is answered at once. AFTER_STOP is how much is sent at first where a
    text has stopped at something that is in the way, since there may be more of it. */
-enum { ONE_READ = 65536 - ICONVD_CONV_HEAD, CHUNK = 262144, AFTER_STOP = 2048 };
+enum { ONE_READ = 65536 - ICONVD_CONV_HEAD, CHUNK = 262144, AFTER_STOP = 64 };
 
 iconvd_status convert_piece(struct iconvd_cd *cd, struct work *work) {
     return cd->own ? own_convert(cd, work) : pool_convert(cd->pool, &cd->pair, work);
@@ -88,7 +88,7 @@ static iconvd_status convert_until_stop(struct iconvd_cd *cd, struct progress *p
         } else {
             more = convert_next(cd, progress, &status);
         }
-        cd->ahead = cd->ahead < CHUNK ? 2 * cd->ahead : SIZE_MAX;
+        cd->ahead = cd->ahead < CHUNK ? 4 * cd->ahead : SIZE_MAX;
     }
     return status;
 }

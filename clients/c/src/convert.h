@@ -119,6 +119,9 @@ iconvd_status fronts_of(struct encoding *encoding, struct fronts *fronts);
 /* What is at the front of `left` bytes, one at least, and how long the character is. */
 enum front front_at(const struct fronts *fronts, const char *text, size_t left, size_t *length);
 
+/* How many bytes of characters are at the front of a text. */
+size_t front_run(const struct fronts *fronts, const char *text, size_t left);
+
 /* The character whose bytes these are. False: it cannot be told without converting. */
 bool front_character(const struct fronts *fronts, const char *text, size_t length, uint32_t *character);
 

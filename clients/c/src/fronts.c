@@ -73,6 +73,13 @@ enum front front_at(const struct fronts *fronts, const char *text, size_t left, 
     }
 }
 
+size_t front_run(const struct fronts *fronts, const char *text, size_t left) {
+    size_t run = 0, length;
+    while (run < left && front_at(fronts, text + run, left - run, &length) == WELL_FORMED)
+        run += length;
+    return run;
+}
+
 bool front_character(const struct fronts *fronts, const char *text, size_t length, uint32_t *character) {
     const unsigned char *in = (const unsigned char *)text;
     bool big = fronts->kind == UTF_16BE || fronts->kind == UTF_32BE;

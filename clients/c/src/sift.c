@@ -45,7 +45,7 @@ static struct part look(struct sift *sift, struct walk *walk) {
     default: break;
     }
     if (!sift->lacks)
-        return (struct part){.kind = KEPT, .length = length};
+        return (struct part){.kind = KEPT, .length = sift->by_runs ? front_run(&sift->from, at, left) : length};
     if (!read_character(sift, walk, at, length, &character))
         return (struct part){.kind = END, .status = ICONVD_OK};
     return judge(sift, character, length);
@@ -76,11 +76,13 @@ static iconvd_status gather(struct sift *sift, struct sums *sums) {
     sift->kept.length = 0;
     if (!buffer_reserve(&sift->kept, sift->length))
         return ICONVD_ENOMEM;
+    sift->by_runs = true;
     while ((part = sift_next(sift, &walk)).kind != END) {
         if (part.kind == KEPT)
             buffer_append(&sift->kept, sift->in + walk.used - part.length, part.length);
         count(sums, &part);
     }
+    sift->by_runs = false;
     sums->status = part.status;
     return part.status == ICONVD_ENOMEM ? ICONVD_ENOMEM : ICONVD_OK;
 }

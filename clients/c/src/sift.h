@@ -10,6 +10,7 @@ struct sift {
     struct fronts from;
     struct fronts to;
     bool lacks;         /* whether the target has each character is looked at, too */
+    bool by_runs;       /* characters that are kept are one part with those after them, where nothing else is looked at */
     const char *in;     /* the chunk */
     size_t length;
     size_t whole;       /* how long the source is from there */

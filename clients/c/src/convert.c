@@ -186,6 +186,7 @@ static iconvd_status find_encodings(struct iconvd_cd *cd, const char *to, const 
     struct parsed_name target, source;
     if (!name_parse(&target, to) || !name_parse(&source, from))
         return ICONVD_UNSUPPORTED;
+    cd->from_wide = strcmp(source.name, "WCHAR_T") == 0;
     cd->policy |= (target.translit ? ICONVD_TRANSLIT : 0) | (target.ignore ? ICONVD_IGNORE : 0);
     iconvd_status status = encodings_find(&cd->pool->encodings, target.name, &cd->to);
     if (status == ICONVD_OK)

@@ -13,6 +13,7 @@ struct iconvd_cd {
     size_t ahead;        /* how much is sent at once: little where a text has just stopped, and more while all goes well */
     bool mark_written;   /* to UTF-16 and UTF-32 */
     bool order_known;    /* from UTF-16 and UTF-32 */
+    bool from_wide;      /* the source is WCHAR_T, which the C library converts without a step between */
     struct own *own;     /* with UTF-7 on either side: a descriptor of its own; otherwise NULL */
 };
 

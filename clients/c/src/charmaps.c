@@ -254,6 +254,8 @@ unsigned char *charmap_repertoire(const char *text, size_t length, bool *symbols
         const char *next = memchr(text, '\n', (size_t)(end - text));
         const char *line = text;
         text = next ? next + 1 : end;
+        if (inside && strncmp(line, "END", 3) == 0)
+            break;
         if (!next || (!inside && strncmp(line, "CHARMAP", 7) != 0))
             continue;
         inside = true;

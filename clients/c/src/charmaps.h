@@ -35,9 +35,6 @@ iconvd_status charmap_read(struct charmap *charmap, struct charmap *light, const
    other than <Uxxxx>, which are not among the bits. */
 unsigned char *charmap_repertoire(const char *text, size_t length, bool *symbols);
 
-/* The bytes that characters of a charmap begin with: not 0 for each of them. */
-void charmap_leads(const char *text, size_t length, unsigned char leads[256]);
-
 /* Reads the name or range of a mapping at `line`, which a line feed or a zero byte ends. False: it is no <Uxxxx>. A range of two dots
    counts in hexadecimal. One of three counts its names in decimal, and each name is hexadecimal nevertheless: <U0109>...<U0110> are
    U+0109 and U+0110. */
@@ -47,5 +44,24 @@ struct code_points {
     bool decimal; /* `first` and `last` are the names read as decimal numbers */
 };
 bool charmap_points(const char *line, struct code_points *points);
+
+/* A line of a charmap's text that is a mapping, or a range of them. Its codes count up as one number, the first byte the highest. */
+struct mapping {
+    bool is_named; /* by a name other than <Uxxxx>; else by `points` */
+    struct code_points points;
+    uint64_t count; /* of characters */
+    uint64_t code;  /* of the first one */
+    unsigned bytes; /* of a code, 1 to 8 */
+};
+
+/* Goes through the mappings of a text that the service takes. False: there are no more. */
+struct charmap_lines {
+    const char *at;
+    const char *end;
+    char escape;
+    bool inside; /* after the line CHARMAP */
+};
+struct charmap_lines charmap_lines(const char *text, size_t length);
+bool charmap_next(struct charmap_lines *lines, struct mapping *mapping);
 
 #endif

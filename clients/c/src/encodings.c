@@ -31,7 +31,7 @@ void encoding_free(struct encoding *encoding) {
     encoding_free(encoding->light);
     buffer_free(&encoding->map.text);
     free(atomic_load(&encoding->repertoire));
-    free(atomic_load(&encoding->leads));
+    codes_free(atomic_load(&encoding->codes));
     free(encoding);
 }
 
@@ -175,19 +175,17 @@ iconvd_status encodings_publish(struct encodings *encodings, struct encoding *ma
     return taken ? ICONVD_EXISTS : ICONVD_OK;
 }
 
-bool encoding_has_lead(struct encoding *encoding, unsigned char byte) {
-    unsigned char *leads = atomic_load(&encoding->leads), *none = NULL;
-    if (leads)
-        return leads[byte] != 0;
-    leads = calloc(256, 1);
-    if (!leads)
-        return true;
-    charmap_leads(encoding->map.text.bytes, encoding->map.text.length, leads);
-    bool has = leads[byte] != 0;
+const struct codes *encoding_codes(struct encoding *encoding) {
+    struct codes *codes = atomic_load_explicit(&encoding->codes, memory_order_acquire), *none = NULL;
+    if (codes)
+        return codes;
+    codes = codes_make(encoding->map.text.bytes, encoding->map.text.length);
     /* Another thread may have been faster. */
-    if (!atomic_compare_exchange_strong(&encoding->leads, &none, leads))
-        free(leads);
-    return has;
+    if (codes && !atomic_compare_exchange_strong(&encoding->codes, &none, codes)) {
+        codes_free(codes);
+        codes = none;
+    }
+    return codes;
 }
 
 unsigned encoding_most_bytes(const struct encoding *encoding) {

@@ -6,6 +6,7 @@
 #include <stdatomic.h>
 
 #include "charmaps.h"
+#include "codes.h"
 #include "names.h"
 
 struct encoding {
@@ -17,7 +18,7 @@ struct encoding {
     struct encoding *light; /* of a large charmap: the short mappings of it, which are compiled sooner; NULL: there is no such */
     atomic_bool needed;     /* a text has needed more than the light one */
     unsigned char *_Atomic repertoire; /* made when a conversion first asks what the encoding has */
-    unsigned char *_Atomic leads; /* the bytes that its characters begin with; made when a conversion first meets a faulty one */
+    struct codes *_Atomic codes; /* of a charmap; made when a conversion first meets bytes that are no character */
     struct encoding *next; /* of those that the host has added */
 };
 
@@ -53,8 +54,8 @@ void encoding_free(struct encoding *encoding);
 /* What a text is tried with first: the light encoding, until one has needed more. */
 struct encoding *encoding_first(struct encoding *encoding);
 
-/* Whether a character of a charmap may begin with a byte. True where memory lacks to know it. */
-bool encoding_has_lead(struct encoding *encoding, unsigned char byte);
+/* The codes of a charmap, which are made the first time. NULL: out of memory. */
+const struct codes *encoding_codes(struct encoding *encoding);
 
 /* How many bytes a character has at most and at least. */
 unsigned encoding_most_bytes(const struct encoding *encoding);

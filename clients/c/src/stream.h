@@ -60,8 +60,9 @@ void stream_close(struct stream *stream);
 bool stream_call(struct stream *stream, struct call *call);
 
 /* Several requests, of which later ones are sent before earlier ones are answered. Before it reads the reply to calls[i] it asks
-   `place` where its output goes. False: the stream is lost; calls[0] to calls[*answered - 1] have their replies. */
-typedef void stream_place(void *context, struct call *call);
+   `place` where its output goes; where that returns false, no more requests are sent than have been begun. False: the stream is lost;
+   calls[0] to calls[*answered - 1] have their replies. */
+typedef bool stream_place(void *context, struct call *call);
 bool stream_pipeline(struct stream *stream, struct call *calls, size_t number, size_t *answered, stream_place *place,
                      void *context);
 

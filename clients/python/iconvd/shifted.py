@@ -39,11 +39,14 @@ def _read(digits: bytes) -> _Sequence:
     whole = base64.b64decode(digits + b"A" * (-len(digits) % 4))
     units, rest = whole[: bits // 16 * 2], whole[bits // 16 * 2 :]
     text = units.decode("utf-16-be", "surrogatepass")
+    bits_over = int.from_bytes(rest, "big") >> (8 * len(rest) - left)
+    if bits_over and "\ud800" <= text[-1:] <= "\udbff":
+        text = text[:-1]
     lone = _SURROGATE.search(text)
     if lone:
         return _Sequence(text[: lone.start()], _ILL_FORMED)
-    if int.from_bytes(rest, "big") >> (8 * len(rest) - left):
-        return _Sequence(text, "partial character in base64 sequence" if left >= 6 else "non-zero padding bits in shift sequence")
+    if bits_over:
+        return _Sequence(text, "partial character in shift sequence" if left >= 6 else "non-zero padding bits in shift sequence")
     return _Sequence(text, "")
 
 

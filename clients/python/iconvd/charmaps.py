@@ -11,7 +11,7 @@ import gzip
 import os
 import re
 import zlib
-from typing import List, NamedTuple, Tuple
+from typing import Dict, List, NamedTuple, Tuple
 
 from .errors import CharmapRefused
 
@@ -20,12 +20,13 @@ FOLDER = "/usr/share/i18n/charmaps"
 #: Bytes that a charmap's text may have, as the server takes it.
 MAX_TEXT = 8_388_608
 
-_DECLARATION = re.compile(rb"^<(code_set_name|escape_char)>[ \t]+(\S+)", re.M)
+_DECLARATION = re.compile(rb"^<(code_set_name|escape_char|comment_char|mb_cur_min|mb_cur_max)>[ \t]+(\S+)", re.M)
 #: The line CHARMAP, or a mapping in a file that has no such line.
 _BEGIN = re.compile(rb"^(?:CHARMAP.*\n?|(?=<U))", re.M)
 _END = re.compile(rb"^END CHARMAP", re.M)
 #: Combining sequences, which are several names, are none.
 _MAPPING = re.compile(rb"^[ \t]*(%IRREVERSIBLE%)?(<[^>\n]*>(?:\.{2,3}<[^>\n]*>)?)[ \t]+(\S+)", re.M)
+_IN_A_LINE = re.compile(rb"^(<[^>\n]*>\.{2,3}<[^>\n]*>)", re.M)
 _RANGE = re.compile(rb"<U([0-9A-Fa-f]+)>(\.{2,3})<U([0-9A-Fa-f]+)>")
 
 
@@ -106,6 +107,21 @@ def _span(name: bytes) -> int:
         return 1
 
 
+def _is_clean(body: bytes, comment: bytes) -> bool:
+    """Whether each line is a mapping in both directions, a comment or empty."""
+    odd = re.compile(rb"^(?![<\n%s]|\Z)" % re.escape(comment), re.M)
+    return b"%IRREVERSIBLE%" not in body and b"><" not in body and not odd.search(body)
+
+
+def _as_it_is(name: bytes, body: bytes, declared: Dict[bytes, bytes]) -> Charmap:
+    """Returns the charmap of a file whose lines need no mending."""
+    lengths = declared[b"mb_cur_min"], declared[b"mb_cur_max"]
+    mappings = body.count(b"\n<") + 1 + sum(_span(mapped) - 1 for mapped in _IN_A_LINE.findall(body))
+    head = b"".join(b"<%s> %s\n" % declaration for declaration in declared.items() if declaration[0] != b"code_set_name")
+    text = b"<code_set_name> %s\n%sCHARMAP\n%sEND CHARMAP\n" % (name, head, body)
+    return Charmap(name, text, mappings, int(lengths[0]), int(lengths[1]), declared[b"escape_char"])
+
+
 def _measured(name: bytes, text: bytes, mappings: List[Tuple[bytes, bytes, bytes]], escape: bytes) -> Charmap:
     lengths = {encoding.count(escape) for _, _, encoding in mappings} - {0}
     if not lengths:
@@ -117,9 +133,12 @@ def _measured(name: bytes, text: bytes, mappings: List[Tuple[bytes, bytes, bytes
 def mend(file: str, text: bytes) -> Charmap:
     """Returns the charmap of that file as the server takes it. Raises CharmapRefused if no line is a mapping."""
     header, body = _body(text)
-    escape = dict(_DECLARATION.findall(header)).get(b"escape_char", b"\\")[:1]
-    mappings = _MAPPING.findall(body)
+    declared: Dict[bytes, bytes] = dict(_DECLARATION.findall(header))
     name = b"map-" + file.encode("ascii", "replace")
+    if len(declared) == 5 and _is_clean(body, declared[b"comment_char"]):
+        return _as_it_is(name, body, declared)
+    escape = declared.get(b"escape_char", b"\\")[:1]
+    mappings = _MAPPING.findall(body)
     found = _measured(name, b"", mappings, escape)
     head = [
         b"<code_set_name> " + name,

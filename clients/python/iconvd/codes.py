@@ -10,11 +10,12 @@ import functools
 import re
 from typing import Dict, Iterator, List, Optional, Set, Tuple
 
+from .charmaps import Charmap
 from .errors import CharmapRefused
-from .forms import PatternForm, Patterns
+from .forms import PatternForm, Patterns, Span
 from .symbols import SYMBOLS
 
-_USUAL = rb"^[ \t]*<U([0-9A-Fa-f]{4,8})>(?:\.\.<U([0-9A-Fa-f]{4,8})>)?[ \t]+((?:%sx[0-9A-Fa-f]{2})+)(?=\s).*$"
+_USUAL = rb"^[ \t]*<U([0-9A-Fa-f]{4,8})>(?:\.\.<U([0-9A-Fa-f]{4,8})>)?[ \t]+((?:%sx[0-9A-Fa-f]{2})+)(?=\s)"
 _LINE = re.compile(rb"^[ \t]*<([^>\n]*)>(?:(\.{2,3})<U([0-9A-Fa-f]{4,8})>)?[ \t]+(\S+)", re.M)
 _CONSTANT = re.compile(rb".(?:x([0-9A-Fa-f]{2})|d([0-9]{2,3})|([0-7]{2,3}))", re.S)
 _ALL = (1 << 256) - 1
@@ -59,7 +60,9 @@ def ranges(body: bytes, escape: bytes) -> List[Range]:
         (int(first, 16), int(last, 16) - int(first, 16) + 1 if last else 1, int(code.replace(constant, b""), 16), len(code) // 4)
         for first, last, code in usual.findall(body)
     ]
-    return found + list(_unusual_ranges(usual.sub(b"", body)))
+    if len(found) == (b"\n" + body).count(b"\n<"):
+        return found
+    return found + list(_unusual_ranges(usual.sub(b"%", body)))
 
 
 class _Strings:
@@ -157,8 +160,8 @@ def _runs(spans: List[Tuple[int, int]]) -> Iterator[Tuple[int, int]]:
 def _separator(found: List[Range]) -> Tuple[int, bytes]:
     """Returns a character with a byte string of the least length, and no other: a rare one, if the charmap has it."""
     shortest = min(length for _, _, _, length in found)
-    able = [(first, code) for first, count, code, length in found if count == 1 and length == shortest]
-    for mark, code in sorted(able):
+    able = sorted((first, code) for first, count, code, length in found if count == 1 and length == shortest)
+    for mark, code in able:
         if sum(first <= mark < first + count for first, count, _, _ in found) == 1:
             return mark, code.to_bytes(shortest, "big")
     raise CharmapRefused("", "each of its characters has two encodings")
@@ -167,9 +170,9 @@ def _separator(found: List[Range]) -> Tuple[int, bytes]:
 class CharmapForm(PatternForm):
     """The form of a charmap's encoding."""
 
-    def __init__(self, body: bytes, escape: bytes) -> None:
-        """`body` is the text from the line CHARMAP to the line END CHARMAP."""
-        found = ranges(body, escape)
+    def __init__(self, charmap: Charmap) -> None:
+        self._charmap = charmap
+        found = ranges(charmap.body(), charmap.escape)
         mark, separator = _separator(found)
         strings = _Strings()
         for _, count, code, length in found:
@@ -177,9 +180,12 @@ class CharmapForm(PatternForm):
         strings.remove(separator)
         patterns = strings.patterns()
         self.is_multibyte = bool(patterns.multiple)
-        characters = list(_runs(sorted((first, first + count) for first, count, _, _ in found)))
-        super().__init__(patterns, separator, chr(mark), characters, not self.is_multibyte)
+        super().__init__(patterns, separator, chr(mark), not self.is_multibyte)
         self.lacking_reason = _ILLEGAL if self.is_multibyte else _UNDEFINED
+
+    def has(self) -> List[Span]:
+        found = ranges(self._charmap.body(), self._charmap.escape)
+        return list(_runs(sorted((first, first + count) for first, count, _, _ in found)))
 
     def reason(self, item: bytes, is_cut: bool) -> str:
         if is_cut:

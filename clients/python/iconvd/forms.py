@@ -45,14 +45,16 @@ class Form:
     #: Whether an error handler's text is encoded by itself, so that its faults are faults of that text, as CPython does.
     is_multibyte = False
 
-    def __init__(self, separator: bytes, mark: str, has: Sequence[Span], in_runs: bool) -> None:
-        """`mark` is the separator's character, `has` are all characters of the encoding, the first and the last of each range,
-        and `in_runs` says that CPython reports a run of lacking characters at once."""
+    def __init__(self, separator: bytes, mark: str, in_runs: bool) -> None:
+        """`mark` is the separator's character, and `in_runs` says that CPython reports a run of lacking characters at once."""
         self.separator = separator
         self.mark = mark
-        self._has = has
         self._in_runs = in_runs
         self._special: Optional[Pattern[str]] = None
+
+    def has(self) -> Sequence[Span]:
+        """Returns all characters of the encoding."""
+        return SCALARS
 
     def find(self, data: bytes, at: int, end: int) -> Found:
         """Returns the good bytes from `at` on, and the item after them, before `end`."""
@@ -78,7 +80,7 @@ class Form:
     def special(self) -> Pattern[str]:
         """The pattern of the mark, and of characters that the encoding lacks, as many as CPython reports at once."""
         if self._special is None:
-            has = "".join(f"{_escaped(first)}-{_escaped(last)}" for first, last in self._has)
+            has = "".join(f"{_escaped(first)}-{_escaped(last)}" for first, last in self.has())
             self._special = re.compile(f"{re.escape(self.mark)}|[^{has}]" + ("+" if self._in_runs else ""))
         return self._special
 
@@ -119,8 +121,8 @@ def _good(patterns: Patterns) -> bytes:
 class PatternForm(Form):
     """How bytes are cut into characters and faults, by a regular expression."""
 
-    def __init__(self, patterns: Patterns, separator: bytes, mark: str, has: Sequence[Span], in_runs: bool) -> None:
-        super().__init__(separator, mark, has, in_runs)
+    def __init__(self, patterns: Patterns, separator: bytes, mark: str, in_runs: bool) -> None:
+        super().__init__(separator, mark, in_runs)
         items = b"|".join(item for item in (patterns.never, re.escape(separator), patterns.bad, b"\\Z") if item)
         self._tokens = re.compile(b"(?s)(%s)(%s)" % (_good(patterns), items))
         self._cut = re.compile(b"(?s)" + patterns.cut) if patterns.cut else None
@@ -159,12 +161,17 @@ def _escaped(point: int) -> str:
 class UnicodeForm(PatternForm):
     """The form of an encoding of Unicode. CPython's codec of it is asked for the reason of a fault."""
 
-    def __init__(self, codec: str, patterns: Patterns, has: Sequence[Span], in_runs: bool) -> None:
-        super().__init__(patterns, "\0".encode(codec), "\0", has, in_runs)
+    def __init__(self, codec: str, patterns: Patterns, in_runs: bool, last: int = 0x10FFFF) -> None:
+        """`last` is the last character that the encoding has."""
+        super().__init__(patterns, "\0".encode(codec), "\0", in_runs)
+        self._last = last
         self._codec = codec
         self.unit = len(self.separator)
         self.is_ascii_put_in = codec.startswith("utf")
         self.lacking_reason = _python_lacking_reason(codec)
+
+    def has(self) -> Sequence[Span]:
+        return [(first, min(last, self._last)) for first, last in SCALARS if first <= self._last]
 
     def reason(self, item: bytes, is_cut: bool) -> str:
         return _python_reason(self._codec, item if is_cut else item + "A".encode(self._codec))
@@ -229,11 +236,11 @@ _ASCII = Patterns(rb"[\x01-\x7f]", b"", b"", rb"[\x80-\xff]", b"", b"")
 
 #: The forms of the encodings that the server has itself, but for UTF-7; see shifted.py.
 BUILTIN: Dict[str, Callable[[], Form]] = {
-    "US-ASCII": lambda: UnicodeForm("ascii", _ASCII, ((0, 0x7F),), True),
-    "ISO-8859-1": lambda: UnicodeForm("latin-1", _ASCII._replace(single=rb"[\x01-\xff]", never=b""), ((0, 0xFF),), True),
-    "UTF-8": lambda: UnicodeForm("utf-8", _UTF_8, SCALARS, True),
-    "UTF-16LE": lambda: UnicodeForm("utf-16-le", _UTF_16LE, SCALARS, False),
-    "UTF-16BE": lambda: UnicodeForm("utf-16-be", _UTF_16BE, SCALARS, False),
-    "UTF-32LE": lambda: UnicodeForm("utf-32-le", _UTF_32LE, SCALARS, False),
-    "UTF-32BE": lambda: UnicodeForm("utf-32-be", _UTF_32BE, SCALARS, False),
+    "US-ASCII": lambda: UnicodeForm("ascii", _ASCII, True, 0x7F),
+    "ISO-8859-1": lambda: UnicodeForm("latin-1", _ASCII._replace(single=rb"[\x01-\xff]", never=b""), True, 0xFF),
+    "UTF-8": lambda: UnicodeForm("utf-8", _UTF_8, True),
+    "UTF-16LE": lambda: UnicodeForm("utf-16-le", _UTF_16LE, False),
+    "UTF-16BE": lambda: UnicodeForm("utf-16-be", _UTF_16BE, False),
+    "UTF-32LE": lambda: UnicodeForm("utf-32-le", _UTF_32LE, False),
+    "UTF-32BE": lambda: UnicodeForm("utf-32-be", _UTF_32BE, False),
 }

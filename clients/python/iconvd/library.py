@@ -81,8 +81,7 @@ class Library:
 
     def _make_form(self, encoding: Encoding) -> Form:
         if encoding.is_charmap:
-            charmap = self.get(encoding.name)
-            return CharmapForm(charmap.body(), charmap.escape)
+            return CharmapForm(self.get(encoding.name))
         return shifted.Utf7Form() if encoding.name == "UTF-7" else forms.BUILTIN[encoding.name]()
 
     def bytes_of(self, encoding: Encoding) -> Dict[str, bytes]:

@@ -6,7 +6,7 @@ import base64
 import re
 from typing import List, NamedTuple, Optional, Sequence, Tuple
 
-from .forms import SCALARS, Form, Found
+from .forms import Form, Found
 
 #: Bytes that are themselves, but for the tab, which is the separator; and `+-`.
 _DIRECT = re.compile(rb"(?:[A-Za-z0-9'(),\-./:?!\"#$%&*;<=>@\[\]^_`{|} \r\n]+|\+-)*")
@@ -54,7 +54,7 @@ class Utf7Form(Form):
     """The form of UTF-7. A shifted sequence with a fault is read here up to the fault."""
 
     def __init__(self) -> None:
-        super().__init__(b"\t", "\t", SCALARS, False)
+        super().__init__(b"\t", "\t", False)
 
     def find(self, data: bytes, at: int, end: int) -> Found:
         good: List[bytes] = []

@@ -26,7 +26,7 @@ _BEGIN = re.compile(rb"^(?:CHARMAP.*\n?|(?=<U))", re.M)
 _END = re.compile(rb"^END CHARMAP", re.M)
 #: Combining sequences, which are several names, are none.
 _MAPPING = re.compile(rb"^[ \t]*(%IRREVERSIBLE%)?(<[^>\n]*>(?:\.{2,3}<[^>\n]*>)?)[ \t]+(\S+)", re.M)
-_IN_A_LINE = re.compile(rb"^(<[^>\n]*>\.{2,3}<[^>\n]*>)", re.M)
+_SPAN = re.compile(rb"<U([0-9A-Fa-f]+)>\.{2,3}<U([0-9A-Fa-f]+)>")
 _RANGE = re.compile(rb"<U([0-9A-Fa-f]+)>(\.{2,3})<U([0-9A-Fa-f]+)>")
 
 
@@ -116,7 +116,8 @@ def _is_clean(body: bytes, comment: bytes) -> bool:
 def _as_it_is(name: bytes, body: bytes, declared: Dict[bytes, bytes]) -> Charmap:
     """Returns the charmap of a file whose lines need no mending."""
     lengths = declared[b"mb_cur_min"], declared[b"mb_cur_max"]
-    mappings = body.count(b"\n<") + 1 + sum(_span(mapped) - 1 for mapped in _IN_A_LINE.findall(body))
+    spans = sum(max(0, int(last, 16) - int(first, 16)) for first, last in _SPAN.findall(body))
+    mappings = body.count(b"\n<") + 1 + spans
     head = b"".join(b"<%s> %s\n" % declaration for declaration in declared.items() if declaration[0] != b"code_set_name")
     text = b"<code_set_name> %s\n%sCHARMAP\n%sEND CHARMAP\n" % (name, head, body)
     return Charmap(name, text, mappings, int(lengths[0]), int(lengths[1]), declared[b"escape_char"])

@@ -190,12 +190,42 @@ static void compare_pair(uint64_t *state) {
     compare_text(&passing, state);
 }
 
+/* The loop of programs that read a text in parts: what a part cuts stays for the next one. */
+static size_t read_in_parts(const struct library *library, const char *to, const char *from, char *out, size_t room) {
+    static const char *const PARTS[] = {"na\xef" "ve, na\xc3", "\xaf" "ve, \xff\xd0\xb6\xe2", "\x82", "\xac."};
+    iconv_t cd = library->open(to, from);
+    char waiting[40], *at = out;
+    size_t kept = 0;
+    for (size_t i = 0; i < sizeof PARTS / sizeof *PARTS; i++) {
+        char *in = waiting;
+        memcpy(waiting + kept, PARTS[i], strlen(PARTS[i]));
+        kept += strlen(PARTS[i]);
+        size_t result = library->convert(cd, &in, &kept, &at, &room);
+        if (result == (size_t)-1 && errno == EILSEQ)
+            kept = 0; /* what //IGNORE left out: all is used */
+        memmove(waiting, in, kept);
+    }
+    library->close(cd);
+    return (size_t)(at - out);
+}
+
+static void compare_parts(void) {
+    static const char *const TO[] = {"UTF-8//IGNORE", "UTF-16//IGNORE", "LATIN1//IGNORE", "KOI8-R//IGNORE"};
+    for (size_t i = 0; i < sizeof TO / sizeof *TO; i++) {
+        char mine[200], other[200];
+        size_t length = read_in_parts(&ours, TO[i], "UTF-8", mine, sizeof mine);
+        size_t other_length = read_in_parts(&theirs, TO[i], "UTF-8", other, sizeof other);
+        check(length == other_length && memcmp(mine, other, length) == 0, "parts to %s: %.*s", TO[i], (int)length, mine);
+    }
+}
+
 int main(void) {
     const char *count = getenv("COMPARE_CALLS"), *seed = getenv("COMPARE_SEED");
     unsigned long wanted_calls = count ? strtoul(count, NULL, 10) : 200000;
     uint64_t state = 0x9e3779b97f4a7c15u ^ (seed ? strtoul(seed, NULL, 10) : 1);
     ours = library_load(wanted("PRELOAD"));
     theirs = library_load("libc.so.6");
+    compare_parts();
     while (calls < wanted_calls && checks_failed < 20)
         compare_pair(&state);
     printf("compare: %lu calls\n", calls);

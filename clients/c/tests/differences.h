@@ -11,7 +11,7 @@
 
 enum { TEXT = 4000, OUT = 20000 };
 
-enum kind { EARLY, ABOVE, ONE_WAY, FAULTY_LENGTH, WRITES_MARK, NO_ROOM, ROOM_FIRST, KINDS, UNKNOWN = KINDS };
+enum kind { EARLY, ABOVE, ONE_WAY, FAULTY_LENGTH, WRITES_MARK, NO_ROOM, ROOM_FIRST, KINDS, UNKNOWN = KINDS, FAULT };
 static const char *const KIND_NAMES[KINDS] = {
     "EILSEQ at once, of a multibyte charmap, where glibc waits for more",
     "values that Unicode has not, in UTF-8, UCS-4 and WCHAR_T, which glibc copies or passes over",
@@ -122,7 +122,7 @@ static bool begins_none(const struct step *step, const char *in, size_t length, 
 }
 
 /* Why ours leaves bytes out, or stops at them, that the C library does not treat so; and how many they are. UNKNOWN: both treat them
-   alike, and they are passed over for looking at what follows. */
+   alike. FAULT: for both they are no character. */
 static enum kind gap_at(const struct step *step, const char *in, size_t left, size_t *length) {
     static struct result mine, other;
     bool four = strcmp(step->from, "UCS-4") == 0 || strncmp(step->from, "UTF-32", 6) == 0 || strcmp(step->from, "WCHAR_T") == 0;
@@ -141,7 +141,9 @@ static enum kind gap_at(const struct step *step, const char *in, size_t left, si
     call_alone(&ours, &strict, in, left, 4, &mine);
     if (mine.error == EILSEQ && other.error == EINVAL && begins_none(step, in, left, 1))
         return EARLY;
-    return mine.error == EILSEQ && other.error == EILSEQ && is_multibyte(step->from) ? FAULTY_LENGTH : UNKNOWN;
+    if (mine.error != EILSEQ || other.error != EILSEQ)
+        return UNKNOWN;
+    return is_multibyte(step->from) ? FAULTY_LENGTH : FAULT;
 }
 
 /* A difference where the conversion stops: both are the same up to the place, and what is there is of a kind. */
@@ -158,7 +160,7 @@ static enum kind classify_stop(const struct step *step, const struct result *min
     return (kind == ABOVE || kind == ONE_WAY) && other->used >= mine->used ? kind : UNKNOWN;
 }
 
-/* A text without what ours leaves out of it otherwise than the C library. */
+/* A text without what ours leaves out of it otherwise than the C library, and without faults: what follows one might go on from it. */
 struct cleaned {
     char text[TEXT * 8];
     size_t from[TEXT * 8]; /* where each byte was */
@@ -188,7 +190,7 @@ static void clean(const struct step *step, bool drops_lacking, struct cleaned *c
         static struct result mine;
         cleaned->lacking |= (kind == ONE_WAY || kind == ROOM_FIRST) && read_one(&ours, step, step->in + at, step->length - at, &mine) > 0;
         /* A fault is a difference only if there is another, or the lengths differ. */
-        if (kind != UNKNOWN && (cleaned->kind == UNKNOWN || cleaned->kind == FAULTY_LENGTH))
+        if (kind < KINDS && (cleaned->kind == UNKNOWN || cleaned->kind == FAULTY_LENGTH))
             cleaned->kind = kind;
     }
 }

@@ -150,7 +150,8 @@ static void test_repertoire(void) {
         uint32_t point;
         bool there;
     } ROWS[] = {{0x41, true},   {0x42, false},  {0xff, false}, {0x100, true},  {0x10a, true},
-                {0x110, true},  {0x111, false}, {0x209, true}, {0x20a, false}, {0x210, true}};
+                {0x110, true},  {0x111, false}, {0x209, true}, {0x20a, false}, {0x210, true},
+                {0x43, false}};
     for (size_t i = 0; i < sizeof ROWS / sizeof *ROWS; i++)
         check((bits[ROWS[i].point / 8] >> ROWS[i].point % 8 & 1) == ROWS[i].there, "U+%04X", ROWS[i].point);
     check(symbols, "a symbolic name");

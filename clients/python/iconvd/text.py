@@ -76,7 +76,7 @@ class TextCodec:
 
     def decode(self, session: Session, data: bytes, errors: str, final: bool, at: int = 0) -> Steps[Decoded]:
         """Decodes the bytes from `at` on. If `final` is false, an incomplete character at the end is not used."""
-        end = shifted.open_at(data) if self.has_state and not final else len(data)
+        end = len(data) if final else self._end_of_whole(data)
         pieces: List[str] = []
         begin = at
         if not self._has_faults:
@@ -97,6 +97,14 @@ class TextCodec:
                 break
             at = cut.at
         return Decoded("".join(pieces), at)
+
+    def _end_of_whole(self, data: bytes) -> int:
+        """Returns the end of the bytes that need not wait for others: an open shifted sequence does. So does the beginning of a
+        surrogate in UTF-8, as for CPython, since `surrogatepass` may take it."""
+        if self.has_state:
+            return shifted.open_at(data)
+        waits = self.encoding == steps.UTF_8 and data[-2:-1] == b"\xed" and data[-1] & 0xE0 == 0xA0
+        return len(data) - 2 if waits else len(data)
 
     def _decode_whole(
         self, session: Session, data: bytes, at: int, end: int, pieces: List[str]

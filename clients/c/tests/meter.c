@@ -100,8 +100,7 @@ static void test(const struct call *call, const char *text, size_t length) {
 }
 
 /* The policies and their sums. */
-static const int POLICIES[] = {ICONVD_IGNORE, ICONVD_TRANSLIT, ICONVD_IGNORE | ICONVD_TRANSLIT, ICONVD_IGNORE | ICONVD_SUBSTITUTE,
-                               ICONVD_STRICT, ICONVD_SUBSTITUTE};
+static const int POLICIES[] = {ICONVD_IGNORE, ICONVD_TRANSLIT, ICONVD_IGNORE | ICONVD_TRANSLIT, ICONVD_STRICT, ICONVD_SUBSTITUTE};
 enum { POLICY_COUNT = sizeof POLICIES / sizeof *POLICIES };
 
 /* A new connection now and then, so that a service does not hold all charmaps. */

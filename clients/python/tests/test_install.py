@@ -80,7 +80,7 @@ class Install(unittest.TestCase):
 
     def test_make_install(self) -> None:
         """It goes where this Python looks below the prefix."""
-        run(["make", "install", f"PYTHON={sys.executable}", "PREFIX=/usr/local", f"DESTDIR={self.room}/root"], self.source)
+        run(["make", "install", f"PYTHON={sys.executable}", f"INSTALL_PYTHON={sys.executable}", "PREFIX=/usr/local", f"DESTDIR={self.room}/root"], self.source)
         (place,) = glob.glob(os.path.join(self.room, "root/usr/local/lib/python3*/*-packages"))
         known = run([sys.executable, "-c", "import site; print(site.getsitepackages())"], self.room)
         inside = place[len(self.room + "/root") :]

@@ -115,15 +115,18 @@ soak: ## a mail gateway's day in MINUTES=10 minutes, with a table and a chart in
 	@tools/need 'make $@' python3 python3-matplotlib
 	@program=$$(tools/checked_program iconvd) && tests/soak/soak.py "$$program" --minutes $(MINUTES) --out out/soak
 
-clients: $(CLIENTS:%=make-%) ## builds the clients
+clients: need-clients $(CLIENTS:%=make-%) ## builds the clients
 
-.PHONY: $(CLIENTS:%=make-%)
+.PHONY: need-clients $(CLIENTS:%=make-%)
+need-clients:
+	@tools/need 'make clients' cc python3 /usr/include/zlib.h /usr/share/i18n/charmaps
+
 $(CLIENTS:%=make-%): make-%:
 	$(MAKE) -C $*
 
-check-clients: ## runs the tests of the clients
+check-clients: ## runs the tests of the clients, and installs them in a root of their own
 	@program=$$(tools/checked_program iconvd) && \
-	    tools/count $(CLIENTS:%="make -C % check ICONVD=$$PWD/$$program")
+	    tools/count $(CLIENTS:%="make -C % check ICONVD=$$PWD/$$program") "clients/install/check $$program"
 
 deb: ## makes the Debian packages, in out/deb
 	@tools/need 'make deb' dpkg-deb dpkg-shlibdeps strip git

@@ -50,7 +50,8 @@ typedef enum iconvd_status {
     ICONVD_ROOM = 14,        /* more than ICONVD_MAX_ROOM bytes of room */
     ICONVD_ENOCHAR = 15,     /* the target lacks the next character */
     ICONVD_LOST = 64,        /* the service cannot be reached, went away, did not answer in time, or answered rubbish */
-    ICONVD_BADADDRESS = 65   /* the address is none of exec:, unix: and tcp: */
+    ICONVD_BADADDRESS = 65,  /* the address is none of exec:, unix: and tcp: */
+    ICONVD_BADPOLICY = 66    /* the policy has other bits than those below, or SUBSTITUTE with others */
 } iconvd_status;
 
 /* A short text in English, "the target lacks the next character". It is static; also for numbers that are no status. */
@@ -136,23 +137,36 @@ ICONVD_API iconvd_status iconvd_dial(const char *where, int timeout, int *descri
 typedef struct iconvd_pool iconvd_pool;
 
 typedef struct iconvd_options {
-    unsigned streams;     /* connections at most, 1 to 16; 0 is 4. A connection is made when all others are in use */
+    unsigned streams;     /* connections at most, 1 to 16; 0 is the number of processors that the process may use, but 4 at least. A
+                             connection is made when all others are in use */
     int timeout;          /* how long a call waits for the service; 0 is 10,000, below 0 is without end */
     const char *charmaps; /* the folder of charmap files, NAME.gz; NULL is /usr/share/i18n/charmaps */
-    void (*log)(void *context, const char *line); /* told of lost connections and refused charmaps; NULL: nobody is. Any thread calls
-                                                     it, and it must not call the library */
+    void (*log)(void *context, const char *line); /* told of lost connections, of a service that cannot be reached, and of charmaps
+                                                     that are missing or refused; NULL: nobody is. Any thread calls it, and it must
+                                                     not call the library */
     void *context;
 } iconvd_options;
 
 /* Connects to a service. `where` is one of
  *
  *   exec:PROGRAM ARGUMENT ..    starts a program that serves its standard input: "exec:iconvd pipe". Words are separated by
- *                               blanks; the program is looked for by PATH; it gets this process's environment without LD_PRELOAD
+ *                               blanks; the program is looked for in those folders of PATH that are absolute; it gets this
+ *                               process's environment without LD_PRELOAD, and no descriptor of it. No program is started, and the
+ *                               connection is LOST, in a process that runs with other rights than its caller's (set-user-ID,
+ *                               set-group-ID, file capabilities), and in process 1 and subreapers, which the program would get for
+ *                               its parent
  *   unix:PATH                   a Unix socket
  *   tcp:HOST:PORT               TCP; a numeric IPv6 host stands in brackets
  *
- * NULL options are the defaults. Where it fails, LOST or BADADDRESS or ENOMEM, nothing is left. */
+ * NULL options are the defaults. Where it fails, LOST or BADADDRESS or ENOMEM, nothing is left. LOST is also a program that is not
+ * there: the log names it. */
 ICONVD_API iconvd_status iconvd_connect(const char *where, const iconvd_options *options, iconvd_pool **pool);
+
+/* What the environment says, for a program that leaves the service to its user. Returns ICONVD, and sets `timeout`, `streams` and
+ * `charmaps` by ICONVD_TIMEOUT, ICONVD_STREAMS and ICONVD_CHARMAPS (iconvd-preload(7)). What they do not say stays as it is; the log is
+ * told of values that are none. Without ICONVD it returns "exec:iconvd pipe", or "unix:/run/iconvd.sock" where no program is started.
+ * In a program that runs with other rights than its caller's no variable counts. The strings are the environment's. */
+ICONVD_API const char *iconvd_environment(iconvd_options *options);
 
 /* Closes all connections. Every iconvd_cd of the pool has been closed before. NULL is nothing. */
 ICONVD_API void iconvd_disconnect(iconvd_pool *pool);
@@ -188,8 +202,8 @@ ICONVD_API void iconvd_count(const iconvd_pool *pool, iconvd_counters *counters)
 
 typedef struct iconvd_cd iconvd_cd;
 
-/* What to do with a character that the target lacks. They may be added up: TRANSLIT is tried first. Without any of them the
-   conversion stops before the character, ENOCHAR. */
+/* What to do with a character that the target lacks. IGNORE and TRANSLIT may be added up: TRANSLIT is tried first. Without any of them
+   the conversion stops before the character, ENOCHAR. */
 enum {
     ICONVD_STRICT = 0,
     ICONVD_IGNORE = 1,    /* leave it out, and also bytes that are no character */
@@ -198,7 +212,9 @@ enum {
 };
 
 /* Opens a conversion. Names are those of iconv_open(): case does not matter, aliases are known, the empty name is the locale's
-   encoding, and //TRANSLIT and //IGNORE behind `to` are added to the policy. UNSUPPORTED: a name is none; LOST, ENOMEM, QUOTA. */
+   encoding, and //TRANSLIT and //IGNORE behind `to` are added to the policy. UNSUPPORTED: a name is none, or its charmap cannot be
+   read, which the log says; BADPOLICY: the policy has other bits, or SUBSTITUTE with others, and nothing was sent; LOST, ENOMEM,
+   QUOTA. */
 ICONVD_API iconvd_status iconvd_open(iconvd_pool *pool, const char *to, const char *from, int policy, iconvd_cd **cd);
 
 /* Why a conversion stopped, and what it has changed. */

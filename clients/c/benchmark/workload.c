@@ -124,12 +124,13 @@ static const char *add_charmap(struct script *opening, const char *written) {
         give_up(2, "no encoding: %s", written);
     if (number < BUILTIN_COUNT)
         return builtin_name((enum builtin)number);
-    struct charmap charmap;
+    struct charmap charmap, light;
     const char *name = charmap_file((size_t)number - BUILTIN_COUNT);
-    if (charmap_read(&charmap, "/usr/share/i18n/charmaps", name, name) != ICONVD_OK)
+    if (charmap_read(&charmap, &light, "/usr/share/i18n/charmaps", name, name) != ICONVD_OK)
         give_up(2, "no charmap in /usr/share/i18n/charmaps: %s", name);
     add_put(opening, &charmap.text);
     buffer_free(&charmap.text);
+    buffer_free(&light.text);
     return name;
 }
 

@@ -1,8 +1,11 @@
 /* Reads addresses (exec:, unix:, tcp:). */
 #include "address.h"
 
+#include <errno.h>
+#include <stdio.h>
 #include <stdlib.h>
 #include <string.h>
+#include <sys/stat.h>
 #include <sys/un.h>
 #include <unistd.h>
 
@@ -18,7 +21,14 @@ static char **words_of(char *text) {
     return words;
 }
 
-/* The file that a command's first word names: as it is where it has a slash, else the first that PATH has. */
+/* Whether a file can be started, as far as a look at it tells: a folder may have the name, too. */
+static bool is_program(const char *file) {
+    struct stat status;
+    return stat(file, &status) == 0 && S_ISREG(status.st_mode) && access(file, X_OK) == 0;
+}
+
+/* The file that a command's first word names: as it is where it has a slash, else the first that PATH has. Empty where PATH has none.
+   Folders that are not absolute are passed over: they name another folder wherever the host is, and anybody may have written there. */
 static char *program_file(const char *word) {
     if (strchr(word, '/'))
         return strdup(word);
@@ -30,13 +40,14 @@ static char *program_file(const char *word) {
         size_t length = strcspn(path, ":");
         memcpy(file, path, length);
         file[length] = '/';
-        strcpy(file + length + (length > 0), word);
-        if (length > 0 && access(file, X_OK) == 0)
+        strcpy(file + length + 1, word);
+        if (*path == '/' && is_program(file))
             return file;
         path += length + (path[length] == ':');
     }
-    free(file);
-    return strdup(word);
+    if (file)
+        *file = 0;
+    return file;
 }
 
 /* A copy of the environment, without what would load this library into the service. One block: pointers, then strings. */
@@ -100,21 +111,37 @@ iconvd_status address_read(struct address *address, const char *where) {
         address->kind = ADDRESS_TCP;
     else if (length != 4 || strncmp(where, "exec", 4) != 0)
         return ICONVD_BADADDRESS;
+    address->where = strdup(where);
     address->text = strdup(colon + 1);
-    if (!address->text)
-        return ICONVD_ENOMEM;
-    iconvd_status status = address->kind == ADDRESS_EXEC  ? read_exec(address)
-                           : address->kind == ADDRESS_TCP ? read_tcp(address)
-                                                          : read_unix(address);
+    iconvd_status status = !address->where || !address->text ? ICONVD_ENOMEM
+                           : address->kind == ADDRESS_EXEC   ? read_exec(address)
+                           : address->kind == ADDRESS_TCP    ? read_tcp(address)
+                                                             : read_unix(address);
     if (status != ICONVD_OK)
         address_free(address);
     return status;
 }
 
 void address_free(struct address *address) {
+    free(address->where);
     free(address->text);
     free(address->program);
     free(address->argv);
     free(address->environment);
     *address = (struct address){.kind = ADDRESS_EXEC};
+}
+
+/* What an error of connecting means. A connect() that has waited for its time limit says that it is under way. */
+static const char *error_text(int error) {
+    return error == EINPROGRESS || error == EAGAIN ? "it does not answer" : strerror(error);
+}
+
+void address_explain(const struct address *address, int error, char *text, size_t room) {
+    const char *refused = address->kind == ADDRESS_EXEC ? spawn_refused() : NULL;
+    if (refused || address->kind != ADDRESS_EXEC)
+        snprintf(text, room, "%s: %s", address->where, refused ? refused : error_text(error));
+    else if (!*address->program)
+        snprintf(text, room, "%s: the program %s was not found in PATH", address->where, address->argv[0]);
+    else
+        snprintf(text, room, "%s: the program %s cannot be started: %s", address->where, address->program, strerror(error));
 }

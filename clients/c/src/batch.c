@@ -48,8 +48,9 @@ static void take_reply(struct requests *requests) {
         batch->works[batch->done].out = work->out + work->produced;
 }
 
-/* Where the output of a piece goes: the reply before it, which is taken now, says where its own has ended. */
-static void place_output(void *context, struct call *call) {
+/* Where the output of a piece goes: the reply before it, which is taken now, says where its own has ended. False: a piece has stopped,
+   and those after this one are not wanted. */
+static bool place_output(void *context, struct call *call) {
     struct requests *requests = context;
     struct batch *batch = requests->batch;
     if (call > requests->calls && !requests->rubbish && !has_stopped(batch))
@@ -58,11 +59,12 @@ static void place_output(void *context, struct call *call) {
     call->output = work->out;
     call->output_room = work->room;
     if (!requests->rubbish && !has_stopped(batch))
-        return;
+        return true;
     if (!requests->scratch)
         requests->scratch = malloc(ICONVD_MAX_ROOM);
     call->output = requests->scratch;
     call->output_room = requests->scratch ? work->room : 0;
+    return false;
 }
 
 iconvd_status remote_convert_batch(struct stream *stream, const struct place *place, struct batch *batch) {

@@ -81,21 +81,6 @@ size_t cut_length(const struct encoding *from, const char *in, size_t length) {
     return encoding_most_bytes(from) == 1 ? length : 0;
 }
 
-size_t source_length(const struct encoding *from, const char *text, size_t length) {
-    if (from->kind == UTF_8)
-        return length;
-    size_t characters = 0, long_ones = 0;
-    for (size_t i = 0; i < length; i++) {
-        characters += !is_continuation(text[i]);
-        long_ones += (unsigned char)text[i] >= 0xf0;
-    }
-    if (from->kind == UTF_16BE || from->kind == UTF_16LE)
-        return 2 * (characters + long_ones);
-    if (from->kind == UTF_32BE || from->kind == UTF_32LE)
-        return 4 * characters;
-    return encoding_most_bytes(from) == 1 ? characters : 0;
-}
-
 size_t utf8_read(const char *text, uint32_t *character) {
     const unsigned char *bytes = (const unsigned char *)text;
     size_t length = utf8_length(bytes[0]);

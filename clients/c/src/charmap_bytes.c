@@ -1,4 +1,4 @@
-/* Reads the bytes of mappings: which ones characters begin with. */
+/* Reads the mappings of a charmap's text, with their bytes. */
 #include "charmaps.h"
 
 /* The value of a digit; 99 for what is none. */
@@ -25,34 +25,50 @@ static unsigned read_encoding(const char *at, char escape, uint64_t *number) {
     return bytes;
 }
 
-/* Marks the first bytes of a mapping's line, which may be a range: its bytes count up as one number. */
-static void mark_line(const char *line, char escape, unsigned char leads[256]) {
-    struct code_points points = {.first = 0};
-    uint64_t number;
-    uint64_t more = charmap_points(line, &points) ? points.last - points.first : 0;
-    const char *encoding = line + strcspn(line, " \t\n");
-    encoding += strspn(encoding, " \t");
-    unsigned bytes = read_encoding(encoding, escape, &number);
-    if (bytes == 0)
-        return;
-    unsigned shift = 8 * (bytes - 1);
-    for (uint64_t lead = number >> shift; lead <= (number + more) >> shift && lead < 256; lead++)
-        leads[lead] = 1;
+/* The name or range of a line, whose escape characters mean nothing in it. */
+static bool read_points(const char *line, size_t length, char escape, struct code_points *points) {
+    char plain[80];
+    size_t kept = 0;
+    if (!memchr(line, escape, length))
+        return charmap_points(line, points);
+    for (size_t i = 0; i < length && kept < sizeof plain - 1; i++)
+        if (line[i] != escape)
+            plain[kept++] = line[i];
+    plain[kept] = 0;
+    return charmap_points(plain, points);
 }
 
-void charmap_leads(const char *text, size_t length, unsigned char leads[256]) {
-    const char *end = text + length;
-    char escape = '\\';
-    bool inside = false;
-    while (text < end) {
-        const char *next = memchr(text, '\n', (size_t)(end - text));
-        if (!next)
-            return;
-        if (!inside && strncmp(text, "<escape_char>", 13) == 0)
-            escape = text[13 + strspn(text + 13, " \t")];
-        if (inside && text[strspn(text, " \t")] == '<')
-            mark_line(text + strspn(text, " \t"), escape, leads);
-        inside |= strncmp(text, "CHARMAP", 7) == 0;
-        text = next + 1;
+/* False: the line is no mapping. */
+static bool read_mapping(const struct charmap_lines *lines, const char *line, struct mapping *mapping) {
+    line += strspn(line, " \t");
+    if (*line != '<')
+        return false;
+    size_t name = strcspn(line, " \t\n");
+    mapping->is_named = !read_points(line, name, lines->escape, &mapping->points);
+    mapping->count = mapping->is_named ? 1 : (uint64_t)mapping->points.last - mapping->points.first + 1;
+    line += name;
+    mapping->bytes = read_encoding(line + strspn(line, " \t"), lines->escape, &mapping->code);
+    return mapping->bytes > 0;
+}
+
+struct charmap_lines charmap_lines(const char *text, size_t length) {
+    return (struct charmap_lines){.at = text, .end = text + length, .escape = '\\'};
+}
+
+bool charmap_next(struct charmap_lines *lines, struct mapping *mapping) {
+    while (lines->at < lines->end) {
+        const char *line = lines->at;
+        const char *next = memchr(line, '\n', (size_t)(lines->end - line));
+        lines->at = next ? next + 1 : lines->end;
+        if (!next || (lines->inside && strncmp(line, "END", 3) == 0)) {
+            lines->at = lines->end;
+            return false;
+        }
+        if (lines->inside && read_mapping(lines, line, mapping))
+            return true;
+        if (!lines->inside && strncmp(line, "<escape_char>", 13) == 0)
+            lines->escape = line[13 + strspn(line + 13, " \t")];
+        lines->inside |= strncmp(line, "CHARMAP", 7) == 0;
     }
+    return false;
 }

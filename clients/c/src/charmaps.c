@@ -4,21 +4,43 @@
 #include <stdio.h>
 #include <zlib.h>
 
+/* How much of a line is read. What comes after that is a comment. */
+enum { LINE = 512 };
+
 /* A file that is being read. */
 struct reading {
     struct charmap *charmap;
+    struct charmap *light;
     struct buffer last; /* the mappings that are read and never written */
+    struct buffer light_last;
     char escape;
     char comment;
     bool inside; /* behind the line CHARMAP */
 };
 
+/* Words and blanks are short: loops are faster here than strspn() and strcspn(), and a large charmap has 90,000 lines. */
 static const char *skip_blanks(const char *at) {
-    return at + strspn(at, " \t");
+    while (*at == ' ' || *at == '\t')
+        at++;
+    return at;
+}
+
+static bool ends_word(char c) {
+    return c == ' ' || c == '\t' || c == '\r' || c == '\n' || c == 0;
 }
 
 static size_t word_length(const char *at) {
-    return strcspn(at, " \t\r\n");
+    size_t length = 0;
+    while (!ends_word(at[length]))
+        length++;
+    return length;
+}
+
+/* Where the name at the front of a line ends; the line's end where nothing ends it. */
+static const char *name_end(const char *at) {
+    while (*at != '>' && *at != '\n' && *at)
+        at++;
+    return at;
 }
 
 /* Hexadecimal, or decimal digits up to `>`. False where there is another byte before it, none, or too many. */
@@ -27,8 +49,10 @@ static bool read_digits(const char **at, unsigned base, uint32_t *value) {
     int digits = 0;
     for (; **at != '>'; (*at)++, digits++) {
         char c = **at;
-        uint32_t digit = c >= '0' && c <= '9' ? (uint32_t)(c - '0') : 99;
-        if ((c >= 'A' && c <= 'F') || (c >= 'a' && c <= 'f'))
+        uint32_t digit = 99;
+        if (c >= '0' && c <= '9')
+            digit = (uint32_t)(c - '0');
+        else if ((c >= 'A' && c <= 'F') || (c >= 'a' && c <= 'f'))
             digit = (uint32_t)((c | 32) - 'a' + 10);
         if (digit >= base || digits == 8)
             return false;
@@ -42,7 +66,8 @@ static bool read_digits(const char **at, unsigned base, uint32_t *value) {
 bool charmap_points(const char *line, struct code_points *points) {
     if (line[0] != '<' || line[1] != 'U')
         return false;
-    points->decimal = strncmp(line + strcspn(line, ">\n"), ">...<U", 6) == 0;
+    const char *end = name_end(line);
+    points->decimal = end[0] == '>' && end[1] == '.' && strncmp(end, ">...<U", 6) == 0;
     unsigned base = points->decimal ? 10 : 16;
     const char *at = line + 2;
     if (!read_digits(&at, base, &points->first))
@@ -85,31 +110,49 @@ static void read_declaration(struct reading *reading, const char *line) {
         reading->comment = value;
 }
 
-static unsigned count_bytes(const char *encoding, size_t length, char escape) {
-    unsigned bytes = 0;
-    for (size_t i = 0; i < length; i++)
-        bytes += encoding[i] == escape;
-    return bytes;
+/* Copies the word at the front of a line, and counts how often it has a character. Returns its length. */
+static size_t copy_word(char *out, const char *at, char counted, unsigned *count) {
+    size_t length = 0;
+    for (; !ends_word(at[length]); length++) {
+        out[length] = at[length];
+        *count += at[length] == counted;
+    }
+    return length;
 }
 
-/* Keeps of a mapping's line the name and the encoding. False: out of memory. */
-static bool keep_mapping(struct reading *reading, const char *line, struct buffer *to) {
-    struct charmap *charmap = reading->charmap;
-    size_t name = word_length(line);
-    const char *encoding = skip_blanks(line + name);
-    size_t length = word_length(encoding);
-    const char *end = strchr(line, '>');
-    if (!end || end[1] == '<' || length == 0)
-        return true;
-    unsigned bytes = count_bytes(encoding, length, reading->escape);
-    if (bytes > charmap->most_bytes)
-        charmap->most_bytes = bytes;
-    if (bytes < charmap->least_bytes)
-        charmap->least_bytes = bytes;
+/* How many mappings the line of a name or range has. */
+static uint32_t count_mappings(const char *line, const char *name_end) {
     struct code_points points;
-    charmap->mappings += charmap_points(line, &points) ? points.last - points.first + 1 : 1;
-    return buffer_append(to, line, name) && buffer_append(to, " ", 1) && buffer_append(to, encoding, length) &&
-           buffer_append(to, "\n", 1);
+    return *name_end == '.' && charmap_points(line, &points) ? points.last - points.first + 1 : 1;
+}
+
+/* Counts the mappings of a line and the bytes of their encodings. */
+static void count(struct charmap *charmap, uint32_t mappings, unsigned bytes) {
+    charmap->most_bytes = bytes > charmap->most_bytes ? bytes : charmap->most_bytes;
+    charmap->least_bytes = bytes < charmap->least_bytes ? bytes : charmap->least_bytes;
+    charmap->mappings += mappings;
+}
+
+/* Keeps of a mapping's line the name and the encoding, and also for the light charmap if it is for that. False: out of memory. */
+static bool keep_mapping(struct reading *reading, const char *line, struct buffer *to, struct buffer *light) {
+    const char *end = name_end(line);
+    unsigned bytes = 0, others = 0;
+    if (!buffer_reserve(to, LINE + 2))
+        return false;
+    char *out = to->bytes + to->length;
+    size_t name = copy_word(out, line, 0, &others);
+    out[name] = ' ';
+    size_t length = copy_word(out + name + 1, skip_blanks(line + name), reading->escape, &bytes);
+    out[name + 1 + length] = '\n';
+    if (*end != '>' || end[1] == '<' || length == 0)
+        return true;
+    to->length += name + length + 2;
+    uint32_t mappings = count_mappings(line, end + 1);
+    count(reading->charmap, mappings, bytes);
+    if (bytes > LIGHT_BYTES)
+        return true;
+    count(reading->light, mappings, bytes);
+    return buffer_append(light, out, name + length + 2);
 }
 
 /* False: out of memory. */
@@ -127,17 +170,19 @@ static bool read_line(struct reading *reading, const char *line) {
     }
     reading->inside = true;
     line = skip_blanks(line);
-    if (strncmp(line, ONE_WAY, sizeof ONE_WAY - 1) == 0)
-        return keep_mapping(reading, line + sizeof ONE_WAY - 1, &reading->last);
-    return *line == '<' && *line != reading->comment ? keep_mapping(reading, line, &reading->charmap->text) : true;
+    if (*line == '%' && strncmp(line, ONE_WAY, sizeof ONE_WAY - 1) == 0)
+        return keep_mapping(reading, line + sizeof ONE_WAY - 1, &reading->last, &reading->light_last);
+    if (*line != '<' || *line == reading->comment)
+        return true;
+    return keep_mapping(reading, line, &reading->charmap->text, &reading->light->text);
 }
 
-/* Reads lines up to END CHARMAP. What stands behind the first bytes of a long line is a comment. False: out of memory. */
+/* Reads lines up to END CHARMAP. False: out of memory. */
 static bool read_lines(struct reading *reading, gzFile file) {
-    char line[512];
+    char line[LINE];
     bool begins = true;
     while (gzgets(file, line, sizeof line)) {
-        if (begins && reading->inside && strncmp(line, "END CHARMAP", 11) == 0)
+        if (begins && *line == 'E' && reading->inside && strncmp(line, "END CHARMAP", 11) == 0)
             return true;
         if (begins && !read_line(reading, line))
             return false;
@@ -147,17 +192,16 @@ static bool read_lines(struct reading *reading, gzFile file) {
 }
 
 /* Puts the header in front and the end behind. False: out of memory. */
-static bool compose(struct reading *reading, const char *name) {
-    struct charmap *charmap = reading->charmap;
+static bool compose(const struct reading *reading, struct charmap *charmap, const struct buffer *last, const char *name) {
     char header[400];
     int length = snprintf(header, sizeof header,
                           "<code_set_name> %s\n<escape_char> %c\n<comment_char> %c\n<mb_cur_min> %u\n<mb_cur_max> %u\nCHARMAP\n", name,
                           reading->escape, reading->comment, charmap->least_bytes, charmap->most_bytes);
     struct buffer text = {.bytes = NULL};
-    bool well = buffer_reserve(&text, charmap->text.length + reading->last.length + (size_t)length + 20) &&
+    bool well = buffer_reserve(&text, charmap->text.length + last->length + (size_t)length + 20) &&
                 buffer_append(&text, header, (size_t)length) &&
                 buffer_append(&text, charmap->text.bytes, charmap->text.length) &&
-                buffer_append(&text, reading->last.bytes, reading->last.length) && buffer_append(&text, "END CHARMAP\n", 12);
+                buffer_append(&text, last->bytes, last->length) && buffer_append(&text, "END CHARMAP\n", 12);
     buffer_free(&charmap->text);
     charmap->text = text;
     return well;
@@ -169,9 +213,21 @@ static gzFile open_file(const char *directory, const char *file) {
     return length > 0 && (size_t)length < sizeof path ? gzopen(path, "rbe") : NULL;
 }
 
-iconvd_status charmap_read(struct charmap *charmap, const char *directory, const char *file, const char *name) {
-    *charmap = (struct charmap){.least_bytes = 8, .most_bytes = 1};
-    struct reading reading = {.charmap = charmap, .escape = '\\', .comment = '#'};
+/* Both charmaps from what was read. False: out of memory. */
+static bool compose_both(struct reading *reading, const char *name) {
+    char light_name[100];
+    snprintf(light_name, sizeof light_name, "%s-light", name);
+    if (!compose(reading, reading->charmap, &reading->last, name))
+        return false;
+    if (reading->charmap->mappings >= LARGE_CHARMAP && reading->light->mappings > 0)
+        return compose(reading, reading->light, &reading->light_last, light_name);
+    buffer_free(&reading->light->text);
+    return true;
+}
+
+iconvd_status charmap_read(struct charmap *charmap, struct charmap *light, const char *directory, const char *file, const char *name) {
+    *charmap = *light = (struct charmap){.least_bytes = 8, .most_bytes = 1};
+    struct reading reading = {.charmap = charmap, .light = light, .escape = '\\', .comment = '#'};
     gzFile from = open_file(directory, file);
     if (!from)
         return ICONVD_UNSUPPORTED;
@@ -179,11 +235,13 @@ iconvd_status charmap_read(struct charmap *charmap, const char *directory, const
     bool memory = read_lines(&reading, from);
     gzclose(from);
     bool empty = charmap->mappings == 0;
-    memory = memory && compose(&reading, name);
+    memory = memory && compose_both(&reading, name);
     buffer_free(&reading.last);
+    buffer_free(&reading.light_last);
     if (memory && !empty)
         return ICONVD_OK;
     buffer_free(&charmap->text);
+    buffer_free(&light->text);
     return memory ? ICONVD_UNSUPPORTED : ICONVD_ENOMEM;
 }
 
@@ -196,6 +254,8 @@ unsigned char *charmap_repertoire(const char *text, size_t length, bool *symbols
         const char *next = memchr(text, '\n', (size_t)(end - text));
         const char *line = text;
         text = next ? next + 1 : end;
+        if (inside && strncmp(line, "END", 3) == 0)
+            break;
         if (!next || (!inside && strncmp(line, "CHARMAP", 7) != 0))
             continue;
         inside = true;

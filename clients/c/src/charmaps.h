@@ -14,6 +14,9 @@ struct charmap {
     unsigned most_bytes;
 };
 
+/* Of a charmap with so many mappings or more there is also a light one. */
+enum { LARGE_CHARMAP = 100000, LIGHT_BYTES = 2 };
+
 /* Reads `directory`/`file`.gz and mends it, so that the service reads it as the C library does:
  *
  *   - it gets the name `name`, since two files of Debian have one name;
@@ -22,15 +25,15 @@ struct charmap {
  *   - combining sequences, which are no mappings of one character, are left out, and so is everything but mappings;
  *   - a line CHARMAP is added where there is none.
  *
+ * `light` gets the mappings of at most LIGHT_BYTES bytes of a large charmap, with the name `name`-light; else it has no text. A text
+ * that it converts without a stop is converted so by the whole charmap.
+ *
  * UNSUPPORTED: there is no such file, or no mapping in it. */
-iconvd_status charmap_read(struct charmap *charmap, const char *directory, const char *file, const char *name);
+iconvd_status charmap_read(struct charmap *charmap, struct charmap *light, const char *directory, const char *file, const char *name);
 
 /* The characters of a charmap: a bit for each code point, or NULL where memory lacks. `symbols` is set where the text has names
    other than <Uxxxx>, which are not among the bits. */
 unsigned char *charmap_repertoire(const char *text, size_t length, bool *symbols);
-
-/* The bytes that characters of a charmap begin with: not 0 for each of them. */
-void charmap_leads(const char *text, size_t length, unsigned char leads[256]);
 
 /* Reads the name or range of a mapping at `line`, which a line feed or a zero byte ends. False: it is no <Uxxxx>. A range of two dots
    counts in hexadecimal. One of three counts its names in decimal, and each name is hexadecimal nevertheless: <U0109>...<U0110> are
@@ -41,5 +44,24 @@ struct code_points {
     bool decimal; /* `first` and `last` are the names read as decimal numbers */
 };
 bool charmap_points(const char *line, struct code_points *points);
+
+/* A line of a charmap's text that is a mapping, or a range of them. Its codes count up as one number, the first byte the highest. */
+struct mapping {
+    bool is_named; /* by a name other than <Uxxxx>; else by `points` */
+    struct code_points points;
+    uint64_t count; /* of characters */
+    uint64_t code;  /* of the first one */
+    unsigned bytes; /* of a code, 1 to 8 */
+};
+
+/* Goes through the mappings of a text that the service takes. False: there are no more. */
+struct charmap_lines {
+    const char *at;
+    const char *end;
+    char escape;
+    bool inside; /* after the line CHARMAP */
+};
+struct charmap_lines charmap_lines(const char *text, size_t length);
+bool charmap_next(struct charmap_lines *lines, struct mapping *mapping);
 
 #endif

@@ -1,8 +1,9 @@
 /* iconvd_open(), iconvd_convert() and their companions. */
 #include "convert.h"
 
-/* A server reads 65,536 bytes at a time: a request of one read is answered at once. */
-enum { ONE_READ = 65536 - ICONVD_CONV_HEAD, CHUNK = 262144 };
+/* A server reads 65,536 bytes at a time: a request of one read is answered at once. AFTER_STOP is how much is sent at first where a
+   text has stopped at something that is in the way, since there may be more of it. */
+enum { ONE_READ = 65536 - ICONVD_CONV_HEAD, CHUNK = 262144, AFTER_STOP = 64 };
 
 iconvd_status convert_piece(struct iconvd_cd *cd, struct work *work) {
     return cd->own ? own_convert(cd, work) : pool_convert(cd->pool, &cd->pair, work);
@@ -22,9 +23,10 @@ static size_t most_output(const struct pair *pair, size_t length) {
 /* Cuts a long input into pieces that go under way together. 0: it cannot be cut, or the room may not be enough for two. */
 static size_t cut_into_batch(const struct iconvd_cd *cd, const struct progress *progress, struct batch *batch) {
     size_t in_left = progress->in_left, out_left = progress->out_left;
+    size_t most = cd->ahead / ONE_READ < BATCH_PIECES ? cd->ahead / ONE_READ : BATCH_PIECES;
     const char *in = progress->in;
     batch->number = 0;
-    while (!cd->own && in_left > ONE_READ && batch->number < BATCH_PIECES) {
+    while (!cd->own && in_left > ONE_READ && batch->number < most) {
         size_t length = cut_length(cd->pair.from, in, ONE_READ);
         size_t room = most_output(&cd->pair, length);
         if (length == 0 || room > out_left || room > ICONVD_MAX_ROOM)
@@ -56,23 +58,26 @@ static bool goes_on(iconvd_status status, const struct work *work, const struct 
     return status == ICONVD_EINVAL && work->used > 0 && work->in_length - work->used < progress->in_left;
 }
 
+size_t room_for(const struct iconvd_cd *cd, size_t length, size_t room) {
+    size_t most = cd->own ? room : most_output(&cd->pair, length);
+    most = most < room ? most : room;
+    return most < ICONVD_MAX_ROOM ? most : ICONVD_MAX_ROOM;
+}
+
 /* Converts the next piece and moves on by it. Returns whether there is more to do. */
 static bool convert_next(struct iconvd_cd *cd, struct progress *progress, iconvd_status *status) {
     size_t most = progress->in_left <= 2 * ONE_READ ? ONE_READ : CHUNK;
-    size_t length = progress->in_left < most ? progress->in_left : most;
-    size_t room = progress->out_left < ICONVD_MAX_ROOM ? progress->out_left : ICONVD_MAX_ROOM;
-    length = input_for_room(length, room);
-    /* The service has memory ready for all of the room that it is given. */
-    if (!cd->own && most_output(&cd->pair, length) < room)
-        room = most_output(&cd->pair, length);
-    struct work work = {.in = progress->in, .in_length = length, .out = progress->out, .room = room};
+    most = cd->ahead < most ? cd->ahead : most;
+    size_t length = input_for_room(progress->in_left < most ? progress->in_left : most, progress->out_left);
+    struct work work = {
+        .in = progress->in, .in_length = length, .out = progress->out, .room = room_for(cd, length, progress->out_left)};
     *status = convert_piece(cd, &work);
     progress_add(progress, &work);
     return goes_on(*status, &work, progress);
 }
 
 /* Converts until all is used or something is in the way. */
-static iconvd_status convert_direct(struct iconvd_cd *cd, struct progress *progress) {
+static iconvd_status convert_until_stop(struct iconvd_cd *cd, struct progress *progress) {
     iconvd_status status = ICONVD_OK;
     bool more = true;
     while (more) {
@@ -83,41 +88,48 @@ static iconvd_status convert_direct(struct iconvd_cd *cd, struct progress *progr
         } else {
             more = convert_next(cd, progress, &status);
         }
+        cd->ahead = cd->ahead < CHUNK ? 4 * cd->ahead : SIZE_MAX;
     }
     return status;
 }
 
-iconvd_status convert_characters(struct iconvd_cd *cd, struct progress *progress) {
-    iconvd_status status = convert_direct(cd, progress);
-    /* The C library looks for room before it looks at the character. */
+/* The same, with the C library's reasons. */
+static iconvd_status convert_direct(struct iconvd_cd *cd, struct progress *progress) {
+    iconvd_status status = convert_until_stop(cd, progress);
+    if (status == ICONVD_ENOCHAR || status == ICONVD_EILSEQ)
+        cd->ahead = AFTER_STOP;
+    /* It looks for room before it looks at the character. */
     if (status == ICONVD_ENOCHAR && progress->out_left == 0)
         return ICONVD_E2BIG;
-    if (status == ICONVD_ENOCHAR && cd->policy & (ICONVD_IGNORE | ICONVD_TRANSLIT))
-        status = convert_lacking(cd, progress);
     if (status == ICONVD_EILSEQ && may_be_completed(cd->pair.from->kind, progress->in, progress->in_left))
         return ICONVD_EINVAL;
     return status;
 }
 
-/* Goes on over faulty bytes, if the policy says so. */
+/* Whether the policy says what to do at a stop. */
+static bool has_policy(const struct iconvd_cd *cd, iconvd_status status) {
+    return (status == ICONVD_ENOCHAR && cd->policy & (ICONVD_IGNORE | ICONVD_TRANSLIT)) ||
+           (status == ICONVD_EILSEQ && cd->policy & ICONVD_IGNORE);
+}
+
+/* Goes on over faulty bytes and what the target lacks, if the policy says so. Chunks without either bring it back to the direct way. */
 static iconvd_status convert_all(struct iconvd_cd *cd, struct progress *progress) {
-    iconvd_status status = ICONVD_OK;
-    struct progress converted = *progress; /* behind the last character that was converted or left out */
-    while (progress->in_left > 0 && status == ICONVD_OK) {
-        const char *in = progress->in;
-        status = convert_characters(cd, progress);
-        if (progress->in != in)
-            converted = *progress;
-        if (status == ICONVD_EILSEQ && cd->policy & ICONVD_IGNORE) {
-            char *out = progress->out;
-            status = convert_faulty(cd, progress);
-            if (progress->out != out)
-                converted = *progress;
-        }
+    if (progress->in_left == 0)
+        return ICONVD_OK;
+    /* What a policy is about is met once in a call, and not once for each of it. */
+    if (cd->policy & (ICONVD_IGNORE | ICONVD_TRANSLIT))
+        cd->ahead = SIZE_MAX;
+    iconvd_status status = convert_direct(cd, progress);
+    while (has_policy(cd, status)) {
+        status = convert_sifted(cd, progress, status);
+        if (status != ICONVD_OK || progress->in_left == 0)
+            break;
+        cd->ahead = ONE_READ;
+        status = convert_direct(cd, progress);
     }
     /* Faulty bytes in front of a character that has no room are left out again by the next call, as in the C library. */
     if (status == ICONVD_E2BIG)
-        *progress = converted;
+        progress_back(progress);
     return status;
 }
 
@@ -169,15 +181,22 @@ iconvd_status iconvd_convert(iconvd_cd *cd, const char **in, size_t *in_left, ch
     return status;
 }
 
+static bool is_policy(int policy) {
+    return policy == ICONVD_SUBSTITUTE || (policy & ~(ICONVD_IGNORE | ICONVD_TRANSLIT)) == 0;
+}
+
 /* The two encodings of a conversion, with what stands behind the target's name. */
 static iconvd_status find_encodings(struct iconvd_cd *cd, const char *to, const char *from) {
     struct parsed_name target, source;
     if (!name_parse(&target, to) || !name_parse(&source, from))
         return ICONVD_UNSUPPORTED;
+    cd->from_wide = strcmp(source.name, "WCHAR_T") == 0;
     cd->policy |= (target.translit ? ICONVD_TRANSLIT : 0) | (target.ignore ? ICONVD_IGNORE : 0);
-    iconvd_status status = encodings_find(&cd->pool->encodings, target.name, &cd->to);
+    if (!is_policy(cd->policy))
+        return ICONVD_BADPOLICY;
+    iconvd_status status = pool_find(cd->pool, target.name, &cd->to);
     if (status == ICONVD_OK)
-        status = encodings_find(&cd->pool->encodings, source.name, &cd->from);
+        status = pool_find(cd->pool, source.name, &cd->from);
     return status;
 }
 
@@ -201,6 +220,7 @@ iconvd_status iconvd_open(iconvd_pool *pool, const char *to, const char *from, i
         return ICONVD_ENOMEM;
     made->pool = pool;
     made->policy = policy;
+    made->ahead = SIZE_MAX;
     iconvd_status status = find_encodings(made, to, from);
     if (status == ICONVD_OK)
         status = open_pair(made);
@@ -217,6 +237,7 @@ iconvd_status iconvd_reset(iconvd_cd *cd, char **out, size_t *out_left) {
         return status;
     cd->mark_written = false;
     cd->order_known = false;
+    cd->ahead = SIZE_MAX;
     return ICONVD_OK;
 }
 

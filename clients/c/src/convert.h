@@ -10,8 +10,10 @@ struct iconvd_cd {
     struct encoding *from;
     struct pair pair;    /* what the service converts by: UTF-16 and UTF-32 have an order there, and no mark */
     int policy;
+    size_t ahead;        /* how much is sent at once: little where a text has just stopped, and more while all goes well */
     bool mark_written;   /* to UTF-16 and UTF-32 */
     bool order_known;    /* from UTF-16 and UTF-32 */
+    bool from_wide;      /* the source is WCHAR_T, which the C library converts without a step between */
     struct own *own;     /* with UTF-7 on either side: a descriptor of its own; otherwise NULL */
 };
 
@@ -23,6 +25,9 @@ struct progress {
     size_t out_left;
     size_t replaced;
     size_t skipped;
+    size_t lacking;      /* of these: characters that the target lacks */
+    size_t loose;        /* faulty bytes at the end of what is used: nothing after them was converted */
+    size_t loose_faults; /* how many sequences they are */
 };
 
 /* Moves on by what a piece of text did. */
@@ -32,6 +37,25 @@ static inline void progress_add(struct progress *progress, const struct work *wo
     progress->out += work->produced;
     progress->out_left -= work->produced;
     progress->replaced += work->replaced;
+    if (work->used > 0)
+        progress->loose = progress->loose_faults = 0;
+}
+
+/* Moves on over faulty bytes. */
+static inline void progress_pass(struct progress *progress, size_t bytes, size_t faults) {
+    progress->in += bytes;
+    progress->in_left -= bytes;
+    progress->skipped += faults;
+    progress->loose += bytes;
+    progress->loose_faults += faults;
+}
+
+/* Moves back before the faulty bytes that nothing has followed. */
+static inline void progress_back(struct progress *progress) {
+    progress->in -= progress->loose;
+    progress->in_left += progress->loose;
+    progress->skipped -= progress->loose_faults;
+    progress->loose = progress->loose_faults = 0;
 }
 
 /* What iconvd_convert() does, on a progress. */
@@ -42,6 +66,9 @@ iconvd_status convert_piece(struct iconvd_cd *cd, struct work *work);
 
 /* How much input is sent for so much room: a small room takes no more than the service may use of it. */
 size_t input_for_room(size_t in_left, size_t out_left);
+
+/* How much of a room the output of so much input may need. The service has memory ready for all that it is given. */
+size_t room_for(const struct iconvd_cd *cd, size_t length, size_t room);
 
 /* marks.c: byte order marks as the C library treats them. */
 
@@ -58,14 +85,9 @@ void mark_reserve(const struct iconvd_cd *cd, struct progress *progress);
 /* Writes the mark into the room that was kept, if something was written behind it or did not fit; else gives the room back. */
 void mark_settle(struct iconvd_cd *cd, struct progress *progress, const struct progress *before, iconvd_status status);
 
-/* lacking.c: goes on where the next character is one that the target lacks, by the policy. OK: go on converting. */
-iconvd_status convert_lacking(struct iconvd_cd *cd, struct progress *progress);
-
-/* faulty.c: goes on over bytes that are no character, and over as much behind them as can be told. OK: go on converting. */
-iconvd_status convert_faulty(struct iconvd_cd *cd, struct progress *progress);
-
-/* convert.c: converts until something is in the way, with what the policy allows for characters that the target lacks. */
-iconvd_status convert_characters(struct iconvd_cd *cd, struct progress *progress);
+/* sifted.c: goes on where there are bytes that are no character, EILSEQ, or one that the target lacks, ENOCHAR, by the policy. OK: the
+   text is used, or a chunk of it had neither. Every other status is the conversion's. */
+iconvd_status convert_sifted(struct iconvd_cd *cd, struct progress *progress, iconvd_status stop);
 
 /* The character at the front of the input and its length, from the service. */
 iconvd_status next_character(struct iconvd_cd *cd, const struct progress *progress, uint32_t *character, size_t *length);
@@ -84,6 +106,26 @@ void own_change(struct iconvd_cd *cd);
 /* The input since the last reset; false where it was too long to be kept. */
 bool own_history(const struct iconvd_cd *cd, const char **bytes, size_t *length);
 
+/* fronts.c: what is at the front of a text. */
+
+/* How characters of an encoding are told from bytes that are none. */
+struct fronts {
+    enum builtin kind;
+    const struct codes *codes; /* of a charmap */
+};
+
+/* ENOMEM. The encoding is not UTF-7. */
+iconvd_status fronts_of(struct encoding *encoding, struct fronts *fronts);
+
+/* What is at the front of `left` bytes, one at least, and how long the character is. */
+enum front front_at(const struct fronts *fronts, const char *text, size_t left, size_t *length);
+
+/* How many bytes of characters are at the front of a text. */
+size_t front_run(const struct fronts *fronts, const char *text, size_t left);
+
+/* The character whose bytes these are. False: it cannot be told without converting. */
+bool front_character(const struct fronts *fronts, const char *text, size_t length, uint32_t *character);
+
 /* characters.c */
 
 /* How many bytes to skip where the source has bytes that are no character. */
@@ -96,9 +138,6 @@ bool may_be_completed(enum builtin from, const char *in, size_t length);
 /* Where to cut the first `length` bytes of a longer input, so that no character is cut: `length` or a little less. 0: it cannot be
    told for this encoding. */
 size_t cut_length(const struct encoding *from, const char *in, size_t length);
-
-/* How many bytes of the source a text in UTF-8 was. 0: it has to be asked for. */
-size_t source_length(const struct encoding *from, const char *text, size_t length);
 
 /* How many bytes a sequence of UTF-8 has by its first one; 1 for bytes that begin none. */
 size_t utf8_length(unsigned char first);

@@ -1,5 +1,5 @@
 /* Makes connections to an address. */
-#include "address.h"
+#include "stream.h"
 
 #include <errno.h>
 #include <netdb.h>
@@ -20,68 +20,84 @@ static void limit_time(int fd, int timeout) {
     setsockopt(fd, SOL_SOCKET, SO_SNDTIMEO, &limit, sizeof limit);
 }
 
-static int close_with_errno(int fd) {
-    int saved = errno;
-    close(fd);
-    errno = saved;
-    return -1;
+/* Gives a new socket to the stream, so that a child that is made meanwhile closes it. */
+static bool take_socket(struct stream *stream, int fd) {
+    if (fd < 0 || !stream_register(stream, fd))
+        return false;
+    limit_time(fd, stream->timeout);
+    return true;
 }
 
-static int connect_unix(const char *path, int timeout) {
+/* Waits for the peer, outside of the gate. */
+static bool connect_to(struct stream *stream, const struct sockaddr *to, socklen_t length) {
+    gate_leave(&stream->pass);
+    bool connected = connect(stream->fd, to, length) == 0;
+    int saved = errno;
+    gate_enter(&stream->pass);
+    if (!connected)
+        stream_close(stream);
+    errno = saved;
+    return connected;
+}
+
+static bool connect_unix(const char *path, struct stream *stream) {
     struct sockaddr_un to = {.sun_family = AF_UNIX};
     memcpy(to.sun_path, path, strlen(path) + 1);
-    int fd = socket(AF_UNIX, SOCK_STREAM | SOCK_CLOEXEC, 0);
-    if (fd < 0)
-        return -1;
-    limit_time(fd, timeout);
-    return connect(fd, (struct sockaddr *)&to, sizeof to) == 0 ? fd : close_with_errno(fd);
+    return take_socket(stream, socket(AF_UNIX, SOCK_STREAM | SOCK_CLOEXEC, 0)) &&
+           connect_to(stream, (struct sockaddr *)&to, sizeof to);
 }
 
-static int connect_one(const struct addrinfo *to, int timeout) {
-    int fd = socket(to->ai_family, to->ai_socktype | SOCK_CLOEXEC, to->ai_protocol);
-    if (fd < 0)
-        return -1;
-    limit_time(fd, timeout);
-    if (connect(fd, to->ai_addr, to->ai_addrlen) != 0)
-        return close_with_errno(fd);
+static bool connect_one(const struct addrinfo *to, struct stream *stream) {
+    if (!take_socket(stream, socket(to->ai_family, to->ai_socktype | SOCK_CLOEXEC, to->ai_protocol)) ||
+        !connect_to(stream, to->ai_addr, to->ai_addrlen))
+        return false;
     /* A small request is sent at once: Nagle's algorithm would hold it back until the last one is acknowledged. */
     int on = 1;
-    setsockopt(fd, IPPROTO_TCP, TCP_NODELAY, &on, sizeof on);
-    return fd;
+    setsockopt(stream->fd, IPPROTO_TCP, TCP_NODELAY, &on, sizeof on);
+    return true;
 }
 
-static int connect_tcp(const struct address *address, int timeout) {
-    struct addrinfo hints = {.ai_socktype = SOCK_STREAM, .ai_flags = AI_ADDRCONFIG}, *found;
-    if (getaddrinfo(address->text, address->port, &hints, &found) != 0) {
-        errno = EHOSTUNREACH;
-        return -1;
-    }
-    int fd = -1;
-    for (const struct addrinfo *to = found; to && fd < 0; to = to->ai_next)
-        fd = connect_one(to, timeout);
+static struct addrinfo *look_up(const struct address *address, struct stream *stream) {
+    struct addrinfo hints = {.ai_socktype = SOCK_STREAM, .ai_flags = AI_ADDRCONFIG}, *found = NULL;
+    gate_leave(&stream->pass);
+    if (getaddrinfo(address->text, address->port, &hints, &found) != 0)
+        found = NULL;
+    gate_enter(&stream->pass);
+    return found;
+}
+
+static bool connect_tcp(const struct address *address, struct stream *stream) {
+    struct addrinfo *found = look_up(address, stream);
+    bool connected = false;
+    errno = EHOSTUNREACH;
+    for (const struct addrinfo *to = found; to && !connected; to = to->ai_next)
+        connected = connect_one(to, stream);
     int saved = errno;
-    freeaddrinfo(found);
+    if (found)
+        freeaddrinfo(found);
     errno = saved;
-    return fd;
+    return connected;
 }
 
-int address_connect(const struct address *address, int timeout) {
+bool address_connect(const struct address *address, struct stream *stream) {
     if (address->kind == ADDRESS_UNIX)
-        return connect_unix(address->text, timeout);
+        return connect_unix(address->text, stream);
     if (address->kind == ADDRESS_TCP)
-        return connect_tcp(address, timeout);
-    int fd = spawn_connected(address);
-    if (fd >= 0)
-        limit_time(fd, timeout);
-    return fd;
+        return connect_tcp(address, stream);
+    return take_socket(stream, spawn_connected(address));
 }
 
 iconvd_status iconvd_dial(const char *where, int timeout, int *descriptor) {
+    struct stream stream = {.fd = -1, .timeout = timeout};
     struct address address;
+    int cancelling;
     iconvd_status status = address_read(&address, where);
     if (status != ICONVD_OK)
         return status;
-    *descriptor = address_connect(&address, timeout);
+    pthread_setcancelstate(PTHREAD_CANCEL_DISABLE, &cancelling);
+    bool connected = address_connect(&address, &stream);
+    pthread_setcancelstate(cancelling, NULL);
     address_free(&address);
-    return *descriptor < 0 ? ICONVD_LOST : ICONVD_OK;
+    *descriptor = stream.fd;
+    return connected ? ICONVD_OK : ICONVD_LOST;
 }

@@ -14,18 +14,24 @@ struct encoding *encoding_builtin(enum builtin builtin) {
     return &BUILTINS[builtin];
 }
 
+void encodings_renew(struct encodings *encodings) {
+    pthread_mutex_init(&encodings->mutex, NULL);
+    pthread_mutex_init(&encodings->reading, NULL);
+}
+
 bool encodings_begin(struct encodings *encodings, const char *directory) {
     *encodings = (struct encodings){.directory = strdup(directory), .files = calloc(charmap_count(), sizeof(struct encoding *))};
-    pthread_mutex_init(&encodings->mutex, NULL);
+    encodings_renew(encodings);
     return encodings->directory && encodings->files;
 }
 
 void encoding_free(struct encoding *encoding) {
     if (!encoding)
         return;
+    encoding_free(encoding->light);
     buffer_free(&encoding->map.text);
     free(atomic_load(&encoding->repertoire));
-    free(atomic_load(&encoding->leads));
+    codes_free(atomic_load(&encoding->codes));
     free(encoding);
 }
 
@@ -39,6 +45,7 @@ void encodings_end(struct encodings *encodings) {
     free(encodings->files);
     free(encodings->directory);
     pthread_mutex_destroy(&encodings->mutex);
+    pthread_mutex_destroy(&encodings->reading);
 }
 
 /* A charmap that the host has added. */
@@ -49,44 +56,83 @@ static struct encoding *find_added(const struct encodings *encodings, const char
     return at;
 }
 
-/* The encoding of a charmap file, which is read the first time. The mutex is held. */
+/* The encoding of a charmap file, if it has been read. */
+static struct encoding *find_read(struct encodings *encodings, size_t number) {
+    pthread_mutex_lock(&encodings->mutex);
+    struct encoding *found = encodings->files[number];
+    pthread_mutex_unlock(&encodings->mutex);
+    return found;
+}
+
+/* Gives an encoding its light one, if it has a text. False: out of memory. */
+static bool add_light(struct encoding *encoding, struct charmap *light) {
+    if (!light->text.bytes)
+        return true;
+    encoding->light = calloc(1, sizeof *encoding->light);
+    if (!encoding->light) {
+        buffer_free(&light->text);
+        return false;
+    }
+    encoding->light->kind = BUILTIN_COUNT;
+    encoding->light->map = *light;
+    snprintf(encoding->light->name, sizeof encoding->light->name, "%.70s-light", encoding->name);
+    return true;
+}
+
+struct encoding *encoding_first(struct encoding *encoding) {
+    return encoding->light && !atomic_load(&encoding->needed) ? encoding->light : encoding;
+}
+
+/* Reads a charmap file. `reading` is held, and not the mutex: fork() waits for that. */
 static iconvd_status read_file(struct encodings *encodings, size_t number, struct encoding **found) {
-    *found = encodings->files[number];
-    if (*found)
-        return ICONVD_OK;
     struct encoding *encoding = calloc(1, sizeof *encoding);
+    struct charmap light;
     if (!encoding)
         return ICONVD_ENOMEM;
     encoding->kind = BUILTIN_COUNT;
     snprintf(encoding->name, sizeof encoding->name, "map-%s", charmap_file(number));
-    iconvd_status status = charmap_read(&encoding->map, encodings->directory, charmap_file(number), encoding->name);
+    iconvd_status status = charmap_read(&encoding->map, &light, encodings->directory, charmap_file(number), encoding->name);
+    if (status == ICONVD_OK && !add_light(encoding, &light))
+        status = ICONVD_ENOMEM;
     if (status != ICONVD_OK) {
         encoding_free(encoding);
         return status;
     }
+    pthread_mutex_lock(&encodings->mutex);
     *found = encodings->files[number] = encoding;
+    pthread_mutex_unlock(&encodings->mutex);
     return ICONVD_OK;
 }
 
-iconvd_status encodings_find(struct encodings *encodings, const char *name, struct encoding **found) {
+/* The encoding of a charmap file, which is read the first time. */
+static iconvd_status find_file(struct encodings *encodings, size_t number, struct encoding **found) {
+    *found = find_read(encodings, number);
+    if (*found)
+        return ICONVD_OK;
     int cancelling; /* reading a file is a cancellation point */
     pthread_setcancelstate(PTHREAD_CANCEL_DISABLE, &cancelling);
-    pthread_mutex_lock(&encodings->mutex);
+    pthread_mutex_lock(&encodings->reading);
     iconvd_status status = ICONVD_OK;
+    *found = find_read(encodings, number);
+    if (!*found)
+        status = read_file(encodings, number, found);
+    pthread_mutex_unlock(&encodings->reading);
+    pthread_setcancelstate(cancelling, NULL);
+    return status;
+}
+
+iconvd_status encodings_find(struct encodings *encodings, const char *name, struct encoding **found) {
+    pthread_mutex_lock(&encodings->mutex);
     *found = find_added(encodings, name);
-    if (!*found) {
-        int number = name_find(name);
-        if (number < 0)
-            status = ICONVD_UNSUPPORTED;
-        else if (number < BUILTIN_COUNT)
-            *found = &BUILTINS[number];
-        else
-            status = read_file(encodings, (size_t)number - BUILTIN_COUNT, found);
-    }
+    pthread_mutex_unlock(&encodings->mutex);
+    int number = *found ? 0 : name_find(name);
+    iconvd_status status = number < 0 ? ICONVD_UNSUPPORTED : ICONVD_OK;
+    if (!*found && number >= BUILTIN_COUNT)
+        status = find_file(encodings, (size_t)number - BUILTIN_COUNT, found);
+    else if (!*found && number >= 0)
+        *found = &BUILTINS[number];
     if (status == ICONVD_OK && atomic_load(&(*found)->refused))
         status = ICONVD_UNSUPPORTED;
-    pthread_mutex_unlock(&encodings->mutex);
-    pthread_setcancelstate(cancelling, NULL);
     return status;
 }
 
@@ -129,19 +175,17 @@ iconvd_status encodings_publish(struct encodings *encodings, struct encoding *ma
     return taken ? ICONVD_EXISTS : ICONVD_OK;
 }
 
-bool encoding_has_lead(struct encoding *encoding, unsigned char byte) {
-    unsigned char *leads = atomic_load(&encoding->leads), *none = NULL;
-    if (leads)
-        return leads[byte] != 0;
-    leads = calloc(256, 1);
-    if (!leads)
-        return true;
-    charmap_leads(encoding->map.text.bytes, encoding->map.text.length, leads);
-    bool has = leads[byte] != 0;
+const struct codes *encoding_codes(struct encoding *encoding) {
+    struct codes *codes = atomic_load_explicit(&encoding->codes, memory_order_acquire), *none = NULL;
+    if (codes)
+        return codes;
+    codes = codes_make(encoding->map.text.bytes, encoding->map.text.length);
     /* Another thread may have been faster. */
-    if (!atomic_compare_exchange_strong(&encoding->leads, &none, leads))
-        free(leads);
-    return has;
+    if (codes && !atomic_compare_exchange_strong(&encoding->codes, &none, codes)) {
+        codes_free(codes);
+        codes = none;
+    }
+    return codes;
 }
 
 unsigned encoding_most_bytes(const struct encoding *encoding) {

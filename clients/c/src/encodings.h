@@ -6,6 +6,7 @@
 #include <stdatomic.h>
 
 #include "charmaps.h"
+#include "codes.h"
 #include "names.h"
 
 struct encoding {
@@ -14,13 +15,16 @@ struct encoding {
     struct charmap map;  /* of a charmap */
     char known_as[NAME_ROOM]; /* of a charmap that the host has added: its name as name_parse() writes it */
     atomic_bool refused; /* the service has refused the charmap: it is not sent again */
+    struct encoding *light; /* of a large charmap: the short mappings of it, which are compiled sooner; NULL: there is no such */
+    atomic_bool needed;     /* a text has needed more than the light one */
     unsigned char *_Atomic repertoire; /* made when a conversion first asks what the encoding has */
-    unsigned char *_Atomic leads; /* the bytes that its characters begin with; made when a conversion first meets a faulty one */
+    struct codes *_Atomic codes; /* of a charmap; made when a conversion first meets bytes that are no character */
     struct encoding *next; /* of those that the host has added */
 };
 
 struct encodings {
-    pthread_mutex_t mutex;
+    pthread_mutex_t mutex;   /* of what follows; never held for long */
+    pthread_mutex_t reading; /* held while a file is read, and taken before the other one */
     char *directory;
     struct encoding **files; /* one for each charmap file; NULL: not read yet */
     struct encoding *added;
@@ -28,6 +32,9 @@ struct encodings {
 
 bool encodings_begin(struct encodings *encodings, const char *directory);
 void encodings_end(struct encodings *encodings);
+
+/* In a child: mutexes that threads of its parent held are made anew. */
+void encodings_renew(struct encodings *encodings);
 
 /* The encoding of a name that name_parse() has taken apart. UNSUPPORTED, ENOMEM. */
 iconvd_status encodings_find(struct encodings *encodings, const char *name, struct encoding **found);
@@ -44,8 +51,11 @@ iconvd_status encodings_publish(struct encodings *encodings, struct encoding *ma
 /* Frees an encoding that was made and not published. NULL is nothing. */
 void encoding_free(struct encoding *encoding);
 
-/* Whether a character of a charmap may begin with a byte. True where memory lacks to know it. */
-bool encoding_has_lead(struct encoding *encoding, unsigned char byte);
+/* What a text is tried with first: the light encoding, until one has needed more. */
+struct encoding *encoding_first(struct encoding *encoding);
+
+/* The codes of a charmap, which are made the first time. NULL: out of memory. */
+const struct codes *encoding_codes(struct encoding *encoding);
 
 /* How many bytes a character has at most and at least. */
 unsigned encoding_most_bytes(const struct encoding *encoding);

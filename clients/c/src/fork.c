@@ -1,9 +1,10 @@
 /* Pools and fork().
  *
  * A child must not use the streams of its parent: both would read the same replies. pthread_atfork() handlers, or a host that calls
- * the functions below, lock everything before fork(), so that the child finds it whole. A child that was made by a raw clone() has
- * run no handlers, and may find mutexes locked by threads that it has not. So there is also a page that the kernel zeroes in every
- * child (MADV_WIPEONFORK), which is looked at before anything is locked. */
+ * the functions below, close the gate before fork(), so that the child finds everything whole, but for mutexes that are locked by
+ * threads that it has not: these are made anew. A child that was made by a raw clone() has run no handlers, and may find something
+ * half written. So there is also a page that the kernel zeroes in every child (MADV_WIPEONFORK), which is looked at before anything is
+ * locked. */
 #include "pool.h"
 
 #include <sched.h>
@@ -32,17 +33,23 @@ void fork_end(struct iconvd_pool *pool) {
         munmap(pool->page, PAGE);
 }
 
+/* Mutexes and the gate as at the start. */
+static void renew_locks(struct iconvd_pool *pool) {
+    turns_renew(pool);
+    pthread_mutex_init(&pool->known_mutex, NULL);
+    encodings_renew(&pool->encodings);
+    gate_renew(&pool->gate);
+}
+
 /* Puts everything back to its start. What the slots held is not freed: it may have been half written when the child was made. */
 static void revive(struct iconvd_pool *pool) {
     for (size_t i = 0; i < pool->slot_count; i++) {
         struct slot *slot = &pool->slots[i];
-        pthread_mutex_init(&slot->mutex, NULL);
         stream_close(&slot->stream);
         slot->remote = (struct remote){.callers = NULL};
         slot->generation++;
     }
-    pthread_mutex_init(&pool->known_mutex, NULL);
-    pthread_mutex_init(&pool->encodings.mutex, NULL);
+    renew_locks(pool);
 }
 
 void fork_check(struct iconvd_pool *pool) {
@@ -61,8 +68,7 @@ void fork_check(struct iconvd_pool *pool) {
 
 void iconvd_before_fork(iconvd_pool *pool) {
     fork_check(pool);
-    for (size_t i = 0; i < pool->slot_count; i++)
-        pthread_mutex_lock(&pool->slots[i].mutex);
+    gate_close(&pool->gate);
     pthread_mutex_lock(&pool->encodings.mutex);
     pthread_mutex_lock(&pool->known_mutex);
 }
@@ -70,14 +76,13 @@ void iconvd_before_fork(iconvd_pool *pool) {
 void iconvd_after_fork_in_parent(iconvd_pool *pool) {
     pthread_mutex_unlock(&pool->known_mutex);
     pthread_mutex_unlock(&pool->encodings.mutex);
-    for (size_t i = pool->slot_count; i-- > 0;)
-        pthread_mutex_unlock(&pool->slots[i].mutex);
+    gate_open(&pool->gate);
 }
 
 void iconvd_after_fork_in_child(iconvd_pool *pool) {
     for (size_t i = 0; i < pool->slot_count; i++)
         slot_reset(&pool->slots[i]);
+    renew_locks(pool);
     if (pool->alive)
         atomic_store(pool->alive, ALIVE);
-    iconvd_after_fork_in_parent(pool);
 }

@@ -79,7 +79,7 @@ static iconvd_status with_own(struct iconvd_cd *cd, own_action *act, void *conte
     fork_check(cd->pool);
     for (int try = 0; try < 3 && status == ICONVD_LOST && again; try++) {
         struct refusal refusal = {.encoding = NULL};
-        pthread_mutex_lock(&own->slot->mutex);
+        slot_lock(own->slot);
         status = restore(cd, &refusal);
         if (status == ICONVD_OK)
             status = act(own, context);
@@ -88,7 +88,7 @@ static iconvd_status with_own(struct iconvd_cd *cd, own_action *act, void *conte
             if (own->slot->stream.fd >= 0)
                 slot_lose(cd->pool, own->slot);
         }
-        pthread_mutex_unlock(&own->slot->mutex);
+        slot_unlock(cd->pool, own->slot);
         pool_note(cd->pool, &refusal);
     }
     cancelling_as(cancelling);
@@ -176,12 +176,12 @@ void own_change(struct iconvd_cd *cd) {
     struct own *own = cd->own;
     int cancelling = cancelling_off();
     fork_check(cd->pool);
-    pthread_mutex_lock(&own->slot->mutex);
+    slot_lock(own->slot);
     bool there = own->open && own->generation == own->slot->generation && stream_is_intact(&own->slot->stream);
     if (there && close_descriptor(own, NULL) == ICONVD_LOST)
         slot_lose(cd->pool, own->slot);
     own->open = false;
-    pthread_mutex_unlock(&own->slot->mutex);
+    slot_unlock(cd->pool, own->slot);
     cancelling_as(cancelling);
 }
 

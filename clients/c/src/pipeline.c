@@ -15,6 +15,7 @@ struct pipeline {
     struct stream *stream;
     struct call *calls;
     size_t number;
+    size_t placed;   /* how many replies have a place for their output */
     size_t begun;    /* how many requests are sent or being sent */
     size_t answered; /* how many replies are whole */
     struct sending sending;
@@ -65,27 +66,48 @@ static enum transfer receive_more(struct pipeline *line) {
     return state;
 }
 
-bool stream_pipeline(struct stream *stream, struct call *calls, size_t number, size_t *answered, stream_place *place,
-                     void *context) {
+/* Finds a place for the output of the next reply. It may turn out that no more requests are wanted. Returns whether a reply is due. */
+static bool place_next(struct pipeline *line, stream_place *place, void *context) {
+    if (line->placed == line->answered && !place(context, &line->calls[line->placed++]))
+        line->number = line->begun;
+    return line->answered < line->number;
+}
+
+/* Sends what there is to send, and reads a reply when there is one. */
+static bool go_on(struct pipeline *line) {
+    if (send_more(line) == TRANSFER_LOST)
+        return false;
+    if (line->sending.left > 0 && !is_readable(line)) {
+        if (!wait_for(line))
+            return false;
+        if (!is_readable(line))
+            return true;
+    }
+    return receive_more(line) != TRANSFER_LOST;
+}
+
+/* All round trips, until no more are wanted. */
+static bool send_and_receive(struct stream *stream, struct call *calls, size_t number, size_t *answered, stream_place *place,
+                             void *context) {
     struct pipeline line = {.stream = stream, .calls = calls, .number = number, .first_tag = stream->tag + 1};
-    size_t placed = 0;
     stream->tag += (uint32_t)number;
     bool well = true;
     /* As for one call: a service that sends a byte now and then is held to a limit. */
     long long end = now_in_milliseconds() + (long long)number * stream->timeout;
-    while (well && line.answered < number) {
+    while (well && line.answered < line.number) {
         stream->timed_out = stream->timeout > 0 && now_in_milliseconds() > end;
         if (stream->timed_out)
             break;
-        well = send_more(&line) != TRANSFER_LOST;
-        if (well && line.sending.left > 0 && !is_readable(&line))
-            well = wait_for(&line);
-        if (well && line.sending.left > 0 && !is_readable(&line))
-            continue;
-        if (well && placed == line.answered)
-            place(context, &calls[placed++]);
-        well = well && receive_more(&line) != TRANSFER_LOST;
+        well = !place_next(&line, place, context) || go_on(&line);
     }
     *answered = line.answered;
-    return line.answered == number;
+    return line.answered == line.number;
+}
+
+bool stream_pipeline(struct stream *stream, struct call *calls, size_t number, size_t *answered, stream_place *place,
+                     void *context) {
+    gate_leave(&stream->pass);
+    bool whole = send_and_receive(stream, calls, number, answered, place, context);
+    gate_enter(&stream->pass);
+    return whole;
 }

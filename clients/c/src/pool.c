@@ -1,11 +1,16 @@
 /* Shares the streams of a process among its threads. */
 #include "pool.h"
 
+#include <errno.h>
+
 #include "transfer.h"
 
 /* How long no connection is tried after one was refused, or after so many in a row have ended without any answer, in milliseconds. The
    latter is what a program that cannot be started looks like. */
 enum { REST = 1000, SILENT_CONNECTIONS = 3 };
+
+/* From how many bytes on a text is long. */
+enum { LONG = 16384 };
 
 void pool_note(struct iconvd_pool *pool, struct refusal *refusal) {
     atomic_fetch_add(&pool->uploads, refusal->uploads);
@@ -27,7 +32,8 @@ void slot_reset(struct slot *slot) {
 
 void slot_lose(struct iconvd_pool *pool, struct slot *slot) {
     bool timed_out = slot->stream.timed_out;
-    pool_log(pool, timed_out ? "the service does not answer" : "a connection is lost");
+    if (timed_out || !stream_may_be_used_up(&slot->stream))
+        pool_log(pool, timed_out ? "the service does not answer" : "a connection is lost");
     int silent = slot->stream.answered ? 0 : atomic_load(&pool->silent) + 1;
     atomic_store(&pool->silent, silent);
     if (timed_out || silent >= SILENT_CONNECTIONS)
@@ -47,70 +53,22 @@ bool slot_ready(struct iconvd_pool *pool, struct slot *slot) {
         atomic_fetch_add(&pool->connections, 1);
         return true;
     }
-    pool_log(pool, "no connection to the service");
+    char why[300];
+    address_explain(&pool->address, errno, why, sizeof why);
+    pool_log(pool, "no connection to the service: %s", why);
     atomic_store(&pool->down_until, now_in_milliseconds() + REST);
     return false;
-}
-
-/* What a stream is to be that is taken. */
-enum wanted { WITH_PAIR, CONNECTED, ANY };
-
-static bool suits(const struct slot *slot, const struct pair *pair, enum wanted wanted) {
-    return wanted == ANY || (wanted == CONNECTED ? slot->stream.fd >= 0 : remote_has(&slot->remote, pair));
-}
-
-/* The first stream that nobody uses and that suits, locked. Streams are tried in one order, so that a second connection is made only
-   when the first is in use. */
-static struct slot *first_free(struct iconvd_pool *pool, const struct pair *pair, enum wanted wanted) {
-    for (size_t i = 0; i < pool->slot_count; i++) {
-        struct slot *slot = &pool->slots[i];
-        if (pthread_mutex_trylock(&slot->mutex) != 0)
-            continue;
-        if (suits(slot, pair, wanted))
-            return slot;
-        pthread_mutex_unlock(&slot->mutex);
-    }
-    return NULL;
-}
-
-/* A stream that nobody uses, locked: one that has the pair open, else one that is connected, since a server whose places are taken lets
-   a new connection wait, else any. NULL: all are in use. */
-static struct slot *take_free(struct iconvd_pool *pool, const struct pair *pair) {
-    struct slot *slot = first_free(pool, pair, WITH_PAIR);
-    if (!slot)
-        slot = first_free(pool, pair, CONNECTED);
-    return slot ? slot : first_free(pool, pair, ANY);
-}
-
-struct slot *pool_pick(struct iconvd_pool *pool) {
-    static const struct pair NONE = {.to = NULL};
-    fork_check(pool);
-    struct slot *slot = take_free(pool, &NONE);
-    if (slot)
-        pthread_mutex_unlock(&slot->mutex);
-    return slot ? slot : &pool->slots[atomic_fetch_add(&pool->next_wait, 1) % pool->slot_count];
-}
-
-/* A stream, locked: a free one, else one that is waited for. */
-static struct slot *take(struct iconvd_pool *pool, const struct pair *pair) {
-    fork_check(pool);
-    struct slot *slot = take_free(pool, pair);
-    if (!slot) {
-        slot = &pool->slots[atomic_fetch_add(&pool->next_wait, 1) % pool->slot_count];
-        pthread_mutex_lock(&slot->mutex);
-    }
-    return slot;
 }
 
 /* Gives those streams up that nobody uses and that have ended: whatever ended one may have ended others. */
 static void lose_ended(struct iconvd_pool *pool) {
     for (size_t i = 0; i < pool->slot_count; i++) {
         struct slot *slot = &pool->slots[i];
-        if (pthread_mutex_trylock(&slot->mutex) != 0)
+        if (!slot_try(slot))
             continue;
         if (slot->stream.fd >= 0 && stream_has_ended(&slot->stream))
             slot_lose(pool, slot);
-        pthread_mutex_unlock(&slot->mutex);
+        slot_unlock(pool, slot);
     }
 }
 
@@ -138,7 +96,7 @@ static iconvd_status try_pair(struct iconvd_pool *pool, struct slot *slot, const
     doing->again = ready && status == ICONVD_LOST && !slot->stream.timed_out;
     if (ready && status == ICONVD_LOST)
         slot_lose(pool, slot);
-    pthread_mutex_unlock(&slot->mutex);
+    slot_unlock(pool, slot);
     pool_note(pool, &refusal);
     if (!refusal.encoding || refusal.status != ICONVD_BADMAP)
         return status;
@@ -150,26 +108,48 @@ static iconvd_status try_pair(struct iconvd_pool *pool, struct slot *slot, const
    connection may be refused, or wait for a place until the time is up. Where none lives it is on a new connection. The third is on a new
    one in any case: where streams end one after the other, as those of a server that is being stopped, a third one would end too.
 
-   Why this ends: there are three tries. Each waits for one lock at most, holds no other meanwhile, and gives it back before the next, so
-   that fork(), whose handlers wait for all locks, waits for one try of each thread. Each wait for the service has the pool's time
-   limit. Once that was up, where no connection is to be had, and while none is made (`down_until`), there is no next try. */
-static iconvd_status with_pair(struct iconvd_pool *pool, const struct pair *pair, pool_action *act, void *context) {
+   Why this ends: there are three tries. Each waits for one stream, holds no other meanwhile, and gives it back before the next. Each
+   wait for the service has the pool's time limit. Once that was up, where no connection is to be had, and while none is made
+   (`down_until`), there is no next try. */
+static iconvd_status with_pair(struct iconvd_pool *pool, const struct pair *pair, enum text text, pool_action *act, void *context) {
     struct doing doing = {.act = act, .context = context};
     int cancelling = cancelling_off();
-    struct slot *slot = take(pool, pair);
+    struct slot *slot = pool_take(pool, pair, text);
     iconvd_status status = try_pair(pool, slot, pair, &doing);
     if (doing.again) {
         lose_ended(pool);
-        slot = take(pool, pair);
+        slot = pool_take(pool, pair, text);
         status = try_pair(pool, slot, pair, &doing);
     }
     if (doing.again) {
         /* Who used it meanwhile has connected it anew. */
-        pthread_mutex_lock(&slot->mutex);
+        slot_lock(slot);
         status = try_pair(pool, slot, pair, &doing);
     }
     cancelling_as(cancelling);
     return status;
+}
+
+/* The pair by which a text is tried first. It has light charmaps only where the whole ones fit in one caller, too, and where a character
+   that the target lacks stops the conversion. */
+static struct pair first_pair(const struct pair *pair) {
+    struct pair first = *pair;
+    if (pair->strict && (uint64_t)pair->to->map.mappings + pair->from->map.mappings <= CALLER_MAPPINGS) {
+        first.to = encoding_first(pair->to);
+        first.from = encoding_first(pair->from);
+    }
+    return first;
+}
+
+/* Whether a conversion stopped at what a light charmap may lack. From now on the whole one is used. */
+static bool needs_more(const struct pair *pair, const struct pair *first, iconvd_status status) {
+    bool from = first->from != pair->from && (status == ICONVD_EILSEQ || status == ICONVD_UNSUPPORTED);
+    bool to = first->to != pair->to && (status == ICONVD_ENOCHAR || status == ICONVD_UNSUPPORTED);
+    if (from)
+        atomic_store(&pair->from->needed, true);
+    if (to)
+        atomic_store(&pair->to->needed, true);
+    return from || to;
 }
 
 static iconvd_status do_nothing(struct iconvd_pool *pool, struct slot *slot, const struct place *place, void *context) {
@@ -183,8 +163,15 @@ static iconvd_status convert_one(struct iconvd_pool *pool, struct slot *slot, co
 }
 
 iconvd_status pool_convert(struct iconvd_pool *pool, const struct pair *pair, struct work *work) {
-    work->used = work->produced = work->replaced = 0;
-    return with_pair(pool, pair, convert_one, work);
+    iconvd_status status;
+    struct pair first;
+    do {
+        first = first_pair(pair);
+        work->used = work->produced = work->replaced = 0;
+        status = with_pair(pool, &first, work->in_length < LONG ? SHORT_TEXT : LONG_TEXT, convert_one, work);
+    } while (needs_more(pair, &first, status));
+    /* The whole charmap is refused, in the middle of a text. */
+    return status == ICONVD_UNSUPPORTED ? ICONVD_LOST : status;
 }
 
 static iconvd_status convert_many(struct iconvd_pool *pool, struct slot *slot, const struct place *place, void *context) {
@@ -195,8 +182,17 @@ static iconvd_status convert_many(struct iconvd_pool *pool, struct slot *slot, c
 }
 
 iconvd_status pool_convert_batch(struct iconvd_pool *pool, const struct pair *pair, struct batch *batch) {
+    struct pair first = first_pair(pair);
     batch->done = 0;
-    return with_pair(pool, pair, convert_many, batch);
+    iconvd_status status = with_pair(pool, &first, LONG_TEXT, convert_many, batch);
+    while (needs_more(pair, &first, status)) {
+        /* The piece that stopped is sent again, with those after it. */
+        batch->done -= batch->done > 0;
+        batch->status = ICONVD_OK;
+        first = first_pair(pair);
+        status = with_pair(pool, &first, LONG_TEXT, convert_many, batch);
+    }
+    return status == ICONVD_UNSUPPORTED ? ICONVD_LOST : status;
 }
 
 static bool is_known(struct iconvd_pool *pool, const struct pair *pair) {
@@ -223,7 +219,12 @@ iconvd_status pool_open(struct iconvd_pool *pool, const struct pair *pair) {
     fork_check(pool);
     if (is_known(pool, pair))
         return ICONVD_OK;
-    iconvd_status status = with_pair(pool, pair, do_nothing, NULL);
+    iconvd_status status;
+    struct pair first;
+    do {
+        first = first_pair(pair);
+        status = with_pair(pool, &first, SHORT_TEXT, do_nothing, NULL);
+    } while (needs_more(pair, &first, status));
     if (status == ICONVD_OK)
         remember(pool, pair);
     return status;

@@ -4,17 +4,28 @@
 
 #include "remote.h"
 
-enum { MOST_STREAMS = 16, USUAL_STREAMS = 4, USUAL_TIMEOUT = 10000 };
+enum { MOST_STREAMS = 16, LEAST_USUAL_STREAMS = 4, USUAL_TIMEOUT = 10000 };
 
-/* A stream with what its server holds. Everything is under the mutex. */
+/* A stream with what its server holds. Everything is under the mutex, and is changed inside the gate. */
 struct slot {
     pthread_mutex_t mutex;
+    atomic_uint wanted; /* how many threads wait for this one and no other */
     struct stream stream;
     struct remote remote;
     uint64_t generation; /* counts up whenever the stream is lost, so that a descriptor of its own knows that it is gone */
 };
 
+/* A text whose conversion takes long does not have the last stream. */
+enum text { SHORT_TEXT, LONG_TEXT };
+
+/* Threads that wait for any stream, the first one first. */
+struct line {
+    struct turn *first, *last;
+    atomic_llong since; /* when the first one came; 0: nobody waits */
+};
+
 struct iconvd_pool {
+    struct gate gate;
     struct address address;
     int timeout;
     void (*log)(void *context, const char *line);
@@ -29,7 +40,10 @@ struct iconvd_pool {
     pthread_mutex_t known_mutex;
     struct pair *known;       /* pairs that the service has opened once */
     size_t known_count;
-    atomic_uint next_wait;    /* which slot the next thread waits for when all are in use */
+    atomic_uint next_pick;    /* which slot the next descriptor that is not shared is on when all are in use */
+    pthread_mutex_t lines_mutex;
+    struct line lines[LONG_TEXT + 1];
+    atomic_uint waiting;      /* in both lines */
     atomic_ullong conversions, round_trips, connections, uploads;
 };
 
@@ -50,6 +64,10 @@ iconvd_status pool_begin(const char *where, const iconvd_options *options, struc
 /* Writes a line to the log, if there is one. */
 __attribute__((format(printf, 2, 3))) void pool_log(const struct iconvd_pool *pool, const char *format, ...);
 
+/* The encoding of a name that name_parse() has taken apart (missing.c). A charmap that cannot be read is UNSUPPORTED, and a line in the
+   log says why. */
+iconvd_status pool_find(struct iconvd_pool *pool, const char *name, struct encoding **found);
+
 /* Whether the service opens the pair. It is asked once. */
 iconvd_status pool_open(struct iconvd_pool *pool, const struct pair *pair);
 
@@ -59,8 +77,24 @@ iconvd_status pool_convert(struct iconvd_pool *pool, const struct pair *pair, st
 /* The same for several pieces, one behind the other, until one stops. */
 iconvd_status pool_convert_batch(struct iconvd_pool *pool, const struct pair *pair, struct batch *batch);
 
+/* turns.c */
+
 /* A slot for a descriptor that is not shared: the first that nobody uses now, so that a process of one thread has one connection. */
 struct slot *pool_pick(struct iconvd_pool *pool);
+
+/* A slot for a pair, locked: a free one, else the first that becomes free, after those threads that have waited longer. */
+struct slot *pool_take(struct iconvd_pool *pool, const struct pair *pair, enum text text);
+
+/* Locks one slot. */
+void slot_lock(struct slot *slot);
+
+/* Locks a slot, unless somebody uses it or waits for it. */
+bool slot_try(struct slot *slot);
+
+void slot_unlock(struct iconvd_pool *pool, struct slot *slot);
+
+/* In a child: none of the threads that waited is there. */
+void turns_renew(struct iconvd_pool *pool);
 
 /* Makes a slot that is locked ready for requests: in a child, after the host closed the descriptor, or after a loss it is connected
    anew. False: it cannot be. */

@@ -1,4 +1,6 @@
 /* Makes pools and ends them; the host's own charmaps. */
+#define _GNU_SOURCE
+#include <sched.h>
 #include <stdarg.h>
 #include <stdio.h>
 
@@ -15,6 +17,14 @@ void pool_log(const struct iconvd_pool *pool, const char *format, ...) {
     pool->log(pool->context, line);
 }
 
+/* As many as there are processors: a short text then rarely waits for the long one of another thread. A set that does not fit is of more
+   than 1,024 processors. */
+static unsigned usual_streams(void) {
+    cpu_set_t processors;
+    int number = sched_getaffinity(0, sizeof processors, &processors) == 0 ? CPU_COUNT(&processors) : MOST_STREAMS;
+    return number < LEAST_USUAL_STREAMS ? LEAST_USUAL_STREAMS : (unsigned)number;
+}
+
 iconvd_status pool_begin(const char *where, const iconvd_options *options, struct iconvd_pool **pool) {
     static const iconvd_options USUAL = {.streams = 0};
     const iconvd_options *wanted = options ? options : &USUAL;
@@ -25,14 +35,17 @@ iconvd_status pool_begin(const char *where, const iconvd_options *options, struc
     made->timeout = wanted->timeout ? wanted->timeout : USUAL_TIMEOUT;
     made->log = wanted->log;
     made->context = wanted->context;
-    made->slot_count = wanted->streams ? wanted->streams : USUAL_STREAMS;
+    made->slot_count = wanted->streams ? wanted->streams : usual_streams();
     if (made->slot_count > MOST_STREAMS)
         made->slot_count = MOST_STREAMS;
+    gate_begin(&made->gate);
     for (size_t i = 0; i < MOST_STREAMS; i++) {
         pthread_mutex_init(&made->slots[i].mutex, NULL);
         made->slots[i].stream.fd = -1;
+        gate_add(&made->gate, &made->slots[i].stream.pass);
     }
     pthread_mutex_init(&made->known_mutex, NULL);
+    pthread_mutex_init(&made->lines_mutex, NULL);
     const char *charmaps = wanted->charmaps ? wanted->charmaps : "/usr/share/i18n/charmaps";
     bool memory = encodings_begin(&made->encodings, charmaps) && fork_begin(made);
     if (status == ICONVD_OK && !memory)
@@ -50,9 +63,9 @@ iconvd_status iconvd_connect(const char *where, const iconvd_options *options, i
         return status;
     struct slot *slot = &(*pool)->slots[0];
     int cancelling = cancelling_off();
-    pthread_mutex_lock(&slot->mutex);
+    slot_lock(slot);
     bool connected = slot_ready(*pool, slot);
-    pthread_mutex_unlock(&slot->mutex);
+    slot_unlock(*pool, slot);
     cancelling_as(cancelling);
     if (connected)
         return ICONVD_OK;
@@ -71,9 +84,11 @@ void iconvd_disconnect(iconvd_pool *pool) {
         pthread_mutex_destroy(&pool->slots[i].mutex);
     }
     fork_end(pool);
+    gate_end(&pool->gate);
     encodings_end(&pool->encodings);
     address_free(&pool->address);
     pthread_mutex_destroy(&pool->known_mutex);
+    pthread_mutex_destroy(&pool->lines_mutex);
     free(pool->known);
     free(pool);
 }
@@ -92,7 +107,7 @@ static iconvd_status add_charmap(struct iconvd_pool *pool, struct encoding *made
     struct place place;
     iconvd_status status = ICONVD_LOST;
     int cancelling = cancelling_off();
-    pthread_mutex_lock(&slot->mutex);
+    slot_lock(slot);
     for (int try = 0; try < 3 && status == ICONVD_LOST && slot_ready(pool, slot); try++) {
         status = remote_find(&slot->remote, &slot->stream, &pair, &place, refusal);
         if (status == ICONVD_LOST)
@@ -106,7 +121,7 @@ static iconvd_status add_charmap(struct iconvd_pool *pool, struct encoding *made
     /* What the server holds of a charmap that is not kept is given back with the stream. */
     if (status != ICONVD_OK)
         slot_reset(slot);
-    pthread_mutex_unlock(&slot->mutex);
+    slot_unlock(pool, slot);
     cancelling_as(cancelling);
     return status;
 }

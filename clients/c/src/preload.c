@@ -116,6 +116,13 @@ static size_t go_on(const struct handle *handle, char **in, size_t *in_left, cha
     return settings()->libc.convert(handle->real, in, in_left, out, out_left);
 }
 
+/* Whether a call says that //IGNORE left something out: at its end, when all of the input is used. Where the end cuts a character the
+   C library says that instead of faulty bytes: its converter of the source reports the last thing that it has met. What the target
+   lacks is reported by the next converter, if there is one. */
+static bool is_told(const struct iconvd_cd *cd, const struct progress *progress, iconvd_status status) {
+    return status == ICONVD_OK || (status == ICONVD_EINVAL && progress->lacking > 0 && !cd->from_wide);
+}
+
 /* iconv() with input, by the service. */
 static size_t convert(struct handle *handle, char **in, size_t *in_left, char **out, size_t *out_left) {
     int before = errno;
@@ -133,8 +140,7 @@ static size_t convert(struct handle *handle, char **in, size_t *in_left, char **
         size_t more = go_on(handle, in, in_left, out, out_left);
         return more == (size_t)-1 ? more : more + progress.replaced;
     }
-    /* What //IGNORE left out is said at the end of the call, when all of the input is used but a character that is cut. */
-    if ((status == ICONVD_OK || status == ICONVD_EINVAL) && progress.skipped > 0)
+    if (progress.skipped > 0 && is_told(handle->cd, &progress, status))
         status = ICONVD_EILSEQ;
     errno = status == ICONVD_OK ? before : errno_of(status);
     return status == ICONVD_OK ? progress.replaced : (size_t)-1;

@@ -3,7 +3,7 @@
 
 #include "frames.h"
 
-enum { CALLER_DESCRIPTORS = 16, CALLER_CHARMAPS = 8, CALLER_MAPPINGS = 262144 };
+enum { CALLER_DESCRIPTORS = 16, CALLER_CHARMAPS = 8 };
 
 struct remote_caller {
     unsigned descriptors;

@@ -15,6 +15,9 @@ struct pair {
     bool strict; /* stops before what the target lacks; otherwise `?` is written */
 };
 
+/* How many mappings the charmaps of a pair may have together. */
+enum { CALLER_MAPPINGS = 262144 };
+
 /* Where a descriptor is. */
 struct place {
     uint32_t caller;
@@ -70,7 +73,8 @@ iconvd_status remote_convert(struct stream *stream, const struct place *place, s
 iconvd_status work_answered(const struct call *call, struct work *work);
 
 /* Pieces of one text. Their outputs are written one behind the other from the first piece's `out` on, where the room of all of them
-   is. All are sent before they are answered; those behind one that stops are answered too, and these answers are dropped. */
+   is. Up to four are sent before they are answered; once one has stopped no more are sent, and the answers to those after it are
+   dropped. */
 enum { BATCH_PIECES = 16 };
 struct batch {
     struct work works[BATCH_PIECES];

@@ -47,43 +47,6 @@ static void log_line(void *context, const char *line) {
     settings_log("%s", line);
 }
 
-/* Seconds, with up to three digits behind a point, in milliseconds; 0 where it is something else. The locale has no part in it. */
-static int milliseconds(const char *text) {
-    int value = 0, digits = -1;
-    for (; *text && digits < 3 && value < 200000; text++) {
-        if (*text == '.' && digits < 0) {
-            digits = 0;
-        } else if (*text >= '0' && *text <= '9') {
-            value = 10 * value + (*text - '0');
-            digits += digits >= 0;
-        } else {
-            return 0;
-        }
-    }
-    for (digits = digits < 0 ? 0 : digits; digits < 3; digits++)
-        value *= 10;
-    return *text ? 0 : value;
-}
-
-static int read_timeout(void) {
-    const char *text = variable("ICONVD_TIMEOUT");
-    int timeout = text ? milliseconds(text) : 0;
-    if (text && timeout == 0)
-        settings_log("ICONVD_TIMEOUT=%s: not a number of seconds above 0", text);
-    return timeout;
-}
-
-/* A number of connections from 1 to 16; 0, which is the usual number, where there is another one or none. */
-static unsigned read_streams(void) {
-    const char *text = variable("ICONVD_STREAMS");
-    unsigned streams = 0;
-    for (const char *at = text; at && *at >= '0' && *at <= '9' && streams <= MOST_STREAMS; at++)
-        streams = 10 * streams + (unsigned)(*at - '0');
-    if (text && (streams < 1 || streams > MOST_STREAMS || text[strspn(text, "0123456789")]))
-        settings_log("ICONVD_STREAMS=%s: not a number from 1 to %d", text, MOST_STREAMS);
-    return streams <= MOST_STREAMS ? streams : 0;
-}
-
 static void find_libc(struct libc *libc) {
     void *library = dlopen("libc.so.6", RTLD_LAZY | RTLD_NOLOAD);
     /* POSIX has dlsym() give functions, which ISO C has no conversion for. */
@@ -106,12 +69,12 @@ static void in_child(void) {
 
 static void begin(void) {
     find_libc(&chosen.libc);
-    const char *path = variable("ICONVD_LOG"), *where = variable("ICONVD"), *fallback = variable("ICONVD_FALLBACK");
+    const char *path = variable("ICONVD_LOG"), *fallback = variable("ICONVD_FALLBACK");
     log_path = path ? strdup(path) : NULL;
     chosen.falls_back = !fallback || strcmp(fallback, "never") != 0;
-    iconvd_options options = {
-        .streams = read_streams(), .timeout = read_timeout(), .charmaps = variable("ICONVD_CHARMAPS"), .log = log_line};
-    iconvd_status status = pool_begin(where ? where : "exec:iconvd pipe", &options, &chosen.pool);
+    iconvd_options options = {.log = log_line};
+    const char *where = iconvd_environment(&options);
+    iconvd_status status = pool_begin(where, &options, &chosen.pool);
     if (status == ICONVD_OK)
         pthread_atfork(before_fork, in_parent, in_child);
     else

@@ -21,6 +21,7 @@ const char *iconvd_status_text(iconvd_status status) {
     case ICONVD_ENOCHAR: return "the target lacks the next character";
     case ICONVD_LOST: return "the service cannot be reached or did not answer";
     case ICONVD_BADADDRESS: return "the address is none of exec:, unix: and tcp:";
+    case ICONVD_BADPOLICY: return "no such policy";
     }
     return "no status";
 }

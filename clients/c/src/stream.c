@@ -9,18 +9,13 @@
 
 #include "transfer.h"
 
+/* How many reads of a stream a server makes. */
+enum { MOST_READS = 1000000 };
+
 /* Above what programs that close "all" descriptors one by one usually count to, and within the usual limit of 1,024. */
 enum { HIGH_DESCRIPTOR = 400 };
 
-bool stream_connect(struct stream *stream, const struct address *address) {
-    int fd = address_connect(address, stream->timeout);
-    if (fd < 0)
-        return false;
-    int high = fcntl(fd, F_DUPFD_CLOEXEC, HIGH_DESCRIPTOR);
-    if (high >= 0) {
-        close(fd);
-        fd = high;
-    }
+bool stream_register(struct stream *stream, int fd) {
     struct stat status;
     if (fstat(fd, &status) != 0) {
         close(fd);
@@ -29,8 +24,20 @@ bool stream_connect(struct stream *stream, const struct address *address) {
     stream->fd = fd;
     stream->device = status.st_dev;
     stream->inode = status.st_ino;
+    return true;
+}
+
+bool stream_connect(struct stream *stream, const struct address *address) {
     stream->timed_out = false;
     stream->answered = false;
+    stream->reads = 0;
+    if (!address_connect(address, stream))
+        return false;
+    int high = fcntl(stream->fd, F_DUPFD_CLOEXEC, HIGH_DESCRIPTOR);
+    if (high >= 0) {
+        close(stream->fd);
+        stream->fd = high;
+    }
     return true;
 }
 
@@ -47,13 +54,18 @@ bool stream_has_ended(const struct stream *stream) {
     return recv(stream->fd, &byte, 1, MSG_PEEK | MSG_DONTWAIT) >= 0 || (errno != EAGAIN && errno != EWOULDBLOCK);
 }
 
+bool stream_may_be_used_up(const struct stream *stream) {
+    return stream->reads >= MOST_READS;
+}
+
 void stream_close(struct stream *stream) {
     if (stream_is_intact(stream))
         close(stream->fd);
     stream->fd = -1;
 }
 
-bool stream_call(struct stream *stream, struct call *call) {
+/* The round trip itself. */
+static bool send_and_receive(struct stream *stream, struct call *call) {
     struct sending sending;
     struct receiving receiving = {.got = 0};
     uint32_t tag = ++stream->tag;
@@ -72,4 +84,11 @@ bool stream_call(struct stream *stream, struct call *call) {
         }
     }
     return state == TRANSFER_DONE;
+}
+
+bool stream_call(struct stream *stream, struct call *call) {
+    gate_leave(&stream->pass);
+    bool whole = send_and_receive(stream, call);
+    gate_enter(&stream->pass);
+    return whole;
 }

@@ -6,6 +6,7 @@
 #include <sys/types.h>
 
 #include "address.h"
+#include "gate.h"
 
 struct stream {
     int fd;           /* -1: not connected */
@@ -15,6 +16,8 @@ struct stream {
     int timeout;      /* of one call, in milliseconds; below 0 without end */
     bool timed_out;   /* why it was lost */
     bool answered;    /* something, since it was connected */
+    uint64_t reads;   /* how many the server has made of it at most */
+    struct pass pass; /* with which who uses it is inside the gate, but while it waits for the service */
 };
 
 /* A request with its reply. The bodies stand in two parts each, so that text is neither copied on its way out nor in. */
@@ -37,11 +40,18 @@ struct call {
 /* Connects. The descriptor is moved to a high number, out of the way of hosts that close the low ones. */
 bool stream_connect(struct stream *stream, const struct address *address);
 
+/* Takes a socket that is not connected yet, or is. False: it is none, and closed. */
+bool stream_register(struct stream *stream, int fd);
+
 /* Whether `fd` is still the socket that it was. */
 bool stream_is_intact(const struct stream *stream);
 
 /* Whether a stream on which nothing is under way is known to be lost: it has an end, or bytes that nobody has asked for. */
 bool stream_has_ended(const struct stream *stream);
+
+/* Whether the server may have made as many reads of the stream as it makes of one, after which it ends it. This is no fault, and the
+   client cannot tell: it knows what it sent, and not how that was cut. */
+bool stream_may_be_used_up(const struct stream *stream);
 
 /* Closes the connection, unless the host has closed it or something else has its number now. */
 void stream_close(struct stream *stream);
@@ -50,8 +60,9 @@ void stream_close(struct stream *stream);
 bool stream_call(struct stream *stream, struct call *call);
 
 /* Several requests, of which later ones are sent before earlier ones are answered. Before it reads the reply to calls[i] it asks
-   `place` where its output goes. False: the stream is lost; calls[0] to calls[*answered - 1] have their replies. */
-typedef void stream_place(void *context, struct call *call);
+   `place` where its output goes; where that returns false, no more requests are sent than have been begun. False: the stream is lost;
+   calls[0] to calls[*answered - 1] have their replies. */
+typedef bool stream_place(void *context, struct call *call);
 bool stream_pipeline(struct stream *stream, struct call *calls, size_t number, size_t *answered, stream_place *place,
                      void *context);
 

@@ -45,6 +45,8 @@ enum transfer sending_go_on(struct stream *stream, struct sending *sending, int 
         }
         advance(sending->parts, (size_t)sent);
         sending->left -= (size_t)sent;
+        /* A short request is one read. A long one is cut by the network, into pieces of a kilobyte at least. */
+        stream->reads += 1 + (size_t)sent / 1024;
     }
     return TRANSFER_DONE;
 }

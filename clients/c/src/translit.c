@@ -1,8 +1,6 @@
 /* Finds transliterations. */
 #include "translit.h"
 
-#include <stddef.h>
-
 struct translit_row {
     uint32_t character;
     uint32_t string; /* its place in TRANSLIT_STRINGS */
@@ -10,16 +8,26 @@ struct translit_row {
 
 #include "translit_table.h"
 
-const char *translit_candidates(uint32_t character) {
-    size_t low = 0, high = sizeof TRANSLIT_ROWS / sizeof *TRANSLIT_ROWS;
+enum { ROWS = sizeof TRANSLIT_ROWS / sizeof *TRANSLIT_ROWS };
+
+size_t translit_count(void) {
+    return ROWS;
+}
+
+size_t translit_number(uint32_t character) {
+    size_t low = 0, high = ROWS;
     while (low < high) {
         size_t middle = (low + high) / 2;
         if (TRANSLIT_ROWS[middle].character == character)
-            return TRANSLIT_STRINGS + TRANSLIT_ROWS[middle].string;
+            return middle;
         if (TRANSLIT_ROWS[middle].character < character)
             low = middle + 1;
         else
             high = middle;
     }
-    return "";
+    return ROWS;
+}
+
+const char *translit_candidates(size_t number) {
+    return number < ROWS ? TRANSLIT_STRINGS + TRANSLIT_ROWS[number].string : "";
 }

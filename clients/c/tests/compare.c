@@ -5,56 +5,16 @@
  * names; each is proved to be of its kind from the bytes, and every other one fails.
  *
  * COMPARE_CALLS says how many calls (200,000), COMPARE_SEED where the numbers begin (1). */
-#include <errno.h>
-#include <stdbool.h>
-#include <string.h>
-
-#include "libraries.h"
+#include "differences.h"
 
 static const char *const NAMES[] = {
     "UTF-8",      "UTF-16",     "UTF-16LE", "UTF-16BE", "UTF-32", "UTF-32LE", "UTF-32BE", "UCS-4", "WCHAR_T",
     "ASCII",      "LATIN1",     "LATIN2",   "GREEK",    "KOI8-R", "CP1251",   "CP1252",   "IBM037", "MACINTOSH",
     "ISO-8859-15", "TIS-620",   "EUC-JP",   "EUC-KR",   "GBK",    "BIG5",     "SJIS",     "EUC-TW",
 };
-enum { NAME_COUNT = sizeof NAMES / sizeof *NAMES, TEXT = 4000, OUT = 20000 };
+enum { NAME_COUNT = sizeof NAMES / sizeof *NAMES };
 
-/* The kinds of differences that docs/CLIENTS.md names. */
-enum kind { EARLY, ABOVE, ONE_WAY, WRITES_MARK, NO_ROOM, FAULTY_LENGTH, ROOM_FIRST, KINDS, UNKNOWN = KINDS };
-static const char *const KIND_NAMES[KINDS] = {
-    "EILSEQ at once, of a multibyte charmap, where glibc waits for more",
-    "values that Unicode has not, in UTF-8, UCS-4 and WCHAR_T, which glibc copies or passes over",
-    "mappings that glibc has and the charmap has not",
-    "glibc writes a mark before it has a character",
-    "E2BIG by glibc where the room of WCHAR_T is full and the input is faulty or cut, too",
-    "how many faulty bytes of a multibyte charmap //IGNORE leaves out",
-    "to EUC-JP with one or two bytes of room left, glibc does not look whether it has the character",
-};
-
-static struct library ours, theirs;
 static unsigned long kinds[KINDS], calls;
-
-/* One call of one library. */
-struct result {
-    size_t value;
-    int error;
-    size_t used;
-    size_t produced;
-    char bytes[OUT];
-};
-
-static void call(const struct library *library, iconv_t cd, const char *in, size_t length, size_t room, struct result *result) {
-    char copy[TEXT * 8];
-    memcpy(copy, in, length);
-    char *in_at = copy, *out_at = result->bytes;
-    size_t in_left = length, out_left = room;
-    errno = 0;
-    result->value = library->convert(cd, &in_at, &in_left, &out_at, &out_left);
-    check(result->value == (size_t)-1 || errno == 0, "errno of a call that succeeds: %d", errno);
-    result->error = result->value == (size_t)-1 ? errno : 0;
-    result->used = length - in_left;
-    result->produced = room - out_left;
-    check(in_at == copy + result->used && out_at == result->bytes + result->produced, "pointers and counts differ");
-}
 
 /* A character of one of the scripts that the encodings have. */
 static uint32_t random_character(uint64_t *state) {
@@ -95,142 +55,168 @@ static size_t damage(uint64_t *state, char *text, size_t length) {
     return length;
 }
 
-/* The character at the front by the C library alone; 0xffffffff where it has none. */
-static uint32_t read_one(const char *name, const char *in, size_t length) {
-    iconv_t cd = theirs.open("UTF-32LE", name);
-    uint32_t character = 0xffffffff;
-    char *from = (char *)(uintptr_t)in, *out = (char *)&character;
-    size_t out_left = 4;
-    theirs.convert(cd, &from, &length, &out, &out_left);
-    theirs.close(cd);
-    return out_left == 0 ? character : 0xffffffff;
-}
-
-/* Whether the front of UTF-8, UCS-4 or WCHAR_T has a value that Unicode has not: above 10FFFF, or a surrogate in four bytes. */
-static bool is_above(const char *name, const unsigned char *in, size_t length) {
-    if (strcmp(name, "UTF-8") == 0)
-        return length > 0 && (in[0] >= 0xf5 || (in[0] == 0xf4 && (length == 1 || in[1] >= 0x90)));
-    bool little = strcmp(name, "WCHAR_T") == 0;
-    if (length < 4 || (!little && strcmp(name, "UCS-4") != 0))
-        return false;
-    uint32_t value = little ? (uint32_t)in[3] << 24 | (uint32_t)in[2] << 16 | (uint32_t)in[1] << 8 | in[0]
-                            : (uint32_t)in[0] << 24 | (uint32_t)in[1] << 16 | (uint32_t)in[2] << 8 | in[3];
-    return value > 0x10ffff || (value >= 0xd800 && value < 0xe000);
-}
-
-struct step {
-    const char *to;
-    const char *from;
+/* A text on its way through both. */
+struct passing {
+    const char *to, *from;
     bool ignore;
-    const char *in; /* the input of the call */
+    const char *text;
     size_t length;
-    size_t room;
+    size_t done;
+    bool marked; /* output has been written */
 };
 
-/* The kind of a difference between calls that stop at what cannot be converted. */
-static enum kind classify_stop(const struct step *step, const struct result *mine, const struct result *other) {
-    const char *at = step->in + mine->used;
-    size_t left = step->length - mine->used;
-    bool stopped = mine->error == EILSEQ;
-    if (stopped && other->error == EINVAL && mine->used == other->used && mine->produced == other->produced)
-        return EARLY;
-    if (stopped && other->used >= mine->used && is_above(step->from, (const unsigned char *)at, left))
-        return ABOVE;
-    if (stopped && other->used >= mine->used && read_one(step->from, at, left) != 0xffffffff)
-        return ONE_WAY;
-    if (mine->produced == 0 && (other->produced == 2 || other->produced == 4) && strcmp(step->from, "WCHAR_T") == 0)
-        return WRITES_MARK;
-    if (strcmp(step->to, "WCHAR_T") == 0 && other->error == E2BIG && mine->used == other->used && step->room - mine->produced < 4)
-        return NO_ROOM;
-    size_t room = step->room - mine->produced;
-    bool both_full = (mine->error == E2BIG || mine->error == EILSEQ) && other->error == E2BIG && mine->produced == other->produced;
-    if (strcmp(step->to, "EUC-JP") == 0 && both_full && room > 0 && room < 3)
-        return ROOM_FIRST;
-    return UNKNOWN;
+/* UTF-16 and UTF-32 with the order that a text has. */
+static const char *mark_free(const char *name, const char *text, size_t length) {
+    bool big = length >= 2 && (unsigned char)text[0] == 0xfe && (unsigned char)text[1] == 0xff;
+    bool wide_big = length >= 4 && memcmp(text, "\0\0\xfe\xff", 4) == 0;
+    if (strcmp(name, "UTF-16") == 0)
+        return big ? "UTF-16BE" : "UTF-16LE";
+    if (strcmp(name, "UTF-32") == 0)
+        return wide_big ? "UTF-32BE" : "UTF-32LE";
+    return name;
 }
 
-/* The kind of a difference with //IGNORE: the same text without it, piece by piece, has a stop of that kind. Where it has none, and
-   both stop at bytes that are no character of a multibyte charmap, they leave out a different number of them. */
-static enum kind classify_ignored(const struct step *step) {
-    static struct result mine, other;
-    bool faulty = false;
-    for (size_t done = 0; done < step->length; done += mine.used + 1) {
-        iconv_t mine_cd = ours.open(step->to, step->from), other_cd = theirs.open(step->to, step->from);
-        struct step rest = {.to = step->to, .from = step->from, .in = step->in + done, .length = step->length - done, .room = OUT};
-        call(&ours, mine_cd, rest.in, rest.length, rest.room, &mine);
-        call(&theirs, other_cd, rest.in, rest.length, rest.room, &other);
-        ours.close(mine_cd);
-        theirs.close(other_cd);
-        const char *at = rest.in + mine.used;
-        if (mine.error == EILSEQ && is_above(step->from, (const unsigned char *)at, rest.length - mine.used))
-            return ABOVE;
-        if (mine.error != other.error || mine.used != other.used)
-            return classify_stop(&rest, &mine, &other);
-        faulty |= mine.error == EILSEQ && read_one(step->from, at, rest.length - mine.used) == 0xffffffff;
+/* How long the mark is at the front of a text of an encoding that has one; 0 where there is none. */
+static size_t mark_at(const char *name, const char *text, size_t length) {
+    size_t size = strcmp(name, "UTF-16") == 0 ? 2 : strcmp(name, "UTF-32") == 0 ? 4 : 0;
+    static const char *const MARKS[] = {"\xff\xfe\0\0", "\xfe\xff", "\0\0\xfe\xff"};
+    for (size_t i = 0; size > 0 && length >= size && i < 3; i++)
+        if (i != (size == 2 ? 2 : 1) && memcmp(text, MARKS[i], size) == 0)
+            return size;
+    return 0;
+}
+
+/* Takes the marks off a result. */
+static void take_off(struct result *result, size_t in_mark, size_t out_mark) {
+    result->used = result->used > in_mark ? result->used - in_mark : 0;
+    result->produced = result->produced > out_mark ? result->produced - out_mark : 0;
+    memmove(result->bytes, result->bytes + out_mark, result->produced);
+}
+
+/* The kind of a difference between two calls. */
+static enum kind find_kind(const struct passing *passing, const struct step *step, const struct result *mine, const struct result *other) {
+    static struct result my_rest, other_rest;
+    struct step rest = *step;
+    size_t in_mark = passing->done == 0 ? mark_at(passing->from, step->in, step->length) : 0;
+    size_t out_mark = passing->marked ? 0 : mark_at(passing->to, other->bytes, other->produced);
+    my_rest = *mine;
+    other_rest = *other;
+    if (out_mark > 0 && mine->produced == 0 && other->produced == out_mark) {
+        other_rest.produced = 0;
+        bool same = mine->error == other->error && mine->used == other->used && strcmp(passing->from, "WCHAR_T") == 0;
+        return same ? WRITES_MARK : UNKNOWN;
     }
-    return faulty && strstr("EUC-JP EUC-KR GBK BIG5 SJIS EUC-TW", step->from) ? FAULTY_LENGTH : UNKNOWN;
+    rest.to = mark_free(passing->to, "", 0);
+    rest.from = mark_free(passing->from, passing->text, passing->length);
+    rest.in += in_mark;
+    rest.length -= in_mark;
+    rest.room -= out_mark;
+    take_off(&my_rest, in_mark, out_mark);
+    take_off(&other_rest, in_mark, out_mark);
+    return classify(&rest, &my_rest, &other_rest);
 }
 
 static bool is_equal(const struct result *mine, const struct result *other) {
-    return mine->value == other->value && mine->error == other->error && mine->used == other->used &&
-           mine->produced == other->produced && memcmp(mine->bytes, other->bytes, mine->produced) == 0;
+    return mine->value == other->value && mine->error == other->error && mine->used == other->used && same_output(mine, other);
 }
 
 /* One call of both. False: they differ, and so the rest of the text says nothing. */
-static bool compare_step(const struct step *step, iconv_t mine_cd, iconv_t other_cd, size_t *used, int *error) {
-    static struct result mine, other;
-    call(&ours, mine_cd, step->in, step->length, step->room, &mine);
+static bool compare_step(struct passing *passing, const struct step *step, iconv_t mine_cd, iconv_t other_cd, struct result *mine) {
+    static struct result other;
+    call(&ours, mine_cd, step->in, step->length, step->room, mine);
     call(&theirs, other_cd, step->in, step->length, step->room, &other);
     calls++;
-    *used = mine.used;
-    *error = mine.error;
-    if (is_equal(&mine, &other))
+    if (is_equal(mine, &other)) {
+        passing->marked |= mine->produced > 0;
         return check(true, "equal");
-    enum kind kind = classify_stop(step, &mine, &other);
-    if (kind == UNKNOWN && step->ignore)
-        kind = classify_ignored(step);
+    }
+    enum kind kind = find_kind(passing, step, mine, &other);
     if (kind != UNKNOWN)
         kinds[kind]++;
     check(kind != UNKNOWN,
           "%s to %s%s, %zu bytes at %02x %02x %02x %02x, room %zu: value %zd errno %d used %zu wrote %zu, glibc %zd %d %zu %zu",
-          step->from, step->to, step->ignore ? "//IGNORE" : "", step->length, step->in[0] & 255, step->in[1] & 255, step->in[2] & 255,
-          step->in[3] & 255, step->room,
-          (ssize_t)mine.value, mine.error, mine.used, mine.produced, (ssize_t)other.value, other.error, other.used, other.produced);
+          passing->from, passing->to, step->ignore ? "//IGNORE" : "", step->length, step->in[0] & 255, step->in[1] & 255,
+          step->in[2] & 255, step->in[3] & 255, step->room, (ssize_t)mine->value, mine->error, mine->used, mine->produced,
+          (ssize_t)other.value, other.error, other.used, other.produced);
     return false;
 }
 
+/* How much of the text the next call has, and how much room. Each number is taken in a statement of its own, so that all compilers take
+   them in the same order. */
+static struct step next_step(const struct passing *passing, uint64_t *state) {
+    struct step step = {.to = passing->to, .from = passing->from, .ignore = passing->ignore, .in = passing->text + passing->done};
+    size_t left = passing->length - passing->done;
+    bool is_small = next_random(state) % 4 == 0;
+    bool is_whole = next_random(state) % 3 > 0;
+    step.room = next_random(state) % (is_small ? 12 : 2000);
+    size_t part = 1 + next_random(state) % left;
+    step.length = is_whole ? left : part;
+    return step;
+}
+
 /* A whole text through both, in pieces. */
-static void compare_text(const char *to, const char *from, bool ignore, uint64_t *state) {
-    static char text[TEXT * 8];
+static void compare_text(struct passing *passing, uint64_t *state) {
+    static struct result mine;
     char target[40];
-    snprintf(target, sizeof target, "%s%s", to, ignore ? "//IGNORE" : "");
-    size_t length = make_text(from, state, text), done = 0;
-    if (next_random(state) % 2)
-        length = damage(state, text, length);
-    iconv_t mine = ours.open(target, from), other = theirs.open(target, from);
-    if (!check(mine != (iconv_t)-1, "%s to %s is not opened", from, target))
+    snprintf(target, sizeof target, "%s%s", passing->to, passing->ignore ? "//IGNORE" : "");
+    iconv_t mine_cd = ours.open(target, passing->from), other_cd = theirs.open(target, passing->from);
+    if (!check(mine_cd != (iconv_t)-1, "%s to %s is not opened", passing->from, target))
         return;
     /* The C library does not open WCHAR_T to itself. */
-    if (other == (iconv_t)-1) {
-        ours.close(mine);
-        return;
-    }
-    for (unsigned stalled = 0; done < length && stalled < 8;) {
-        size_t left = length - done;
-        struct step step = {.to = to, .from = from, .ignore = ignore, .in = text + done};
-        step.room = next_random(state) % (next_random(state) % 4 ? 2000 : 12);
-        step.length = next_random(state) % 3 ? left : 1 + next_random(state) % left;
-        size_t used;
-        int error;
-        if (!compare_step(&step, mine, other, &used, &error))
+    for (unsigned stalled = 0; other_cd != (iconv_t)-1 && passing->done < passing->length && stalled < 8;) {
+        struct step step = next_step(passing, state);
+        if (!compare_step(passing, &step, mine_cd, other_cd, &mine))
             break;
         /* Behind bytes that are no character both go on one byte later. */
-        used += error == EILSEQ && !ignore && used < step.length;
-        done += used;
+        size_t used = mine.used + (mine.error == EILSEQ && !passing->ignore && mine.used < step.length);
+        passing->done += used;
         stalled = used > 0 ? 0 : stalled + 1;
     }
-    ours.close(mine);
-    theirs.close(other);
+    ours.close(mine_cd);
+    if (other_cd != (iconv_t)-1)
+        theirs.close(other_cd);
+}
+
+/* One text of two encodings. */
+static void compare_pair(uint64_t *state) {
+    static char text[TEXT * 8];
+    struct passing passing = {.text = text};
+    passing.to = NAMES[next_random(state) % NAME_COUNT];
+    passing.from = NAMES[next_random(state) % NAME_COUNT];
+    passing.ignore = next_random(state) % 4 == 0;
+    passing.length = make_text(passing.from, state, text);
+    if (next_random(state) % 2)
+        passing.length = damage(state, text, passing.length);
+    compare_text(&passing, state);
+}
+
+/* The loop of programs that read a text in parts: what a part cuts stays for the next one. */
+static size_t read_in_parts(const struct library *library, const char *to, const char *from, char *out, size_t room) {
+    static const char *const PARTS[] = {"na\xef" "ve, na\xc3", "\xaf" "ve, \xff\xd0\xb6\xe2", "\x82", "\xac."};
+    iconv_t cd = library->open(to, from);
+    char waiting[40], *at = out;
+    size_t kept = 0;
+    for (size_t i = 0; i < sizeof PARTS / sizeof *PARTS; i++) {
+        char *in = waiting;
+        memcpy(waiting + kept, PARTS[i], strlen(PARTS[i]));
+        kept += strlen(PARTS[i]);
+        size_t result = library->convert(cd, &in, &kept, &at, &room);
+        if (result == (size_t)-1 && errno == EILSEQ)
+            kept = 0; /* what //IGNORE left out: all is used */
+        memmove(waiting, in, kept);
+    }
+    library->close(cd);
+    return (size_t)(at - out);
+}
+
+static void compare_parts(void) {
+    static const char *const TO[] = {"UTF-8//IGNORE", "UTF-16//IGNORE", "LATIN1//IGNORE", "KOI8-R//IGNORE"};
+    for (size_t i = 0; i < sizeof TO / sizeof *TO; i++) {
+        char mine[200], other[200];
+        size_t length = read_in_parts(&ours, TO[i], "UTF-8", mine, sizeof mine);
+        size_t other_length = read_in_parts(&theirs, TO[i], "UTF-8", other, sizeof other);
+        check(length == other_length && memcmp(mine, other, length) == 0, "parts to %s: %.*s", TO[i], (int)length, mine);
+    }
 }
 
 int main(void) {
@@ -239,10 +225,9 @@ int main(void) {
     uint64_t state = 0x9e3779b97f4a7c15u ^ (seed ? strtoul(seed, NULL, 10) : 1);
     ours = library_load(wanted("PRELOAD"));
     theirs = library_load("libc.so.6");
-    while (calls < wanted_calls && checks_failed < 20) {
-        const char *to = NAMES[next_random(&state) % NAME_COUNT], *from = NAMES[next_random(&state) % NAME_COUNT];
-        compare_text(to, from, next_random(&state) % 4 == 0, &state);
-    }
+    compare_parts();
+    while (calls < wanted_calls && checks_failed < 20)
+        compare_pair(&state);
     printf("compare: %lu calls\n", calls);
     for (int kind = 0; kind < KINDS; kind++)
         printf("compare: %lu differences: %s\n", kinds[kind], KIND_NAMES[kind]);

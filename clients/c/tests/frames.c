@@ -150,22 +150,48 @@ static void test_repertoire(void) {
         uint32_t point;
         bool there;
     } ROWS[] = {{0x41, true},   {0x42, false},  {0xff, false}, {0x100, true},  {0x10a, true},
-                {0x110, true},  {0x111, false}, {0x209, true}, {0x20a, false}, {0x210, true}};
+                {0x110, true},  {0x111, false}, {0x209, true}, {0x20a, false}, {0x210, true},
+                {0x43, false}};
     for (size_t i = 0; i < sizeof ROWS / sizeof *ROWS; i++)
         check((bits[ROWS[i].point / 8] >> ROWS[i].point % 8 & 1) == ROWS[i].there, "U+%04X", ROWS[i].point);
     check(symbols, "a symbolic name");
     free(bits);
 }
 
-static void test_leads(void) {
+/* What is at the front of bytes, and how long the character is. */
+struct front_row {
+    const char *in;
+    size_t left;
+    enum front front;
+    size_t length;
+};
+
+static void test_codes(void) {
     static const char TEXT[] = "<escape_char> /\n<U0001> /x05\nCHARMAP\n<U0041> /x41\n<U0042> /d066/x01\n<U0043> /103 a comment\n"
-                               "<U0100>..<U0103> /x81/xfe\n %IRREVERSIBLE%<U0044> /x44\n";
-    unsigned char leads[256] = {0};
-    charmap_leads(TEXT, sizeof TEXT - 1, leads);
+                               "<U0100>..<U0103> /x81/xfe\n %IRREVERSIBLE%<U0044> /x44\n\t<question-mark> /x3f\n"
+                               "</U0200>..<U0/201> /xf0/x00/x00/x00/x00/x00/x00/xff\nEND CHARMAP\n<U0045> /x45\n";
+    static const struct front_row ROWS[] = {
+        {"\x42\x01", 2, WELL_FORMED, 2},     {"\x42\x02", 2, FAULTY, 0},
+        {"\x41\x41", 2, WELL_FORMED, 1},     {"\x81\xfd\x81\xfe", 4, FAULTY, 0},
+        {"\x81\xfe\x81\xfe", 4, WELL_FORMED, 2}, {"\x81\xff", 2, WELL_FORMED, 2},
+        {"\x82\x00", 2, WELL_FORMED, 2},     {"\x82\x01", 2, WELL_FORMED, 2},
+        {"\x82\x02", 2, FAULTY, 0},          {"\xf0\0\0\0\0\0\0\xff", 8, WELL_FORMED, 8},
+        {"\xf0\0\0\0\0\0\1\0", 8, WELL_FORMED, 8}, {"\xf0\0\0\0\0\0\1\1", 8, FAULTY, 0},
+        {"\xf0\0\0\0\0\0\1", 7, CUT_OFF, 0}, {"\xf0\0\0\0\0\0\2", 7, FAULTY, 0},
+        {"\xf0\0", 2, CUT_OFF, 0},           {"\xf0\1", 2, FAULTY, 0},
+    };
+    struct codes *codes = codes_make(TEXT, sizeof TEXT - 1);
+    size_t length;
     for (unsigned byte = 0; byte < 256; byte++) {
-        bool expected = byte == 0x41 || byte == 66 || byte == 0103 || byte == 0x81 || byte == 0x82;
-        check(leads[byte] == expected, "lead byte %02x", byte);
+        bool whole = byte == 0x41 || byte == 0103 || byte == 0x3f, begins = byte == 66 || byte == 0x81 || byte == 0x82 || byte == 0xf0;
+        unsigned char in = (unsigned char)byte;
+        check(codes_front(codes, &in, 1, &length) == (whole ? WELL_FORMED : begins ? CUT_OFF : FAULTY), "the byte %02x", byte);
     }
+    for (size_t i = 0; i < sizeof ROWS / sizeof *ROWS; i++) {
+        enum front front = codes_front(codes, (const unsigned char *)ROWS[i].in, ROWS[i].left, &length);
+        check(front == ROWS[i].front && (front != WELL_FORMED || length == ROWS[i].length), "codes, row %zu: %d", i, front);
+    }
+    codes_free(codes);
 }
 
 int main(void) {
@@ -176,7 +202,7 @@ int main(void) {
     test_names();
     test_characters();
     test_repertoire();
-    test_leads();
+    test_codes();
     check(strcmp(iconvd_status_text(ICONVD_ENOCHAR), "the target lacks the next character") == 0, "a status's text");
     check(strcmp(iconvd_status_text((iconvd_status)99), "no status") == 0, "the text of no status");
     return checks_end("frames");

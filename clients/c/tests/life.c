@@ -102,6 +102,31 @@ static void test_forks(void) {
     check(all_right(), "the parent after its forks");
 }
 
+static int compare_counts(const void *one, const void *other) {
+    unsigned long first = *(const unsigned long *)one, second = *(const unsigned long *)other;
+    return first < second ? -1 : first > second;
+}
+
+/* fork() has its turn among threads that convert without a pause: few texts are converted while it is under way. */
+static void test_turn(void) {
+    enum { FORKS = 51 };
+    unsigned long counts[FORKS];
+    pthread_t threads[THREADS];
+    start_threads(threads);
+    for (int i = 0; i < FORKS; i++) {
+        sleep_milliseconds(5);
+        unsigned long before = __atomic_load_n(&checks_passed, __ATOMIC_RELAXED);
+        pid_t child = fork();
+        if (child == 0)
+            _exit(0);
+        counts[i] = __atomic_load_n(&checks_passed, __ATOMIC_RELAXED) - before;
+        wait_for(child, "a child of fork()");
+    }
+    stop_threads(threads);
+    qsort(counts, FORKS, sizeof *counts, compare_counts);
+    check(counts[FORKS / 2] <= 2 * THREADS, "%lu texts during a fork(), %lu at most", counts[FORKS / 2], counts[FORKS - 1]);
+}
+
 /* A child that was made without any handler, while the parent's threads hold locks. It allocates nothing of its own that a thread of
    the parent could have locked, but the library does: so the parent's threads stand still here. */
 static void test_clone(void) {
@@ -173,7 +198,7 @@ static void test_environment(void) {
 static const struct test TESTS[] = {
     {"threads", test_threads}, {"moving", test_moving},      {"forks", test_forks},
     {"clone", test_clone},     {"closed", close_and_convert}, {"children", test_strange_children},
-    {"environment", test_environment}, {"cancelling", test_cancelling},
+    {"environment", test_environment}, {"cancelling", test_cancelling}, {"turn", test_turn},
 };
 
 int main(int count, char **words) {

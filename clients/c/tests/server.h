@@ -45,6 +45,8 @@ static struct {
     int ends[16];     /* our ends of the first of them */
     int together;     /* how many texts have to be there before one is answered */
     int texts;        /* how many were sent */
+    size_t hold;      /* a text of so many bytes or more is answered after a shorter one; 0: at once */
+    int shorter;      /* how many shorter ones were sent */
     int listener;
 } plan;
 
@@ -116,6 +118,14 @@ static void wait_for_others(void) {
         usleep(1000);
 }
 
+/* Holds a long text until a short one was sent. */
+static void wait_for_shorter(size_t length) {
+    if (length < plan.hold)
+        __atomic_add_fetch(&plan.shorter, 1, __ATOMIC_SEQ_CST);
+    while (plan.hold > 0 && __atomic_load_n(&plan.shorter, __ATOMIC_SEQ_CST) == 0)
+        usleep(1000);
+}
+
 static void read_to_end(int fd) {
     char bytes[4096];
     while (read(fd, bytes, sizeof bytes) > 0)
@@ -135,8 +145,10 @@ static void *serve(void *argument) {
         if (!read_all(fd, request + 13, length - 13))
             break;
         size_t total = answer(request, length, reply);
-        if (request[12] == ICONVD_CONV)
+        if (request[12] == ICONVD_CONV) {
             wait_for_others();
+            wait_for_shorter(length - ICONVD_CONV_HEAD);
+        }
         enum fault fault = wrong && number == plan.request ? plan.fault : RIGHT;
         if (fault == SILENT) {
             read_to_end(fd);
@@ -174,6 +186,8 @@ static void set_plan(enum fault fault, int request, int wrong) {
     plan.wrong = wrong;
     plan.places = ALL;
     plan.together = 0;
+    plan.hold = 0;
+    __atomic_store_n(&plan.shorter, 0, __ATOMIC_SEQ_CST);
     __atomic_store_n(&plan.texts, 0, __ATOMIC_SEQ_CST);
     __atomic_store_n(&plan.connections, 0, __ATOMIC_SEQ_CST);
 }

@@ -4,6 +4,7 @@
  *   service TEST ..    each TEST is one of those in the table at the end
  *
  * PRELOAD is the library, SERVER the program that serves, RELAY the relay. What is converted is compared with the C library. */
+#include <pthread.h>
 #include <signal.h>
 #include <sys/wait.h>
 #include <unistd.h>
@@ -33,7 +34,19 @@ static void test_many(void) {
             ours.close(open[i][k]);
 }
 
-/* More calls than a stream of the service serves. */
+/* How many lines of the log that ICONVD_LOG names have a word. */
+static int lines_with(const char *word) {
+    char line[500];
+    int count = 0;
+    FILE *log = fopen(wanted("ICONVD_LOG"), "r");
+    while (log && fgets(line, sizeof line, log))
+        count += strstr(line, word) != NULL;
+    if (log)
+        fclose(log);
+    return count;
+}
+
+/* More calls than a stream of the service serves, which is no fault: the log has no line of it. */
 static void test_million(void) {
     const char *count = getenv("LIFE_CALLS");
     long calls = count ? atol(count) : 1100000;
@@ -45,6 +58,7 @@ static void test_million(void) {
         wrong += ours.convert(cd, &in, &left, &at, &room) != 0 || at - out != 8 || left != 0;
     }
     check(wrong == 0, "%ld of %ld calls failed", wrong, calls);
+    check(lines_with("lost") == 0, "a stream that was used up is told as a lost connection");
     ours.close(cd);
 }
 
@@ -133,6 +147,44 @@ static void test_stopped(void) {
     stop_relay(relay);
 }
 
+static int answered;
+
+static void *convert_one(void *argument) {
+    bool right = is_right(&SAMPLES[0]);
+    __atomic_store_n(&answered, 1, __ATOMIC_SEQ_CST);
+    check(right, "a text whose service was stopped for a while");
+    return argument;
+}
+
+static void fork_once(bool converts) {
+    pid_t child = fork();
+    if (child == 0) {
+        alarm(60);
+        _exit(converts && !all_right());
+    }
+    int status = 1;
+    check(waitpid(child, &status, 0) == child && status == 0, "a child of fork()");
+}
+
+/* fork() does not wait for a service that is stopped, while a thread does. */
+static void test_forking(void) {
+    pthread_t thread;
+    pid_t relay = start_relay();
+    check(all_right(), "before the service is stopped");
+    kill(-relay, SIGSTOP);
+    pthread_create(&thread, NULL, convert_one, NULL);
+    for (int i = 0; i < 3; i++) {
+        sleep_milliseconds(100);
+        fork_once(false);
+    }
+    check(!__atomic_load_n(&answered, __ATOMIC_SEQ_CST), "fork() waits for no service");
+    kill(-relay, SIGCONT);
+    pthread_join(thread, NULL);
+    fork_once(true);
+    check(all_right(), "after the service has gone on");
+    stop_relay(relay);
+}
+
 static void test_names(void) {
     errno = 0;
     check(ours.open("NOPE", "UTF-8") == (iconv_t)-1 && errno == EINVAL, "a name that nobody has");
@@ -156,6 +208,7 @@ static void test_names(void) {
 
 static const struct test TESTS[] = {
     {"many", test_many}, {"million", test_million}, {"restart", test_restart}, {"stopped", test_stopped}, {"names", test_names},
+    {"forking", test_forking},
 };
 
 int main(int count, char **words) {

@@ -1,7 +1,7 @@
 """Client of iconvd, a character set conversion service.
 
     import iconvd
-    iconvd.convert(b"\xc1\xc2", "UTF-8", "KOI8-R")     # one text
+    iconvd.convert(b"\xc1\xc2", to="UTF-8", source="KOI8-R")     # one text
     iconvd.register()
     open("letter.txt", encoding="iconvd-koi8-r")        # codecs by name
 
@@ -10,7 +10,7 @@ The server is named by the environment variable ICONVD (`exec:COMMAND`, `unix:PA
 """
 
 from .aio import AsyncClient
-from .client import Client, Conversion, convert, default, use
+from .client import Client, convert, default, use
 from .codecs import register
 from .errors import (
     CharmapRefused,
@@ -18,8 +18,10 @@ from .errors import (
     IconvdError,
     RequestRefused,
     ServerLost,
+    TimedOut,
     UnknownEncoding,
 )
+from .pieces import Conversion
 
 __all__ = [
     "AsyncClient",
@@ -30,6 +32,7 @@ __all__ = [
     "IconvdError",
     "RequestRefused",
     "ServerLost",
+    "TimedOut",
     "UnknownEncoding",
     "convert",
     "default",

@@ -45,7 +45,7 @@ def parser() -> argparse.ArgumentParser:
     """Returns the parser of the command line."""
     top = argparse.ArgumentParser(prog="python3 -m iconvd", description="Client of iconvd, a character set conversion service.")
     top.add_argument("--server", metavar="WHERE", help="exec:COMMAND, unix:PATH or tcp:HOST:PORT (default: $ICONVD, else exec:iconvd pipe)")
-    top.add_argument("--timeout", type=float, metavar="SECONDS", help="how long a reply may take (default: no limit)")
+    top.add_argument("--timeout", type=float, metavar="SECONDS", help="how long a reply may take (default: $ICONVD_TIMEOUT, else 10)")
     commands = top.add_subparsers(dest="command", required=True)
     command = commands.add_parser("convert", help="convert a file or standard input")
     command.add_argument("-f", "--from-code", required=True, metavar="FROM")

@@ -7,12 +7,15 @@ import socket
 import subprocess
 from collections import deque
 from types import TracebackType
-from typing import Callable, Deque, List, NamedTuple, Optional, Sequence, Type, TypeVar
+from typing import Awaitable, Callable, Deque, List, NamedTuple, Optional, Sequence, Type, TypeVar, Union, overload
 
-from . import names, steps, text, transport
-from .charmaps import Library
-from .errors import ServerLost
+from . import steps, text, transport
+from .charmaps import Charmap
+from .conversion import WholeConversion
+from .errors import ServerLost, TimedOut
 from .frames import Reply, ReplyReader, Request, Status
+from .library import Library
+from .order import ends
 from .session import Pair, Session, Steps
 
 T = TypeVar("T")
@@ -45,7 +48,7 @@ class _Connection:
     async def exchange(self, requests: Sequence[Request], timeout: Optional[float]) -> List[Reply]:
         """Sends requests, all in a row, and returns their replies."""
         if self.fault is not None:
-            raise ServerLost(str(self.fault))
+            raise _again(self.fault)
         done: "asyncio.Future[List[Reply]]" = asyncio.get_running_loop().create_future()
         self._waiting.append(_Waiting(requests, self._tag, [], done))
         frames = [request.frame((self._tag + n) & 0xFFFFFFFF) for n, request in enumerate(requests)]
@@ -54,11 +57,13 @@ class _Connection:
             self._writer.write(b"".join(frames))
             await self._writer.drain()
             return await asyncio.wait_for(done, timeout)
+        except ServerLost as error:
+            self.fail(error)
         except asyncio.TimeoutError:
-            self.fail(ServerLost(f"the server did not answer within {timeout} seconds"))
+            self.fail(transport.timed_out(timeout))
         except OSError as error:
-            self.fail(error if isinstance(error, ServerLost) else ServerLost(f"the stream failed: {error}"))
-        raise ServerLost(str(self.fault))
+            self.fail(ServerLost(f"the stream failed: {error}"))
+        raise _again(self.fault or ServerLost("the stream failed"))
 
     async def _read_replies(self) -> None:
         reader = ReplyReader()
@@ -95,25 +100,32 @@ class _Connection:
         while self._waiting:
             waiting = self._waiting.popleft()
             if not waiting.done.done():
-                waiting.done.set_exception(ServerLost(str(self.fault)))
+                waiting.done.set_exception(_again(self.fault))
                 waiting.done.exception()
 
     async def close(self) -> None:
-        """Ends the stream, and waits for a server that was started for it."""
+        """Ends the stream, and waits for a server that was started for it, which is killed after a second."""
+        is_silent = isinstance(self.fault, TimedOut)
         self.fail(ServerLost("the client was closed"))
-        if self.child is not None:
-            await asyncio.get_running_loop().run_in_executor(None, self.child.wait)
+        child, self.child = self.child, None
+        if child is not None:
+            await asyncio.get_running_loop().run_in_executor(None, transport.end, child, is_silent)
 
 
-async def _connect(where: transport.Address, library: Library) -> _Connection:
+def _again(fault: ServerLost) -> ServerLost:
+    """Returns the same fault for another who waits."""
+    return type(fault)(str(fault))
+
+
+async def _connect(where: transport.Address, library: Library, timeout: Optional[float]) -> _Connection:
     try:
         if where.kind == "tcp":
             host, port = transport.host_and_port(where.rest)
-            reader, writer = await asyncio.open_connection(host, port, limit=_READ_SIZE)
+            reader, writer = await asyncio.wait_for(asyncio.open_connection(host, port, limit=_READ_SIZE), timeout)
             writer.get_extra_info("socket").setsockopt(socket.IPPROTO_TCP, socket.TCP_NODELAY, 1)
             return _Connection(reader, writer, library)
         if where.kind == "unix":
-            reader, writer = await asyncio.open_unix_connection(where.rest, limit=_READ_SIZE)
+            reader, writer = await asyncio.wait_for(asyncio.open_unix_connection(where.rest, limit=_READ_SIZE), timeout)
             return _Connection(reader, writer, library)
         ours, child_end = socket.socketpair()
         try:
@@ -124,8 +136,10 @@ async def _connect(where: transport.Address, library: Library) -> _Connection:
         finally:
             child_end.close()
         reader, writer = await asyncio.open_connection(sock=ours, limit=_READ_SIZE)
+    except asyncio.TimeoutError as error:
+        raise transport.timed_out(timeout) from error
     except OSError as error:
-        raise ServerLost(f"can't connect to {where.kind}:{where.rest}: {error}") from error
+        raise transport.not_connected(where, error) from error
     connection = _Connection(reader, writer, library)
     connection.child = child
     return connection
@@ -134,20 +148,21 @@ async def _connect(where: transport.Address, library: Library) -> _Connection:
 class AsyncClient:
     """One stream to a server, opened when it is first needed, for one event loop.
 
-    Conversions that run at once are sent one behind the other, and none waits for another's reply. What a lost server did not
-    answer is sent again on a new stream, twice at most.
+    Conversions that run at once are sent one after the other, and none waits for another's reply. What a lost server did not
+    answer is sent again on a new stream, twice at most. What was not answered in time is not sent again.
     """
 
     def __init__(self, where: Optional[str] = None, timeout: Optional[float] = None) -> None:
-        """See iconvd.Client. `timeout` is the seconds that a reply may take."""
+        """See iconvd.Client."""
         self._address = transport.address(where)
-        self._timeout = timeout
+        self._timeout = transport.time_limit(timeout)
+        self._silent_at = 0.0
         self.library = Library()
         self._connection: Optional[_Connection] = None
         self._connecting: Optional[asyncio.Lock] = None
 
     async def __aenter__(self) -> AsyncClient:
-        await self._connected()
+        await self._connected(asyncio.get_running_loop().time())
         return self
 
     async def __aexit__(
@@ -161,49 +176,59 @@ class AsyncClient:
         if connection is not None:
             await connection.close()
 
-    async def convert(self, data: bytes, to: str, source: str, errors: str = "strict") -> bytes:
+    @overload
+    def convert(self, data: bytes, *, to: str, source: str, errors: str = "strict") -> Awaitable[bytes]: ...
+
+    @overload
+    def convert(self, data: bytes, to: str, source: str, errors: str = "strict", /) -> Awaitable[bytes]: ...
+
+    def convert(self, data: bytes, *by_place: str, to: str = "", source: str = "", errors: str = "strict") -> Awaitable[bytes]:
         """Converts bytes of `source` to bytes of `to`. See Client.convert."""
-        target, mark = text.mark_of(names.find(to))
-        origin, skipped = text.without_mark(names.find(source), data)
-        pair = Pair(target, origin)
-        ran = await self._run(pair, lambda session: steps.run(session, pair, data[skipped:]))
-        if ran.status == Status.OK:
-            return (mark if ran.output else b"") + ran.output
-        return await self.encode(await self.decode(data, source, errors), to, errors)
+        asked = ends(by_place, to, source, errors)
+        conversion = WholeConversion(self.library, asked, data)
+        return self._run(conversion.pair, conversion.run)
 
     async def decode(self, data: bytes, source: str, errors: str = "strict") -> str:
         """Decodes bytes as `bytes.decode` does."""
-        origin, skipped = text.without_mark(names.find(source), data)
+        origin, begin = text.without_mark(self.library.find(source), data)
         codec = text.TextCodec(source, origin, self.library)
-        rest = data[skipped:]
-        decoded = await self._run(
-            Pair(steps.UTF_8, origin), lambda session: codec.decode(session, rest, errors, True)
-        )
-        return decoded.text
+        pair = Pair(steps.UTF_8, origin)
+        return (await self._run(pair, lambda session: codec.decode(session, data, errors, True, begin))).text
 
     async def encode(self, characters: str, target: str, errors: str = "strict") -> bytes:
         """Encodes a text as `str.encode` does."""
-        ordered, mark = text.mark_of(names.find(target))
+        ordered, mark = text.mark_of(self.library.find(target))
         codec = text.TextCodec(target, ordered, self.library)
-        output = await self._run(
-            Pair(ordered, steps.UTF_8), lambda session: codec.encode(session, characters, errors)
-        )
-        return mark + output
+        pair = Pair(ordered, steps.UTF_8)
+        return mark + await self._run(pair, lambda session: codec.encode(session, characters, errors))
+
+    async def upload(self, charmap: Union[bytes, str]) -> Charmap:
+        """Adds a charmap of the caller's own. See Client.upload."""
+        encoding, is_added = self.library.uploaded(charmap)
+        pair = Pair(steps.UTF_8, encoding)
+        try:
+            await self._run(pair, lambda session: session.descriptor(pair))
+        except BaseException:
+            if is_added:
+                self.library.remove(encoding)
+            raise
+        return self.library.get(encoding.name)
 
     async def _run(self, pair: Pair, make: Callable[[Session], Steps[T]]) -> T:
+        began = asyncio.get_running_loop().time()
         for tries_left in (2, 1, 0):
-            connection = await self._connected()
+            connection = await self._connected(began)
             try:
                 async with connection.opening:
                     descriptor = await self._drive(connection, connection.session.descriptor(pair))
                     if descriptor.has_state:
                         return await self._drive(connection, make(connection.session))
                 return await self._drive(connection, make(connection.session))
-            except ServerLost:
+            except ServerLost as error:
                 if self._connection is connection:
                     self._connection = None
                 await connection.close()
-                if not tries_left:
+                if not tries_left or isinstance(error, TimedOut):
                     raise
         raise AssertionError("not reached")
 
@@ -218,10 +243,17 @@ class AsyncClient:
         finally:
             running.close()
 
-    async def _connected(self) -> _Connection:
+    async def _connected(self, began: float) -> _Connection:
+        """Returns the stream, which is opened if there is none. Those who wait for one that can't be opened in time wait once."""
         if self._connecting is None:
             self._connecting = asyncio.Lock()
         async with self._connecting:
+            if self._silent_at > began:
+                raise transport.timed_out(self._timeout)
             if self._connection is None or self._connection.fault is not None:
-                self._connection = await _connect(self._address, self.library)
+                try:
+                    self._connection = await _connect(self._address, self.library, self._timeout)
+                except TimedOut:
+                    self._silent_at = asyncio.get_running_loop().time()
+                    raise
             return self._connection

@@ -1,4 +1,4 @@
-"""Charmaps of the system: finding, reading and mending their files.
+"""Charmaps: finding, reading and mending the files of the system, and those of the caller's own.
 
 The files of Debian's package `locales` are made for localedef(1), and some need mending before the server takes them: a name
 of their own (two files share one), the least and the greatest length of a character counted if the file does not say them,
@@ -11,7 +11,7 @@ import gzip
 import os
 import re
 import zlib
-from typing import Dict, FrozenSet, List, NamedTuple, Optional, Tuple
+from typing import Dict, List, NamedTuple, Tuple
 
 from .errors import CharmapRefused
 
@@ -20,15 +20,20 @@ FOLDER = "/usr/share/i18n/charmaps"
 #: Bytes that a charmap's text may have, as the server takes it.
 MAX_TEXT = 8_388_608
 
-_DECLARATION = re.compile(rb"<(comment_char|escape_char|comment)>[ \t]+(\S)")
-_MAPPING = re.compile(rb"[ \t]*(%IRREVERSIBLE%)?(<[^>]*>(?:\.{2,3}<[^>]*>)?)[ \t]+(\S+)")
+_DECLARATION = re.compile(rb"^<(code_set_name|escape_char|comment_char|mb_cur_min|mb_cur_max)>[ \t]+(\S+)", re.M)
+#: The line CHARMAP, or a mapping in a file that has no such line.
+_BEGIN = re.compile(rb"^(?:CHARMAP.*\n?|(?=<U))", re.M)
+_END = re.compile(rb"^END CHARMAP", re.M)
+#: Combining sequences, which are several names, are none.
+_MAPPING = re.compile(rb"^[ \t]*(%IRREVERSIBLE%)?(<[^>\n]*>(?:\.{2,3}<[^>\n]*>)?)[ \t]+(\S+)", re.M)
+_SPAN = re.compile(rb"<U([0-9A-Fa-f]+)>\.{2,3}<U([0-9A-Fa-f]+)>")
 _RANGE = re.compile(rb"<U([0-9A-Fa-f]+)>(\.{2,3})<U([0-9A-Fa-f]+)>")
 
 
 class Charmap(NamedTuple):
     """A charmap as it is uploaded."""
 
-    #: The name in its text, `map-` and the file's.
+    #: The name in its text.
     name: bytes
     text: bytes
     #: How many mappings it has, at most.
@@ -36,6 +41,11 @@ class Charmap(NamedTuple):
     #: The lengths of its byte strings.
     shortest: int
     longest: int
+    escape: bytes = b"\\"
+
+    def body(self) -> bytes:
+        """Returns the lines between CHARMAP and END CHARMAP."""
+        return _body(self.text)[1]
 
 
 def folder() -> str:
@@ -52,6 +62,13 @@ def listed() -> List[str]:
     return sorted(name[: -len(".gz")] if name.endswith(".gz") else name for name in files)
 
 
+def _why_missing(path: str) -> str:
+    """Says what is not there: the folder of charmaps, or the file in it."""
+    there = os.path.isdir(folder())
+    what = f"there is no file {path}" if there else f"there is no charmap folder {folder()}"
+    return what + ": Debian's package locales has the system's charmaps, and ICONVD_CHARMAPS names another folder"
+
+
 def read_file(name: str) -> bytes:
     """Returns the text of the charmap file of that name. Raises CharmapRefused."""
     if not name or "/" in name or name.startswith("."):
@@ -63,33 +80,19 @@ def read_file(name: str) -> bytes:
                 return packed.read(8 * MAX_TEXT)
         with open(path, "rb") as file:
             return file.read(8 * MAX_TEXT)
+    except FileNotFoundError as error:
+        raise CharmapRefused(name, _why_missing(path + ".gz")) from error
     except (OSError, EOFError, zlib.error) as error:
         raise CharmapRefused(name, f"can't be read: {error}") from error
 
 
-class _Lines(NamedTuple):
-    """The mapping lines of a charmap."""
-
-    both_ways: List[bytes]
-    read_only: List[bytes]
-    lengths: FrozenSet[int]
-    mappings: int
-
-
-def _header(lines: List[bytes]) -> Tuple[int, bytes, bytes]:
-    """Returns where the mappings begin, the comment and the escape character."""
-    comment, escape = b"%", b"\\"
-    for number, line in enumerate(lines):
-        if line.startswith(b"CHARMAP"):
-            return number + 1, comment, escape
-        if line.startswith(b"<U"):
-            return number, comment, escape
-        declared = _DECLARATION.match(line)
-        if declared and declared[1] == b"escape_char":
-            escape = declared[2]
-        elif declared:
-            comment = declared[2]
-    return len(lines), comment, escape
+def _body(text: bytes) -> Tuple[bytes, bytes]:
+    """Returns the header of a charmap, and the lines between CHARMAP and END CHARMAP."""
+    begin = _BEGIN.search(text)
+    if not begin:
+        return text, b""
+    end = _END.search(text, begin.end())
+    return text[: begin.start()], text[begin.end() : end.start() if end else len(text)]
 
 
 def _span(name: bytes) -> int:
@@ -104,66 +107,55 @@ def _span(name: bytes) -> int:
         return 1
 
 
-def _mappings(lines: List[bytes], comment: bytes, escape: bytes) -> _Lines:
-    """Returns the mapping lines that the server reads: combining sequences are left out."""
-    both_ways: List[bytes] = []
-    read_only: List[bytes] = []
-    lengths = set()
-    count = 0
-    for line in lines:
-        if line.startswith(b"END CHARMAP"):
-            break
-        if line.startswith(comment) and not line.startswith(b"%IRREVERSIBLE%<"):
-            continue
-        found = _MAPPING.match(line)
-        if not found:
-            continue
-        constants = found[3].replace(escape, b"\\")
-        (read_only if found[1] else both_ways).append(found[2] + b" " + constants)
-        lengths.add(constants.count(b"\\"))
-        count += _span(found[2])
-    return _Lines(both_ways, read_only, frozenset(lengths), count)
+def _is_clean(body: bytes, comment: bytes) -> bool:
+    """Whether each line is a mapping in both directions, a comment or empty."""
+    odd = re.compile(rb"^(?![<\n%s]|\Z)" % re.escape(comment), re.M)
+    return b"%IRREVERSIBLE%" not in body and b"><" not in body and not odd.search(body)
+
+
+def _as_it_is(name: bytes, body: bytes, declared: Dict[bytes, bytes]) -> Charmap:
+    """Returns the charmap of a file whose lines need no mending."""
+    lengths = declared[b"mb_cur_min"], declared[b"mb_cur_max"]
+    spans = sum(max(0, int(last, 16) - int(first, 16)) for first, last in _SPAN.findall(body))
+    mappings = body.count(b"\n<") + 1 + spans
+    head = b"".join(b"<%s> %s\n" % declaration for declaration in declared.items() if declaration[0] != b"code_set_name")
+    text = b"<code_set_name> %s\n%sCHARMAP\n%sEND CHARMAP\n" % (name, head, body)
+    return Charmap(name, text, mappings, int(lengths[0]), int(lengths[1]), declared[b"escape_char"])
+
+
+def _measured(name: bytes, text: bytes, mappings: List[Tuple[bytes, bytes, bytes]], escape: bytes) -> Charmap:
+    lengths = {encoding.count(escape) for _, _, encoding in mappings} - {0}
+    if not lengths:
+        raise CharmapRefused(name.decode("ascii", "replace"), "no line is a mapping")
+    count = sum(_span(mapped) if b".." in mapped else 1 for _, mapped, _ in mappings)
+    return Charmap(name, text, count, min(lengths), max(lengths), escape)
 
 
 def mend(file: str, text: bytes) -> Charmap:
     """Returns the charmap of that file as the server takes it. Raises CharmapRefused if no line is a mapping."""
-    lines = text.split(b"\n")
-    start, comment, escape = _header(lines)
-    found = _mappings(lines[start:], comment, escape)
-    lengths = [length for length in found.lengths if length]
-    if not lengths:
-        raise CharmapRefused(file, "no line is a mapping")
+    header, body = _body(text)
+    declared: Dict[bytes, bytes] = dict(_DECLARATION.findall(header))
     name = b"map-" + file.encode("ascii", "replace")
+    if len(declared) == 5 and _is_clean(body, declared[b"comment_char"]):
+        return _as_it_is(name, body, declared)
+    escape = declared.get(b"escape_char", b"\\")[:1]
+    mappings = _MAPPING.findall(body)
+    found = _measured(name, b"", mappings, escape)
     head = [
         b"<code_set_name> " + name,
-        b"<mb_cur_min> %d" % min(lengths),
-        b"<mb_cur_max> %d" % max(lengths),
+        b"<escape_char> " + escape,
+        b"<mb_cur_min> %d" % found.shortest,
+        b"<mb_cur_max> %d" % found.longest,
         b"CHARMAP",
     ]
-    body = b"\n".join(head + found.both_ways + found.read_only + [b"END CHARMAP", b""])
-    return Charmap(name, body, found.mappings, min(lengths), max(lengths))
+    both_ways = [mapped + b" " + encoding for one_way, mapped, encoding in mappings if not one_way]
+    read_only = [mapped + b" " + encoding for one_way, mapped, encoding in mappings if one_way]
+    return found._replace(text=b"\n".join(head + both_ways + read_only + [b"END CHARMAP", b""]))
 
 
-class Library:
-    """The charmaps that were read, by the name of their file."""
-
-    def __init__(self) -> None:
-        self._read: Dict[str, Charmap] = {}
-        self._refused: Dict[str, CharmapRefused] = {}
-
-    def get(self, file: str) -> Charmap:
-        """Returns the charmap of that file, which is read once. Raises CharmapRefused."""
-        refused: Optional[CharmapRefused] = self._refused.get(file)
-        if refused is not None:
-            raise CharmapRefused(refused.name, refused.why, refused.line)
-        if file not in self._read:
-            try:
-                self._read[file] = mend(file, read_file(file))
-            except CharmapRefused as error:
-                self._refused[file] = error
-                raise
-        return self._read[file]
-
-    def refuse(self, error: CharmapRefused, file: str) -> None:
-        """Notes that the server refused a charmap, so that it is not uploaded again."""
-        self._refused[file] = error
+def own(text: bytes) -> Charmap:
+    """Returns a charmap of the caller's own, whose text is left as it is. Raises CharmapRefused if no line is a mapping."""
+    header, body = _body(text)
+    declared = dict(_DECLARATION.findall(header))
+    name = declared.get(b"code_set_name", b"").strip(b'"')
+    return _measured(name, text, _MAPPING.findall(body), declared.get(b"escape_char", b"\\")[:1])

@@ -4,16 +4,21 @@ from __future__ import annotations
 
 import os
 import threading
+import time
 from types import TracebackType
-from typing import BinaryIO, Callable, Iterator, List, Optional, Tuple, Type, TypeVar
+from typing import BinaryIO, Callable, Iterator, List, Optional, Type, TypeVar, Union, overload
 
-from . import names, steps, text
-from .charmaps import Charmap, Library
-from .errors import ConversionError, ServerLost
+from . import steps
+from .charmaps import Charmap
+from .conversion import WholeConversion
+from .errors import NotStarted, ServerLost, TimedOut, UnknownEncoding
 from .frames import Op, Request, Status
+from .library import Library
 from .names import Encoding
+from .order import ends
+from .pieces import Conversion, Decoder, Encoder
 from .session import Pair, Session, Steps
-from .transport import Stream, address
+from .transport import ENDING, Stream, address, time_limit, timed_out
 
 T = TypeVar("T")
 #: A caller number that no session uses, for pings.
@@ -26,30 +31,43 @@ class Client:
 
     All methods may be called from any thread; they take turns on the stream. After fork(2) the child opens a stream of its
     own. A request that a lost server did not answer is sent again on a new stream, twice at most: no descriptor keeps
-    anything between two calls, so nothing is converted twice.
+    anything between two calls, so nothing is converted twice. A request that was not answered in time is not sent again.
     """
 
     def __init__(self, where: Optional[str] = None, timeout: Optional[float] = None) -> None:
         """Names the server by `exec:COMMAND`, `unix:PATH` or `tcp:HOST:PORT`; without `where` by the environment variable ICONVD,
-        and without that starts `iconvd pipe`. `timeout` is the seconds that a reply may take, from ICONVD_TIMEOUT if it is None."""
+        and without that starts `iconvd pipe`. `timeout` is the seconds that a reply may take, from ICONVD_TIMEOUT if it is None,
+        and 10 without that; infinity is no limit."""
         self._address = address(where)
-        self._timeout = timeout if timeout is not None else _seconds(os.environ.get("ICONVD_TIMEOUT"))
+        self._timeout = time_limit(timeout)
         self.library = Library()
         self._lock = threading.RLock()
         self._lock_owner = os.getpid()
         self._stream: Optional[Stream] = None
         self._session = Session(self.library)
+        self._closings = 0
+        self._silent_at = 0.0
 
     # ---- the stream
 
     def run(self, make: Callable[[Session], Steps[T]]) -> T:
         """Runs steps (see session.py) to their end, and once more on a new stream where one is lost."""
-        if self._lock_owner != os.getpid():
-            self._lock, self._lock_owner = threading.RLock(), os.getpid()
+        self._check_fork()
+        began, closings = time.monotonic(), self._closings
         with self._lock:
+            if self._silent_at > began:
+                # The server was silent for another thread while this one waited for its turn.
+                raise timed_out(self._timeout)
             for tries_left in (2, 1, 0):
+                if self._closings != closings:
+                    raise ServerLost("the client was closed")
                 try:
                     return self._run_once(make)
+                except (TimedOut, NotStarted) as error:
+                    self._drop(at_once=True)
+                    if isinstance(error, TimedOut):
+                        self._silent_at = time.monotonic()
+                    raise
                 except ServerLost:
                     self._drop()
                     if not tries_left:
@@ -73,7 +91,7 @@ class Client:
         except BaseException:
             # Replies of this exchange may still come: what follows needs another stream.
             if not self._is_idle():
-                self._drop()
+                self._drop(at_once=True)
             raise
         finally:
             running.close()
@@ -81,15 +99,28 @@ class Client:
     def _is_idle(self) -> bool:
         return self._stream is None or self._stream.is_idle
 
-    def _drop(self) -> None:
+    def _drop(self, at_once: bool = False) -> None:
         stream, self._stream = self._stream, None
         if stream is not None:
-            stream.close()
+            stream.close(at_once)
+
+    def _check_fork(self) -> None:
+        if self._lock_owner != os.getpid():
+            self._lock, self._lock_owner = threading.RLock(), os.getpid()
 
     def close(self) -> None:
-        """Closes the stream. The next call opens another."""
-        with self._lock:
+        """Closes the stream. The next call opens another. A call of another thread that has no reply after a second fails."""
+        self._check_fork()
+        if not self._lock.acquire(timeout=ENDING):
+            self._closings += 1
+            stream = self._stream
+            if stream is not None:
+                stream.shut()
+            self._lock.acquire()
+        try:
             self._drop()
+        finally:
+            self._lock.release()
 
     def __enter__(self) -> Client:
         return self
@@ -119,14 +150,16 @@ class Client:
         """Encodes a text as `str.encode` does."""
         return self.encoder(target, target).encode(characters, errors)
 
-    def convert(self, data: bytes, to: str, source: str, errors: str = "strict") -> bytes:
+    @overload
+    def convert(self, data: bytes, *, to: str, source: str, errors: str = "strict") -> bytes: ...
+
+    @overload
+    def convert(self, data: bytes, to: str, source: str, errors: str = "strict", /) -> bytes: ...
+
+    def convert(self, data: bytes, *by_place: str, to: str = "", source: str = "", errors: str = "strict") -> bytes:
         """Converts bytes of `source` to bytes of `to`. `errors` names any of Python's error handlers, for both sides."""
-        target, mark = text.mark_of(names.find(to))
-        origin, skipped = text.without_mark(names.find(source), data)
-        ran = self.run(lambda session: steps.run(session, Pair(target, origin), data[skipped:]))
-        if ran.status == Status.OK:
-            return (mark if ran.output else b"") + ran.output
-        return self.encode(self.decode(data, source, errors), to, errors)
+        asked = ends(by_place, to, source, errors)
+        return self.run(WholeConversion(self.library, asked, data).run)
 
     def open(self, to: str, source: str) -> Conversion:
         """Opens a conversion of a text that comes in pieces."""
@@ -147,122 +180,24 @@ class Client:
 
     def decoder(self, name: str, source: str) -> Decoder:
         """Returns a decoder for one text, which exceptions call `name`."""
-        return Decoder(self, name, names.find(source))
+        return Decoder(self, name, self.library.find(source))
 
     def encoder(self, name: str, target: str) -> Encoder:
         """Returns an encoder for one text, which exceptions call `name`."""
-        return Encoder(self, name, names.find(target))
+        return Encoder(self, name, self.library.find(target))
 
-    def upload(self, file: str) -> Charmap:
-        """Has the server read a charmap of the system. Raises CharmapRefused if it refuses it."""
-        pair = Pair(steps.UTF_8, Encoding(True, file))
-        self.run(lambda session: session.descriptor(pair))
-        return self.library.get(file)
-
-
-class Decoder:
-    """Decodes one text, which may come in pieces."""
-
-    def __init__(self, client: Client, name: str, encoding: Encoding, needs_mark: bool = False) -> None:
-        """`needs_mark` refuses a text in UTF-16 or UTF-32 that begins with no mark, as CPython's streams do."""
-        self._client = client
-        self._name = name
-        self._declared = encoding
-        self._needs_mark = needs_mark
-        self._codec: Optional[text.TextCodec] = None
-
-    def decode(self, data: bytes, errors: str, final: bool) -> Tuple[str, int]:
-        """Returns the text of the first bytes, and how many they are: all but an incomplete character if `final` is false."""
-        skipped = 0
-        if self._codec is None:
-            ordered, skipped = text.without_mark(self._declared, data)
-            if ordered != self._declared and len(data) < (4 if self._declared.name == "UTF-32" else 2) and not final:
-                return "", 0
-            if self._needs_mark and ordered != self._declared and data and not skipped:
-                raise UnicodeError(f"{self._declared.name} stream does not start with BOM")
-            self._codec = text.TextCodec(self._name, ordered, self._client.library)
-        codec = self._codec
-        if skipped:
-            data = data[skipped:]
-        decoded = self._client.run(lambda session: codec.decode(session, data, errors, final))
-        return decoded.text, decoded.used + skipped
-
-    @property
-    def encoding(self) -> Optional[Encoding]:
-        """The encoding with its order of bytes, once it is known."""
-        return self._codec.encoding if self._codec else None
-
-    def set_encoding(self, encoding: Optional[Encoding]) -> None:
-        """Goes on with the order of bytes that another decoder found."""
-        self._codec = text.TextCodec(self._name, encoding, self._client.library) if encoding else None
-
-
-class Encoder:
-    """Encodes one text, which may come in pieces: only the first has the mark of UTF-16 or UTF-32."""
-
-    def __init__(self, client: Client, name: str, encoding: Encoding) -> None:
-        self._client = client
-        ordered, self._mark = text.mark_of(encoding)
-        self._codec = text.TextCodec(name, ordered, client.library)
-        self.is_started = False
-
-    def encode(self, characters: str, errors: str) -> bytes:
-        """Returns the bytes of a text."""
-        output = self._client.run(lambda session: self._codec.encode(session, characters, errors))
-        mark = b"" if self.is_started else self._mark
-        self.is_started = True
-        return mark + output
-
-
-class Conversion:
-    """A conversion of one text that comes in pieces, as iconv_open(3) gives it."""
-
-    def __init__(self, client: Client, to: str, source: str) -> None:
-        self._client = client
-        self._names = (to, source)
-        self._held = b""
-        self._position = 0
-        self._start()
-
-    def _start(self) -> None:
-        to, source = self._names
-        self._decoder = self._client.decoder(source, source)
-        self._encoder = self._client.encoder(to, to)
-        self._held = b""
-
-    def convert(self, data: bytes, errors: str = "strict", final: bool = False) -> bytes:
-        """Converts the next bytes. An incomplete character at the end is kept for the next call, unless `final` is true."""
-        held = self._held + data
-        decoded, used = self._decoder.decode(held, errors, final)
-        self._held = held[used:]
-        return self._encoder.encode(decoded, errors) if decoded else b""
-
-    def reset(self) -> bytes:
-        """Ends the text and goes back to the start. Raises ConversionError if it ends inside a character."""
-        held = self._held
-        self._start()
-        if held:
-            raise ConversionError("the text ends inside a character", 0)
-        return b""
-
-    def close(self) -> None:
-        """Forgets what is held. The server's descriptors are shared, and stay."""
-        self._start()
-
-    def __enter__(self) -> Conversion:
-        return self
-
-    def __exit__(
-        self, kind: Optional[Type[BaseException]], error: Optional[BaseException], trace: Optional[TracebackType]
-    ) -> None:
-        self.close()
-
-
-def _seconds(said: Optional[str]) -> Optional[float]:
-    try:
-        return float(said) if said else None
-    except ValueError:
-        return None
+    def upload(self, text: Union[bytes, str]) -> Charmap:
+        """Adds a charmap of the caller's own to this client: an encoding by the name in its `<code_set_name>`. A text of one word
+        is the name of a charmap file of the system, which the server reads. Raises CharmapRefused if the name is taken or the
+        server refuses the text; it has the line and the cause."""
+        encoding, is_added = self.library.uploaded(text)
+        try:
+            self.run(lambda session: session.descriptor(Pair(steps.UTF_8, encoding)))
+        except BaseException:
+            if is_added:
+                self.library.remove(encoding)
+            raise
+        return self.library.get(encoding.name)
 
 
 _default: List[Client] = []
@@ -283,6 +218,22 @@ def use(client: Client) -> None:
         _default[:] = [client]
 
 
-def convert(data: bytes, to: str, source: str, errors: str = "strict") -> bytes:
+def find(name: str) -> Encoding:
+    """Returns the encoding of that name, also one that was added to the default client. Raises UnknownEncoding."""
+    with _default_lock:
+        library = _default[0].library if _default else Library()
+    return library.find(name)
+
+
+@overload
+def convert(data: bytes, *, to: str, source: str, errors: str = "strict") -> bytes: ...
+
+
+@overload
+def convert(data: bytes, to: str, source: str, errors: str = "strict", /) -> bytes: ...
+
+
+def convert(data: bytes, *by_place: str, to: str = "", source: str = "", errors: str = "strict") -> bytes:
     """Converts bytes by the default client. See Client.convert."""
-    return default().convert(data, to, source, errors)
+    asked = ends(by_place, to, source, errors)
+    return default().convert(data, to=asked.to, source=asked.source, errors=asked.errors)

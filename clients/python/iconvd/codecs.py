@@ -5,10 +5,10 @@ from __future__ import annotations
 import codecs
 from typing import Any, List, Optional, Tuple
 
-from . import names
-from .client import Client, Decoder, Encoder, default
+from .client import Client, default, find
 from .errors import UnknownEncoding
 from .names import Encoding
+from .pieces import Decoder, Encoder
 
 _PREFIX = "iconvd"
 _ORDERS = ("", "LE", "BE")
@@ -36,7 +36,7 @@ def info(name: str, encoding: Encoding, client: Optional[Client] = None) -> code
             self.reset()
 
         def encode(self, input: str, final: bool = False) -> bytes:
-            return self._encoder.encode(input, self.errors)
+            return self._encoder.encode_piece(input, self.errors)
 
         def reset(self) -> None:
             self._encoder = Encoder(_client(client), name, encoding)
@@ -127,7 +127,7 @@ def search(name: str) -> Optional[codecs.CodecInfo]:
         return None
     for spelling in (rest.replace("_", "-"), rest):
         try:
-            return info("iconvd-" + rest.replace("_", "-"), names.find(spelling))
+            return info("iconvd-" + rest.replace("_", "-"), find(spelling))
         except UnknownEncoding:
             continue
     return None

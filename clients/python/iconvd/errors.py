@@ -11,6 +11,14 @@ class ServerLost(IconvdError, ConnectionError):
     """The server can't be reached, ended the stream, did not answer in time, or sent bytes that are no reply."""
 
 
+class TimedOut(ServerLost, TimeoutError):
+    """The server did not answer within the time limit. What it was asked is not tried again."""
+
+
+class NotStarted(ServerLost):
+    """The program of an `exec:` address can't be started."""
+
+
 class UnknownEncoding(IconvdError, LookupError):
     """No built-in encoding and no charmap has this name."""
 
@@ -27,8 +35,8 @@ class RequestRefused(IconvdError):
         self.status = status
 
 
-class CharmapRefused(IconvdError, ValueError):
-    """A charmap can't be read or was refused by the server. `line` is 0 where no single line is at fault."""
+class CharmapRefused(IconvdError, LookupError, ValueError):
+    """A charmap is not there, can't be read or was refused by the server. `line` is 0 if no single line is at fault."""
 
     def __init__(self, name: str, why: str, line: int = 0) -> None:
         super().__init__(f"charmap {name}: " + (f"line {line}: {why}" if line else why))

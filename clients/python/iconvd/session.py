@@ -9,9 +9,10 @@ from __future__ import annotations
 from typing import Dict, Generator, List, NamedTuple, TypeVar
 
 from . import frames
-from .charmaps import Charmap, Library
+from .charmaps import Charmap
 from .errors import CharmapRefused, RequestRefused, UnknownEncoding
 from .frames import Op, Reply, Request, Status
+from .library import Library
 from .names import Encoding
 
 T = TypeVar("T")

@@ -2,7 +2,7 @@
 
 from __future__ import annotations
 
-from typing import List, NamedTuple, Sequence
+from typing import List, NamedTuple
 
 from . import frames
 from .errors import RequestRefused
@@ -13,7 +13,8 @@ from .session import Descriptor, Pair, Session, Steps
 UTF_8 = Encoding(False, "UTF-8")
 #: Room for what closes a shift.
 _CLOSING = 8
-#: Bytes of a CONV of a long text.
+#: Bytes of a CONV of a long text. The first is shorter, and then they double while all goes well: a fault has the rest of one
+#: sent again.
 _LONG_CHUNK = 262_144
 
 
@@ -31,7 +32,7 @@ def run(session: Session, pair: Pair, data: bytes, close: bool = True) -> Steps[
     pieces: List[bytes] = []
     at = 0
     status = Status.OK
-    chunk = frames.CHUNK if len(data) <= 2 * frames.CHUNK else _LONG_CHUNK
+    chunk = frames.CHUNK
     before = [_reset(descriptor, 0)] if descriptor.has_state else []
     while at < len(data):
         piece = data[at : at + chunk]
@@ -46,33 +47,12 @@ def run(session: Session, pair: Pair, data: bytes, close: bool = True) -> Steps[
             break
         if status == Status.E2BIG and done.left == len(piece):
             raise RequestRefused("CONV", status)
+        if len(data) - at > chunk:
+            chunk = min(2 * chunk, _LONG_CHUNK)
     if descriptor.has_state and close and pieces:
         (reply,) = yield [_reset(descriptor, _CLOSING)]
         pieces.append(_accepted("RESET", reply).body)
     return Run(b"".join(pieces), at, Status.OK if at == len(data) else status)
-
-
-def run_each(session: Session, pair: Pair, texts: Sequence[bytes]) -> Steps[List[Run]]:
-    """Converts each of these short texts by a request of its own; all are sent before the first reply is awaited."""
-    descriptor = yield from session.descriptor(pair)
-    requests: List[Request] = []
-    for text in texts:
-        if descriptor.has_state:
-            requests.append(_reset(descriptor, 0))
-        requests.append(_convert(descriptor, text[: frames.MAX_INPUT]))
-        if descriptor.has_state:
-            requests.append(_reset(descriptor, _CLOSING))
-    replies = yield requests
-    step = 3 if descriptor.has_state else 1
-    runs: List[Run] = []
-    for number, text in enumerate(texts):
-        first = number * step + (1 if descriptor.has_state else 0)
-        sent = min(len(text), frames.MAX_INPUT)
-        done = frames.read_converted(_accepted("CONV", replies[first]), sent)
-        closing = _accepted("RESET", replies[first + 1]).body if descriptor.has_state else b""
-        status = done.status if sent == len(text) or done.left else Status.E2BIG
-        runs.append(Run(done.output + closing, sent - done.left, status))
-    return runs
 
 
 def _convert(descriptor: Descriptor, data: bytes) -> Request:

@@ -1,28 +1,26 @@
-"""Decoding to str and encoding from str, with Python's error handlers, as generators over a session."""
+"""Decoding to str and encoding from str, with Python's error handlers, as generators over a session.
+
+A text without faults goes to the server as it is. After the first fault the client cuts the faults out itself (see cutting.py),
+window by window, and sends what is between them.
+"""
 
 from __future__ import annotations
 
 import codecs
-import re
 import sys
-from typing import Dict, List, NamedTuple, Optional, Pattern, Sequence, Tuple, Union
+from typing import AnyStr, Dict, List, NamedTuple, Optional, Sequence, Set, Tuple, Union
 
-from . import faults, steps
-from .charmaps import Library
-from .faults import Fault
+from . import shifted, steps
+from .cutting import WINDOW, DecodingCut, DecodingHandling, EncodingCut, EncodingHandling, joined
+from .errors import RequestRefused
 from .frames import Status
+from .library import Library
 from .names import Encoding
 from .session import Pair, Session, Steps
 
-#: Characters of a text that are looked at in one go after one that the target lacks.
-_CHARACTERS = 65_536
 #: Characters, or bytes, of a long text that are converted before the next are copied.
 _PART = 1_048_576
-#: Short texts that are asked in one exchange.
-_BATCH = 4096
-
-_SHIFT = re.compile(rb"\+[A-Za-z0-9+/]*\Z")
-#: CPython's codecs that say where the faults of these encodings are.
+#: CPython's names of the encodings of Unicode.
 _PYTHON = {
     "UTF-8": "utf-8",
     "UTF-16LE": "utf-16-le",
@@ -61,185 +59,163 @@ def mark_of(encoding: Encoding) -> Tuple[Encoding, bytes]:
 
 
 class TextCodec:
-    """An encoding under the name that exceptions give it. Its methods yield requests (see session.py)."""
+    """Decodes and encodes texts of one encoding."""
 
-    def __init__(self, name: str, encoding: Encoding, library: Library) -> None:
+    def __init__(self, error_name: str, encoding: Encoding, library: Library, has_faults: bool = False) -> None:
+        """`error_name` is what exceptions call the encoding. `has_faults` says that a fault is known to be in the text."""
+        # Handlers such as `surrogatepass` go by CPython's own names.
+        self._error_name = error_name if encoding.is_charmap else _PYTHON.get(encoding.name, error_name)
         self.encoding = encoding
-        #: What exceptions call the encoding. Handlers such as `surrogatepass` go by CPython's own names.
-        self.error_name = name if encoding.is_charmap else _PYTHON.get(encoding.name, name)
         self._library = library
-        self._known: Dict[str, bool] = {}
-
-    def _unit(self) -> int:
-        """Bytes of a code unit: a handler's bytes have to be whole units."""
-        return 1 if self.encoding.is_charmap else {"UTF-16": 2, "UTF-32": 4}.get(self.encoding.name[:6], 1)
-
-    def _has_state(self) -> bool:
-        return self.encoding == Encoding(False, "UTF-7")
+        #: Whether it is an encoding with shifts.
+        self.has_state = encoding == Encoding(False, "UTF-7")
+        # After a piece with faults the next one of the text is not sent as it is.
+        self._has_faults = has_faults
 
     # ---- decoding
 
-    def decode(self, session: Session, data: bytes, errors: str = "strict", final: bool = True) -> Steps[Decoded]:
-        """Decodes bytes. If `final` is false, an incomplete character at the end is not used."""
-        end = len(data)
-        if not final and self._has_state():
-            shift = _SHIFT.search(data)
-            end = shift.start() if shift else end
+    def decode(self, session: Session, data: bytes, errors: str, final: bool, at: int = 0) -> Steps[Decoded]:
+        """Decodes the bytes from `at` on. If `final` is false, an incomplete character at the end is not used."""
+        end = len(data) if final else self._end_of_whole(data)
         pieces: List[str] = []
-        at = 0
+        begin = at
+        if not self._has_faults:
+            at, waits = yield from self._decode_whole(session, data, at, end, pieces)
+            if at == end or (waits and not final):
+                return Decoded("".join(pieces), at)
+            if self.has_state:
+                # The fault may be within a shifted sequence, of which nothing is known but its beginning.
+                at = begin
+                pieces.clear()
+        handling = DecodingHandling(self._library.form(self.encoding), self._error_name, errors)
+        while at < end:
+            stop = end if self.has_state else min(end, at + WINDOW)
+            cut = handling.cut(data, at, stop, stop == end and final)
+            self._has_faults = bool(cut.between)
+            pieces.append((yield from self._decode_cut(session, cut)))
+            if cut.at == at and not cut.between:
+                break
+            at = cut.at
+        return Decoded("".join(pieces), at)
+
+    def _end_of_whole(self, data: bytes) -> int:
+        """Returns the end of the bytes that need not wait for others: an open shifted sequence does. So does the beginning of a
+        surrogate in UTF-8, as for CPython, since `surrogatepass` may take it."""
+        if self.has_state:
+            return shifted.open_at(data)
+        waits = self.encoding == steps.UTF_8 and data[-2:-1] == b"\xed" and data[-1] & 0xE0 == 0xA0
+        return len(data) - 2 if waits else len(data)
+
+    def _decode_whole(
+        self, session: Session, data: bytes, at: int, end: int, pieces: List[str]
+    ) -> Steps[Tuple[int, bool]]:
+        """Decodes up to the first fault. Returns where it is, and whether more bytes may complete a character there."""
         pair = Pair(steps.UTF_8, self.encoding)
         while at < end:
-            limit = end if self._has_state() else min(end, at + _PART)
+            limit = end if self.has_state else min(end, at + _PART)
             ran = yield from steps.run(session, pair, data[at:limit])
             pieces.append(ran.output.decode("utf-8"))
             at += ran.used
-            if ran.status == Status.OK or (ran.status == Status.EINVAL and limit < end):
-                continue
-            if ran.status == Status.EINVAL and not final:
-                break
-            after = yield from self._decode_faulty(session, data, at, errors, final, pieces)
-            if after is None:
-                break
-            at = after
-        return Decoded("".join(pieces), at)
+            if ran.status != Status.OK and not (ran.status == Status.EINVAL and limit < end):
+                return at, ran.status == Status.EINVAL
+        return at, False
 
-    def _decode_faulty(
-        self, session: Session, data: bytes, at: int, errors: str, final: bool, pieces: List[str]
-    ) -> Steps[Optional[int]]:
-        """Decodes a window of a text that begins with a fault. Returns where to go on, or None if CPython waits for more bytes."""
-        window = data[at : at + faults.WINDOW]
-        found = self._faults(window, final and at + len(window) == len(data))
-        if not found and not final and self.encoding.name in _PYTHON and not self.encoding.is_charmap:
-            return None
-        if not found or found[0].start:
-            found = [Fault(0, 1, "illegal sequence")]
-        handle = codecs.lookup_error(errors)
-        done, texts = 0, ["" for _ in found]
-        for number, fault in enumerate(found):
-            if number == 1:
-                texts = yield from self._between(session, window, found)
-            if number >= len(texts):
-                break
-            pieces.append(texts[number])
-            error = UnicodeDecodeError(self.error_name, data, at + fault.start, at + fault.end, fault.reason)
-            text, after = _handled(handle(error), len(data))
-            pieces.append(text)
-            done = after - at
-            if done != fault.end:
-                break
-        return at + done
-
-    def _between(self, session: Session, window: bytes, found: List[Fault]) -> Steps[List[str]]:
-        """Decodes what is before each fault; stops at a text that the server does not take whole."""
-        starts = [0] + [fault.end for fault in found]
-        parts = [window[start : fault.start] for start, fault in zip(starts, found)]
-        runs = yield from _run_each(session, Pair(steps.UTF_8, self.encoding), parts)
-        texts: List[str] = []
-        for part, ran in zip(parts, runs):
-            if ran.used != len(part):
-                break
-            texts.append(ran.output.decode("utf-8"))
-        return texts
-
-    def _faults(self, window: bytes, is_end: bool) -> List[Fault]:
-        if self.encoding.is_charmap:
-            return faults.of_charmap(self._library.get(self.encoding.name), window, is_end)
-        if self.encoding.name in _PYTHON:
-            return faults.of_unicode(_PYTHON[self.encoding.name], window, is_end)
-        return faults.of_single_bytes(self.encoding.name, window)
+    def _decode_cut(self, session: Session, cut: DecodingCut) -> Steps[str]:
+        form = self._library.form(self.encoding)
+        if not any(cut.good):
+            return "".join(cut.between)
+        ran = yield from steps.run(session, Pair(steps.UTF_8, self.encoding), form.separator.join(cut.good))
+        text = _whole(ran).decode("utf-8")
+        if cut.is_uniform and text.count(form.mark) == len(cut.between):
+            return text.replace(form.mark, cut.between[0])
+        return joined(_checked(text.split(form.mark), cut.between), cut.between)
 
     # ---- encoding
 
-    def encode(self, session: Session, text: str, errors: str = "strict") -> Steps[bytes]:
-        """Encodes a text."""
+    def encode(self, session: Session, text: str, errors: str, at: int = 0) -> Steps[bytes]:
+        """Encodes the characters from `at` on."""
         pieces: List[bytes] = []
-        at = 0
+        if not self._has_faults:
+            at = yield from self._encode_whole(session, text, at, pieces)
+        if at == len(text):
+            return b"".join(pieces)
+        handling = EncodingHandling(self._library.form(self.encoding), self._error_name, errors)
+        while at < len(text):
+            cut = handling.cut(text, at, min(len(text), at + WINDOW))
+            self._has_faults = bool(cut.between)
+            pieces.append((yield from self._encode_cut(session, cut)))
+            at = cut.at
+        return b"".join(pieces)
+
+    def _encode_whole(self, session: Session, text: str, at: int, pieces: List[bytes]) -> Steps[int]:
+        """Encodes up to the first character that the encoding lacks. Returns where it is."""
         pair = Pair(self.encoding, steps.UTF_8)
         while at < len(text):
-            limit = len(text) if self._has_state() else at + _PART
+            limit = len(text) if self.has_state else at + _PART
             data = text[at:limit].encode("utf-8", "surrogatepass")
             ran = yield from steps.run(session, pair, data)
             pieces.append(ran.output)
             at += len(data[: ran.used].decode("utf-8", "surrogatepass"))
-            if ran.status == Status.OK:
-                continue
-            at = yield from self._encode_lacking(session, text, at, errors, pieces)
-        return b"".join(pieces)
+            if ran.status != Status.OK:
+                break
+        return at
 
-    def _encode_lacking(self, session: Session, text: str, at: int, errors: str, pieces: List[bytes]) -> Steps[int]:
-        """Encodes a part of a text that begins with a character which the target lacks. Returns where to go on."""
-        end = min(len(text), at + _CHARACTERS)
-        lacking = yield from self._lacking(session, text[at:end])
-        found = [match.span() for match in lacking.finditer(text, at, end)] or [(at, at + 1)]
-        starts = [at] + [stop for _, stop in found]
-        parts = [text[start:stop].encode("utf-8") for start, (stop, _) in zip(starts, found)]
-        runs = yield from _run_each(session, Pair(self.encoding, steps.UTF_8), parts)
-        handle = codecs.lookup_error(errors)
-        encoded: Dict[str, bytes] = {}
-        for (start, stop), ran in zip(found, runs):
-            pieces.append(ran.output)
-            error = UnicodeEncodeError(self.error_name, text, start, stop, self._reason()[0])
-            replacement, after = _replaced(handle(error), len(text))
-            if isinstance(replacement, bytes) and len(replacement) % self._unit():
-                raise error
-            if isinstance(replacement, str):
-                if replacement not in encoded:
-                    encoded[replacement] = yield from self._encode_replacement(session, replacement, error)
-                replacement = encoded[replacement]
-            pieces.append(replacement)
-            if after != stop:
-                return after
-        return found[-1][1]
+    def _encode_cut(self, session: Session, cut: EncodingCut) -> Steps[bytes]:
+        form = self._library.form(self.encoding)
+        between = yield from self._as_bytes(session, cut.between)
+        if not any(cut.good):
+            return b"".join(between)
+        output = yield from self._encode_good(session, form.mark.join(cut.good))
+        return joined(_checked(form.split(output), between), between)
 
-    def _encode_replacement(self, session: Session, replacement: str, error: UnicodeEncodeError) -> Steps[bytes]:
-        data = replacement.encode("utf-8", "surrogatepass")
-        ran = yield from steps.run(session, Pair(self.encoding, steps.UTF_8), data)
-        if ran.status != Status.OK:
-            raise error
-        return ran.output
+    def _encode_good(self, session: Session, text: str) -> Steps[bytes]:
+        ran = yield from steps.run(session, Pair(self.encoding, steps.UTF_8), text.encode("utf-8"))
+        return _whole(ran)
 
-    def _reason(self) -> Tuple[str, bool]:
-        longest = self._library.get(self.encoding.name).longest if self.encoding.is_charmap else 0
-        return faults.lacking(self.encoding, longest)
+    def _as_bytes(self, session: Session, texts: Sequence[Union[str, bytes]]) -> Steps[List[bytes]]:
+        """Encodes what error handlers gave, by the bytes of each unit: the server is asked once for each."""
+        units = self._library.form(self.encoding).units
+        known = self._library.bytes_of(self.encoding)
+        unlike = {text for text in texts if isinstance(text, str)}
+        yield from self._learn(session, {unit for text in unlike for unit in units(text)}, known)
+        encoded = {text: b"".join(map(known.__getitem__, units(text))) for text in unlike}
+        return [encoded[text] if isinstance(text, str) else text for text in texts]
 
-    def _lacking(self, session: Session, text: str) -> Steps[Pattern[str]]:
-        """Returns a pattern that finds what the target lacks of the characters of a text."""
-        characters = set(text)
-        unknown = sorted(c for c in characters if c not in self._known)
-        pair = Pair(self.encoding, steps.UTF_8)
-        runs = yield from _run_each(session, pair, [c.encode("utf-8", "surrogatepass") for c in unknown])
-        self._known.update((c, ran.status == Status.OK) for c, ran in zip(unknown, runs))
-        missing = "".join(re.escape(c) for c in sorted(characters) if not self._known[c])
-        more = "+" if self._reason()[1] else ""
-        return re.compile(f"[{missing}]{more}" if missing else r"(?!)")
+    def known(self, text: str) -> Optional[bytes]:
+        """Returns the bytes of a text, if the server was asked for those of each unit of it."""
+        known = self._library.bytes_of(self.encoding)
+        try:
+            return b"".join(map(known.__getitem__, self._library.form(self.encoding).units(text)))
+        except KeyError:
+            return None
+
+    def lacks(self, text: str) -> bool:
+        """Whether the encoding lacks a character of a text."""
+        return self._library.form(self.encoding).lacks(text) is not None
+
+    def learn(self, session: Session, text: str) -> Steps[None]:
+        """Asks the server for the bytes of the units of a text. The encoding has all its characters."""
+        units = set(self._library.form(self.encoding).units(text))
+        yield from self._learn(session, units, self._library.bytes_of(self.encoding))
+
+    def _learn(self, session: Session, units: Set[str], known: Dict[str, bytes]) -> Steps[None]:
+        form = self._library.form(self.encoding)
+        known[form.mark] = form.separator
+        new = sorted(units - known.keys())
+        if new:
+            output = yield from self._encode_good(session, form.mark.join(new))
+            known.update(zip(new, _checked(form.split(output), new[1:])))
 
 
-def _run_each(session: Session, pair: Pair, texts: Sequence[bytes]) -> Steps[List[steps.Run]]:
-    """Converts short texts; many are asked before the first reply is awaited, and none for an empty text."""
-    runs: List[steps.Run] = []
-    asked = [text for text in texts if text]
-    for first in range(0, len(asked), _BATCH):
-        runs += yield from steps.run_each(session, pair, asked[first : first + _BATCH])
-    done = iter(runs)
-    return [next(done) if text else steps.Run(b"", 0, Status.OK) for text in texts]
+def _whole(ran: steps.Run) -> bytes:
+    """Returns the output for a text that the client found to be without faults."""
+    if ran.status != Status.OK:
+        raise RequestRefused("CONV", ran.status)
+    return ran.output
 
 
-def _handled(result: Tuple[Union[str, bytes], int], size: int) -> Tuple[str, int]:
-    text, after = result
-    if not isinstance(text, str) or not isinstance(after, int):
-        raise TypeError("decoding error handler must return (str, int) tuple")
-    return text, _position(after, size)
-
-
-def _replaced(result: Tuple[Union[str, bytes], int], size: int) -> Tuple[Union[str, bytes], int]:
-    text, after = result
-    if not isinstance(text, (str, bytes)) or not isinstance(after, int):
-        raise TypeError("encoding error handler must return (str/bytes, int) tuple")
-    return text, _position(after, size)
-
-
-def _position(after: int, size: int) -> int:
-    position = after + size if after < 0 else after
-    if not 0 <= position <= size:
-        raise IndexError(f"position {after} from error handler out of bounds")
-    return position
+def _checked(pieces: List[AnyStr], between: Sequence[object]) -> List[AnyStr]:
+    """Returns the pieces of an output if they are as many as were sent."""
+    if len(pieces) != len(between) + 1:
+        raise RequestRefused("CONV", Status.OK)
+    return pieces

@@ -2,6 +2,8 @@
 
 from __future__ import annotations
 
+import errno
+import math
 import os
 import select
 import shlex
@@ -10,11 +12,24 @@ import subprocess
 import time
 from typing import List, NamedTuple, Optional, Sequence, Tuple
 
-from .errors import ServerLost
+from .errors import NotStarted, ServerLost, TimedOut
 from .frames import Reply, ReplyReader, Request
 
 #: The server, if neither the program nor the environment variable ICONVD names one.
 DEFAULT_SERVER = "exec:iconvd pipe"
+#: Seconds that a reply may take, if neither the program nor the environment variable ICONVD_TIMEOUT says it.
+DEFAULT_TIMEOUT = 10.0
+#: Seconds that a server which was started here may take to end, once its stream is closed. Then it is killed.
+ENDING = 1.0
+
+
+def not_connected(where: "Address", error: OSError) -> ServerLost:
+    """Returns the exception for a server that can't be had. Of a program that can't be started it has the name."""
+    if isinstance(error, TimeoutError):
+        return TimedOut(f"can't connect to {where.kind}:{where.rest}: {error}")
+    if where.kind == "exec" and error.filename is not None:
+        return NotStarted(f"can't start the program {os.fsdecode(error.filename)}: {error.strerror}")
+    return ServerLost(f"can't connect to {where.kind}:{where.rest}: {error}")
 
 
 class Address(NamedTuple):
@@ -43,16 +58,60 @@ def host_and_port(text: str) -> Tuple[str, int]:
     return host[1:-1] if host.startswith("[") and host.endswith("]") else host, int(port)
 
 
+def time_limit(seconds: Optional[float] = None) -> Optional[float]:
+    """Returns the seconds that a reply may take: those given, or those of ICONVD_TIMEOUT, or 10. None is no limit, which is
+    said by infinity. Raises ValueError for a number that is not above 0."""
+    if seconds is None:
+        said = os.environ.get("ICONVD_TIMEOUT")
+        try:
+            seconds = float(said) if said else DEFAULT_TIMEOUT
+        except ValueError:
+            seconds = 0.0
+        seconds = seconds if seconds > 0 else DEFAULT_TIMEOUT
+    if not seconds > 0:
+        raise ValueError(f"not a number of seconds above 0: {seconds}")
+    return None if math.isinf(seconds) else seconds
+
+
+def timed_out(limit: Optional[float]) -> TimedOut:
+    """Returns the exception for a server that is silent."""
+    return TimedOut(f"the server did not answer within {limit:g} seconds")
+
+
+def _program(word: str) -> str:
+    """Returns the path of a program. Elements of PATH that are no absolute path, and so whatever folder one is in, are left out."""
+    if "/" in word:
+        return word
+    for folder in os.environ.get("PATH", os.defpath).split(os.pathsep):
+        path = os.path.join(folder, word)
+        if os.path.isabs(folder) and os.path.isfile(path) and os.access(path, os.X_OK):
+            return path
+    raise FileNotFoundError(errno.ENOENT, "no folder of PATH has this program", word)
+
+
 def start(command: str, child_end: socket.socket) -> "subprocess.Popen[bytes]":
     """Starts a server that has a socket as its standard input and output. It ends when the socket is closed."""
     environment = {name: value for name, value in os.environ.items() if name != "LD_PRELOAD"}
+    words = shlex.split(command) or [command]
     return subprocess.Popen(
-        shlex.split(command),
+        [_program(words[0]), *words[1:]],
         stdin=child_end.fileno(),
         stdout=child_end.fileno(),
         env=environment,
         start_new_session=True,
     )
+
+
+def end(child: "subprocess.Popen[bytes]", at_once: bool = False) -> None:
+    """Waits for a server whose stream is closed, and kills it after a second or, if it has to end at once, now."""
+    try:
+        child.wait(0 if at_once else ENDING)
+    except subprocess.TimeoutExpired:
+        child.kill()
+        try:
+            child.wait(ENDING)
+        except subprocess.TimeoutExpired:
+            pass
 
 
 class Stream:
@@ -68,7 +127,7 @@ class Stream:
         try:
             self._socket = self._connect(where)
         except OSError as error:
-            raise ServerLost(f"can't connect to {where.kind}:{where.rest}: {error}") from error
+            raise not_connected(where, error) from error
         self._socket.setblocking(False)
 
     def _connect(self, where: Address) -> socket.socket:
@@ -134,7 +193,7 @@ class Stream:
         poll.register(self._socket, select.POLLIN | (select.POLLOUT if is_sending else 0))
         left = None if deadline is None else max(0.0, deadline - time.monotonic())
         if not poll.poll(None if left is None else left * 1000):
-            raise ServerLost(f"the server did not answer within {self._timeout} seconds")
+            raise timed_out(self._timeout)
 
     def _receive(self) -> bytes:
         try:
@@ -150,8 +209,15 @@ class Stream:
         if number >= len(requests) or reply.tag != (first + number) & 0xFFFFFFFF or reply.caller != requests[number].caller:
             raise ServerLost("the server answered what was not asked")
 
-    def close(self) -> None:
-        """Closes the stream. A server that was started for it ends then."""
+    def shut(self) -> None:
+        """Has an exchange that another thread waits for fail now."""
+        try:
+            self._socket.shutdown(socket.SHUT_RDWR)
+        except OSError:
+            pass
+
+    def close(self, at_once: bool = False) -> None:
+        """Closes the stream. A server that was started for it ends then, or is killed."""
         self._socket.close()
         child, self._child = self._child, None
         if child is None:
@@ -159,8 +225,4 @@ class Stream:
         if self.process_id != os.getpid():
             child.returncode = 0  # it is the parent's to wait for
             return
-        try:
-            child.wait(5)
-        except subprocess.TimeoutExpired:
-            child.kill()
-            child.wait()
+        end(child, at_once)

@@ -10,7 +10,8 @@ import tempfile
 import unittest
 from typing import Dict, List, Tuple
 
-from support import ClientTest, outcome
+from meter import metered
+from support import SERVER, ClientTest, outcome
 
 import iconvd
 
@@ -187,6 +188,40 @@ class Pieces(unittest.TestCase):
         reader = codecs.getreader("iconvd-utf-16")(io.BytesIO(raw.getvalue()))
         self.assertEqual(reader.readline(), "раз\n")
         self.assertEqual(reader.read(), "два\n")
+
+
+    def test_positions_behind_a_mark(self) -> None:
+        for name in ("utf-16", "utf-32"):
+            for mark in (b"\xff\xfe", b"\xfe\xff", b"\xff\xfe\0\0", b"\0\0\xfe\xff"):
+                for rest in (b"a\0\0\xd8b\0", b"\0a\xd8\0\0b", b"\0\0\x11\0a", b"\xff" * 5, b"a", b"\0\xd8"):
+                    data = mark + rest
+                    for errors in ("strict", "replace", "backslashreplace"):
+                        wanted = outcome(lambda: data.decode(name, errors))
+                        self.assertEqual(outcome(lambda: data.decode("iconvd-" + name, errors)), wanted, (name, data, errors))
+
+    def test_writes_are_gathered(self) -> None:
+        """A text file takes the bytes of each line at once; they cost no round trip for each line."""
+        with tempfile.TemporaryDirectory() as folder, metered() as meter, iconvd.Client(SERVER, timeout=30) as client:
+            before = iconvd.default()
+            iconvd.use(client)
+            self.addCleanup(iconvd.use, before)
+            for name, line in (("koi8-r", "строка"), ("utf-16", "naïve ☃ 😀"), ("euc-kr", "한국어"), ("utf-7", "é+è-\t")):
+                lines = [f"{line} {number}\n" for number in range(5000)]
+                meter.reset()
+                path = os.path.join(folder, name)
+                with open(path, "w", encoding="iconvd-" + name, newline="") as file:
+                    for text in lines:
+                        file.write(text)
+                with open(path, "rb") as raw:
+                    self.assertEqual(raw.read().decode(name), "".join(lines), name)
+                self.assertLess(meter.trips, 40, name)
+
+    def test_writes_with_lacking_characters(self) -> None:
+        for errors in ENCODING_ERRORS:
+            ours = codecs.getincrementalencoder("iconvd-koi8-r")(errors)
+            theirs = codecs.getincrementalencoder("koi8-r")(errors)
+            for piece in ("a", "да\n", "中да", "да\n", "é", "да中", "\udc81", "да\n"):
+                self.assertEqual(outcome(lambda: ours.encode(piece)), outcome(lambda: theirs.encode(piece)), (errors, piece))
 
 
 class Faulty(ClientTest):

@@ -5,9 +5,11 @@ from __future__ import annotations
 import email
 import email.message
 import email.policy
+import os
 import time
 import unittest
 from typing import Tuple
+from unittest import mock
 
 from support import ClientTest
 
@@ -47,11 +49,15 @@ HOSTILE_CHARSETS = [
 ]
 
 
+#: Charsets that the system has a charmap of, which the service refuses.
+REFUSED_CHARSETS = ["INIS", "ARABIC7", "ISO_2033-1983", "JIS_C6220-1969-jp", "EBCDIC-PT"]
+
+
 def part_text(client: iconvd.Client, data: bytes, charset: str) -> str:
-    """The text of a part: what can't be decoded is U+FFFD, and a charset that nobody has is taken as US-ASCII."""
+    """The text of a part: what can't be decoded is U+FFFD, and a charset that the service has not is taken as US-ASCII."""
     try:
         return client.decode(data, charset, "replace")
-    except iconvd.UnknownEncoding:
+    except LookupError:
         return client.decode(data, "US-ASCII", "replace")
 
 
@@ -87,6 +93,24 @@ class Mail(ClientTest):
     def test_hostile_charsets(self) -> None:
         for charset in HOSTILE_CHARSETS:
             self.assertEqual(part_text(self.client, b"text \xe9", charset), "text \ufffd", charset[:40])
+
+    def test_a_message_of_charsets_that_the_service_has_not(self) -> None:
+        charsets = [*REFUSED_CHARSETS, "no-such-charset", "../../../etc/passwd", "utf-8//IGNORE", "x" * 900, "koi8-r"]
+        boundary = "part"
+        parts = [
+            f'--{boundary}\r\nContent-Type: text/plain; charset="{charset}"\r\n'
+            f"Content-Transfer-Encoding: 8bit\r\n\r\n".encode() + b"text \xc1\r\n"
+            for charset in charsets
+        ]
+        head = f'MIME-Version: 1.0\r\nContent-Type: multipart/mixed; boundary="{boundary}"\r\n\r\n'.encode()
+        message = email.message_from_bytes(head + b"".join(parts) + f"--{boundary}--\r\n".encode())
+        found = [part_text(self.client, data, charset).strip() for data, charset in self.parts(message)]
+        self.assertEqual(found, ["text \ufffd"] * (len(charsets) - 1) + ["text а"])
+
+    def test_a_gateway_without_charmaps(self) -> None:
+        """A name whose charmap is missing is a LookupError too."""
+        with mock.patch.dict(os.environ, {"ICONVD_CHARMAPS": "/nowhere"}):
+            self.assertEqual(part_text(self.client, b"text \xe9", "windows-1252"), "text \ufffd")
 
     def test_faulty_bytes(self) -> None:
         for charset, _ in PARTS:

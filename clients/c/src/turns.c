@@ -1,0 +1,161 @@
+/* Which stream a thread takes, and in which order threads do so when all are in use.
+ *
+ * A mutex alone is not fair: a thread that converts without a pause takes it again before one that waits for it has woken up. So who
+ * finds all streams in use waits in a line. Who comes later may overtake it for a while, since waking a thread takes longer than
+ * converting a short text; then it goes to the end of the line.
+ *
+ * Long texts leave the last stream to short ones, if there are enough streams. A short text then waits for short ones alone. */
+#include "pool.h"
+
+#include "transfer.h"
+
+/* How many milliseconds it may be overtaken. */
+enum { ENOUGH_STREAMS = 4, OVERTAKEN = 10 };
+
+/* A thread that waits. */
+struct turn {
+    pthread_cond_t come; /* it is the first, and a stream may be free */
+    long long since;
+    struct turn *next;
+};
+
+void slot_lock(struct slot *slot) {
+    atomic_fetch_add(&slot->wanted, 1);
+    pthread_mutex_lock(&slot->mutex);
+    atomic_fetch_sub(&slot->wanted, 1);
+    gate_enter(&slot->stream.pass);
+}
+
+bool slot_try(struct slot *slot) {
+    if (atomic_load(&slot->wanted) > 0 || pthread_mutex_trylock(&slot->mutex) != 0)
+        return false;
+    gate_enter(&slot->stream.pass);
+    return true;
+}
+
+/* Unlocks a slot that was only looked at. Nobody is told. */
+static void put_back(struct slot *slot) {
+    gate_leave(&slot->stream.pass);
+    pthread_mutex_unlock(&slot->mutex);
+}
+
+/* Tells the first of a line to look again. */
+static void call_first(const struct line *line) {
+    if (line->first)
+        pthread_cond_signal(&line->first->come);
+}
+
+void slot_unlock(struct iconvd_pool *pool, struct slot *slot) {
+    put_back(slot);
+    /* Who waits says so and then looks for a free stream; here it is the other way round. So one of the two sees the other. */
+    atomic_thread_fence(memory_order_seq_cst);
+    if (atomic_load(&pool->waiting) == 0)
+        return;
+    pthread_mutex_lock(&pool->lines_mutex);
+    call_first(&pool->lines[SHORT_TEXT]);
+    call_first(&pool->lines[LONG_TEXT]);
+    pthread_mutex_unlock(&pool->lines_mutex);
+}
+
+/* Whether the first of a line has waited for so long that nobody may overtake it. */
+static bool has_waited(struct line *line) {
+    long long since = atomic_load(&line->since);
+    return since > 0 && now_in_milliseconds() > since + OVERTAKEN;
+}
+
+/* What a stream is to be that is taken. */
+enum wanted { WITH_PAIR, CONNECTED, ANY };
+
+static bool suits(const struct slot *slot, const struct pair *pair, enum wanted wanted) {
+    return wanted == ANY || (wanted == CONNECTED ? slot->stream.fd >= 0 : remote_has(&slot->remote, pair));
+}
+
+/* The first stream that nobody uses and that suits, locked. Streams are tried in one order, so that a second connection is made only
+   when the first is in use. */
+static struct slot *first_free(struct iconvd_pool *pool, const struct pair *pair, enum text text, enum wanted wanted) {
+    bool shares = pool->slot_count < ENOUGH_STREAMS;
+    size_t last = pool->slot_count - 1;
+    size_t end = text == SHORT_TEXT || shares ? last : last - 1;
+    size_t i = text == SHORT_TEXT && !shares && has_waited(&pool->lines[LONG_TEXT]) ? last : 0;
+    for (; i <= end; i++) {
+        struct slot *slot = &pool->slots[i];
+        if (!slot_try(slot))
+            continue;
+        if (suits(slot, pair, wanted))
+            return slot;
+        put_back(slot);
+    }
+    return NULL;
+}
+
+/* A stream that nobody uses, locked: one that has the pair open, else one that is connected, since a server whose places are taken lets
+   a new connection wait, else any. NULL: all are in use. */
+static struct slot *take_free(struct iconvd_pool *pool, const struct pair *pair, enum text text) {
+    struct slot *slot = first_free(pool, pair, text, WITH_PAIR);
+    if (!slot)
+        slot = first_free(pool, pair, text, CONNECTED);
+    return slot ? slot : first_free(pool, pair, text, ANY);
+}
+
+struct slot *pool_pick(struct iconvd_pool *pool) {
+    static const struct pair NONE = {.to = NULL};
+    fork_check(pool);
+    struct slot *slot = take_free(pool, &NONE, LONG_TEXT);
+    if (slot)
+        slot_unlock(pool, slot);
+    return slot ? slot : &pool->slots[atomic_fetch_add(&pool->next_pick, 1) % pool->slot_count];
+}
+
+/* The first one may have found a stream in use that this thread was only looking at, and looks again. */
+static void join(struct line *line, struct turn *turn) {
+    call_first(line);
+    if (line->first)
+        line->last->next = turn;
+    else
+        line->first = turn;
+    line->last = turn;
+    atomic_store(&line->since, line->first->since);
+}
+
+/* The first leaves, and the next one looks whether there is another free stream. */
+static void leave(struct line *line) {
+    line->first = line->first->next;
+    atomic_store(&line->since, line->first ? line->first->since : 0);
+    call_first(line);
+}
+
+static struct slot *take_in_turn(struct iconvd_pool *pool, const struct pair *pair, enum text text) {
+    struct line *line = &pool->lines[text];
+    struct turn turn = {.since = now_in_milliseconds()};
+    struct slot *slot = NULL;
+    pthread_cond_init(&turn.come, NULL);
+    pthread_mutex_lock(&pool->lines_mutex);
+    atomic_fetch_add(&pool->waiting, 1);
+    join(line, &turn);
+    while (line->first != &turn || !(slot = take_free(pool, pair, text)))
+        pthread_cond_wait(&turn.come, &pool->lines_mutex);
+    leave(line);
+    atomic_fetch_sub(&pool->waiting, 1);
+    pthread_mutex_unlock(&pool->lines_mutex);
+    pthread_cond_destroy(&turn.come);
+    return slot;
+}
+
+struct slot *pool_take(struct iconvd_pool *pool, const struct pair *pair, enum text text) {
+    fork_check(pool);
+    struct slot *slot = has_waited(&pool->lines[text]) ? NULL : take_free(pool, pair, text);
+    return slot ? slot : take_in_turn(pool, pair, text);
+}
+
+void turns_renew(struct iconvd_pool *pool) {
+    for (size_t i = 0; i < pool->slot_count; i++) {
+        pthread_mutex_init(&pool->slots[i].mutex, NULL);
+        atomic_store(&pool->slots[i].wanted, 0);
+    }
+    pthread_mutex_init(&pool->lines_mutex, NULL);
+    for (int text = 0; text <= LONG_TEXT; text++) {
+        pool->lines[text].first = NULL;
+        atomic_store(&pool->lines[text].since, 0);
+    }
+    atomic_store(&pool->waiting, 0);
+}

@@ -1,0 +1,41 @@
+"""Converting bytes to bytes, with Python's error handlers, as a generator over a session."""
+
+from __future__ import annotations
+
+from . import steps
+from .frames import Status
+from .library import Library
+from .order import Ends
+from .session import Pair, Session, Steps
+from .text import TextCodec, mark_of, without_mark
+
+
+class WholeConversion:
+    """The conversion of one text."""
+
+    def __init__(self, library: Library, ends: Ends, data: bytes) -> None:
+        """Raises UnknownEncoding."""
+        self._library = library
+        self._ends = ends
+        self._data = data
+        self._target, self._mark = mark_of(library.find(ends.to))
+        self._origin, self._begin = without_mark(library.find(ends.source), data)
+        self.pair = Pair(self._target, self._origin)
+
+    def run(self, session: Session) -> Steps[bytes]:
+        """Converts the text as it is, and from the first fault on by way of its characters."""
+        ran = yield from steps.run(session, self.pair, self._data[self._begin :])
+        if ran.status == Status.OK:
+            return (self._mark if ran.output else b"") + ran.output
+        rest = yield from self._by_characters(session, ran)
+        return self._mark + rest
+
+    def _by_characters(self, session: Session, ran: steps.Run) -> Steps[bytes]:
+        decoder = TextCodec(self._ends.source, self._origin, self._library, has_faults=True)
+        encoder = TextCodec(self._ends.to, self._target, self._library, has_faults=True)
+        done = b"" if decoder.has_state else ran.output
+        at = self._begin if decoder.has_state else self._begin + ran.used
+        before = yield from decoder.decode(session, self._data[:at], "strict", True, self._begin)
+        after = yield from decoder.decode(session, self._data, self._ends.errors, True, at)
+        rest = yield from encoder.encode(session, before.text + after.text, self._ends.errors, len(before.text))
+        return done + rest

@@ -1,0 +1,246 @@
+"""The form of an encoding: which bytes are a character, which are none, and which characters it lacks.
+
+The server says at which byte it stopped. The client knows the form too, so it finds all faults of a piece of text at once. It
+cuts them out, puts a separator in the place of each, and has the server convert all that is between them by one request. The
+separator is a character that is counted as a special item wherever the text itself has it. So the output has it exactly where
+something was cut out.
+"""
+
+from __future__ import annotations
+
+import codecs
+import functools
+import re
+from typing import Callable, Dict, List, NamedTuple, Optional, Pattern, Sequence, Tuple
+
+#: The first and the last of characters that follow each other.
+Span = Tuple[int, int]
+
+
+class Found(NamedTuple):
+    """What is at a place of a text: good bytes, and the item after them."""
+
+    #: Bytes that the server converts.
+    good: bytes
+    #: Where the item begins and ends. It is empty at the end of the text.
+    start: int
+    end: int
+    #: What CPython says of a fault; empty for an item that is none.
+    reason: str = ""
+    #: The characters of the item, or those before the fault in it.
+    text: str = ""
+    #: Whether the item is the beginning of a character that the end of the text cuts.
+    is_cut: bool = False
+
+
+class Form:
+    """What the client knows of an encoding."""
+
+    #: What CPython says of characters that the encoding lacks.
+    lacking_reason = "surrogates not allowed"
+    #: The bytes of an error handler are put into the output if they are a multiple of this.
+    unit = 1
+    #: Whether only ASCII characters of an error handler are put into the output, as CPython's codec does.
+    is_ascii_put_in = False
+    #: Whether an error handler's text is encoded by itself, so that its faults are faults of that text, as CPython does.
+    is_multibyte = False
+
+    def __init__(self, separator: bytes, mark: str, in_runs: bool) -> None:
+        """`mark` is the separator's character, and `in_runs` says that CPython reports a run of lacking characters at once."""
+        self.separator = separator
+        self.mark = mark
+        self._in_runs = in_runs
+        self._special: Optional[Pattern[str]] = None
+
+    def has(self) -> Sequence[Span]:
+        """Returns all characters of the encoding."""
+        return SCALARS
+
+    def find(self, data: bytes, at: int, end: int) -> Found:
+        """Returns the good bytes from `at` on, and the item after them, before `end`."""
+        raise NotImplementedError
+
+    def find_all(self, data: bytes, at: int, end: int) -> Optional[Tuple[List[bytes], List[bytes]]]:
+        """Returns all good bytes between `at` and `end`, and the items between them, one less; or None if `find` is needed."""
+        raise NotImplementedError
+
+    def split(self, data: bytes) -> List[bytes]:
+        """Cuts text without faults at its separators."""
+        raise NotImplementedError
+
+    def is_cut(self, item: bytes) -> bool:
+        """Whether an item at the end of a text is the beginning of a character."""
+        raise NotImplementedError
+
+    def reason(self, item: bytes, is_cut: bool) -> str:
+        """Returns what CPython says of a fault."""
+        raise NotImplementedError
+
+    @property
+    def special(self) -> Pattern[str]:
+        """The pattern of the mark, and of characters that the encoding lacks, as many as CPython reports at once."""
+        if self._special is None:
+            has = "".join(f"{_escaped(first)}-{_escaped(last)}" for first, last in self.has())
+            self._special = re.compile(f"{re.escape(self.mark)}|[^{has}]" + ("+" if self._in_runs else ""))
+        return self._special
+
+    def units(self, text: str) -> Sequence[str]:
+        """Cuts a text into what has the same bytes in any text: characters, or sequences of them if the encoding has shifts."""
+        return text
+
+    def lacks(self, text: str) -> Optional[int]:
+        """Returns where the first character is that the encoding lacks."""
+        return next((found.start() for found in self.special.finditer(text) if found[0] != self.mark), None)
+
+
+class Patterns(NamedTuple):
+    """Regular expressions of the bytes of an encoding. None matches the separator, and each may be empty."""
+
+    #: One byte that is a character by itself.
+    single: bytes
+    #: The first byte of a character of several bytes, and such a character.
+    lead: bytes
+    multiple: bytes
+    #: A byte that begins no character.
+    never: bytes
+    #: The bytes of a fault at the beginning of a character, or of a character that the end of the text cuts.
+    bad: bytes
+    #: A character that the end of the text cuts.
+    cut: bytes
+
+
+def _good(patterns: Patterns) -> bytes:
+    """Returns the pattern of any number of characters. Those of one byte are passed over in the fastest way."""
+    single = patterns.single + b"*" if patterns.single else b""
+    if not patterns.multiple:
+        return single
+    first = b"(?=%s)" % patterns.lead if patterns.lead else b""
+    return b"%s(?:%s(?:%s)%s)*" % (single, first, patterns.multiple, single)
+
+
+class PatternForm(Form):
+    """How bytes are cut into characters and faults, by a regular expression."""
+
+    def __init__(self, patterns: Patterns, separator: bytes, mark: str, in_runs: bool) -> None:
+        super().__init__(separator, mark, in_runs)
+        items = b"|".join(item for item in (patterns.never, re.escape(separator), patterns.bad, b"\\Z") if item)
+        self._tokens = re.compile(b"(?s)(%s)(%s)" % (_good(patterns), items))
+        self._cut = re.compile(b"(?s)" + patterns.cut) if patterns.cut else None
+
+    def find(self, data: bytes, at: int, end: int) -> Found:
+        found = self._tokens.match(data, at, end)
+        assert found is not None, "it matches the empty text at the end"
+        good, item = found.groups()
+        start, stop = found.span(2)
+        if not item or item == self.separator:
+            return Found(good, start, stop, text=self.mark if item else "")
+        is_cut = stop == end and self.is_cut(item)
+        return Found(good, start, stop, self.reason(item, is_cut), is_cut=is_cut)
+
+    def find_all(self, data: bytes, at: int, end: int) -> Tuple[List[bytes], List[bytes]]:
+        # What is between two matches is empty.
+        tokens = self._tokens.split(data[at:end])
+        good, items = tokens[1::3], tokens[2::3]
+        if len(items) > 1 and not items[-2]:
+            good.pop()
+            items.pop()
+        items.pop()
+        return good, items
+
+    def split(self, data: bytes) -> List[bytes]:
+        return self.find_all(data, 0, len(data))[0]
+
+    def is_cut(self, item: bytes) -> bool:
+        return self._cut is not None and self._cut.fullmatch(item) is not None
+
+
+def _escaped(point: int) -> str:
+    return "\\" + chr(point) if chr(point) in "\\]^-" else chr(point)
+
+
+class UnicodeForm(PatternForm):
+    """The form of an encoding of Unicode. CPython's codec of it is asked for the reason of a fault."""
+
+    def __init__(self, codec: str, patterns: Patterns, in_runs: bool, last: int = 0x10FFFF) -> None:
+        """`last` is the last character that the encoding has."""
+        super().__init__(patterns, "\0".encode(codec), "\0", in_runs)
+        self._last = last
+        self._codec = codec
+        self.unit = len(self.separator)
+        self.is_ascii_put_in = codec.startswith("utf")
+        self.lacking_reason = _python_lacking_reason(codec)
+
+    def has(self) -> Sequence[Span]:
+        return [(first, min(last, self._last)) for first, last in SCALARS if first <= self._last]
+
+    def reason(self, item: bytes, is_cut: bool) -> str:
+        return _python_reason(self._codec, item if is_cut else item + "A".encode(self._codec))
+
+
+@functools.lru_cache(maxsize=4096)
+def _python_reason(codec: str, data: bytes) -> str:
+    try:
+        codecs.decode(data, codec)
+    except UnicodeDecodeError as error:
+        return error.reason
+    return "illegal sequence"
+
+
+def _python_lacking_reason(codec: str) -> str:
+    try:
+        "\ud800".encode(codec)
+    except UnicodeEncodeError as error:
+        return error.reason
+    return ""
+
+
+#: All characters of Unicode.
+SCALARS = ((0, 0xD7FF), (0xE000, 0x10FFFF))
+_UTF_8 = Patterns(
+    single=rb"[\x01-\x7f]",
+    lead=rb"[\xc2-\xf4]",
+    multiple=rb"[\xc2-\xdf][\x80-\xbf]|[\xe1-\xec\xee\xef][\x80-\xbf][\x80-\xbf]|\xe0[\xa0-\xbf][\x80-\xbf]"
+    rb"|\xed[\x80-\x9f][\x80-\xbf]|\xf0[\x90-\xbf][\x80-\xbf][\x80-\xbf]"
+    rb"|[\xf1-\xf3][\x80-\xbf][\x80-\xbf][\x80-\xbf]|\xf4[\x80-\x8f][\x80-\xbf][\x80-\xbf]",
+    never=rb"[\x80-\xc1\xf5-\xff]",
+    bad=rb"[\xc2-\xdf]|\xe0[\xa0-\xbf]?|[\xe1-\xec\xee\xef][\x80-\xbf]?|\xed[\x80-\x9f]?"
+    rb"|\xf0(?:[\x90-\xbf][\x80-\xbf]?)?|[\xf1-\xf3][\x80-\xbf]{0,2}|\xf4(?:[\x80-\x8f][\x80-\xbf]?)?",
+    cut=rb"[\xc2-\xf4].*",
+)
+_UTF_16LE = Patterns(
+    single=rb"(?:[^\0][^\xd8-\xdf]|\0[^\0\xd8-\xdf])",
+    lead=b"",
+    multiple=rb".[\xd8-\xdb].[\xdc-\xdf]",
+    never=b"",
+    bad=rb"(?:.[\xd8-\xdb].?|.)\Z|..",
+    cut=rb".[\xd8-\xdb].?|.",
+)
+_UTF_16BE = Patterns(
+    single=rb"(?:[^\0\xd8-\xdf].|\0[^\0])",
+    lead=b"",
+    multiple=rb"[\xd8-\xdb].[\xdc-\xdf].",
+    never=b"",
+    bad=rb"(?:[\xd8-\xdb]..?|.)\Z|..",
+    cut=rb"[\xd8-\xdb]..?|.",
+)
+_UTF_32LE = Patterns(
+    single=b"",
+    lead=b"",
+    multiple=rb"[^\0][^\xd8-\xdf]\0\0|\0[^\0\xd8-\xdf]\0\0|..[\x01-\x10]\0",
+    never=b"",
+    bad=b".{1,4}",
+    cut=b".{1,3}",
+)
+_UTF_32BE = _UTF_32LE._replace(multiple=rb"\0\0[^\0\xd8-\xdf].|\0\0\0[^\0]|\0[\x01-\x10]..")
+_ASCII = Patterns(rb"[\x01-\x7f]", b"", b"", rb"[\x80-\xff]", b"", b"")
+
+#: The forms of the encodings that the server has itself, but for UTF-7; see shifted.py.
+BUILTIN: Dict[str, Callable[[], Form]] = {
+    "US-ASCII": lambda: UnicodeForm("ascii", _ASCII, True, 0x7F),
+    "ISO-8859-1": lambda: UnicodeForm("latin-1", _ASCII._replace(single=rb"[\x01-\xff]", never=b""), True, 0xFF),
+    "UTF-8": lambda: UnicodeForm("utf-8", _UTF_8, True),
+    "UTF-16LE": lambda: UnicodeForm("utf-16-le", _UTF_16LE, False),
+    "UTF-16BE": lambda: UnicodeForm("utf-16-be", _UTF_16BE, False),
+    "UTF-32LE": lambda: UnicodeForm("utf-32-le", _UTF_32LE, False),
+    "UTF-32BE": lambda: UnicodeForm("utf-32-be", _UTF_32BE, False),
+}

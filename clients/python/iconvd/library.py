@@ -1,0 +1,92 @@
+"""The charmaps of a client and the forms of its encodings, each of which is read once."""
+
+from __future__ import annotations
+
+from typing import Dict, Tuple, Union
+
+from . import charmaps, forms, names, shifted
+from .charmaps import Charmap
+from .codes import CharmapForm
+from .errors import CharmapRefused, UnknownEncoding
+from .forms import Form
+from .names import Encoding
+
+#: Begins the names of own charmaps. No file's name has it.
+_OWN = "/"
+#: Characters of an encoding whose bytes are kept.
+_MAX_BYTES = 65_536
+
+
+class Library:
+    """The charmaps that were read, by the name of their file, and those of the caller's own."""
+
+    def __init__(self) -> None:
+        self._read: Dict[str, Charmap] = {}
+        self._refused: Dict[str, CharmapRefused] = {}
+        self._forms: Dict[Encoding, Form] = {}
+        self._bytes: Dict[Encoding, Dict[str, bytes]] = {}
+
+    def find(self, name: str) -> Encoding:
+        """Returns the encoding of that name, in any case of its letters. Raises UnknownEncoding."""
+        own = Encoding(True, _OWN + name.upper())
+        return own if own.name in self._read else names.find(name)
+
+    def get(self, file: str) -> Charmap:
+        """Returns the charmap of that file, which is read once. Raises CharmapRefused."""
+        refused = self._refused.get(file)
+        if refused is not None:
+            raise CharmapRefused(refused.name, refused.why, refused.line)
+        if file not in self._read:
+            try:
+                self._read[file] = charmaps.mend(file, charmaps.read_file(file))
+            except CharmapRefused as error:
+                self._refused[file] = error
+                raise
+        return self._read[file]
+
+    def uploaded(self, text: Union[bytes, str]) -> Tuple[Encoding, bool]:
+        """Returns the encoding of a charmap's text, which is added, or of the system's file if the text is one word."""
+        if isinstance(text, str) and "\n" not in text:
+            return Encoding(True, text), False
+        return self._add(text if isinstance(text, bytes) else text.encode("utf-8")), True
+
+    def _add(self, text: bytes) -> Encoding:
+        """Adds a charmap of the caller's own, by the name in its text. Raises CharmapRefused if the name is taken."""
+        charmap = charmaps.own(text)
+        name = charmap.name.decode("latin-1")
+        try:
+            self.find(name)
+        except UnknownEncoding:
+            added = Encoding(True, _OWN + name.upper())
+            self._refused.pop(added.name, None)
+            self._read[added.name] = charmap
+            return added
+        raise CharmapRefused(name, "an encoding has this name")
+
+    def remove(self, added: Encoding) -> None:
+        """Takes out a charmap of the caller's own, which the server did not take."""
+        self._read.pop(added.name, None)
+        self._forms.pop(added, None)
+
+    def refuse(self, error: CharmapRefused, file: str) -> None:
+        """Notes that the server refused a charmap, so that it is not uploaded again."""
+        self._refused[file] = error
+
+    def form(self, encoding: Encoding) -> Form:
+        """Returns the form of an encoding."""
+        found = self._forms.get(encoding)
+        if found is None:
+            found = self._forms[encoding] = self._make_form(encoding)
+        return found
+
+    def _make_form(self, encoding: Encoding) -> Form:
+        if encoding.is_charmap:
+            return CharmapForm(self.get(encoding.name))
+        return shifted.Utf7Form() if encoding.name == "UTF-7" else forms.BUILTIN[encoding.name]()
+
+    def bytes_of(self, encoding: Encoding) -> Dict[str, bytes]:
+        """Returns the characters of an encoding that the server was asked for, with their bytes."""
+        known = self._bytes.get(encoding)
+        if known is None or len(known) > _MAX_BYTES:
+            known = self._bytes[encoding] = {}
+        return known

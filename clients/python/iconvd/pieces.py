@@ -1,0 +1,123 @@
+"""Texts that come in pieces: decoders, encoders and conversions."""
+
+from __future__ import annotations
+
+from types import TracebackType
+from typing import TYPE_CHECKING, Optional, Tuple, Type
+
+from . import text
+from .errors import ConversionError
+from .names import Encoding
+
+if TYPE_CHECKING:
+    from .client import Client
+
+#: Characters of a piece that is put together here.
+_SHORT = 1024
+
+
+class Decoder:
+    """Decodes one text, which may come in pieces."""
+
+    def __init__(self, client: Client, name: str, encoding: Encoding, needs_mark: bool = False) -> None:
+        """`needs_mark` refuses a text in UTF-16 or UTF-32 that begins with no mark, as CPython's streams do."""
+        self._client = client
+        self._name = name
+        self._declared = encoding
+        self._needs_mark = needs_mark
+        self._codec: Optional[text.TextCodec] = None
+
+    def decode(self, data: bytes, errors: str, final: bool) -> Tuple[str, int]:
+        """Returns the text of the first bytes, and how many they are: all but an incomplete character if `final` is false."""
+        skipped = 0
+        if self._codec is None:
+            ordered, skipped = text.without_mark(self._declared, data)
+            if ordered != self._declared and len(data) < (4 if self._declared.name == "UTF-32" else 2) and not final:
+                return "", 0
+            if self._needs_mark and ordered != self._declared and data and not skipped:
+                raise UnicodeError(f"{self._declared.name} stream does not start with BOM")
+            self._codec = text.TextCodec(self._name, ordered, self._client.library)
+        codec = self._codec
+        decoded = self._client.run(lambda session: codec.decode(session, data, errors, final, skipped))
+        return decoded.text, decoded.used
+
+    @property
+    def encoding(self) -> Optional[Encoding]:
+        """The encoding with its order of bytes, once it is known."""
+        return self._codec.encoding if self._codec else None
+
+    def set_encoding(self, encoding: Optional[Encoding]) -> None:
+        """Goes on with the order of bytes that another decoder found."""
+        self._codec = text.TextCodec(self._name, encoding, self._client.library) if encoding else None
+
+
+class Encoder:
+    """Encodes one text, which may come in pieces: only the first has the mark of UTF-16 or UTF-32."""
+
+    def __init__(self, client: Client, name: str, encoding: Encoding) -> None:
+        self._client = client
+        ordered, self._mark = text.mark_of(encoding)
+        self._codec = text.TextCodec(name, ordered, client.library)
+        self.is_started = False
+
+    def encode(self, characters: str, errors: str) -> bytes:
+        """Returns the bytes of a text."""
+        output = self._client.run(lambda session: self._codec.encode(session, characters, errors))
+        mark = b"" if self.is_started else self._mark
+        self.is_started = True
+        return mark + output
+
+    def encode_piece(self, characters: str, errors: str) -> bytes:
+        """Returns the bytes of the next piece of a text. Of short pieces each character is asked for once, so that a text file
+        that is written line by line, which takes the bytes of each line at once, costs no request for each."""
+        if not self.is_started or len(characters) > _SHORT:
+            return self.encode(characters, errors)
+        known = self._codec.known(characters)
+        if known is None and not self._codec.lacks(characters):
+            self._client.run(lambda session: self._codec.learn(session, characters))
+            known = self._codec.known(characters)
+        return self.encode(characters, errors) if known is None else known
+
+
+class Conversion:
+    """A conversion of one text that comes in pieces, as iconv_open(3) gives it."""
+
+    def __init__(self, client: Client, to: str, source: str) -> None:
+        self._client = client
+        self._names = (to, source)
+        self._held = b""
+        self._position = 0
+        self._start()
+
+    def _start(self) -> None:
+        to, source = self._names
+        self._decoder = self._client.decoder(source, source)
+        self._encoder = self._client.encoder(to, to)
+        self._held = b""
+
+    def convert(self, data: bytes, errors: str = "strict", final: bool = False) -> bytes:
+        """Converts the next bytes. An incomplete character at the end is kept for the next call, unless `final` is true."""
+        held = self._held + data
+        decoded, used = self._decoder.decode(held, errors, final)
+        self._held = held[used:]
+        return self._encoder.encode(decoded, errors) if decoded else b""
+
+    def reset(self) -> bytes:
+        """Ends the text and goes back to the start. Raises ConversionError if it ends inside a character."""
+        held = self._held
+        self._start()
+        if held:
+            raise ConversionError("the text ends inside a character", 0)
+        return b""
+
+    def close(self) -> None:
+        """Forgets what is held. The server's descriptors are shared, and stay."""
+        self._start()
+
+    def __enter__(self) -> Conversion:
+        return self
+
+    def __exit__(
+        self, kind: Optional[Type[BaseException]], error: Optional[BaseException], trace: Optional[TracebackType]
+    ) -> None:
+        self.close()

@@ -1,0 +1,56 @@
+"""Counts what a client sends: bytes, and round trips."""
+
+from __future__ import annotations
+
+from typing import Iterator, List, Sequence
+from contextlib import contextmanager
+from unittest import mock
+
+import support  # noqa: F401
+
+from iconvd import names, transport
+from iconvd.frames import Reply, Request
+from iconvd.names import Encoding
+
+#: The bounds: bytes sent at most 4 times the input and 64 KiB, and at most 8 round trips for each 64 KiB that are begun.
+TIMES, PLUS, TRIPS, PIECE = 4, 65_536, 8, 65_536
+
+
+class Meter:
+    """What was sent since it was last read."""
+
+    def __init__(self) -> None:
+        self.sent = 0
+        self.trips = 0
+
+    def reset(self) -> None:
+        """Begins to count again."""
+        self.sent = self.trips = 0
+
+    def excess(self, size: int) -> List[str]:
+        """Says what an input of that size should not have cost."""
+        most_bytes, most_trips = TIMES * size + PLUS, TRIPS * -(-size // PIECE)
+        found = [f"{self.sent} bytes sent for {size}"] if self.sent > most_bytes else []
+        return found + ([f"{self.trips} round trips for {size} bytes"] if self.trips > most_trips else [])
+
+
+@contextmanager
+def metered() -> Iterator[Meter]:
+    """Counts what clients that are made meanwhile send."""
+    meter = Meter()
+
+    class MeteredStream(transport.Stream):
+        def exchange(self, requests: Sequence[Request]) -> List[Reply]:
+            meter.trips += 1
+            meter.sent += sum(len(request.frame(0)) for request in requests)
+            return super().exchange(requests)
+
+    with mock.patch("iconvd.client.Stream", MeteredStream):
+        yield meter
+
+
+def every_encoding() -> List[str]:
+    """Returns a name of each encoding that the client knows."""
+    named = {encoding: name for name, encoding in reversed(list(names.table().exact.items()))}
+    named.update((Encoding(False, name), name) for name in names.BUILTIN)
+    return sorted(named.values())

@@ -1,0 +1,119 @@
+"""What hostile text costs: bytes and round trips, in each encoding that the client knows."""
+
+from __future__ import annotations
+
+import codecs
+import random
+import unittest
+from typing import List, Tuple
+
+from meter import every_encoding, metered
+from support import SERVER
+
+import iconvd
+
+SIZE = 81_920
+SCRIPTS = "Grüße, café; Привет; Ελλάδα; עברית; العربية; ไทย; 한국어; 日本語; 中文; € ☃ 😀\n"
+
+
+def marked(error: UnicodeError) -> Tuple[str, int]:
+    """A handler of a program, which tells each fault."""
+    assert isinstance(error, (UnicodeDecodeError, UnicodeEncodeError))
+    return f"<{error.start}>" if isinstance(error, UnicodeDecodeError) else "?", error.end
+
+
+def skipping(error: UnicodeError) -> Tuple[str, int]:
+    """A handler of a program, which goes on after the bytes that follow the fault."""
+    assert isinstance(error, (UnicodeDecodeError, UnicodeEncodeError))
+    return "", min(error.end + 2, len(error.object))
+
+
+def setUpModule() -> None:
+    codecs.register_error("test.marked", marked)
+    codecs.register_error("test.skipping", skipping)
+
+
+def repeated(data: bytes) -> bytes:
+    return (data * (SIZE // max(1, len(data)) + 1))[:SIZE]
+
+
+def texts(client: iconvd.Client, name: str) -> List[Tuple[str, bytes]]:
+    """Random bytes, text of other encodings, text of this one with each hundredth byte damaged, and clean text with a fault."""
+    good = repeated(client.encode(SCRIPTS, name, "ignore") or b"\0")
+    damaged = bytearray(good)
+    for at in range(0, len(damaged), 100):
+        damaged[at] = (damaged[at] * 7 + at // 100 + 0x80) & 0xFF
+    return [
+        ("random", random.Random(name).randbytes(SIZE)),
+        ("German in ISO-8859-1", repeated("Größe und schöne Grüße aus Köln. ".encode("latin-1"))),
+        ("French in CP1252", repeated("Déjà l’été où l’on goûte “çà”. ".encode("cp1252"))),
+        ("damaged", bytes(damaged)),
+        ("a fault at the beginning", b"\xff" + good[:-1]),
+    ]
+
+
+class Cost(unittest.TestCase):
+    def setUp(self) -> None:
+        patched = metered()
+        self.meter = patched.__enter__()
+        self.addCleanup(patched.__exit__, None, None, None)
+        self.client = iconvd.Client(SERVER, timeout=60)
+        self.addCleanup(self.client.close)
+
+    def measured(self, size: int, label: object, call: object) -> None:
+        self.meter.reset()
+        call()  # type: ignore[operator]
+        self.assertEqual(self.meter.excess(size), [], label)
+
+    def test_decoding(self) -> None:
+        policies = "replace ignore test.marked backslashreplace test.skipping replace surrogateescape".split()
+        for number, name in enumerate(every_encoding()):
+            for turn, (kind, data) in enumerate(texts(self.client, name)):
+                errors = policies[(number + turn) % len(policies)]
+                self.measured(len(data), (name, kind, errors), lambda: self.decoded(data, name, errors))
+
+    def decoded(self, data: bytes, name: str, errors: str) -> None:
+        try:
+            self.client.decode(data, name, errors)
+        except UnicodeDecodeError:
+            self.assertEqual(errors, "surrogateescape")
+
+    def test_encoding(self) -> None:
+        policies = "replace ignore xmlcharrefreplace backslashreplace namereplace test.marked test.skipping".split()
+        chance = random.Random(5)
+        strange = "".join(chr(chance.choice((chance.randrange(0x250), chance.randrange(0xD800), 0xDC80))) for _ in range(15_000))
+        for number, name in enumerate(every_encoding()):
+            for turn, text in enumerate((SCRIPTS * 400, strange)):
+                errors = policies[(number + turn) % len(policies)]
+                size = len(text.encode("utf-8", "surrogatepass"))
+                self.client.encode("a", name, "replace")
+                self.measured(size, (name, turn, errors), lambda: self.encoded(text, name, errors))
+
+    def encoded(self, text: str, name: str, errors: str) -> None:
+        try:
+            self.client.encode(text, name, errors)
+        except UnicodeEncodeError:
+            # SHIFT_JIS and others have no backslash, and none of what is put in place of a character may be lacking.
+            self.assertIn(errors, ("backslashreplace", "namereplace", "xmlcharrefreplace"), name)
+
+    def test_converting(self) -> None:
+        for source, target in (("EUC-KR", "KOI8-R"), ("UTF-8", "EUC-JP"), ("TIS-620", "CP874"), ("UTF-16", "UTF-7"), ("CP1251", "UTF-16")):
+            for kind, data in texts(self.client, source):
+                self.client.convert(b"", to=target, source=source)
+                label = (source, target, kind)
+                self.measured(len(data), label, lambda: self.client.convert(data, to=target, source=source, errors="replace"))
+
+    def test_surrogateescape(self) -> None:
+        for name in ("UTF-8", "US-ASCII", "CP1253", "EUC-KR"):
+            data = repeated(b"a\xff\xfe")
+            self.client.decode(b"a", name)
+            self.measured(len(data), name, lambda: self.client.decode(data, name, "surrogateescape"))
+            text = self.client.decode(data, name, "surrogateescape")
+            self.client.encode("a", name)
+            size = len(text.encode("utf-8", "surrogatepass"))
+            self.measured(size, name, lambda: self.client.encode(text, name, "surrogateescape"))
+            self.assertEqual(self.client.encode(text, name, "surrogateescape"), data, name)
+
+
+if __name__ == "__main__":
+    unittest.main()

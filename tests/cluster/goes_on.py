@@ -66,7 +66,7 @@ class PythonWorker(Worker):
         import iconvd
 
         with iconvd.Client(self._where, timeout=20) as client:
-            self.work(lambda number: client.convert(text_of(number).encode("koi8-r"), "UTF-8", "KOI8-R"))
+            self.work(lambda number: client.convert(text_of(number).encode("koi8-r"), to="UTF-8", source="KOI8-R"))
 
 
 def count_connections() -> List[int]:

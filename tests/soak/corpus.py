@@ -5,9 +5,10 @@ from __future__ import annotations
 import random
 from typing import Dict, List, NamedTuple
 
-from iconvd.charmaps import Charmap, Library
+from iconvd.charmaps import Charmap
 from iconvd.errors import IconvdError
 from iconvd.frames import Status
+from iconvd.library import Library
 
 _TEXTS = {
     "latin": "Zwölf Boxkämpfer jagen Viktor quer über den Deich, und dann noch einmal. ",

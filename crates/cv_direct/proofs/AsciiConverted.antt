@@ -2,7 +2,6 @@
 use Rattle.std.proofs.Common.{◌≡◌, ℕ, ◌+◌, ◌*◌, ◌<◌, ◌≤◌, List, [], ◌∷◌, ◌++◌, length, take, drop, refl, sym, ◌∙◌, ap, ap₂, arith}
 use Rattle.std.specs.List.{flat_map}
 use Rattle.cv_base.specs.Ascii.{AreBelow}
-use Rattle.cv_base.specs.Places.{IsPut}
 use Rattle.cv_base.specs.Scalars.{AreScalars}
 use Rattle.cv_base.specs.Units.{unit_of, unit_size}
 use Rattle.cv_base.specs.declared.ascii_form.AsciiForm.{AsciiForm}

@@ -239,6 +239,16 @@ pub(crate) fn has_part_in(callers: &BTreeMap<u32, Kept>, caller: u32) -> bool
     }
 }
 
+/// Two texts as one, in memory that is asked for once.
+fn joined(alloc: Global, front: &[u8], back: &[u8]) -> Result<Vec<u8>, Memory>
+    ensures { IfOk result (λ text. text.items ≡ front.now ++ back.now) }
+{
+    let mut text = Vec::with_capacity(alloc, front.len().saturating_add(back.len()))?;
+    text.extend_from_slice(front)?;
+    text.extend_from_slice(back)?;
+    Ok(text)
+}
+
 /// A caller's part of an upload, and then these bytes.
 pub(crate) fn gather_in(
     alloc: Global,
@@ -248,10 +258,8 @@ pub(crate) fn gather_in(
 ) -> Result<Vec<u8>, Memory>
     ensures { IfOk result (λ text. text.items ≡ (keyed_in callers.now caller).part ++ body.now) }
 {
-    let mut text = Vec::new(alloc);
-    if let Some(kept) = callers.get(&caller) {
-        text.extend_from_slice(kept.table.part())?;
+    match callers.get(&caller) {
+        Some(kept) => joined(alloc, kept.table.part(), body),
+        None => joined(alloc, b"", body),
     }
-    text.extend_from_slice(body)?;
-    Ok(text)
 }

@@ -52,7 +52,7 @@ fn conclude_call<R: Eprint>(rt: &R, done: Result<(), CallFault>) -> u8
 /// `call`: asks a server at an address for the script, and prints the lines of its replies, also of those that came before a fault.
 fn call<R>(rt: &R, address: &str, timeout: Option<u32>) -> Result<(), CallFault>
 where
-    R: Input + Print + AllocGlobal + Net<Listener = TcpListener, Stream = TcpStream>,
+    R: Input + Print + AllocGlobal + Clock + Net<Listener = TcpListener, Stream = TcpStream>,
 {
     let alloc = rt.alloc();
     let script = read_all(alloc, rt.reader()).map_err(CallFault::Run)?;

@@ -11,6 +11,7 @@ mod listening;
 mod log_lines;
 mod reply_count;
 mod report;
+mod retrying;
 mod socket_file;
 mod streams;
 mod terms;

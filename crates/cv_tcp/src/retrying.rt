@@ -15,19 +15,19 @@ pub(crate) trait Waits {
 
 /// When a call began, and for how long it may wait in all.
 #[derive(Clone, Copy, Debug)]
-struct Wait {
+struct Deadline {
     begun: Instant,
     limit: Duration,
 }
 
-/// Since when a call waits, if there is a limit and the clock can be read.
-fn begin<R: Clock>(rt: &R, limit: Option<Duration>) -> Option<Wait> {
+/// The deadline of a call that begins now, if there is a limit and the clock can be read.
+fn begin<R: Clock>(rt: &R, limit: Option<Duration>) -> Option<Deadline> {
     let limit = limit?;
     let begun = Instant::now(rt).ok()?;
-    Some(Wait { begun, limit })
+    Some(Deadline { begun, limit })
 }
 
-impl Wait {
+impl Deadline {
     /// How much of its time is left. `None`: none.
     fn left<R: Clock>(&self, rt: &R) -> Option<Duration> {
         let waited = self.begun.elapsed(rt).ok()?;
@@ -81,13 +81,13 @@ fn late() -> io::Error
 
 impl<R: Clock, T: Waits> Retrying<'_, R, T> {
     /// Whether an interrupted call is made again: not once its time is over. It waits for what is left of that.
-    fn goes_on(&mut self, wait: &Option<Wait>) -> bool
+    fn goes_on(&mut self, deadline: &Option<Deadline>) -> bool
         ensures { self.new.inner ≡ self.old.inner }
     {
-        let Some(wait) = wait else {
+        let Some(deadline) = deadline else {
             return true;
         };
-        let Some(left) = wait.left(self.rt) else {
+        let Some(left) = deadline.left(self.rt) else {
             return false;
         };
         self.inner.limit_waits(Some(left));
@@ -108,7 +108,7 @@ impl<R: Clock, T: Waits> Retrying<'_, R, T> {
 
 impl<R: Clock, T: Read + Waits> Retrying<'_, R, T> {
     /// One read that no signal ends. It is made again as often as std makes one again.
-    fn read_on(&mut self, buf: &mut [u8], wait: &Option<Wait>) -> io::Result<usize>
+    fn read_on(&mut self, buf: &mut [u8], deadline: &Option<Deadline>) -> io::Result<usize>
         ensures bound { ReadsAtMost result buf.new }
         ensures bytes { ReadConsumes (T.remaining self.old.inner) (T.remaining self.new.inner) result buf.new }
         ensures retried { IfErr result (λ e. error_kind e ≢ ErrorKind.Interrupted) }
@@ -120,7 +120,7 @@ impl<R: Clock, T: Read + Waits> Retrying<'_, R, T> {
                     if !is_interrupted(&failure) {
                         return Err(failure);
                     }
-                    if !self.goes_on(wait) {
+                    if !self.goes_on(deadline) {
                         return Err(late());
                     }
                 }
@@ -132,7 +132,7 @@ impl<R: Clock, T: Read + Waits> Retrying<'_, R, T> {
 
 impl<R: Clock, T: Write + Waits> Retrying<'_, R, T> {
     /// One write that no signal ends. It is made again as often as std makes one again.
-    fn write_on(&mut self, bytes: &[u8], wait: &Option<Wait>) -> io::Result<usize>
+    fn write_on(&mut self, bytes: &[u8], deadline: &Option<Deadline>) -> io::Result<usize>
         ensures bound { WritesAtMost result bytes.now }
         ensures bytes { WriteAppends (T.contents self.old.inner) (T.contents self.new.inner) result bytes.now }
         ensures retried { IfErr result (λ e. error_kind e ≢ ErrorKind.Interrupted) }
@@ -144,7 +144,7 @@ impl<R: Clock, T: Write + Waits> Retrying<'_, R, T> {
                     if !is_interrupted(&failure) {
                         return Err(failure);
                     }
-                    if !self.goes_on(wait) {
+                    if !self.goes_on(deadline) {
                         return Err(late());
                     }
                 }
@@ -158,8 +158,8 @@ impl<R: Clock, T: Read + Waits> Read for Retrying<'_, R, T> {
     ghost remaining = { λ r. T.remaining r.inner };
 
     fn read(&mut self, buf: &mut [u8]) -> io::Result<usize> {
-        let wait = begin(self.rt, self.limit);
-        let came = self.read_on(buf, &wait);
+        let deadline = begin(self.rt, self.limit);
+        let came = self.read_on(buf, &deadline);
         self.restore();
         came
     }
@@ -169,8 +169,8 @@ impl<R: Clock, T: Write + Waits> Write for Retrying<'_, R, T> {
     ghost contents = { λ w. T.contents w.inner };
 
     fn write(&mut self, bytes: &[u8]) -> io::Result<usize> {
-        let wait = begin(self.rt, self.limit);
-        let taken = self.write_on(bytes, &wait);
+        let deadline = begin(self.rt, self.limit);
+        let taken = self.write_on(bytes, &deadline);
         self.restore();
         taken
     }

@@ -18,6 +18,7 @@ mod terms;
 mod turns;
 mod watched;
 
+pub use address::is_address;
 pub use calling::call;
 pub use fault::{CallFault, call_status};
 pub use listening::listen;

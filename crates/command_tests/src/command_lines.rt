@@ -101,6 +101,11 @@ iconvd pipe --workers x => 'x'
 iconvd pipe --workers 4294967297 => '4294967297'
 iconvd ask --workers 2 => '--workers'
 iconvd listen => ADDR
+iconvd listen nowhere => 'nowhere'
+iconvd listen 127.0.0.1: => '127.0.0.1:'
+iconvd listen :7879 => ':7879'
+iconvd listen 127.0.0.1:65536 => '127.0.0.1:65536'
+iconvd listen unix: => 'unix:'
 iconvd listen 127.0.0.1:0 --streams x => 'x'
 iconvd listen 127.0.0.1:0 --streams -1 => -1
 iconvd listen 127.0.0.1:0 --streams=18446744073709551616 => '18446744073709551616'

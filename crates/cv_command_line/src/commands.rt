@@ -35,6 +35,17 @@ fn conclude<R: Eprint>(rt: &R, done: Result<(), RunFault>) -> u8
     }
 }
 
+/// The exit status of `listen`. The log has said why it cannot listen.
+fn conclude_listening<R: Eprint>(rt: &R, done: Result<(), RunFault>) -> u8
+    ensures done { OnOk done (result ≡ 0) }
+    ensures fault { IfErr done (λ fault. result ≡ status_of fault) }
+{
+    match done {
+        Err(RunFault::CannotListen) => status(&RunFault::CannotListen),
+        done => conclude(rt, done),
+    }
+}
+
 /// The exit status of `call`. A fault is said on standard error, if that can be.
 fn conclude_call<R: Eprint>(rt: &R, done: Result<(), CallFault>) -> u8
     ensures done { OnOk done (result ≡ 0) }
@@ -52,7 +63,7 @@ fn conclude_call<R: Eprint>(rt: &R, done: Result<(), CallFault>) -> u8
 /// `call`: asks a server at an address for the script, and prints the lines of its replies, also of those that came before a fault.
 fn call<R>(rt: &R, address: &str, timeout: Option<u32>) -> Result<(), CallFault>
 where
-    R: Input + Print + AllocGlobal + Net<Listener = TcpListener, Stream = TcpStream>,
+    R: Input + Print + AllocGlobal + Clock + Net<Listener = TcpListener, Stream = TcpStream>,
 {
     let alloc = rt.alloc();
     let script = read_all(alloc, rt.reader()).map_err(CallFault::Run)?;
@@ -100,7 +111,7 @@ where
         Job::Ask => conclude(rt, ask(rt)),
         Job::Pipe => conclude(rt, pipe(rt, said.workers)),
         Job::Show => conclude(rt, show(rt)),
-        Job::Listen(address) => conclude(rt, serve(rt, address, said)),
+        Job::Listen(address) => conclude_listening(rt, serve(rt, address, said)),
         Job::Call(address) => conclude_call(rt, call(rt, address, said.timeout)),
         Job::CheckMap(file) => match checkmap(rt, file) {
             Ok(status) => status,

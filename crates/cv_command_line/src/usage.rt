@@ -12,7 +12,7 @@ use crate::settings::{
 use crate::version::VERSION;
 use clap::error::ErrorKind;
 use clap::{ArgMatches, Command, Error};
-use cv_tcp::{LogFormat, MOST_AT_ONCE};
+use cv_tcp::{LogFormat, MOST_AT_ONCE, is_address};
 use log::LevelFilter;
 use std::alloc::{AllocError, Global};
 
@@ -151,9 +151,15 @@ pub fn options<'a>(alloc: Global, words: &'a [&'a str]) -> Result<Options<'a>, E
     ensures at_once { IfOk result (λ said. (1 ≤ said.at_once) × (said.at_once ≤ 1000)) }
 {
     let matches = program(alloc)?.try_get_matches_from(words)?;
+    let job = job_of(&matches);
+    if let Some(address) = listened_at(job) {
+        if !is_address(address) {
+            return Err(no_address(alloc, address)?);
+        }
+    }
     let at_once = at_once_of(&matches);
     Ok(Options {
-        job: job_of(&matches),
+        job,
         workers: workers_of(&matches),
         streams: streams_of(&matches, at_once),
         at_once,
@@ -162,6 +168,24 @@ pub fn options<'a>(alloc: Global, words: &'a [&'a str]) -> Result<Options<'a>, E
         level: level_of(&matches),
         format: format_of(&matches),
     })
+}
+
+/// The address at which a command listens.
+fn listened_at<'a>(job: Job<'a>) -> Option<&'a str> {
+    match job {
+        Job::Listen(address) => Some(address),
+        _ => None,
+    }
+}
+
+/// The fault of a command line that has this word where an address has to be.
+fn no_address(alloc: Global, word: &str) -> Result<Error, AllocError>
+    ensures { IfOk result (λ fault. kind_of fault ≡ ErrorKind.InvalidValue) }
+{
+    let text = format!(in alloc;
+        "invalid value '{word}' for '<ADDR>': no HOST:PORT and no unix:PATH"
+    )?;
+    program(alloc)?.error(ErrorKind::InvalidValue, text.as_str())
 }
 
 /// The fault of a command line that has this word, which isn't UTF-8.

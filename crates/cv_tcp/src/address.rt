@@ -7,6 +7,17 @@ pub(crate) enum Address<'a> {
     Unix(&'a str),
 }
 
+/// Whether a word can be the address of a listener: `unix:` and a path, or `HOST:PORT`. Whether there is such a host is not asked.
+pub fn is_address(word: &str) -> bool {
+    match Address::of(word) {
+        Address::Unix(path) => !path.is_empty(),
+        Address::Tcp(address) => match address.rsplit_once(':') {
+            Some((host, port)) => !host.is_empty() && port.parse::<u16>().is_ok(),
+            None => false,
+        },
+    }
+}
+
 impl<'a> Address<'a> {
     /// The address that a word of the command line means: `unix:` stands in front of a path.
     pub(crate) fn of(word: &'a str) -> Address<'a> {

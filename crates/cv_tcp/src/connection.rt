@@ -1,6 +1,7 @@
 //! The stream between a server and a client.
 ghost use Rattle.std.specs.Io.{ReadsAtMost, WritesAtMost};
 
+use crate::retrying::Waits;
 use std::fmt::{self, Display, Formatter};
 use std::io::{self, Read, Write};
 use std::net::{SocketAddr, TcpStream};
@@ -25,9 +26,8 @@ impl Connection {
         }
     }
 
-    /// Limits how long a read or a write waits, if there is a limit.
-    pub(crate) fn limit_waits(&self, seconds: Option<u32>) -> io::Result<()> {
-        let limit = seconds.map(|seconds| Duration::from_secs(u64::from(seconds)));
+    /// Limits how long each later read or write waits. `None`: for ever.
+    pub(crate) fn set_timeouts(&self, limit: Option<Duration>) -> io::Result<()> {
         match self {
             Connection::Tcp(stream) => {
                 stream.set_read_timeout(limit)?;
@@ -103,6 +103,12 @@ impl Display for Peer {
             Peer::Local => f.write_str("unix"),
             Peer::Gone => f.write_str("gone"),
         }
+    }
+}
+
+impl Waits for &Connection {
+    fn limit_waits(&self, limit: Option<Duration>) {
+        let _ = self.set_timeouts(limit);
     }
 }
 

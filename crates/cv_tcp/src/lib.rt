@@ -11,12 +11,14 @@ mod listening;
 mod log_lines;
 mod reply_count;
 mod report;
+mod retrying;
 mod socket_file;
 mod streams;
 mod terms;
 mod turns;
 mod watched;
 
+pub use address::is_address;
 pub use calling::call;
 pub use fault::{CallFault, call_status};
 pub use listening::listen;

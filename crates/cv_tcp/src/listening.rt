@@ -1,5 +1,6 @@
 //! Listening at an address.
 ghost use Rattle.std.specs.Prelude.{◌≡◌, ◌≤◌, IfOk, IfErr};
+ghost use Rattle.cv_commands.specs.declared.fault.RunFault.TheVariants as RunFault;
 ghost use Rattle.cv_tcp.specs.Faults.{IsOfListening};
 
 use crate::address::Address;
@@ -8,12 +9,12 @@ use crate::socket_file;
 use crate::streams::{Service, serve_streams};
 use crate::terms::Terms;
 use cv_commands::{RunFault, write_all};
-use log::{Log, info};
+use log::{Log, error, info};
 use std::alloc::Global;
 use std::fmt::Display;
 use std::fs::Files;
 use std::io;
-use std::net::{Net, TcpListener, TcpStream};
+use std::net::{Net, SocketAddr, TcpListener, TcpStream};
 use std::random::RandomSource;
 use std::sync::Wait;
 use std::thread::Threads;
@@ -32,6 +33,24 @@ fn announce<R: Print, G: Log, D: Display + Drop>(
     write_all(io::writer(rt), line.as_bytes())?;
     info!(log; address:% = address; "listening");
     Ok(())
+}
+
+/// Logs why nobody can listen at an address.
+fn refuse<G: Log, D: Display + Drop>(log: &G, address: D, failure: &io::Error) -> RunFault
+    ensures { result ≡ RunFault.CannotListen }
+{
+    error!(log; address:% = address; "{address}: cannot listen: {failure}");
+    RunFault::CannotListen
+}
+
+/// A listener at a TCP port, and the address that it has.
+fn bind_tcp<R>(rt: &R, address: &str) -> io::Result<(Bound, SocketAddr)>
+where
+    R: Net<Listener = TcpListener, Stream = TcpStream>,
+{
+    let listener = TcpListener::bind(rt, address)?;
+    let address = listener.local_addr()?;
+    Ok((Bound::new(Listener::Tcp(listener))?, address))
 }
 
 /// Listens at a TCP port and serves the streams that come in there.
@@ -56,14 +75,9 @@ where
     ensures served { IfOk result (λ n. n ≡ terms.streams) }
     ensures err { IfErr result IsOfListening }
 {
-    let Ok(listener) = TcpListener::bind(rt, address) else {
-        return Err(RunFault::CannotListen);
-    };
-    let Ok(bound) = listener.local_addr() else {
-        return Err(RunFault::CannotListen);
-    };
-    let Ok(inlet) = Bound::new(Listener::Tcp(listener)) else {
-        return Err(RunFault::CannotListen);
+    let (inlet, bound) = match bind_tcp(rt, address) {
+        Ok(bound) => bound,
+        Err(failure) => return Err(refuse(log, address, &failure)),
     };
     announce(rt, alloc, log, bound)?;
     serve_streams(&Service {
@@ -91,8 +105,9 @@ where
     ensures served { IfOk result (λ n. n ≡ terms.streams) }
     ensures err { IfErr result IsOfListening }
 {
-    let Ok(listener) = socket_file::bind(rt, path) else {
-        return Err(RunFault::CannotListen);
+    let listener = match socket_file::bind(rt, path) {
+        Ok(listener) => listener,
+        Err(failure) => return Err(refuse(log, format_args!("unix:{path}"), &failure)),
     };
     let served = serve_unix(rt, alloc, log, Listener::Unix(listener), path, terms);
     socket_file::remove(rt, path);
@@ -116,8 +131,9 @@ where
     ensures served { IfOk result (λ n. n ≡ terms.streams) }
     ensures err { IfErr result IsOfListening }
 {
-    let Ok(inlet) = Bound::new(listener) else {
-        return Err(RunFault::CannotListen);
+    let inlet = match Bound::new(listener) {
+        Ok(inlet) => inlet,
+        Err(failure) => return Err(refuse(log, format_args!("unix:{path}"), &failure)),
     };
     announce(rt, alloc, log, format_args!("unix:{path}"))?;
     serve_streams(&Service {

@@ -1,11 +1,13 @@
 //! Where a server reports what becomes of its streams.
 
+use jiff::Timestamp;
 use log::kv::{self, VisitSource};
 use log::span::Spans;
 use log::{Level, LevelFilter, Log, Metadata, Record};
 use serde_json::{Map, Number, Value};
 use std::alloc::{AllocError, Global};
 use std::fmt::{self, Display, Formatter};
+use std::time::Clock;
 
 /// How a record is written: as a sentence or as a JSON object.
 #[derive(Clone, Copy, Debug, PartialEq, Eq)]
@@ -22,7 +24,7 @@ pub struct LogLines<R> {
     pub format: LogFormat,
 }
 
-impl<R: Eprint + AllocGlobal> Log for LogLines<R> {
+impl<R: Eprint + AllocGlobal + Clock> Log for LogLines<R> {
     ghost use Rattle.std.specs.Prelude.{Some, []};
     ghost use Rattle.log.specs.Level.{allows};
 
@@ -47,7 +49,8 @@ impl<R: Eprint + AllocGlobal> Log for LogLines<R> {
                 let _ = eprintln!(self.rt; "iconvd: {line}");
             }
             LogFormat::Json => {
-                if let Ok(line) = json_line(self.rt.alloc(), record) {
+                let now = Timestamp::now(&self.rt).ok();
+                if let Ok(line) = json_line(self.rt.alloc(), now, record) {
                     let _ = eprintln!(self.rt; "{line}");
                 }
             }
@@ -146,15 +149,19 @@ fn level_word(level: Level) -> &'static str {
     }
 }
 
-/// A record as a JSON object: its level, its message and its pairs.
+/// A record as a JSON object: its time (RFC 3339, UTC), if the clock can be read, its level, its message and its pairs.
 fn json_line<D: Display, K: kv::Source, S: Spans>(
     alloc: Global,
+    time: Option<Timestamp>,
     record: &Record<'_, D, K, S>,
 ) -> Result<String, AllocError> {
     let mut pairs = JsonPairs {
         alloc,
         members: Map::new(alloc),
     };
+    if let Some(time) = time {
+        pairs.put_text("time", &format_args!("{time:.3}"))?;
+    }
     pairs.put_text("level", &level_word(record.level()))?;
     pairs.put_text("message", record.args())?;
     if record.key_values().visit(&mut pairs).is_err() {

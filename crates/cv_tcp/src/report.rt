@@ -1,7 +1,8 @@
 //! What the log says of a stream.
 use crate::connection::{Connection, Peer};
 use crate::fault::StreamFault;
-use log::{Log, debug, error, info};
+use log::{Level, Log, debug, info, log};
+use std::fmt::{self, Display, Formatter};
 use std::time::{Clock, Instant};
 
 /// What a stream came to.
@@ -15,6 +16,26 @@ pub(crate) struct Ended {
     pub(crate) read: u64,
     /// How many bytes went.
     pub(crate) written: u64,
+}
+
+/// How much a fault that ends a stream tells the operator: that a client was silent for too long is usual.
+fn level_of(fault: StreamFault) -> Level {
+    match fault {
+        StreamFault::Idle => Level::Info,
+        StreamFault::Stalled | StreamFault::Run(_) => Level::Error,
+    }
+}
+
+/// Shows how many requests there were.
+#[derive(Clone, Copy, Debug)]
+struct Requests(u64);
+
+impl Display for Requests {
+    fn fmt<W: fmt::Write>(&self, f: &mut Formatter<W>) -> fmt::Result {
+        let Requests(count) = *self;
+        let word = if count == 1 { "request" } else { "requests" };
+        write!(f, "{count} {word}")
+    }
 }
 
 /// A stream that is being served, as the log sees it. It holds nothing of what its client sends.
@@ -50,12 +71,12 @@ impl Report {
             read,
             written,
         } = ended;
+        let peer = self.peer;
         match fault {
-            None => {
-                info!(log; peer:% = self.peer, requests, read, written, seconds; "client ended");
-            }
+            None => info!(log; peer:% = peer, requests, read, written, seconds; "client ended"),
             Some(fault) => {
-                error!(log; peer:% = self.peer, requests, read, written, seconds; "{fault}");
+                log!(log; level_of(fault), peer:% = peer, requests, read, written, seconds;
+                    "stream from {peer}: {fault}, after {}", Requests(requests));
             }
         }
     }

@@ -8,6 +8,7 @@ use crate::fault::end_of;
 use crate::inlet::Inlet;
 use crate::reply_count::CountsReplies;
 use crate::report::{Ended, Report};
+use crate::retrying::Retrying;
 use crate::terms::Terms;
 use crate::turns::{Job, Slot, Turns, new_slots};
 use crate::watched::Watched;
@@ -36,7 +37,7 @@ pub(crate) struct Service<'a, R, G, L> {
 }
 
 /// Serves one stream by a new pool of workers, and says what it came to. The source and the sink share the stream.
-pub(crate) fn serve_connection<R: Threads + Wait + Sync>(
+pub(crate) fn serve_connection<R: Threads + Wait + Clock + Sync>(
     rt: &R,
     alloc: Global,
     cached: &Cached,
@@ -47,9 +48,11 @@ pub(crate) fn serve_connection<R: Threads + Wait + Sync>(
 {
     stream.send_at_once();
     // If the system refuses this, the stream has no limit.
-    let _ = stream.limit_waits(terms.idle);
-    let mut source = FromReader::new(Watched::new(stream));
-    let mut sink = ToWriter::new(Watched::new(CountsReplies::new(stream)));
+    let limit = terms.longest_wait();
+    let _ = stream.set_timeouts(limit);
+    let mut source = FromReader::new(Watched::new(Retrying::new(rt, stream, limit)));
+    let replies = CountsReplies::new(Retrying::new(rt, stream, limit));
+    let mut sink = ToWriter::new(Watched::new(replies));
     let served = serve_stream_by(rt, alloc, cached, &mut source, &mut sink, terms.workers);
     let (reader, writer) = (source.into_inner(), sink.into_inner());
     Ended {

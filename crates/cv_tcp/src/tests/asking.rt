@@ -10,6 +10,7 @@ use std::io::{self, Write};
 use std::net::{Net, Shutdown, TcpListener, TcpStream};
 use std::test::Fail;
 use std::thread;
+use std::time::Clock;
 
 const SCRIPT: &[u8] = b"7 1 open US-ASCII ISO-8859-1\n7 2 conv 0 8 41e942\n7 3 close 0\n";
 
@@ -35,7 +36,7 @@ fn a_script_is_served_and_asked(rt: HostRuntime) -> Result<(), Fail> {
             match connected(rt, address) {
                 Ok(stream) => {
                     let stream = Connection::Tcp(stream);
-                    let called = call_connection(alloc, SCRIPT, &stream, &mut lines);
+                    let called = call_connection(rt, alloc, SCRIPT, &stream, None, &mut lines);
                     (called, lines)
                 }
                 Err(_) => (Err(CallFault::Run(RunFault::CannotConnect)), lines),
@@ -54,7 +55,7 @@ fn a_script_is_served_and_asked(rt: HostRuntime) -> Result<(), Fail> {
 /// What asking comes to where the peer sends bytes and ends.
 fn answered<R>(rt: &R, bytes: &[u8]) -> io::Result<(Result<(), CallFault>, Vec<u8>)>
 where
-    R: AllocGlobal + Net<Listener = TcpListener, Stream = TcpStream>,
+    R: AllocGlobal + Clock + Net<Listener = TcpListener, Stream = TcpStream>,
 {
     let alloc = rt.alloc();
     let (listener, address) = bound(rt)?;
@@ -63,7 +64,8 @@ where
     peer.write_all(bytes)?;
     peer.shutdown(Shutdown::Write)?;
     let mut lines = Vec::new(alloc);
-    let called = call_connection(alloc, SCRIPT, &Connection::Tcp(stream), &mut lines);
+    let stream = Connection::Tcp(stream);
+    let called = call_connection(rt, alloc, SCRIPT, &stream, None, &mut lines);
     Ok((called, lines))
 }
 

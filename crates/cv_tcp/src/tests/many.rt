@@ -1,6 +1,6 @@
 //! Many streams at once.
 use super::kept::Kept;
-use super::{OPEN, OPENED, bound, connected, gives, is_served, lines_like, terms};
+use super::{OPEN, OPENED, bound, connected, gives, is_served, lines_about, lines_like, terms};
 use crate::connection::Connection;
 use crate::inlet::{Bound, Listener};
 use crate::streams::{Service, serve_connection, serve_streams};
@@ -158,8 +158,17 @@ fn bad_clients_are_ended_and_good_ones_served(rt: HostRuntime) -> Result<(), Fai
     assert_eq!(rt; served, Ok(5));
     assert!(rt; answered?);
     let said = log.into_bytes();
-    assert_eq!(rt; lines_like(&said, "ERROR idle client"), 2);
-    assert_eq!(rt; lines_like(&said, "ERROR stalled client"), 1);
+    assert_eq!(rt;
+        lines_about(
+            &said,
+            "INFO stream from ",
+            ": idle client, after 0 requests"
+        ),
+        2
+    );
+    assert_eq!(rt; lines_about(&said, "ERROR stream from ", " requests"), 1);
+    let stalled = b": stalled client, after ".as_slice();
+    assert!(rt; said.windows(stalled.len()).any(|part| part == stalled));
     assert_eq!(rt; lines_like(&said, "INFO client ended"), 2);
     Ok(())
 }

@@ -1,6 +1,7 @@
 //! Serving streams one after the other.
 use super::kept::{Desk, Kept};
 use super::{OPEN, OPENED, bound, connected, gives, terms};
+use crate::address::is_address;
 use crate::inlet::{Bound, Listener};
 use crate::listening::{listen, listen_tcp};
 use crate::log_lines::{LogFormat, LogLines};
@@ -29,6 +30,7 @@ where
 fn the_next_stream_has_a_new_server(rt: HostRuntime) -> Result<(), Fail> {
     let (listener, address) = bound(&rt)?;
     let (first, second) = two_clients(&rt, address)?;
+    let peer = first.local_addr()?;
     let log = Kept::new(&rt);
     let inlet = Bound::new(Listener::Tcp(listener))?;
     let service = Service {
@@ -42,9 +44,10 @@ fn the_next_stream_has_a_new_server(rt: HostRuntime) -> Result<(), Fail> {
     assert!(rt; gives(first, OPENED)?);
     assert!(rt; gives(second, OPENED)?);
     let said = log.into_bytes();
-    let wanted: &[u8] =
-        b"DEBUG client connected\nERROR bad length 8\nDEBUG client connected\nINFO client ended\n";
-    assert!(rt; said.as_slice() == wanted);
+    let wanted = format!(in rt.alloc();
+        "DEBUG client connected\nERROR stream from {peer}: bad length 8, after 1 request\nDEBUG client connected\nINFO client ended\n"
+    )?;
+    assert!(rt; said.as_slice() == wanted.as_bytes());
     Ok(())
 }
 
@@ -52,7 +55,8 @@ fn the_next_stream_has_a_new_server(rt: HostRuntime) -> Result<(), Fail> {
 fn listening_says_where_and_tells_faults_alone(rt: HostRuntime) -> Result<(), Fail> {
     let alloc = rt.alloc();
     let (listener, address) = bound(&rt)?;
-    let _clients = two_clients(&rt, address)?;
+    let (first, _second) = two_clients(&rt, address)?;
+    let peer = first.local_addr()?;
     let desk = Desk {
         rt: &rt,
         listener,
@@ -68,20 +72,52 @@ fn listening_says_where_and_tells_faults_alone(rt: HostRuntime) -> Result<(), Fa
     assert_eq!(rt; heard, Ok(2));
     let line = format!(in alloc; "listening {address}\n")?;
     assert!(rt; desk.output.into_bytes().as_slice() == line.as_bytes());
-    assert!(rt; errors.into_bytes().as_slice() == b"iconvd: bad length 8\n".as_slice());
+    let fault = format!(in alloc; "iconvd: stream from {peer}: bad length 8, after 1 request\n")?;
+    assert!(rt; errors.into_bytes().as_slice() == fault.as_bytes());
     Ok(())
 }
 
 #[test]
 fn an_address_that_is_none_is_refused(rt: HostRuntime) -> Result<(), Fail> {
     let alloc = rt.alloc();
-    let log = Kept::new(&rt);
     let (_listener, address) = bound(&rt)?;
     let taken = format!(in alloc; "{address}")?;
     for address in ["nowhere", "", taken.as_str(), "unix:", "unix:/"] {
+        let log = Kept::new(&rt);
         let heard = listen(&rt, alloc, &log, address, terms(1, 1));
         assert_eq!(rt; heard, Err(RunFault::CannotListen), "at {address}");
+        let said = log.into_bytes();
+        let begun = format!(in alloc; "ERROR {address}: cannot listen: ")?;
+        assert!(rt;
+            said.starts_with(begun.as_bytes()) && said.ends_with(b"\n"),
+            "at {address}"
+        );
     }
-    assert!(rt; log.into_bytes().is_empty());
+    Ok(())
+}
+
+#[test]
+fn an_address_has_a_port_or_a_path(rt: HostRuntime) -> Result<(), Fail> {
+    for address in [
+        "127.0.0.1:0",
+        "[::1]:7879",
+        "mail.example:65535",
+        ":::1",
+        "unix:a",
+    ] {
+        assert!(rt; is_address(address), "{address}");
+    }
+    for address in [
+        "",
+        "7879",
+        "nowhere",
+        ":7879",
+        "127.0.0.1:",
+        "127.0.0.1:65536",
+        "a:b",
+        "unix:",
+    ] {
+        assert!(rt; !is_address(address), "{address}");
+    }
     Ok(())
 }

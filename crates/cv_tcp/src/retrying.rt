@@ -1,0 +1,181 @@
+//! Calls that are made again after a signal interrupted them.
+ghost use Rattle.std.specs.Prelude.{◌≡◌, ◌≢◌, false, IfErr};
+ghost use Rattle.std.specs.Io.{ReadsAtMost, WritesAtMost};
+ghost use Rattle.std.specs.Io.KnownBytes.{ReadConsumes, WriteAppends};
+ghost use Rattle.std.specs.IoError.{error_kind};
+
+use std::io::{self, ErrorKind, Read, Write};
+use std::time::{Clock, Duration, Instant};
+
+/// What may wait at a read or a write.
+pub(crate) trait Waits {
+    /// Has each later call wait for at most so long. `None`: for ever. If the system refuses this, they wait as before.
+    fn limit_waits(&self, limit: Option<Duration>);
+}
+
+/// When a call began, and for how long it may wait in all.
+#[derive(Clone, Copy, Debug)]
+struct Deadline {
+    begun: Instant,
+    limit: Duration,
+}
+
+/// The deadline of a call that begins now, if there is a limit and the clock can be read.
+fn begin<R: Clock>(rt: &R, limit: Option<Duration>) -> Option<Deadline> {
+    let limit = limit?;
+    let begun = Instant::now(rt).ok()?;
+    Some(Deadline { begun, limit })
+}
+
+impl Deadline {
+    /// How much of its time is left. `None`: none.
+    fn left<R: Clock>(&self, rt: &R) -> Option<Duration> {
+        let waited = self.begun.elapsed(rt).ok()?;
+        if waited < self.limit {
+            Some(self.limit.saturating_sub(waited))
+        } else {
+            None
+        }
+    }
+}
+
+/// A reader or a writer whose interrupted calls are made again, with what is left of their time.
+///
+/// A call on a socket with a time limit is interrupted when its process is stopped and continued, or when a debugger attaches (signal(7)).
+#[derive(Drop)]
+pub(crate) struct Retrying<'a, R, T> {
+    rt: &'a R,
+    inner: T,
+    limit: Option<Duration>,
+    /// Whether calls wait for less than the limit now.
+    is_shortened: bool,
+}
+
+impl<'a, R, T> Retrying<'a, R, T> {
+    /// Each call on it waits for at most so long, which was set.
+    pub(crate) fn new(rt: &'a R, inner: T, limit: Option<Duration>) -> Self
+        ensures { result.inner ≡ inner }
+    {
+        Retrying {
+            rt,
+            inner,
+            limit,
+            is_shortened: false,
+        }
+    }
+}
+
+/// Whether a signal ended a call.
+fn is_interrupted(failure: &io::Error) -> bool
+    ensures { result ≡ false → error_kind failure.now ≢ ErrorKind.Interrupted }
+{
+    failure.kind() == ErrorKind::Interrupted
+}
+
+/// What is said of a call whose time is over, as a socket with a limit says it.
+fn late() -> io::Error
+    ensures { error_kind result ≡ ErrorKind.WouldBlock }
+{
+    io::Error::from(ErrorKind::WouldBlock)
+}
+
+impl<R: Clock, T: Waits> Retrying<'_, R, T> {
+    /// Whether an interrupted call is made again: not once its time is over. It waits for what is left of that.
+    fn goes_on(&mut self, deadline: &Option<Deadline>) -> bool
+        ensures { self.new.inner ≡ self.old.inner }
+    {
+        let Some(deadline) = deadline else {
+            return true;
+        };
+        let Some(left) = deadline.left(self.rt) else {
+            return false;
+        };
+        self.inner.limit_waits(Some(left));
+        self.is_shortened = true;
+        true
+    }
+
+    /// Has later calls wait for the whole limit again, where one was made again.
+    fn restore(&mut self)
+        ensures { self.new.inner ≡ self.old.inner }
+    {
+        if self.is_shortened {
+            self.inner.limit_waits(self.limit);
+            self.is_shortened = false;
+        }
+    }
+}
+
+impl<R: Clock, T: Read + Waits> Retrying<'_, R, T> {
+    /// One read that no signal ends. It is made again as often as std makes one again.
+    fn read_on(&mut self, buf: &mut [u8], deadline: &Option<Deadline>) -> io::Result<usize>
+        ensures bound { ReadsAtMost result buf.new }
+        ensures bytes { ReadConsumes (T.remaining self.old.inner) (T.remaining self.new.inner) result buf.new }
+        ensures retried { IfErr result (λ e. error_kind e ≢ ErrorKind.Interrupted) }
+    {
+        for _turn in 0..u64::MAX {
+            match self.inner.read(buf) {
+                Ok(n) => return Ok(n),
+                Err(failure) => {
+                    if !is_interrupted(&failure) {
+                        return Err(failure);
+                    }
+                    if !self.goes_on(deadline) {
+                        return Err(late());
+                    }
+                }
+            }
+        }
+        Err(late())
+    }
+}
+
+impl<R: Clock, T: Write + Waits> Retrying<'_, R, T> {
+    /// One write that no signal ends. It is made again as often as std makes one again.
+    fn write_on(&mut self, bytes: &[u8], deadline: &Option<Deadline>) -> io::Result<usize>
+        ensures bound { WritesAtMost result bytes.now }
+        ensures bytes { WriteAppends (T.contents self.old.inner) (T.contents self.new.inner) result bytes.now }
+        ensures retried { IfErr result (λ e. error_kind e ≢ ErrorKind.Interrupted) }
+    {
+        for _turn in 0..u64::MAX {
+            match self.inner.write(bytes) {
+                Ok(n) => return Ok(n),
+                Err(failure) => {
+                    if !is_interrupted(&failure) {
+                        return Err(failure);
+                    }
+                    if !self.goes_on(deadline) {
+                        return Err(late());
+                    }
+                }
+            }
+        }
+        Err(late())
+    }
+}
+
+impl<R: Clock, T: Read + Waits> Read for Retrying<'_, R, T> {
+    ghost remaining = { λ r. T.remaining r.inner };
+
+    fn read(&mut self, buf: &mut [u8]) -> io::Result<usize> {
+        let deadline = begin(self.rt, self.limit);
+        let came = self.read_on(buf, &deadline);
+        self.restore();
+        came
+    }
+}
+
+impl<R: Clock, T: Write + Waits> Write for Retrying<'_, R, T> {
+    ghost contents = { λ w. T.contents w.inner };
+
+    fn write(&mut self, bytes: &[u8]) -> io::Result<usize> {
+        let deadline = begin(self.rt, self.limit);
+        let taken = self.write_on(bytes, &deadline);
+        self.restore();
+        taken
+    }
+
+    fn flush(&mut self) -> io::Result<()> {
+        self.inner.flush()
+    }
+}

@@ -34,6 +34,15 @@ static inline bool buffer_append(struct buffer *buffer, const char *bytes, size_
     return true;
 }
 
+static inline bool buffer_put_in_front(struct buffer *buffer, const char *bytes, size_t length) {
+    if (!buffer_reserve(buffer, length))
+        return false;
+    memmove(buffer->bytes + length, buffer->bytes, buffer->length);
+    memcpy(buffer->bytes, bytes, length);
+    buffer->length += length;
+    return true;
+}
+
 static inline void buffer_free(struct buffer *buffer) {
     free(buffer->bytes);
     *buffer = (struct buffer){.bytes = NULL};

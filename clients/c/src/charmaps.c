@@ -2,10 +2,8 @@
 #include "charmaps.h"
 
 #include <stdio.h>
-#include <zlib.h>
 
-/* How much of a line is read. What comes after that is a comment. */
-enum { LINE = 512 };
+#include "gz_lines.h"
 
 /* A file that is being read. */
 struct reading {
@@ -137,7 +135,7 @@ static void count(struct charmap *charmap, uint32_t mappings, unsigned bytes) {
 static bool keep_mapping(struct reading *reading, const char *line, struct buffer *to, struct buffer *light) {
     const char *end = name_end(line);
     unsigned bytes = 0, others = 0;
-    if (!buffer_reserve(to, LINE + 2))
+    if (!buffer_reserve(to, GZ_LINE + 2))
         return false;
     char *out = to->bytes + to->length;
     size_t name = copy_word(out, line, 0, &others);
@@ -178,15 +176,13 @@ static bool read_line(struct reading *reading, const char *line) {
 }
 
 /* Reads lines up to END CHARMAP. False: out of memory. */
-static bool read_lines(struct reading *reading, gzFile file) {
-    char line[LINE];
-    bool begins = true;
-    while (gzgets(file, line, sizeof line)) {
-        if (begins && *line == 'E' && reading->inside && strncmp(line, "END CHARMAP", 11) == 0)
+static bool read_lines(struct reading *reading, struct gz_lines *lines) {
+    const char *line;
+    while ((line = gz_lines_next(lines))) {
+        if (*line == 'E' && reading->inside && strncmp(line, "END CHARMAP", 11) == 0)
             return true;
-        if (begins && !read_line(reading, line))
+        if (!read_line(reading, line))
             return false;
-        begins = strchr(line, '\n') != NULL;
     }
     return true;
 }
@@ -197,20 +193,17 @@ static bool compose(const struct reading *reading, struct charmap *charmap, cons
     int length = snprintf(header, sizeof header,
                           "<code_set_name> %s\n<escape_char> %c\n<comment_char> %c\n<mb_cur_min> %u\n<mb_cur_max> %u\nCHARMAP\n", name,
                           reading->escape, reading->comment, charmap->least_bytes, charmap->most_bytes);
-    struct buffer text = {.bytes = NULL};
-    bool well = buffer_reserve(&text, charmap->text.length + last->length + (size_t)length + 20) &&
-                buffer_append(&text, header, (size_t)length) &&
-                buffer_append(&text, charmap->text.bytes, charmap->text.length) &&
-                buffer_append(&text, last->bytes, last->length) && buffer_append(&text, "END CHARMAP\n", 12);
-    buffer_free(&charmap->text);
-    charmap->text = text;
-    return well;
+    return buffer_put_in_front(&charmap->text, header, (size_t)length) &&
+           buffer_append(&charmap->text, last->bytes, last->length) && buffer_append(&charmap->text, "END CHARMAP\n", 12);
 }
 
-static gzFile open_file(const char *directory, const char *file) {
+static iconvd_status open_file(struct gz_lines *lines, const char *directory, const char *file) {
     char path[600];
+    bool there = false;
     int length = snprintf(path, sizeof path, "%s/%s.gz", directory, file);
-    return length > 0 && (size_t)length < sizeof path ? gzopen(path, "rbe") : NULL;
+    if (length > 0 && (size_t)length < sizeof path && gz_lines_begin(lines, path, &there))
+        return ICONVD_OK;
+    return there ? ICONVD_ENOMEM : ICONVD_UNSUPPORTED;
 }
 
 /* Both charmaps from what was read. False: out of memory. */
@@ -228,12 +221,12 @@ static bool compose_both(struct reading *reading, const char *name) {
 iconvd_status charmap_read(struct charmap *charmap, struct charmap *light, const char *directory, const char *file, const char *name) {
     *charmap = *light = (struct charmap){.least_bytes = 8, .most_bytes = 1};
     struct reading reading = {.charmap = charmap, .light = light, .escape = '\\', .comment = '#'};
-    gzFile from = open_file(directory, file);
-    if (!from)
-        return ICONVD_UNSUPPORTED;
-    gzbuffer(from, 65536);
-    bool memory = read_lines(&reading, from);
-    gzclose(from);
+    struct gz_lines lines;
+    iconvd_status status = open_file(&lines, directory, file);
+    if (status != ICONVD_OK)
+        return status;
+    bool memory = read_lines(&reading, &lines);
+    gz_lines_end(&lines);
     bool empty = charmap->mappings == 0;
     memory = memory && compose_both(&reading, name);
     buffer_free(&reading.last);

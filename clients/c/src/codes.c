@@ -4,6 +4,7 @@
  * intervals are apart. Codes that follow one another are one interval: EUC-KR has 100 of them, GB18030 some thousand. */
 #include "codes.h"
 
+#include <stdbool.h>
 #include <stdint.h>
 #include <stdlib.h>
 #include <string.h>
@@ -23,6 +24,7 @@ struct codes {
     struct interval *intervals;
     size_t count;
     size_t begins[257]; /* for each first byte: the first interval that does not end before it */
+    bool whole[256];    /* for each first byte: it is a character by itself */
 };
 
 static struct interval interval_of(const struct mapping *mapping) {
@@ -81,6 +83,8 @@ static void find_begins(struct codes *codes) {
         while (at < codes->count && codes->intervals[at].last < (uint64_t)lead << 56)
             at++;
         codes->begins[lead] = at;
+        const struct interval *interval = &codes->intervals[at];
+        codes->whole[lead] = at < codes->count && interval->length == 1 && interval->first <= (uint64_t)lead << 56;
     }
     codes->begins[256] = codes->count;
 }
@@ -134,6 +138,9 @@ static uint64_t number_of(const unsigned char *in, size_t there) {
 }
 
 enum front codes_front(const struct codes *codes, const unsigned char *in, size_t left, size_t *length) {
+    *length = 1;
+    if (codes->whole[in[0]])
+        return WELL_FORMED;
     size_t there = left < CODE_BYTES ? left : CODE_BYTES;
     uint64_t number = left < CODE_BYTES ? number_of(in, left) : number_of(in, CODE_BYTES);
     uint64_t following = there < CODE_BYTES ? UINT64_MAX >> 8 * there : 0;

@@ -93,9 +93,16 @@ static iconvd_status convert_until_stop(struct iconvd_cd *cd, struct progress *p
     return status;
 }
 
+/* Whether a fault ends a call, so that the caller has to go on after it. A text that has stopped at what the target lacks does not stop
+   there again by //TRANSLIT, but at the next fault. */
+static bool stops_at_faults(const struct iconvd_cd *cd) {
+    return !cd->own && (cd->policy == ICONVD_STRICT || cd->policy == ICONVD_TRANSLIT);
+}
+
 /* The same, with the C library's reasons. */
 static iconvd_status convert_direct(struct iconvd_cd *cd, struct progress *progress) {
-    iconvd_status status = convert_until_stop(cd, progress);
+    bool foreseen = cd->ahead == AFTER_STOP && stops_at_faults(cd) && foresight_answer(cd, progress);
+    iconvd_status status = foreseen ? ICONVD_EILSEQ : convert_until_stop(cd, progress);
     if (status == ICONVD_ENOCHAR || status == ICONVD_EILSEQ)
         cd->ahead = AFTER_STOP;
     /* It looks for room before it looks at the character. */
@@ -117,7 +124,7 @@ static iconvd_status convert_all(struct iconvd_cd *cd, struct progress *progress
     if (progress->in_left == 0)
         return ICONVD_OK;
     /* What a policy is about is met once in a call, and not once for each of it. */
-    if (cd->policy & (ICONVD_IGNORE | ICONVD_TRANSLIT))
+    if (cd->policy & ICONVD_IGNORE)
         cd->ahead = SIZE_MAX;
     iconvd_status status = convert_direct(cd, progress);
     while (has_policy(cd, status)) {
@@ -238,6 +245,7 @@ iconvd_status iconvd_reset(iconvd_cd *cd, char **out, size_t *out_left) {
     cd->mark_written = false;
     cd->order_known = false;
     cd->ahead = SIZE_MAX;
+    foresight_end(cd);
     return ICONVD_OK;
 }
 
@@ -245,5 +253,6 @@ void iconvd_close(iconvd_cd *cd) {
     if (!cd)
         return;
     own_end(cd);
+    foresight_end(cd);
     free(cd);
 }

@@ -15,6 +15,7 @@ struct iconvd_cd {
     bool order_known;    /* from UTF-16 and UTF-32 */
     bool from_wide;      /* the source is WCHAR_T, which the C library converts without a step between */
     struct own *own;     /* with UTF-7 on either side: a descriptor of its own; otherwise NULL */
+    struct foresight *foresight; /* what follows a fault, where the caller goes on after it; else NULL */
 };
 
 /* How far a call has come. */
@@ -91,6 +92,10 @@ iconvd_status convert_sifted(struct iconvd_cd *cd, struct progress *progress, ic
 
 /* The character at the front of the input and its length, from the service. */
 iconvd_status next_character(struct iconvd_cd *cd, const struct progress *progress, uint32_t *character, size_t *length);
+
+/* foresight.c: answers a call after one that has stopped at a fault. True: it stops at a fault again, as the service would say. */
+bool foresight_answer(struct iconvd_cd *cd, struct progress *progress);
+void foresight_end(struct iconvd_cd *cd);
 
 /* own.c: conversions that have a state in the service. */
 struct own;

@@ -32,8 +32,9 @@ void slot_reset(struct slot *slot) {
 
 void slot_lose(struct iconvd_pool *pool, struct slot *slot) {
     bool timed_out = slot->stream.timed_out;
-    if (timed_out || !stream_may_be_used_up(&slot->stream))
-        pool_log(pool, timed_out ? "the service does not answer" : "a connection is lost");
+    bool used_up = !timed_out && stream_may_be_used_up(&slot->stream);
+    pool_log(pool, "%s%s", timed_out ? "the service does not answer" : "a connection is lost",
+             used_up ? ": it may have reached the limit of 1,000,000 reads" : "");
     int silent = slot->stream.answered ? 0 : atomic_load(&pool->silent) + 1;
     atomic_store(&pool->silent, silent);
     if (timed_out || silent >= SILENT_CONNECTIONS)

@@ -33,6 +33,13 @@ bool remote_has(const struct remote *remote, const struct pair *pair) {
     return find(remote, pair) != NULL;
 }
 
+bool remote_has_own(const struct remote *remote) {
+    size_t open = 0;
+    for (size_t i = 0; i < remote->caller_count; i++)
+        open += remote->callers[i].descriptors;
+    return open > remote->descriptor_count;
+}
+
 void remote_forget(struct remote *remote) {
     free(remote->callers);
     free(remote->descriptors);

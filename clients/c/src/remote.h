@@ -52,6 +52,9 @@ iconvd_status remote_open(struct remote *remote, struct stream *stream, const st
                           struct refusal *refusal);
 iconvd_status remote_close(struct remote *remote, struct stream *stream, const struct place *place);
 
+/* Whether one of these is open. Its state would be lost with the stream. */
+bool remote_has_own(const struct remote *remote);
+
 /* Forgets everything, when the stream is lost. */
 void remote_forget(struct remote *remote);
 

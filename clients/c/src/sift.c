@@ -68,10 +68,17 @@ static void count(struct sums *sums, const struct part *part) {
     sums->faulty_bytes = faulty ? sums->faulty_bytes + part->length : 0;
 }
 
+/* Keeps the bytes before `end` that are kept one after another. There is room for all of the chunk. */
+static void keep(struct sift *sift, size_t end, size_t *run) {
+    buffer_append(&sift->kept, sift->in + end - *run, *run);
+    *run = 0;
+}
+
 /* Goes through the chunk once. */
 static iconvd_status gather(struct sift *sift, struct sums *sums) {
     struct walk walk = {.used = 0};
     struct part part;
+    size_t run = 0;
     *sums = (struct sums){.used = 0};
     sift->kept.length = 0;
     if (!buffer_reserve(&sift->kept, sift->length))
@@ -79,9 +86,12 @@ static iconvd_status gather(struct sift *sift, struct sums *sums) {
     sift->by_runs = true;
     while ((part = sift_next(sift, &walk)).kind != END) {
         if (part.kind == KEPT)
-            buffer_append(&sift->kept, sift->in + walk.used - part.length, part.length);
+            run += part.length;
+        else
+            keep(sift, walk.used - part.length, &run);
         count(sums, &part);
     }
+    keep(sift, walk.used, &run);
     sift->by_runs = false;
     sums->status = part.status;
     return part.status == ICONVD_ENOMEM ? ICONVD_ENOMEM : ICONVD_OK;

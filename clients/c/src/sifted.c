@@ -39,7 +39,9 @@ static bool copy_character(struct sift *sift, struct settling *settling) {
         settling->stop = there ? ICONVD_E2BIG : ICONVD_LOST;
         return false;
     }
-    memcpy(progress->out, settling->output, written);
+    /* A loop: memcpy() of a byte or two is a call. */
+    for (size_t i = 0; i < written; i++)
+        progress->out[i] = settling->output[i];
     progress_add(progress, &(struct work){.produced = written});
     settling->output += written;
     settling->output_left -= written;

@@ -9,8 +9,9 @@
 
 #include "transfer.h"
 
-/* How many reads of a stream a server makes. */
-enum { MOST_READS = 1000000 };
+/* How many reads of a stream a server makes, and after how many the stream is not used for another text. What is sent for one, with two
+   charmaps of 8 MB, takes some 20,000. */
+enum { MOST_READS = 1000000, ENOUGH_READS = 900000 };
 
 /* Above what programs that close "all" descriptors one by one usually count to, and within the usual limit of 1,024. */
 enum { HIGH_DESCRIPTOR = 400 };
@@ -56,6 +57,10 @@ bool stream_has_ended(const struct stream *stream) {
 
 bool stream_may_be_used_up(const struct stream *stream) {
     return stream->reads >= MOST_READS;
+}
+
+bool stream_is_worn(const struct stream *stream) {
+    return stream->reads >= ENOUGH_READS;
 }
 
 void stream_close(struct stream *stream) {

@@ -49,9 +49,12 @@ bool stream_is_intact(const struct stream *stream);
 /* Whether a stream on which nothing is under way is known to be lost: it has an end, or bytes that nobody has asked for. */
 bool stream_has_ended(const struct stream *stream);
 
-/* Whether the server may have made as many reads of the stream as it makes of one, after which it ends it. This is no fault, and the
-   client cannot tell: it knows what it sent, and not how that was cut. */
+/* Whether the server may have made as many reads of the stream as it makes of one, after which it ends it. The client cannot tell: it
+   knows what it sent, and not how that was cut. */
 bool stream_may_be_used_up(const struct stream *stream);
+
+/* Whether it may soon be used up, so that another one is better for the next text. */
+bool stream_is_worn(const struct stream *stream);
 
 /* Closes the connection, unless the host has closed it or something else has its number now. */
 void stream_close(struct stream *stream);

@@ -45,7 +45,15 @@ static void call_first(const struct line *line) {
         pthread_cond_signal(&line->first->come);
 }
 
+/* Closes a stream before its server ends it, so that no text is lost with it. The next one goes to a stream that is connected, if there
+   is one that nobody uses. Where a descriptor of UTF-7 is open the stream is used to its end. */
+static void retire(struct slot *slot) {
+    if (slot->stream.fd >= 0 && stream_is_worn(&slot->stream) && !remote_has_own(&slot->remote))
+        slot_reset(slot);
+}
+
 void slot_unlock(struct iconvd_pool *pool, struct slot *slot) {
+    retire(slot);
     put_back(slot);
     /* Who waits says so and then looks for a free stream; here it is the other way round. So one of the two sees the other. */
     atomic_thread_fence(memory_order_seq_cst);

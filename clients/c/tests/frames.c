@@ -2,6 +2,8 @@
 #include <locale.h>
 #include <stdbool.h>
 #include <string.h>
+#include <unistd.h>
+#include <zlib.h>
 
 #include "../iconvd.h"
 #include "../src/charmaps.h"
@@ -141,6 +143,45 @@ static void test_characters(void) {
     check(cut_length(encoding_builtin(UTF_16LE), "a\0b\0c\0\x3d\xd8", 8) == 6, "a cut between surrogates");
 }
 
+/* Writes a charmap file whose second mapping comes after a comment of so many bytes, of which the first is `first`. */
+static void write_charmap(const char *path, size_t comment, char first) {
+    static const char BEFORE[] = "<code_set_name> TOY\nCHARMAP\n<U0041> /x41\n%", AFTER[] = "\n<U0042> /x42 B\nEND CHARMAP\n<U0043> /x43\n";
+    char *filler = malloc(comment + 1);
+    memset(filler, 'x', comment + 1);
+    filler[0] = first;
+    gzFile file = gzopen(path, "wb1");
+    gzwrite(file, "<escape_char> /\n<comment_char> %\n", 33);
+    gzwrite(file, BEFORE, sizeof BEFORE - 1);
+    gzwrite(file, filler, (unsigned)comment);
+    gzwrite(file, AFTER, sizeof AFTER - 1);
+    gzclose(file);
+    free(filler);
+}
+
+/* A file is read by lines wherever a block of it ends, however long a comment is, and whatever bytes it has. */
+static void test_long_lines(void) {
+    static const size_t LENGTHS[] = {1, 300, 430, 511, 512, 513, 1000, 65535, 65536, 65537, 66100, 131072, 200000};
+    static const char TEXT[] = "<code_set_name> map-TOY\n<escape_char> /\n<comment_char> %\n<mb_cur_min> 1\n<mb_cur_max> 1\nCHARMAP\n"
+                               "<U0041> /x41\n<U0042> /x42\nEND CHARMAP\n";
+    char folder[] = "/tmp/iconvd-frames-XXXXXX", path[100];
+    if (!mkdtemp(folder))
+        exit(2);
+    snprintf(path, sizeof path, "%s/TOY.gz", folder);
+    /* The lengths near a block's end have each byte of the line after them there. */
+    for (size_t row = 0; row < sizeof LENGTHS / sizeof *LENGTHS + 140; row++) {
+        size_t length = row < 140 ? 65536 - 120 + row : LENGTHS[row - 140];
+        struct charmap map, light;
+        write_charmap(path, length, row % 2 ? 0 : 'x');
+        iconvd_status status = charmap_read(&map, &light, folder, "TOY", "map-TOY");
+        check(status == ICONVD_OK && map.mappings == 2 && map.text.length == sizeof TEXT - 1 &&
+                  memcmp(map.text.bytes, TEXT, sizeof TEXT - 1) == 0,
+              "a comment of %zu bytes: status %d", length, (int)status);
+        buffer_free(&map.text);
+    }
+    unlink(path);
+    rmdir(folder);
+}
+
 static void test_repertoire(void) {
     static const char TEXT[] = "<code_set_name> TOY\n# <U0042> \\x01\nCHARMAP\n<U0041> \\x41\n<U0100>..<U0110> \\x80\n"
                                "<U0209>...<U0210> \\xA0\n<question-mark> \\x3f\nEND CHARMAP\n<U0043> \\x43\n";
@@ -201,6 +242,7 @@ int main(void) {
     test_lengths();
     test_names();
     test_characters();
+    test_long_lines();
     test_repertoire();
     test_codes();
     check(strcmp(iconvd_status_text(ICONVD_ENOCHAR), "the target lacks the next character") == 0, "a status's text");

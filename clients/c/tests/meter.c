@@ -141,6 +141,84 @@ static void test_large(void) {
     }
 }
 
+/* Where a call has stopped. */
+struct step {
+    size_t left, room;
+    iconvd_status status;
+};
+
+/* A caller that goes on a byte after each fault. */
+struct loop {
+    const char *from;
+    enum text kind;
+    int policy;
+    size_t count; /* of the first steps, which are kept */
+    struct step steps[100];
+};
+
+static char loop_text[SMALL], loop_out[8 * SMALL], loop_other[8 * SMALL];
+
+/* A call after another one. */
+static struct step step_after(iconvd_cd *cd, const struct step *last, char *out) {
+    struct step step = *last;
+    const char *in = loop_text + sizeof loop_text - step.left;
+    out += sizeof loop_out - step.room;
+    step.status = iconvd_convert(cd, &in, &step.left, &out, &step.room, NULL);
+    return step;
+}
+
+static const struct step FIRST = {.left = sizeof loop_text, .room = sizeof loop_out, .status = ICONVD_EILSEQ};
+
+/* Its calls cost together what one call costs. */
+static void meter_loop(struct loop *loop) {
+    iconvd_cd *cd = NULL;
+    struct step step = FIRST;
+    loop->count = 0;
+    check(iconvd_open(pool, "UTF-8", loop->from, loop->policy, &cd) == ICONVD_OK, "%s", loop->from);
+    uint64_t bytes = text_bytes_sent, requests = texts_sent;
+    while (step.status == ICONVD_EILSEQ && step.left > 0) {
+        step = step_after(cd, &step, loop_out);
+        if (loop->count < sizeof loop->steps / sizeof *loop->steps)
+            loop->steps[loop->count++] = step;
+        step.left -= step.status == ICONVD_EILSEQ;
+    }
+    bytes = text_bytes_sent - bytes;
+    requests = texts_sent - requests;
+    check(step.left < 8 && bytes <= 4 * SMALL + 65536 && requests <= 8 * ((SMALL + 65535) / 65536),
+          "%s, %s, policy %d, a loop: %zu bytes left, %llu requests, %llu bytes", loop->from, TEXT_NAMES[loop->kind], loop->policy,
+          step.left, (unsigned long long)requests, (unsigned long long)bytes);
+    iconvd_close(cd);
+}
+
+/* Each does what it does by itself. */
+static void compare_loop(const struct loop *loop) {
+    struct step last = FIRST;
+    for (size_t i = 0; i < loop->count; i++) {
+        const struct step *seen = &loop->steps[i];
+        iconvd_cd *cd = NULL;
+        iconvd_open(pool, "UTF-8", loop->from, loop->policy, &cd);
+        last = step_after(cd, &last, loop_other);
+        check(last.left == seen->left && last.room == seen->room && last.status == seen->status, "%s, %s, policy %d, call %zu of a loop",
+              loop->from, TEXT_NAMES[loop->kind], loop->policy, i);
+        last.left -= last.status == ICONVD_EILSEQ;
+        iconvd_close(cd);
+    }
+    check(memcmp(loop_out, loop_other, sizeof loop_other - last.room) == 0, "%s, %s, policy %d: the output of a loop", loop->from,
+          TEXT_NAMES[loop->kind], loop->policy);
+}
+
+static void test_loops(void) {
+    static const char *const FROM[] = {"EUC-KR", "UTF-8", "GB18030", "SHIFT_JIS", "BIG5", "EUC-JP", "US-ASCII"};
+    static const enum text KINDS[] = {RANDOM, GERMAN, FRENCH, EACH_SECOND, FAULTS, LEADS};
+    for (size_t i = 0; i < sizeof FROM / sizeof *FROM; i++)
+        for (size_t j = 0; j < 2 * sizeof KINDS / sizeof *KINDS; j++) {
+            struct loop loop = {.from = FROM[i], .kind = KINDS[j / 2], .policy = j % 2 ? ICONVD_TRANSLIT : ICONVD_STRICT};
+            make_text(loop.kind, loop.from, loop_text, sizeof loop_text);
+            meter_loop(&loop);
+            compare_loop(&loop);
+        }
+}
+
 /* Little room. */
 static void test_rooms(void) {
     static const char *const FROM[] = {"EUC-KR", "UTF-8", "GB18030", "KOI8-R"};
@@ -197,6 +275,7 @@ int main(void) {
     where = start_counting("meter");
     connect_anew();
     double begin = seconds();
+    test_loops();
     test_large();
     double large = seconds();
     test_rooms();

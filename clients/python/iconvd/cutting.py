@@ -9,7 +9,7 @@ from __future__ import annotations
 
 import codecs
 from types import BuiltinFunctionType
-from typing import AnyStr, Callable, Dict, List, NamedTuple, Optional, Sequence, Tuple, Union
+from typing import AnyStr, Callable, Dict, Iterable, List, NamedTuple, Optional, Sequence, Tuple, Union
 
 from .forms import Form
 
@@ -56,7 +56,8 @@ class _Handling:
         self._form = form
         self._name = name
         self._handle: _Handler = codecs.lookup_error(errors)
-        self._is_local = isinstance(self._handle, BuiltinFunctionType) and self._handle.__name__ in _LOCAL
+        #: Whether it looks at the faulty bytes or characters alone.
+        self.is_local = isinstance(self._handle, BuiltinFunctionType) and self._handle.__name__ in _LOCAL
 
 
 class DecodingHandling(_Handling):
@@ -64,7 +65,7 @@ class DecodingHandling(_Handling):
 
     def cut(self, data: bytes, at: int, end: int, is_end: bool) -> DecodingCut:
         """Cuts the faults out of the bytes from `at` to `end`. `is_end` says that the text ends there."""
-        found = self._cut_at_once(data, at, end, is_end) if self._is_local else None
+        found = self._cut_at_once(data, at, end, is_end) if self.is_local else None
         return found or self._cut_one_by_one(data, at, end, is_end)
 
     def _cut_at_once(self, data: bytes, at: int, end: int, is_end: bool) -> Optional[DecodingCut]:
@@ -115,23 +116,31 @@ class EncodingHandling(_Handling):
 
     def cut(self, text: str, at: int, end: int) -> EncodingCut:
         """Cuts the characters that the encoding lacks out of those from `at` to `end`."""
-        found = self._cut_at_once(text[at:end], end) if self._is_local else None
+        found = self._cut_at_once(text[at:end], end) if self.is_local else None
         return found or self._cut_one_by_one(text, at, end)
 
     def _cut_at_once(self, window: str, end: int) -> Optional[EncodingCut]:
         """Returns None if the handler has to see the characters where they are."""
         form = self._form
         items = form.special.findall(window)
-        replaced: Dict[str, Union[str, bytes]] = {form.mark: form.separator}
+        replaced = self.replaced(set(items) - {form.mark})
+        if replaced is None:
+            return None
+        replaced[form.mark] = form.separator
+        return EncodingCut(form.special.split(window), [replaced[item] for item in items], end)
+
+    def replaced(self, items: Iterable[str]) -> Optional[Dict[str, Union[str, bytes]]]:
+        """Returns what the handler gives for characters that the encoding lacks, or None if it has to see them where they are."""
+        replaced: Dict[str, Union[str, bytes]] = {}
         try:
-            for item in set(items) - {form.mark}:
-                error = UnicodeEncodeError(self._name, item, 0, len(item), form.lacking_reason)
+            for item in items:
+                error = UnicodeEncodeError(self._name, item, 0, len(item), self._form.lacking_reason)
                 replaced[item], after = self._replaced(error, len(item))
                 if after != len(item):
                     return None
         except UnicodeEncodeError:
             return None
-        return EncodingCut(form.special.split(window), [replaced[item] for item in items], end)
+        return replaced
 
     def _cut_one_by_one(self, text: str, at: int, end: int) -> EncodingCut:
         form = self._form

@@ -42,6 +42,8 @@ class Form:
     unit = 1
     #: Whether only ASCII characters of an error handler are put into the output, as CPython's codec does.
     is_ascii_put_in = False
+    #: The runs of characters that an encoding with shifts writes shifted. They have the same bytes in any text.
+    runs: Optional[Pattern[str]] = None
     #: Whether an error handler's text is encoded by itself, so that its faults are faults of that text, as CPython does.
     is_multibyte = False
 
@@ -83,10 +85,6 @@ class Form:
             has = "".join(f"{_escaped(first)}-{_escaped(last)}" for first, last in self.has())
             self._special = re.compile(f"{re.escape(self.mark)}|[^{has}]" + ("+" if self._in_runs else ""))
         return self._special
-
-    def units(self, text: str) -> Sequence[str]:
-        """Cuts a text into what has the same bytes in any text: characters, or sequences of them if the encoding has shifts."""
-        return text
 
     def lacks(self, text: str) -> Optional[int]:
         """Returns where the first character is that the encoding lacks."""

@@ -9,12 +9,13 @@ from .charmaps import Charmap
 from .codes import CharmapForm
 from .errors import CharmapRefused, UnknownEncoding
 from .forms import Form
+from .known import Known, known_of
 from .names import Encoding
 
 #: Begins the names of own charmaps. No file's name has it.
 _OWN = "/"
 #: Characters of an encoding whose bytes are kept.
-_MAX_BYTES = 65_536
+_MAX_KNOWN = 65_536
 
 
 class Library:
@@ -24,7 +25,7 @@ class Library:
         self._read: Dict[str, Charmap] = {}
         self._refused: Dict[str, CharmapRefused] = {}
         self._forms: Dict[Encoding, Form] = {}
-        self._bytes: Dict[Encoding, Dict[str, bytes]] = {}
+        self._known: Dict[Tuple[Encoding, str], Known] = {}
 
     def find(self, name: str) -> Encoding:
         """Returns the encoding of that name, in any case of its letters. Raises UnknownEncoding."""
@@ -84,9 +85,10 @@ class Library:
             return CharmapForm(self.get(encoding.name))
         return shifted.Utf7Form() if encoding.name == "UTF-7" else forms.BUILTIN[encoding.name]()
 
-    def bytes_of(self, encoding: Encoding) -> Dict[str, bytes]:
-        """Returns the characters of an encoding that the server was asked for, with their bytes."""
-        known = self._bytes.get(encoding)
-        if known is None or len(known) > _MAX_BYTES:
-            known = self._bytes[encoding] = {}
+    def known(self, encoding: Encoding, errors: str = "") -> Known:
+        """Returns the characters of an encoding that the server was asked for, with their bytes, and with those of what an error
+        handler gives for characters that the encoding lacks."""
+        known = self._known.get((encoding, errors))
+        if known is None or len(known) > _MAX_KNOWN:
+            known = self._known[encoding, errors] = known_of(self.form(encoding))
         return known

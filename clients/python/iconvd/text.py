@@ -8,12 +8,13 @@ from __future__ import annotations
 
 import codecs
 import sys
-from typing import AnyStr, Dict, List, NamedTuple, Optional, Sequence, Set, Tuple, Union
+from typing import AnyStr, Iterable, List, NamedTuple, Sequence, Tuple, Union
 
 from . import shifted, steps
 from .cutting import WINDOW, DecodingCut, DecodingHandling, EncodingCut, EncodingHandling, joined
 from .errors import RequestRefused
 from .frames import Status
+from .known import Known
 from .library import Library
 from .names import Encoding
 from .session import Pair, Session, Steps
@@ -174,37 +175,39 @@ class TextCodec:
 
     def _as_bytes(self, session: Session, texts: Sequence[Union[str, bytes]]) -> Steps[List[bytes]]:
         """Encodes what error handlers gave, by the bytes of each unit: the server is asked once for each."""
-        units = self._library.form(self.encoding).units
-        known = self._library.bytes_of(self.encoding)
+        known = self._library.known(self.encoding)
         unlike = {text for text in texts if isinstance(text, str)}
-        yield from self._learn(session, {unit for text in unlike for unit in units(text)}, known)
-        encoded = {text: b"".join(map(known.__getitem__, units(text))) for text in unlike}
+        yield from self._learn(session, unlike, known)
+        encoded = {text: known.bytes_of(text) or b"" for text in unlike}
         return [encoded[text] if isinstance(text, str) else text for text in texts]
 
-    def known(self, text: str) -> Optional[bytes]:
-        """Returns the bytes of a text, if the server was asked for those of each unit of it."""
-        known = self._library.bytes_of(self.encoding)
-        try:
-            return b"".join(map(known.__getitem__, self._library.form(self.encoding).units(text)))
-        except KeyError:
-            return None
+    def known(self, errors: str) -> Known:
+        """Returns the characters of the encoding that the server was asked for."""
+        is_local = EncodingHandling(self._library.form(self.encoding), self._error_name, errors).is_local
+        return self._library.known(self.encoding, errors if is_local else "")
 
-    def lacks(self, text: str) -> bool:
-        """Whether the encoding lacks a character of a text."""
-        return self._library.form(self.encoding).lacks(text) is not None
-
-    def learn(self, session: Session, text: str) -> Steps[None]:
-        """Asks the server for the bytes of the units of a text. The encoding has all its characters."""
-        units = set(self._library.form(self.encoding).units(text))
-        yield from self._learn(session, units, self._library.bytes_of(self.encoding))
-
-    def _learn(self, session: Session, units: Set[str], known: Dict[str, bytes]) -> Steps[None]:
+    def learn(self, session: Session, text: str, errors: str, known: Known) -> Steps[None]:
+        """Asks the server for the bytes of the new characters of a text. For those that the encoding lacks it has those of what the
+        error handler gives, if that is the same in any text."""
         form = self._library.form(self.encoding)
-        known[form.mark] = form.separator
-        new = sorted(units - known.keys())
+        new = known.new_units((text,))
+        data = form.mark.join(new).encode("utf-8", "surrogatepass")
+        ran = yield from steps.run(session, Pair(self.encoding, steps.UTF_8), data)
+        if ran.status == Status.OK:
+            known.add(new, _checked(form.split(ran.output), new[1:]))
+            return
+        handling = EncodingHandling(form, self._error_name, errors)
+        replaced = handling.replaced(unit for unit in new if form.lacks(unit) is not None) if handling.is_local else None
+        if replaced and form.runs is None:
+            yield from self._learn(session, [unit for unit in new if unit not in replaced], known)
+            known.add(replaced, (yield from self._as_bytes(session, list(replaced.values()))))
+
+    def _learn(self, session: Session, texts: Iterable[str], known: Known) -> Steps[None]:
+        form = self._library.form(self.encoding)
+        new = known.new_units(texts)
         if new:
             output = yield from self._encode_good(session, form.mark.join(new))
-            known.update(zip(new, _checked(form.split(output), new[1:])))
+            known.add(new, _checked(form.split(output), new[1:]))
 
 
 def _whole(ran: steps.Run) -> bytes:

@@ -99,7 +99,7 @@ class Utf7Form(Form):
     def find_all(self, data: bytes, at: int, end: int) -> Optional[Tuple[List[bytes], List[bytes]]]:
         return None
 
-    def split(self, data: bytes) -> List[bytes]:
+    def split(self, data: bytes, count: int) -> List[bytes]:
         return data.split(self.separator)
 
     def is_cut(self, item: bytes) -> bool:

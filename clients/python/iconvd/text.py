@@ -92,9 +92,9 @@ class TextCodec:
         while at < end:
             stop = end if self.has_state else min(end, at + WINDOW)
             cut = handling.cut(data, at, stop, stop == end and final)
-            self._has_faults = bool(cut.between)
+            self._has_faults = cut.has_faults
             pieces.append((yield from self._decode_cut(session, cut)))
-            if cut.at == at and not cut.between:
+            if cut.at == at and not cut.marks:
                 break
             at = cut.at
         return Decoded("".join(pieces), at)
@@ -123,13 +123,15 @@ class TextCodec:
 
     def _decode_cut(self, session: Session, cut: DecodingCut) -> Steps[str]:
         form = self._library.form(self.encoding)
-        if not any(cut.good):
-            return "".join(cut.between)
-        ran = yield from steps.run(session, Pair(steps.UTF_8, self.encoding), form.separator.join(cut.good))
+        if len(cut.good) == cut.marks * len(form.separator):
+            return "".join(cut.between) if cut.same is None else cut.same * cut.marks
+        ran = yield from steps.run(session, Pair(steps.UTF_8, self.encoding), cut.good)
         text = _whole(ran).decode("utf-8")
-        if cut.is_uniform and text.count(form.mark) == len(cut.between):
-            return text.replace(form.mark, cut.between[0])
-        return joined(_checked(text.split(form.mark), cut.between), cut.between)
+        if cut.same is None:
+            return joined(_checked(text.split(form.mark), cut.between), cut.between)
+        if text.count(form.mark) != cut.marks:
+            raise RequestRefused("CONV", Status.OK)
+        return text.replace(form.mark, cut.same)
 
     # ---- encoding
 
@@ -167,7 +169,7 @@ class TextCodec:
         if not any(cut.good):
             return b"".join(between)
         output = yield from self._encode_good(session, form.mark.join(cut.good))
-        return joined(_checked(form.split(output), between), between)
+        return joined(_checked(form.split(output, len(between)), between), between)
 
     def _encode_good(self, session: Session, text: str) -> Steps[bytes]:
         ran = yield from steps.run(session, Pair(self.encoding, steps.UTF_8), text.encode("utf-8"))
@@ -194,7 +196,7 @@ class TextCodec:
         data = form.mark.join(new).encode("utf-8", "surrogatepass")
         ran = yield from steps.run(session, Pair(self.encoding, steps.UTF_8), data)
         if ran.status == Status.OK:
-            known.add(new, _checked(form.split(ran.output), new[1:]))
+            known.add(new, _checked(form.split(ran.output, len(new) - 1), new[1:]))
             return
         handling = EncodingHandling(form, self._error_name, errors)
         replaced = handling.replaced(unit for unit in new if form.lacks(unit) is not None) if handling.is_local else None
@@ -207,7 +209,7 @@ class TextCodec:
         new = known.new_units(texts)
         if new:
             output = yield from self._encode_good(session, form.mark.join(new))
-            known.add(new, _checked(form.split(output), new[1:]))
+            known.add(new, _checked(form.split(output, len(new) - 1), new[1:]))
 
 
 def _whole(ran: steps.Run) -> bytes:

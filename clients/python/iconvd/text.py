@@ -11,7 +11,7 @@ import sys
 from typing import AnyStr, Iterable, List, NamedTuple, Sequence, Tuple, Union
 
 from . import shifted, steps
-from .cutting import WINDOW, DecodingCut, DecodingHandling, EncodingCut, EncodingHandling, joined
+from .cutting import WINDOW, DecodingCut, DecodingHandling, EncodingCut, EncodingHandling, gathered, joined
 from .errors import RequestRefused
 from .frames import Status
 from .known import Known
@@ -166,9 +166,13 @@ class TextCodec:
     def _encode_cut(self, session: Session, cut: EncodingCut) -> Steps[bytes]:
         form = self._library.form(self.encoding)
         between = yield from self._as_bytes(session, cut.between)
-        if not any(cut.good):
+        good = cut.good
+        if not any(good):
             return b"".join(between)
-        output = yield from self._encode_good(session, form.mark.join(cut.good))
+        if form.mark > "\x7f":
+            # A mark of several bytes is not sent where two lacking characters follow each other.
+            good, between = gathered(good, between)
+        output = yield from self._encode_good(session, form.mark.join(good))
         return joined(_checked(form.split(output, len(between)), between), between)
 
     def _encode_good(self, session: Session, text: str) -> Steps[bytes]:

@@ -103,6 +103,27 @@ class Cost(unittest.TestCase):
                 label = (source, target, kind)
                 self.measured(len(data), label, lambda: self.client.convert(data, to=target, source=source, errors="replace"))
 
+    def test_long_codes(self) -> None:
+        """A separator of eight bytes is not sent for each fault, nor one of four for each lacking character."""
+        for length, first in ((4, 0), (8, 0), (4, 0x10000)):
+            name = f"LONG{length}X{first:X}"
+            head = "/x91" + "/x40" * (length - 2)
+            lines = [f"<U{first + code:08X}> {head}/x{code:02x}" for code in range(0x20, 0xA0)]
+            lines += ["<question-mark> /x92" + "/x40" * 7] if first else []
+            declared = f"<code_set_name> {name}\n<mb_cur_max> 8\n<escape_char> /\nCHARMAP\n"
+            self.client.upload(declared + "\n".join(lines) + "\nEND CHARMAP\n")
+            good = "".join(chr(first + code) for code in range(0x20, 0xA0))
+            encoded = self.client.encode(good, name)
+            self.assertEqual(self.client.decode(encoded, name), good)
+            chance = random.Random(name)
+            strange = b"".join(chance.randbytes(500) + encoded[-length:] for _ in range(SIZE // 500))
+            for errors in ("replace", "ignore", "backslashreplace", "test.marked"):
+                self.measured(len(strange), (name, errors), lambda: self.client.decode(strange, name, errors))
+            text = (good + "\t" * 10_000) * (SIZE // 10_000)
+            size = len(text.encode())
+            self.measured(size, (name, "ignore"), lambda: self.client.encode(text, name, "ignore"))
+            self.assertEqual(self.client.decode(self.client.encode(text, name, "ignore"), name), good * (SIZE // 10_000))
+
     def test_surrogateescape(self) -> None:
         for name in ("UTF-8", "US-ASCII", "CP1253", "EUC-KR"):
             data = repeated(b"a\xff\xfe")

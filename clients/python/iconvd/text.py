@@ -21,6 +21,8 @@ from .session import Pair, Session, Steps
 
 #: Characters, or bytes, of a long text that are converted before the next are copied.
 _PART = 1_048_576
+#: The error handler that ends a call at its first fault.
+_STRICT = "strict"
 #: CPython's names of the encodings of Unicode.
 _PYTHON = {
     "UTF-8": "utf-8",
@@ -81,7 +83,7 @@ class TextCodec:
         pieces: List[str] = []
         begin = at
         if not self._has_faults:
-            at, waits = yield from self._decode_whole(session, data, at, end, pieces)
+            at, waits = yield from self._decode_whole(session, data, (at, end), errors == _STRICT, pieces)
             if at == end or (waits and not final):
                 return Decoded("".join(pieces), at)
             if self.has_state:
@@ -108,13 +110,14 @@ class TextCodec:
         return len(data) - 2 if waits else len(data)
 
     def _decode_whole(
-        self, session: Session, data: bytes, at: int, end: int, pieces: List[str]
+        self, session: Session, data: bytes, span: Tuple[int, int], is_careful: bool, pieces: List[str]
     ) -> Steps[Tuple[int, bool]]:
         """Decodes up to the first fault. Returns where it is, and whether more bytes may complete a character there."""
+        at, end = span
         pair = Pair(steps.UTF_8, self.encoding)
         while at < end:
             limit = end if self.has_state else min(end, at + _PART)
-            ran = yield from steps.run(session, pair, data[at:limit])
+            ran = yield from steps.run(session, pair, data[at:limit], is_careful)
             pieces.append(ran.output.decode("utf-8"))
             at += ran.used
             if ran.status != Status.OK and not (ran.status == Status.EINVAL and limit < end):
@@ -139,7 +142,7 @@ class TextCodec:
         """Encodes the characters from `at` on."""
         pieces: List[bytes] = []
         if not self._has_faults:
-            at = yield from self._encode_whole(session, text, at, pieces)
+            at = yield from self._encode_whole(session, text, at, errors == _STRICT, pieces)
         if at == len(text):
             return b"".join(pieces)
         handling = EncodingHandling(self._library.form(self.encoding), self._error_name, errors)
@@ -150,13 +153,13 @@ class TextCodec:
             at = cut.at
         return b"".join(pieces)
 
-    def _encode_whole(self, session: Session, text: str, at: int, pieces: List[bytes]) -> Steps[int]:
+    def _encode_whole(self, session: Session, text: str, at: int, is_careful: bool, pieces: List[bytes]) -> Steps[int]:
         """Encodes up to the first character that the encoding lacks. Returns where it is."""
         pair = Pair(self.encoding, steps.UTF_8)
         while at < len(text):
             limit = len(text) if self.has_state else at + _PART
             data = text[at:limit].encode("utf-8", "surrogatepass")
-            ran = yield from steps.run(session, pair, data)
+            ran = yield from steps.run(session, pair, data, is_careful)
             pieces.append(ran.output)
             at += len(data[: ran.used].decode("utf-8", "surrogatepass"))
             if ran.status != Status.OK:

@@ -7,6 +7,7 @@ differ in the last byte alone, and ranges of characters. Regular expressions are
 from __future__ import annotations
 
 import functools
+import itertools
 import re
 from typing import Dict, Iterator, List, Optional, Set, Tuple
 
@@ -53,8 +54,31 @@ def _unusual_ranges(body: bytes) -> Iterator[Range]:
             yield point, int(last, 16) - point + 1 if dots else 1, code, length
 
 
+def _range(name: bytes) -> Tuple[int, int]:
+    """Returns the first character of `<U...>..<U...>`, and how many there are. Raises ValueError for another name."""
+    first, _, last = name.partition(b">..<U")
+    return int(first[2:], 16), int(last[:-1], 16) - int(first[2:], 16) + 1
+
+
+def _plain_ranges(body: bytes, escape: bytes) -> List[Range]:
+    """Returns the mappings of a charmap in which each line is as usual. Raises ValueError for another one."""
+    lines = [line.split(None, 2) for line in body.replace(escape + b"x", b"").split(b"\n") if line[:2] == b"<U"]
+    if len(lines) != (b"\n" + body).count(b"\n<") or b"\n " in body or b"\n\t" in body:
+        raise ValueError("a line is not as usual")
+    names = [line[0] for line in lines]
+    codes = [line[1] if len(line) > 1 else b"" for line in lines]
+    return [
+        (int(name[2:-1], 16), 1, code, length // 2) if len(name) < 12 else (*_range(name), code, length // 2)
+        for name, code, length in zip(names, map(int, codes, itertools.repeat(16)), map(len, codes))
+    ]
+
+
 def ranges(body: bytes, escape: bytes) -> List[Range]:
     """Returns the mappings of the lines between CHARMAP and END CHARMAP."""
+    try:
+        return _plain_ranges(body, escape)
+    except ValueError:
+        pass
     usual = re.compile(_USUAL % re.escape(escape), re.M)
     constant = escape + b"x"
     found = [
@@ -74,6 +98,11 @@ class _Strings:
 
     def add(self, code: int, count: int, length: int) -> None:
         """Adds strings that count up from `code` on."""
+        low = code & 0xFF
+        if low + count <= 256:
+            key = (length - 1, code >> 8)
+            self._bits[key] = self._bits.get(key, 0) | ((1 << count) - 1) << low
+            return
         while count > 0:
             low = code & 0xFF
             taken = min(256 - low, count)

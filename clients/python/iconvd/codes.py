@@ -62,11 +62,11 @@ def _range(name: bytes) -> Tuple[int, int]:
 
 def _plain_ranges(body: bytes, escape: bytes) -> List[Range]:
     """Returns the mappings of a charmap in which each line is as usual. Raises ValueError for another one."""
-    lines = [line.split(None, 2) for line in body.replace(escape + b"x", b"").split(b"\n") if line[:2] == b"<U"]
+    lines = [line for line in body.replace(escape + b"x", b"").split(b"\n") if line[:2] == b"<U"]
     if len(lines) != (b"\n" + body).count(b"\n<") or b"\n " in body or b"\n\t" in body:
         raise ValueError("a line is not as usual")
-    names = [line[0] for line in lines]
-    codes = [line[1] if len(line) > 1 else b"" for line in lines]
+    names = [line.split(None, 1)[0] for line in lines]
+    codes = [line.split(None, 2)[1] for line in lines]
     return [
         (int(name[2:-1], 16), 1, code, length // 2) if len(name) < 12 else (*_range(name), code, length // 2)
         for name, code, length in zip(names, map(int, codes, itertools.repeat(16)), map(len, codes))
@@ -77,7 +77,7 @@ def ranges(body: bytes, escape: bytes) -> List[Range]:
     """Returns the mappings of the lines between CHARMAP and END CHARMAP."""
     try:
         return _plain_ranges(body, escape)
-    except ValueError:
+    except (ValueError, IndexError):
         pass
     usual = re.compile(_USUAL % re.escape(escape), re.M)
     constant = escape + b"x"
@@ -96,20 +96,19 @@ class _Strings:
     def __init__(self) -> None:
         self._bits: Dict[Tuple[int, int], int] = {}
 
-    def add(self, code: int, count: int, length: int) -> None:
-        """Adds strings that count up from `code` on."""
-        low = code & 0xFF
-        if low + count <= 256:
-            key = (length - 1, code >> 8)
-            self._bits[key] = self._bits.get(key, 0) | ((1 << count) - 1) << low
-            return
-        while count > 0:
+    def add_all(self, found: List[Range]) -> None:
+        """Adds the strings of mappings, which count up from the first."""
+        bits = self._bits
+        for _, count, code, length in found:
             low = code & 0xFF
-            taken = min(256 - low, count)
+            while low + count > 256:
+                key = (length - 1, code >> 8)
+                bits[key] = bits.get(key, 0) | _ALL >> low << low
+                code += 256 - low
+                count -= 256 - low
+                low = 0
             key = (length - 1, code >> 8)
-            self._bits[key] = self._bits.get(key, 0) | ((1 << taken) - 1) << low
-            code += taken
-            count -= taken
+            bits[key] = bits.get(key, 0) | ((1 << count) - 1) << low
 
     def _tree(self) -> Tuple[Dict[bytes, int], Dict[bytes, Set[int]]]:
         """Returns the last bytes of the strings by what is before them, and the bytes between by what is before these."""
@@ -241,8 +240,7 @@ class CharmapForm(PatternForm):
     @functools.cached_property
     def _strings(self) -> _Strings:
         strings = _Strings()
-        for _, count, code, length in self._ranges():
-            strings.add(code, count, length)
+        strings.add_all(self._ranges())
         return strings
 
     @functools.cached_property

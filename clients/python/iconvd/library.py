@@ -14,6 +14,8 @@ from .names import Encoding
 
 #: Begins the names of own charmaps. No file's name has it.
 _OWN = "/"
+#: Spellings of names that are kept.
+_MAX_FOUND = 4096
 #: Characters of an encoding whose bytes are kept.
 _MAX_KNOWN = 65_536
 
@@ -24,13 +26,19 @@ class Library:
     def __init__(self) -> None:
         self._read: Dict[str, Charmap] = {}
         self._refused: Dict[str, CharmapRefused] = {}
+        self._found: Dict[str, Encoding] = {}
         self._forms: Dict[Encoding, Form] = {}
         self._known: Dict[Tuple[Encoding, str], Known] = {}
 
     def find(self, name: str) -> Encoding:
         """Returns the encoding of that name, in any case of its letters. Raises UnknownEncoding."""
-        own = Encoding(True, _OWN + name.upper())
-        return own if own.name in self._read else names.find(name)
+        found = self._found.get(name)
+        if found is None:
+            own = Encoding(True, _OWN + name.upper())
+            found = own if own.name in self._read else names.find(name)
+            if len(self._found) < _MAX_FOUND:
+                self._found[name] = found
+        return found
 
     def get(self, file: str) -> Charmap:
         """Returns the charmap of that file, which is read once. Raises CharmapRefused."""
@@ -61,11 +69,13 @@ class Library:
             added = Encoding(True, _OWN + name.upper())
             self._refused.pop(added.name, None)
             self._read[added.name] = charmap
+            self._found.clear()
             return added
         raise CharmapRefused(name, "an encoding has this name")
 
     def remove(self, added: Encoding) -> None:
         """Takes out a charmap of the caller's own, which the server did not take."""
+        self._found.clear()
         self._read.pop(added.name, None)
         self._forms.pop(added, None)
 

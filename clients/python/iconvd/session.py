@@ -79,7 +79,7 @@ class Session:
 
     def first_piece(self, pair: Pair) -> int:
         """Returns how many bytes the first request of a call may have."""
-        return self._first_pieces.get(pair, frames.CHUNK)
+        return self._first_pieces.get(pair, frames.CHUNK) if self._first_pieces else frames.CHUNK
 
     def note_end(self, pair: Pair, used: int, is_fault: bool) -> None:
         """Notes how far a call came. After a fault the next one begins with a short piece, which grows while all goes well."""

@@ -33,7 +33,7 @@ def run(session: Session, pair: Pair, data: bytes, is_careful: bool = False) -> 
     pieces: List[bytes] = []
     at = 0
     status = Status.OK
-    chunk = session.first_piece(pair) if is_careful else frames.CHUNK
+    first = chunk = session.first_piece(pair) if is_careful else frames.CHUNK
     before = [_reset(descriptor, 0)] if descriptor.has_state else []
     while at < len(data):
         piece = data[at : at + chunk]
@@ -50,7 +50,7 @@ def run(session: Session, pair: Pair, data: bytes, is_careful: bool = False) -> 
             raise RequestRefused("CONV", status)
         if len(data) - at > chunk:
             chunk = min(2 * chunk, _LONG_CHUNK)
-    if is_careful:
+    if is_careful and (at < len(data) or first < frames.CHUNK):
         session.note_end(pair, at, at < len(data))
     if descriptor.has_state and pieces:
         (reply,) = yield [_reset(descriptor, _CLOSING)]

@@ -24,7 +24,8 @@ class WholeConversion:
 
     def run(self, session: Session) -> Steps[bytes]:
         """Converts the text as it is, and from the first fault on by way of its characters."""
-        ran = yield from steps.run(session, self.pair, self._data[self._begin :] if self._begin else self._data, self._ends.errors == "strict")
+        data = self._data[self._begin :] if self._begin else self._data
+        ran = yield from steps.run(session, self.pair, data, self._ends.errors == "strict")
         if ran.status == Status.OK:
             return (self._mark if ran.output else b"") + ran.output
         rest = yield from self._by_characters(session, ran)

@@ -64,16 +64,17 @@ class _Plane:
     """Up to eight boxes, a bit for each."""
 
     def __init__(self, boxes: Sequence[Box]) -> None:
+        longest = max(map(len, boxes))
         #: For the first byte of a character, the second and so on: the boxes that may have each byte there.
         self.tables = [
-            bytes(sum(1 << place for place, box in enumerate(boxes) if box[at : at + 1] and box[at] >> byte & 1) for byte in range(256))
-            for at in range(max(map(len, boxes)))
+            bytes(sum(1 << n for n, box in enumerate(boxes) if at < len(box) and box[at] >> byte & 1) for byte in range(256))
+            for at in range(longest)
         ]
         #: For boxes that match as many bytes as are counted: how long those are that match to their end.
-        self.lengths = [
-            bytes(size if any(some >> place & 1 for place, box in enumerate(boxes) if len(box) == size) else 0 for some in range(256))
-            for size in range(1, len(self.tables) + 1)
-        ]
+        self.lengths = []
+        for size in range(1, longest + 1):
+            ending = sum(1 << place for place, box in enumerate(boxes) if len(box) == size)
+            self.lengths.append(bytes(size if some & ending else 0 for some in range(256)))
 
     def beginnings(self, data: bytes) -> List[bytes]:
         """Returns where two bytes match, where three do, and so on."""

@@ -196,8 +196,8 @@ class TextCodec:
         return self._library.known(self.encoding, errors if is_local else "")
 
     def learn(self, session: Session, text: str, errors: str, known: Known) -> Steps[None]:
-        """Asks the server for the bytes of the new characters of a text. For those that the encoding lacks it has those of what the
-        error handler gives, if that is the same in any text."""
+        """Asks the server for the bytes of the new characters of a text. For those that the encoding lacks it takes what the error
+        handler gives, if that is the same in any text."""
         form = self._library.form(self.encoding)
         new = known.new_units((text,))
         data = form.mark.join(new).encode("utf-8", "surrogatepass")

@@ -23,7 +23,7 @@ MAX_TEXT = 8_388_608
 _DECLARATION = re.compile(rb"^<(code_set_name|escape_char|comment_char|mb_cur_min|mb_cur_max)>[ \t]+(\S+)", re.M)
 #: The line CHARMAP, or a mapping in a file that has no such line.
 _BEGIN = re.compile(rb"^(?:CHARMAP.*\n?|(?=<U))", re.M)
-_END = re.compile(rb"^END CHARMAP", re.M)
+_END = b"END CHARMAP"
 #: Combining sequences, which are several names, are none.
 _MAPPING = re.compile(rb"^[ \t]*(%IRREVERSIBLE%)?(<[^>\n]*>(?:\.{2,3}<[^>\n]*>)?)[ \t]+(\S+)", re.M)
 _SPAN = re.compile(rb"<U([0-9A-Fa-f]+)>\.{2,3}<U([0-9A-Fa-f]+)>")
@@ -91,8 +91,10 @@ def _body(text: bytes) -> Tuple[bytes, bytes]:
     begin = _BEGIN.search(text)
     if not begin:
         return text, b""
-    end = _END.search(text, begin.end())
-    return text[: begin.start()], text[begin.end() : end.start() if end else len(text)]
+    end = begin.end()
+    if not text.startswith(_END, end):
+        end = text.find(b"\n" + _END, end) + 1 or len(text)
+    return text[: begin.start()], text[begin.end() : end]
 
 
 def _span(name: bytes) -> int:
@@ -109,15 +111,28 @@ def _span(name: bytes) -> int:
 
 def _is_clean(body: bytes, comment: bytes) -> bool:
     """Whether each line is a mapping in both directions, a comment or empty."""
-    odd = re.compile(rb"^(?![<\n%s]|\Z)" % re.escape(comment), re.M)
-    return b"%IRREVERSIBLE%" not in body and b"><" not in body and not odd.search(body)
+    lines = b"\n" + body
+    if b"%IRREVERSIBLE%" in body or b"><" in body or len(comment) != 1 or comment in b"<\n" or b"\n\n\n" in lines:
+        return False
+    # Counting is many times as fast as a regular expression.
+    usual = lines.count(b"\n<") + lines.count(b"\n" + comment) + lines.count(b"\n\n") + lines.endswith(b"\n")
+    return usual == lines.count(b"\n")
+
+
+def _spans(body: bytes) -> int:
+    """Returns how many mappings the ranges have beyond the first of each."""
+    if b">...<" in body:
+        return sum(max(0, int(last, 16) - int(first, 16)) for first, last in _SPAN.findall(body))
+    pieces = body.split(b">..<U")
+    firsts = [piece[piece.rfind(b"<U") + 2 :] for piece in pieces[:-1]]
+    lasts = [piece[: piece.find(b">")] for piece in pieces[1:]]
+    return sum(max(0, int(last, 16) - int(first, 16)) for first, last in zip(firsts, lasts))
 
 
 def _as_it_is(name: bytes, body: bytes, declared: Dict[bytes, bytes]) -> Charmap:
     """Returns the charmap of a file whose lines need no mending."""
     lengths = declared[b"mb_cur_min"], declared[b"mb_cur_max"]
-    spans = sum(max(0, int(last, 16) - int(first, 16)) for first, last in _SPAN.findall(body))
-    mappings = body.count(b"\n<") + 1 + spans
+    mappings = body.count(b"\n<") + 1 + _spans(body)
     head = b"".join(b"<%s> %s\n" % declaration for declaration in declared.items() if declaration[0] != b"code_set_name")
     text = b"<code_set_name> %s\n%sCHARMAP\n%sEND CHARMAP\n" % (name, head, body)
     return Charmap(name, text, mappings, int(lengths[0]), int(lengths[1]), declared[b"escape_char"])

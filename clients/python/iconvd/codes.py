@@ -7,12 +7,14 @@ differ in the last byte alone, and ranges of characters. Regular expressions are
 from __future__ import annotations
 
 import functools
+import itertools
 import re
 from typing import Dict, Iterator, List, Optional, Set, Tuple
 
 from .charmaps import Charmap
 from .errors import CharmapRefused
 from .forms import PatternForm, Patterns, Span
+from .scan import Box, Scanner, Strings
 from .symbols import SYMBOLS
 
 _USUAL = rb"^[ \t]*<U([0-9A-Fa-f]{4,8})>(?:\.\.<U([0-9A-Fa-f]{4,8})>)?[ \t]+((?:%sx[0-9A-Fa-f]{2})+)(?=\s)"
@@ -52,8 +54,31 @@ def _unusual_ranges(body: bytes) -> Iterator[Range]:
             yield point, int(last, 16) - point + 1 if dots else 1, code, length
 
 
+def _range(name: bytes) -> Tuple[int, int]:
+    """Returns the first character of `<U...>..<U...>`, and how many there are. Raises ValueError for another name."""
+    first, _, last = name.partition(b">..<U")
+    return int(first[2:], 16), int(last[:-1], 16) - int(first[2:], 16) + 1
+
+
+def _plain_ranges(body: bytes, escape: bytes) -> List[Range]:
+    """Returns the mappings of a charmap in which each line is as usual. Raises ValueError for another one."""
+    lines = [line for line in body.replace(escape + b"x", b"").split(b"\n") if line[:2] == b"<U"]
+    if len(lines) != (b"\n" + body).count(b"\n<") or b"\n " in body or b"\n\t" in body:
+        raise ValueError("a line is not as usual")
+    names = [line.split(None, 1)[0] for line in lines]
+    codes = [line.split(None, 2)[1] for line in lines]
+    return [
+        (int(name[2:-1], 16), 1, code, length // 2) if len(name) < 12 else (*_range(name), code, length // 2)
+        for name, code, length in zip(names, map(int, codes, itertools.repeat(16)), map(len, codes))
+    ]
+
+
 def ranges(body: bytes, escape: bytes) -> List[Range]:
     """Returns the mappings of the lines between CHARMAP and END CHARMAP."""
+    try:
+        return _plain_ranges(body, escape)
+    except (ValueError, IndexError):
+        pass
     usual = re.compile(_USUAL % re.escape(escape), re.M)
     constant = escape + b"x"
     found = [
@@ -71,29 +96,52 @@ class _Strings:
     def __init__(self) -> None:
         self._bits: Dict[Tuple[int, int], int] = {}
 
-    def add(self, code: int, count: int, length: int) -> None:
-        """Adds strings that count up from `code` on."""
-        while count > 0:
+    def add_all(self, found: List[Range]) -> None:
+        """Adds the strings of mappings, which count up from the first."""
+        bits = self._bits
+        for _, count, code, length in found:
             low = code & 0xFF
-            taken = min(256 - low, count)
+            while low + count > 256:
+                key = (length - 1, code >> 8)
+                bits[key] = bits.get(key, 0) | _ALL >> low << low
+                code += 256 - low
+                count -= 256 - low
+                low = 0
             key = (length - 1, code >> 8)
-            self._bits[key] = self._bits.get(key, 0) | ((1 << taken) - 1) << low
-            code += taken
-            count -= taken
+            bits[key] = bits.get(key, 0) | ((1 << count) - 1) << low
 
-    def remove(self, string: bytes) -> None:
-        """Takes a string out."""
-        key = (len(string) - 1, int.from_bytes(string[:-1], "big"))
-        self._bits[key] &= ~(1 << string[-1])
-
-    def patterns(self) -> Patterns:
-        """Returns the patterns of the strings."""
+    def _tree(self) -> Tuple[Dict[bytes, int], Dict[bytes, Set[int]]]:
+        """Returns the last bytes of the strings by what is before them, and the bytes between by what is before these."""
         leaves = {number.to_bytes(length, "big"): bits for (length, number), bits in self._bits.items() if bits}
         after: Dict[bytes, Set[int]] = {}
         for prefix in leaves:
             while prefix and prefix[-1] not in after.setdefault(prefix[:-1], set()):
                 after[prefix[:-1]].add(prefix[-1])
                 prefix = prefix[:-1]
+        return leaves, after
+
+    def scanner(self, separator: bytes) -> Optional[Scanner]:
+        """Returns what finds the faults of a text of these strings."""
+        leaves, after = self._tree()
+        single = leaves.pop(b"", 0)
+        pairs: Dict[int, int] = {}
+        longer: Dict[int, List[int]] = {}
+        for prefix, last in leaves.items():
+            if len(prefix) == 1:
+                pairs[last] = pairs.get(last, 0) | 1 << prefix[0]
+                continue
+            united = longer.setdefault(len(prefix), [0] * (len(prefix) + 1))
+            for at, byte in enumerate(prefix):
+                united[at] |= 1 << byte
+            united[-1] |= last
+        boxes: List[Box] = [(leads, last) for last, leads in pairs.items()]
+        boxes.extend(map(tuple, longer.values()))
+        return Scanner.of(single, boxes, separator, Strings(leaves, after))
+
+    def patterns(self, separator: bytes) -> Patterns:
+        """Returns the patterns of the strings but the separator."""
+        leaves, after = self._tree()
+        leaves[separator[:-1]] &= ~(1 << separator[-1])
         kinds = _kinds(b"", leaves, after)
         single, leads = leaves.get(b"", 0), 0
         for bits in kinds.values():
@@ -157,35 +205,56 @@ def _runs(spans: List[Tuple[int, int]]) -> Iterator[Tuple[int, int]]:
     yield begin, end - 1
 
 
-def _separator(found: List[Range]) -> Tuple[int, bytes]:
+def _separator(found: List[Range]) -> Tuple[str, bytes]:
     """Returns a character with a byte string of the least length, and no other: a rare one, if the charmap has it."""
     shortest = min(length for _, _, _, length in found)
     able = sorted((first, code) for first, count, code, length in found if count == 1 and length == shortest)
     for mark, code in able:
         if sum(first <= mark < first + count for first, count, _, _ in found) == 1:
-            return mark, code.to_bytes(shortest, "big")
+            return chr(mark), code.to_bytes(shortest, "big")
     raise CharmapRefused("", "each of its characters has two encodings")
 
 
+def _usual_separator(charmap: Charmap, body: bytes) -> Optional[Tuple[str, bytes]]:
+    """Returns U+0000, which most charmaps have once, and its byte string."""
+    at = body.find(b"<U0000>")
+    usual = re.compile(rb"<U0000>[ \t]+%sx([0-9A-Fa-f]{2})\s" % re.escape(charmap.escape)).match(body, at) if at >= 0 else None
+    if usual is None or charmap.shortest != 1 or at > 0 and body[at - 1 : at] != b"\n" or body.count(b"<U0000>") > 1:
+        return None
+    return "\0", bytes((int(usual[1], 16),))
+
+
 class CharmapForm(PatternForm):
-    """The form of a charmap's encoding."""
+    """The form of a charmap's encoding. What is made of the charmap is made when it is first needed."""
 
     def __init__(self, charmap: Charmap) -> None:
         self._charmap = charmap
-        found = ranges(charmap.body(), charmap.escape)
-        mark, separator = _separator(found)
-        strings = _Strings()
-        for _, count, code, length in found:
-            strings.add(code, count, length)
-        strings.remove(separator)
-        patterns = strings.patterns()
-        self.is_multibyte = bool(patterns.multiple)
-        super().__init__(patterns, separator, chr(mark), not self.is_multibyte)
+        self.is_multibyte = charmap.longest > 1
+        mark, separator = _usual_separator(charmap, charmap.body()) or _separator(self._ranges())
+        super().__init__(separator, mark, not self.is_multibyte)
         self.lacking_reason = _ILLEGAL if self.is_multibyte else _UNDEFINED
 
+    def _ranges(self) -> List[Range]:
+        return ranges(self._charmap.body(), self._charmap.escape)
+
+    @functools.cached_property
+    def _strings(self) -> _Strings:
+        strings = _Strings()
+        strings.add_all(self._ranges())
+        return strings
+
+    @functools.cached_property
+    def _scanner(self) -> Optional[Scanner]:
+        return self._strings.scanner(self.separator)
+
+    def scanner(self) -> Optional[Scanner]:
+        return self._scanner
+
+    def patterns(self) -> Patterns:
+        return self._strings.patterns(self.separator)
+
     def has(self) -> List[Span]:
-        found = ranges(self._charmap.body(), self._charmap.escape)
-        return list(_runs(sorted((first, first + count) for first, count, _, _ in found)))
+        return list(_runs(sorted((first, first + count) for first, count, _, _ in self._ranges())))
 
     def reason(self, item: bytes, is_cut: bool) -> str:
         if is_cut:

@@ -24,18 +24,20 @@ class WholeConversion:
 
     def run(self, session: Session) -> Steps[bytes]:
         """Converts the text as it is, and from the first fault on by way of its characters."""
-        ran = yield from steps.run(session, self.pair, self._data[self._begin :])
+        data = self._data[self._begin :] if self._begin else self._data
+        ran = yield from steps.run(session, self.pair, data, self._ends.errors == "strict")
         if ran.status == Status.OK:
             return (self._mark if ran.output else b"") + ran.output
         rest = yield from self._by_characters(session, ran)
         return self._mark + rest
 
     def _by_characters(self, session: Session, ran: steps.Run) -> Steps[bytes]:
-        decoder = TextCodec(self._ends.source, self._origin, self._library, has_faults=True)
+        # The bytes before the fault have none, so each part has a decoder of its own.
+        good, decoder = (TextCodec(self._ends.source, self._origin, self._library, has_faults=True) for _ in range(2))
         encoder = TextCodec(self._ends.to, self._target, self._library, has_faults=True)
         done = b"" if decoder.has_state else ran.output
         at = self._begin if decoder.has_state else self._begin + ran.used
-        before = yield from decoder.decode(session, self._data[:at], "strict", True, self._begin)
+        before = yield from good.decode(session, self._data[:at], "strict", True, self._begin)
         after = yield from decoder.decode(session, self._data, self._ends.errors, True, at)
         rest = yield from encoder.encode(session, before.text + after.text, self._ends.errors, len(before.text))
         return done + rest

@@ -9,26 +9,31 @@ from __future__ import annotations
 
 import codecs
 from types import BuiltinFunctionType
-from typing import AnyStr, Callable, Dict, List, NamedTuple, Optional, Sequence, Tuple, Union
+from typing import AnyStr, Callable, Dict, Iterable, List, NamedTuple, Optional, Sequence, Tuple, TypeVar, Union
 
 from .forms import Form
+from .scan import Scanner
 
 #: Bytes or characters that are looked at in one go.
 WINDOW = 65_515
 _LOCAL = frozenset(
     "ignore_errors replace_errors backslashreplace_errors xmlcharrefreplace_errors namereplace_errors surrogateescape".split()
 )
+_Between = TypeVar("_Between", str, bytes)
 _Handler = Callable[[UnicodeError], Tuple[Union[str, bytes], int]]
 
 
 class DecodingCut(NamedTuple):
-    """Bytes that are good, the characters between them (one less), and where the text goes on."""
+    """Bytes that are good with a separator between them, what comes in the place of each, and where the text goes on."""
 
-    good: List[bytes]
-    between: List[str]
+    good: bytes
+    #: How many separators these have.
+    marks: int
+    between: Sequence[str]
     at: int
-    #: Whether all that is between them are faults with the same characters.
-    is_uniform: bool = False
+    has_faults: bool
+    #: What comes in the place of all of them, if that is the same; then `between` is empty.
+    same: Optional[str] = None
 
 
 class EncodingCut(NamedTuple):
@@ -48,6 +53,20 @@ def joined(pieces: Sequence[AnyStr], between: Sequence[AnyStr]) -> AnyStr:
     return nothing.join(whole)
 
 
+def gathered(pieces: Sequence[AnyStr], between: Sequence[_Between]) -> Tuple[List[AnyStr], List[_Between]]:
+    """Joins what nothing is between, and leaves out the empty pieces."""
+    kept: List[AnyStr] = [pieces[0]]
+    runs: List[List[_Between]] = []
+    for piece, item in zip(pieces[1:], between):
+        if runs and not kept[-1]:
+            runs[-1].append(item)
+            kept[-1] = piece
+        else:
+            runs.append([item])
+            kept.append(piece)
+    return kept, [run[0][:0].join(run) for run in runs]
+
+
 class _Handling:
     """An error handler, for texts of one encoding."""
 
@@ -56,7 +75,8 @@ class _Handling:
         self._form = form
         self._name = name
         self._handle: _Handler = codecs.lookup_error(errors)
-        self._is_local = isinstance(self._handle, BuiltinFunctionType) and self._handle.__name__ in _LOCAL
+        #: Whether it looks at the faulty bytes or characters alone.
+        self.is_local = isinstance(self._handle, BuiltinFunctionType) and self._handle.__name__ in _LOCAL
 
 
 class DecodingHandling(_Handling):
@@ -64,8 +84,62 @@ class DecodingHandling(_Handling):
 
     def cut(self, data: bytes, at: int, end: int, is_end: bool) -> DecodingCut:
         """Cuts the faults out of the bytes from `at` to `end`. `is_end` says that the text ends there."""
-        found = self._cut_at_once(data, at, end, is_end) if self._is_local else None
+        found: Optional[DecodingCut] = None
+        if self.is_local:
+            scanner = self._form.scanner()
+            found = self._scanned(scanner, data[at:end], end, is_end) if scanner else self._cut_at_once(data, at, end, is_end)
         return found or self._cut_one_by_one(data, at, end, is_end)
+
+    def _texts(self, items: Iterable[bytes]) -> Optional[Dict[bytes, str]]:
+        """Returns what the handler gives for faults, or None if it has to see them where they are."""
+        texts: Dict[bytes, str] = {}
+        try:
+            for item in items:
+                texts[item], after = _text(self._handle(UnicodeDecodeError(self._name, item, 0, len(item), "")), len(item))
+                if after != len(item):
+                    return None
+        except UnicodeDecodeError:
+            return None
+        return texts
+
+    def _scanned(self, scanner: Scanner, window: bytes, end: int, is_end: bool) -> Optional[DecodingCut]:
+        faults = scanner.faults(window)
+        tail = window[faults.tail :]
+        if tail:
+            window, faults = window[: faults.tail], faults.cut_short()
+        if not is_end:
+            end, tail = end - len(tail), b""
+        kind = self._handle.__name__
+        texts = self._texts([tail] if tail else [])
+        if texts is None:
+            return None
+        if kind == "ignore_errors":
+            good, places = scanner.without(window, faults.bytes), faults.separators
+        elif kind == "replace_errors":
+            first = faults.bytes & ~faults.following
+            good, places = scanner.without(scanner.with_separators(window, first), faults.following), faults.separators | first
+        else:
+            good, places = scanner.with_separators(window, faults.bytes), faults.separators | faults.bytes
+        cut = self._between(good, scanner.only(window, places), texts.get(tail, ""), end)
+        return cut and cut._replace(has_faults=bool(faults.bytes))
+
+    def _between(self, good: bytes, items: bytes, tail: str, end: int) -> Optional[DecodingCut]:
+        """Returns a cut with what the handler gives in the place of the items, each of which is a byte or begins with it."""
+        form = self._form
+        kinds = set(items) - {form.separator[0]}
+        texts = self._texts(bytes((byte,)) for byte in kinds)
+        if texts is None:
+            return None
+        between: List[str] = [form.mark] * 256
+        for item, text in texts.items():
+            between[item[0]] = text
+        if tail:
+            good += form.separator
+        marks = len(items) + bool(tail)
+        unlike = {between[byte] for byte in set(items)} | ({tail} if tail else set())
+        if len(unlike) <= 1:
+            return DecodingCut(good, marks, (), end, True, unlike.pop() if unlike else form.mark)
+        return DecodingCut(good, marks, [*map(between.__getitem__, items), *([tail] if tail else ())], end, True)
 
     def _cut_at_once(self, data: bytes, at: int, end: int, is_end: bool) -> Optional[DecodingCut]:
         """Returns None if the handler has to see the faults where they are."""
@@ -78,36 +152,42 @@ class DecodingHandling(_Handling):
             end -= len(items.pop())
             good.pop()
         kinds = set(items)
-        texts: Dict[bytes, str] = {form.separator: form.mark} if form.separator in kinds else {}
-        try:
-            for item in kinds - texts.keys():
-                texts[item], after = _text(self._handle(UnicodeDecodeError(self._name, item, 0, len(item), "")), len(item))
-                if after != len(item):
-                    return None
-        except UnicodeDecodeError:
+        texts = self._texts(kinds - {form.separator})
+        if texts is None:
             return None
-        is_uniform = form.separator not in kinds and len(set(texts.values())) == 1
-        return DecodingCut(good, list(map(texts.__getitem__, items)), end, is_uniform)
+        has_faults = bool(texts)
+        texts[form.separator] = form.mark
+        return self._cut(good, list(map(texts.__getitem__, items)), end, has_faults)
+
+    def _cut(self, good: List[bytes], between: List[str], at: int, has_faults: bool) -> DecodingCut:
+        """Returns a cut. A separator of several bytes is not sent where two faults follow each other."""
+        if len(self._form.separator) > self._form.unit:
+            good, between = gathered(good, between)
+        if len(set(between)) == 1:
+            return DecodingCut(self._form.separator.join(good), len(between), (), at, has_faults, between[0])
+        return DecodingCut(self._form.separator.join(good), len(between), between, at, has_faults)
 
     def _cut_one_by_one(self, data: bytes, at: int, end: int, is_end: bool) -> DecodingCut:
         good: List[bytes] = []
         between: List[str] = []
         size = 0
+        has_faults = False
         while True:
             found = self._form.find(data, at, end)
             good.append(found.good)
             size += len(found.good)
             if found.start == found.end or (found.is_cut and not is_end) or size > 2 * WINDOW:
-                return DecodingCut(good, between, found.start)
+                return self._cut(good, between, found.start, has_faults)
             text, at = found.text, found.end
             if found.reason:
+                has_faults = True
                 error = UnicodeDecodeError(self._name, data, found.start, found.end, found.reason)
                 handled, at = _text(self._handle(error), len(data))
                 text += handled
             between.append(text)
             if at > end:
                 good.append(b"")
-                return DecodingCut(good, between, at)
+                return self._cut(good, between, at, has_faults)
 
 
 class EncodingHandling(_Handling):
@@ -115,23 +195,31 @@ class EncodingHandling(_Handling):
 
     def cut(self, text: str, at: int, end: int) -> EncodingCut:
         """Cuts the characters that the encoding lacks out of those from `at` to `end`."""
-        found = self._cut_at_once(text[at:end], end) if self._is_local else None
+        found = self._cut_at_once(text[at:end], end) if self.is_local else None
         return found or self._cut_one_by_one(text, at, end)
 
     def _cut_at_once(self, window: str, end: int) -> Optional[EncodingCut]:
         """Returns None if the handler has to see the characters where they are."""
         form = self._form
         items = form.special.findall(window)
-        replaced: Dict[str, Union[str, bytes]] = {form.mark: form.separator}
+        replaced = self.replaced(set(items) - {form.mark})
+        if replaced is None:
+            return None
+        replaced[form.mark] = form.separator
+        return EncodingCut(form.special.split(window), [replaced[item] for item in items], end)
+
+    def replaced(self, items: Iterable[str]) -> Optional[Dict[str, Union[str, bytes]]]:
+        """Returns what the handler gives for characters that the encoding lacks, or None if it has to see them where they are."""
+        replaced: Dict[str, Union[str, bytes]] = {}
         try:
-            for item in set(items) - {form.mark}:
-                error = UnicodeEncodeError(self._name, item, 0, len(item), form.lacking_reason)
+            for item in items:
+                error = UnicodeEncodeError(self._name, item, 0, len(item), self._form.lacking_reason)
                 replaced[item], after = self._replaced(error, len(item))
                 if after != len(item):
                     return None
         except UnicodeEncodeError:
             return None
-        return EncodingCut(form.special.split(window), [replaced[item] for item in items], end)
+        return replaced
 
     def _cut_one_by_one(self, text: str, at: int, end: int) -> EncodingCut:
         form = self._form

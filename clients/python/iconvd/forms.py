@@ -13,6 +13,8 @@ import functools
 import re
 from typing import Callable, Dict, List, NamedTuple, Optional, Pattern, Sequence, Tuple
 
+from .scan import Box, Scanner, bits
+
 #: The first and the last of characters that follow each other.
 Span = Tuple[int, int]
 
@@ -42,6 +44,8 @@ class Form:
     unit = 1
     #: Whether only ASCII characters of an error handler are put into the output, as CPython's codec does.
     is_ascii_put_in = False
+    #: The runs of characters that an encoding with shifts writes shifted. They have the same bytes in any text.
+    runs: Optional[Pattern[str]] = None
     #: Whether an error handler's text is encoded by itself, so that its faults are faults of that text, as CPython does.
     is_multibyte = False
 
@@ -64,8 +68,12 @@ class Form:
         """Returns all good bytes between `at` and `end`, and the items between them, one less; or None if `find` is needed."""
         raise NotImplementedError
 
-    def split(self, data: bytes) -> List[bytes]:
-        """Cuts text without faults at its separators."""
+    def scanner(self) -> Optional[Scanner]:
+        """Returns what finds all faults at once, if the encoding is one for it."""
+        return None
+
+    def split(self, data: bytes, count: int) -> List[bytes]:
+        """Cuts text without faults at its separators, of which there are `count`."""
         raise NotImplementedError
 
     def is_cut(self, item: bytes) -> bool:
@@ -83,10 +91,6 @@ class Form:
             has = "".join(f"{_escaped(first)}-{_escaped(last)}" for first, last in self.has())
             self._special = re.compile(f"{re.escape(self.mark)}|[^{has}]" + ("+" if self._in_runs else ""))
         return self._special
-
-    def units(self, text: str) -> Sequence[str]:
-        """Cuts a text into what has the same bytes in any text: characters, or sequences of them if the encoding has shifts."""
-        return text
 
     def lacks(self, text: str) -> Optional[int]:
         """Returns where the first character is that the encoding lacks."""
@@ -121,11 +125,20 @@ def _good(patterns: Patterns) -> bytes:
 class PatternForm(Form):
     """How bytes are cut into characters and faults, by a regular expression."""
 
-    def __init__(self, patterns: Patterns, separator: bytes, mark: str, in_runs: bool) -> None:
-        super().__init__(separator, mark, in_runs)
-        items = b"|".join(item for item in (patterns.never, re.escape(separator), patterns.bad, b"\\Z") if item)
-        self._tokens = re.compile(b"(?s)(%s)(%s)" % (_good(patterns), items))
-        self._cut = re.compile(b"(?s)" + patterns.cut) if patterns.cut else None
+    def patterns(self) -> Patterns:
+        """Returns the patterns of the encoding's bytes."""
+        raise NotImplementedError
+
+    @functools.cached_property
+    def _tokens(self) -> Pattern[bytes]:
+        patterns = self.patterns()
+        items = b"|".join(item for item in (patterns.never, re.escape(self.separator), patterns.bad, b"\\Z") if item)
+        return re.compile(b"(?s)(%s)(%s)" % (_good(patterns), items))
+
+    @functools.cached_property
+    def _cut(self) -> Optional[Pattern[bytes]]:
+        cut = self.patterns().cut
+        return re.compile(b"(?s)" + cut) if cut else None
 
     def find(self, data: bytes, at: int, end: int) -> Found:
         found = self._tokens.match(data, at, end)
@@ -147,7 +160,12 @@ class PatternForm(Form):
         items.pop()
         return good, items
 
-    def split(self, data: bytes) -> List[bytes]:
+    def split(self, data: bytes, count: int) -> List[bytes]:
+        if len(self.separator) == 1:
+            # If there are no more, none of them is within a character.
+            pieces = data.split(self.separator)
+            if len(pieces) == count + 1:
+                return pieces
         return self.find_all(data, 0, len(data))[0]
 
     def is_cut(self, item: bytes) -> bool:
@@ -161,14 +179,31 @@ def _escaped(point: int) -> str:
 class UnicodeForm(PatternForm):
     """The form of an encoding of Unicode. CPython's codec of it is asked for the reason of a fault."""
 
-    def __init__(self, codec: str, patterns: Patterns, in_runs: bool, last: int = 0x10FFFF) -> None:
-        """`last` is the last character that the encoding has."""
-        super().__init__(patterns, "\0".encode(codec), "\0", in_runs)
+    def __init__(
+        self, codec: str, patterns: Patterns, in_runs: bool, last: int = 0x10FFFF, boxes: Optional[Sequence[Box]] = None
+    ) -> None:
+        """`last` is the last character that the encoding has, and `boxes` are its characters of several bytes, if they can be
+        found at once."""
+        super().__init__("\0".encode(codec), "\0", in_runs)
+        self._patterns = patterns
+        self._boxes = boxes
         self._last = last
         self._codec = codec
         self.unit = len(self.separator)
         self.is_ascii_put_in = codec.startswith("utf")
         self.lacking_reason = _python_lacking_reason(codec)
+
+    def patterns(self) -> Patterns:
+        return self._patterns
+
+    @functools.cached_property
+    def _scanner(self) -> Optional[Scanner]:
+        if self._boxes is None:
+            return None
+        return Scanner.of(bits(0, min(0xFF, self._last)) if not self._boxes else bits(0, 0x7F), self._boxes, self.separator)
+
+    def scanner(self) -> Optional[Scanner]:
+        return self._scanner
 
     def has(self) -> Sequence[Span]:
         return [(first, min(last, self._last)) for first, last in SCALARS if first <= self._last]
@@ -207,6 +242,16 @@ _UTF_8 = Patterns(
     rb"|\xf0(?:[\x90-\xbf][\x80-\xbf]?)?|[\xf1-\xf3][\x80-\xbf]{0,2}|\xf4(?:[\x80-\x8f][\x80-\xbf]?)?",
     cut=rb"[\xc2-\xf4].*",
 )
+_NEXT = bits(0x80, 0xBF)
+_UTF_8_BOXES: List[Box] = [
+    (bits(0xC2, 0xDF), _NEXT),
+    (bits(0xE0, 0xE0), bits(0xA0, 0xBF), _NEXT),
+    (bits(0xE1, 0xEC) | bits(0xEE, 0xEF), _NEXT, _NEXT),
+    (bits(0xED, 0xED), bits(0x80, 0x9F), _NEXT),
+    (bits(0xF0, 0xF0), bits(0x90, 0xBF), _NEXT, _NEXT),
+    (bits(0xF1, 0xF3), _NEXT, _NEXT, _NEXT),
+    (bits(0xF4, 0xF4), bits(0x80, 0x8F), _NEXT, _NEXT),
+]
 _UTF_16LE = Patterns(
     single=rb"(?:[^\0][^\xd8-\xdf]|\0[^\0\xd8-\xdf])",
     lead=b"",
@@ -236,9 +281,9 @@ _ASCII = Patterns(rb"[\x01-\x7f]", b"", b"", rb"[\x80-\xff]", b"", b"")
 
 #: The forms of the encodings that the server has itself, but for UTF-7; see shifted.py.
 BUILTIN: Dict[str, Callable[[], Form]] = {
-    "US-ASCII": lambda: UnicodeForm("ascii", _ASCII, True, 0x7F),
+    "US-ASCII": lambda: UnicodeForm("ascii", _ASCII, True, 0x7F, ()),
     "ISO-8859-1": lambda: UnicodeForm("latin-1", _ASCII._replace(single=rb"[\x01-\xff]", never=b""), True, 0xFF),
-    "UTF-8": lambda: UnicodeForm("utf-8", _UTF_8, True),
+    "UTF-8": lambda: UnicodeForm("utf-8", _UTF_8, True, boxes=_UTF_8_BOXES),
     "UTF-16LE": lambda: UnicodeForm("utf-16-le", _UTF_16LE, False),
     "UTF-16BE": lambda: UnicodeForm("utf-16-be", _UTF_16BE, False),
     "UTF-32LE": lambda: UnicodeForm("utf-32-le", _UTF_32LE, False),

@@ -9,12 +9,15 @@ from .charmaps import Charmap
 from .codes import CharmapForm
 from .errors import CharmapRefused, UnknownEncoding
 from .forms import Form
+from .known import Known, known_of
 from .names import Encoding
 
 #: Begins the names of own charmaps. No file's name has it.
 _OWN = "/"
+#: Spellings of names that are kept.
+_MAX_FOUND = 4096
 #: Characters of an encoding whose bytes are kept.
-_MAX_BYTES = 65_536
+_MAX_KNOWN = 65_536
 
 
 class Library:
@@ -23,13 +26,19 @@ class Library:
     def __init__(self) -> None:
         self._read: Dict[str, Charmap] = {}
         self._refused: Dict[str, CharmapRefused] = {}
+        self._found: Dict[str, Encoding] = {}
         self._forms: Dict[Encoding, Form] = {}
-        self._bytes: Dict[Encoding, Dict[str, bytes]] = {}
+        self._known: Dict[Tuple[Encoding, str], Known] = {}
 
     def find(self, name: str) -> Encoding:
         """Returns the encoding of that name, in any case of its letters. Raises UnknownEncoding."""
-        own = Encoding(True, _OWN + name.upper())
-        return own if own.name in self._read else names.find(name)
+        found = self._found.get(name)
+        if found is None:
+            own = Encoding(True, _OWN + name.upper())
+            found = own if own.name in self._read else names.find(name)
+            if len(self._found) < _MAX_FOUND:
+                self._found[name] = found
+        return found
 
     def get(self, file: str) -> Charmap:
         """Returns the charmap of that file, which is read once. Raises CharmapRefused."""
@@ -60,11 +69,13 @@ class Library:
             added = Encoding(True, _OWN + name.upper())
             self._refused.pop(added.name, None)
             self._read[added.name] = charmap
+            self._found.clear()
             return added
         raise CharmapRefused(name, "an encoding has this name")
 
     def remove(self, added: Encoding) -> None:
         """Takes out a charmap of the caller's own, which the server did not take."""
+        self._found.clear()
         self._read.pop(added.name, None)
         self._forms.pop(added, None)
 
@@ -84,9 +95,10 @@ class Library:
             return CharmapForm(self.get(encoding.name))
         return shifted.Utf7Form() if encoding.name == "UTF-7" else forms.BUILTIN[encoding.name]()
 
-    def bytes_of(self, encoding: Encoding) -> Dict[str, bytes]:
-        """Returns the characters of an encoding that the server was asked for, with their bytes."""
-        known = self._bytes.get(encoding)
-        if known is None or len(known) > _MAX_BYTES:
-            known = self._bytes[encoding] = {}
+    def known(self, encoding: Encoding, errors: str = "") -> Known:
+        """Returns the characters of an encoding that the server was asked for, with their bytes, and with those of what an error
+        handler gives for characters that the encoding lacks."""
+        known = self._known.get((encoding, errors))
+        if known is None or len(known) > _MAX_KNOWN:
+            known = self._known[encoding, errors] = known_of(self.form(encoding))
         return known

@@ -7,6 +7,7 @@ from typing import TYPE_CHECKING, Optional, Tuple, Type
 
 from . import text
 from .errors import ConversionError
+from .known import Known
 from .names import Encoding
 
 if TYPE_CHECKING:
@@ -59,6 +60,9 @@ class Encoder:
         ordered, self._mark = text.mark_of(encoding)
         self._codec = text.TextCodec(name, ordered, client.library)
         self.is_started = False
+        # What is known of the characters, and for which error handler, once the text is started.
+        self._known: Optional[Known] = None
+        self._known_errors = ""
 
     def encode(self, characters: str, errors: str) -> bytes:
         """Returns the bytes of a text."""
@@ -70,13 +74,21 @@ class Encoder:
     def encode_piece(self, characters: str, errors: str) -> bytes:
         """Returns the bytes of the next piece of a text. Of short pieces each character is asked for once, so that a text file
         that is written line by line, which takes the bytes of each line at once, costs no request for each."""
+        if self._known is not None and errors == self._known_errors and len(characters) <= _SHORT:
+            encoded = self._known.bytes_of(characters)
+            if encoded is not None:
+                return encoded
+        return self._encode_new(characters, errors)
+
+    def _encode_new(self, characters: str, errors: str) -> bytes:
+        """Returns the bytes of a piece that is long, begins the text, or has characters that are not known."""
         if not self.is_started or len(characters) > _SHORT:
             return self.encode(characters, errors)
-        known = self._codec.known(characters)
-        if known is None and not self._codec.lacks(characters):
-            self._client.run(lambda session: self._codec.learn(session, characters))
-            known = self._codec.known(characters)
-        return self.encode(characters, errors) if known is None else known
+        known = self._known = self._codec.known(errors)
+        self._known_errors = errors
+        self._client.run(lambda session: self._codec.learn(session, characters, errors, known))
+        encoded = known.bytes_of(characters)
+        return self.encode(characters, errors) if encoded is None else encoded
 
 
 class Conversion:

@@ -16,6 +16,8 @@ from .library import Library
 from .names import Encoding
 
 T = TypeVar("T")
+#: Bytes of the first request after a fault, at least.
+_SHORT = 256
 #: Yields requests, is sent their replies, and returns a T.
 Steps = Generator[List[Request], List[Reply], T]
 
@@ -65,6 +67,7 @@ class Session:
         self._library = library
         self._callers: List[_Caller] = []
         self._descriptors: Dict[Pair, Descriptor] = {}
+        self._first_pieces: Dict[Pair, int] = {}
 
     def descriptor(self, pair: Pair) -> Steps[Descriptor]:
         """Returns the descriptor of a pair, which is opened, and its charmaps uploaded, when it is first asked for."""
@@ -73,6 +76,20 @@ class Session:
             found = yield from self._open(pair)
             self._descriptors[pair] = found
         return found
+
+    def first_piece(self, pair: Pair) -> int:
+        """Returns how many bytes the first request of a call may have."""
+        return self._first_pieces.get(pair, frames.CHUNK) if self._first_pieces else frames.CHUNK
+
+    def note_end(self, pair: Pair, used: int, is_fault: bool) -> None:
+        """Notes how far a call came. After a fault the next one begins with a short piece, which grows while all goes well."""
+        first = self.first_piece(pair)
+        if is_fault or used >= first:
+            first = max(_SHORT, 2 * used)
+        if first < frames.CHUNK:
+            self._first_pieces[pair] = first
+        else:
+            self._first_pieces.pop(pair, None)
 
     def _open(self, pair: Pair) -> Steps[Descriptor]:
         wanted = {end.name: self._library.get(end.name) for end in pair if end.is_charmap}

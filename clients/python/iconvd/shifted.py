@@ -4,15 +4,15 @@ from __future__ import annotations
 
 import base64
 import re
-from typing import List, NamedTuple, Optional, Sequence, Tuple
+from typing import List, NamedTuple, Optional, Tuple
 
 from .forms import Form, Found
 
 #: Bytes that are themselves, but for the tab, which is the separator; and `+-`.
 _DIRECT = re.compile(rb"(?:[A-Za-z0-9'(),\-./:?!\"#$%&*;<=>@\[\]^_`{|} \r\n]+|\+-)*")
 _SHIFTED = re.compile(rb"\+([A-Za-z0-9+/]*)")
-#: A character that is written as itself, or all between two of them.
-_WRITTEN = re.compile("[A-Za-z0-9'(),\\-./:? \t\r\n]|[^A-Za-z0-9'(),\\-./:? \t\r\n]+")
+#: All characters between two that are written as themselves.
+_SHIFTED_RUN = re.compile("[^A-Za-z0-9'(),\\-./:? \t\r\n]+")
 _OPEN = re.compile(rb"\+[A-Za-z0-9+/]*\Z")
 _SURROGATE = re.compile("[\ud800-\udfff]")
 _LONG = 65_536
@@ -52,6 +52,8 @@ def _read(digits: bytes) -> _Sequence:
 
 class Utf7Form(Form):
     """The form of UTF-7. A shifted sequence with a fault is read here up to the fault."""
+
+    runs = _SHIFTED_RUN
 
     def __init__(self) -> None:
         super().__init__(b"\t", "\t", False)
@@ -97,10 +99,7 @@ class Utf7Form(Form):
     def find_all(self, data: bytes, at: int, end: int) -> Optional[Tuple[List[bytes], List[bytes]]]:
         return None
 
-    def units(self, text: str) -> Sequence[str]:
-        return _WRITTEN.findall(text)
-
-    def split(self, data: bytes) -> List[bytes]:
+    def split(self, data: bytes, count: int) -> List[bytes]:
         return data.split(self.separator)
 
     def is_cut(self, item: bytes) -> bool:

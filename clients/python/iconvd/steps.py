@@ -26,13 +26,14 @@ class Run(NamedTuple):
     status: Status
 
 
-def run(session: Session, pair: Pair, data: bytes, close: bool = True) -> Steps[Run]:
-    """Converts from the start of `data` as far as it goes. `close` has the target's shift closed at the end."""
+def run(session: Session, pair: Pair, data: bytes, is_careful: bool = False) -> Steps[Run]:
+    """Converts from the start of `data` as far as it goes. `is_careful` is for a call that ends at a fault: its first request is
+    short if the last such call had one, since a program may go on after each fault by a call for all that is left."""
     descriptor = yield from session.descriptor(pair)
     pieces: List[bytes] = []
     at = 0
     status = Status.OK
-    chunk = frames.CHUNK
+    first = chunk = session.first_piece(pair) if is_careful else frames.CHUNK
     before = [_reset(descriptor, 0)] if descriptor.has_state else []
     while at < len(data):
         piece = data[at : at + chunk]
@@ -49,7 +50,9 @@ def run(session: Session, pair: Pair, data: bytes, close: bool = True) -> Steps[
             raise RequestRefused("CONV", status)
         if len(data) - at > chunk:
             chunk = min(2 * chunk, _LONG_CHUNK)
-    if descriptor.has_state and close and pieces:
+    if is_careful and (at < len(data) or first < frames.CHUNK):
+        session.note_end(pair, at, at < len(data))
+    if descriptor.has_state and pieces:
         (reply,) = yield [_reset(descriptor, _CLOSING)]
         pieces.append(_accepted("RESET", reply).body)
     return Run(b"".join(pieces), at, Status.OK if at == len(data) else status)

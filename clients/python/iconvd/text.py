@@ -8,18 +8,21 @@ from __future__ import annotations
 
 import codecs
 import sys
-from typing import AnyStr, Dict, List, NamedTuple, Optional, Sequence, Set, Tuple, Union
+from typing import AnyStr, Iterable, List, NamedTuple, Sequence, Tuple, Union
 
 from . import shifted, steps
-from .cutting import WINDOW, DecodingCut, DecodingHandling, EncodingCut, EncodingHandling, joined
+from .cutting import WINDOW, DecodingCut, DecodingHandling, EncodingCut, EncodingHandling, gathered, joined
 from .errors import RequestRefused
 from .frames import Status
+from .known import Known
 from .library import Library
 from .names import Encoding
 from .session import Pair, Session, Steps
 
 #: Characters, or bytes, of a long text that are converted before the next are copied.
 _PART = 1_048_576
+#: The error handler that ends a call at its first fault.
+_STRICT = "strict"
 #: CPython's names of the encodings of Unicode.
 _PYTHON = {
     "UTF-8": "utf-8",
@@ -80,7 +83,7 @@ class TextCodec:
         pieces: List[str] = []
         begin = at
         if not self._has_faults:
-            at, waits = yield from self._decode_whole(session, data, at, end, pieces)
+            at, waits = yield from self._decode_whole(session, data, (at, end), errors == _STRICT, pieces)
             if at == end or (waits and not final):
                 return Decoded("".join(pieces), at)
             if self.has_state:
@@ -91,9 +94,9 @@ class TextCodec:
         while at < end:
             stop = end if self.has_state else min(end, at + WINDOW)
             cut = handling.cut(data, at, stop, stop == end and final)
-            self._has_faults = bool(cut.between)
+            self._has_faults = cut.has_faults
             pieces.append((yield from self._decode_cut(session, cut)))
-            if cut.at == at and not cut.between:
+            if cut.at == at and not cut.marks:
                 break
             at = cut.at
         return Decoded("".join(pieces), at)
@@ -107,13 +110,14 @@ class TextCodec:
         return len(data) - 2 if waits else len(data)
 
     def _decode_whole(
-        self, session: Session, data: bytes, at: int, end: int, pieces: List[str]
+        self, session: Session, data: bytes, span: Tuple[int, int], is_careful: bool, pieces: List[str]
     ) -> Steps[Tuple[int, bool]]:
         """Decodes up to the first fault. Returns where it is, and whether more bytes may complete a character there."""
+        at, end = span
         pair = Pair(steps.UTF_8, self.encoding)
         while at < end:
             limit = end if self.has_state else min(end, at + _PART)
-            ran = yield from steps.run(session, pair, data[at:limit])
+            ran = yield from steps.run(session, pair, data[at:limit], is_careful)
             pieces.append(ran.output.decode("utf-8"))
             at += ran.used
             if ran.status != Status.OK and not (ran.status == Status.EINVAL and limit < end):
@@ -122,13 +126,15 @@ class TextCodec:
 
     def _decode_cut(self, session: Session, cut: DecodingCut) -> Steps[str]:
         form = self._library.form(self.encoding)
-        if not any(cut.good):
-            return "".join(cut.between)
-        ran = yield from steps.run(session, Pair(steps.UTF_8, self.encoding), form.separator.join(cut.good))
+        if len(cut.good) == cut.marks * len(form.separator):
+            return "".join(cut.between) if cut.same is None else cut.same * cut.marks
+        ran = yield from steps.run(session, Pair(steps.UTF_8, self.encoding), cut.good)
         text = _whole(ran).decode("utf-8")
-        if cut.is_uniform and text.count(form.mark) == len(cut.between):
-            return text.replace(form.mark, cut.between[0])
-        return joined(_checked(text.split(form.mark), cut.between), cut.between)
+        if cut.same is None:
+            return joined(_checked(text.split(form.mark), cut.between), cut.between)
+        if text.count(form.mark) != cut.marks:
+            raise RequestRefused("CONV", Status.OK)
+        return text.replace(form.mark, cut.same)
 
     # ---- encoding
 
@@ -136,7 +142,7 @@ class TextCodec:
         """Encodes the characters from `at` on."""
         pieces: List[bytes] = []
         if not self._has_faults:
-            at = yield from self._encode_whole(session, text, at, pieces)
+            at = yield from self._encode_whole(session, text, at, errors == _STRICT, pieces)
         if at == len(text):
             return b"".join(pieces)
         handling = EncodingHandling(self._library.form(self.encoding), self._error_name, errors)
@@ -147,13 +153,13 @@ class TextCodec:
             at = cut.at
         return b"".join(pieces)
 
-    def _encode_whole(self, session: Session, text: str, at: int, pieces: List[bytes]) -> Steps[int]:
+    def _encode_whole(self, session: Session, text: str, at: int, is_careful: bool, pieces: List[bytes]) -> Steps[int]:
         """Encodes up to the first character that the encoding lacks. Returns where it is."""
         pair = Pair(self.encoding, steps.UTF_8)
         while at < len(text):
             limit = len(text) if self.has_state else at + _PART
             data = text[at:limit].encode("utf-8", "surrogatepass")
-            ran = yield from steps.run(session, pair, data)
+            ran = yield from steps.run(session, pair, data, is_careful)
             pieces.append(ran.output)
             at += len(data[: ran.used].decode("utf-8", "surrogatepass"))
             if ran.status != Status.OK:
@@ -163,10 +169,14 @@ class TextCodec:
     def _encode_cut(self, session: Session, cut: EncodingCut) -> Steps[bytes]:
         form = self._library.form(self.encoding)
         between = yield from self._as_bytes(session, cut.between)
-        if not any(cut.good):
+        good = cut.good
+        if not any(good):
             return b"".join(between)
-        output = yield from self._encode_good(session, form.mark.join(cut.good))
-        return joined(_checked(form.split(output), between), between)
+        if form.mark > "\x7f":
+            # A mark of several bytes is not sent where two lacking characters follow each other.
+            good, between = gathered(good, between)
+        output = yield from self._encode_good(session, form.mark.join(good))
+        return joined(_checked(form.split(output, len(between)), between), between)
 
     def _encode_good(self, session: Session, text: str) -> Steps[bytes]:
         ran = yield from steps.run(session, Pair(self.encoding, steps.UTF_8), text.encode("utf-8"))
@@ -174,37 +184,39 @@ class TextCodec:
 
     def _as_bytes(self, session: Session, texts: Sequence[Union[str, bytes]]) -> Steps[List[bytes]]:
         """Encodes what error handlers gave, by the bytes of each unit: the server is asked once for each."""
-        units = self._library.form(self.encoding).units
-        known = self._library.bytes_of(self.encoding)
+        known = self._library.known(self.encoding)
         unlike = {text for text in texts if isinstance(text, str)}
-        yield from self._learn(session, {unit for text in unlike for unit in units(text)}, known)
-        encoded = {text: b"".join(map(known.__getitem__, units(text))) for text in unlike}
+        yield from self._learn(session, unlike, known)
+        encoded = {text: known.bytes_of(text) or b"" for text in unlike}
         return [encoded[text] if isinstance(text, str) else text for text in texts]
 
-    def known(self, text: str) -> Optional[bytes]:
-        """Returns the bytes of a text, if the server was asked for those of each unit of it."""
-        known = self._library.bytes_of(self.encoding)
-        try:
-            return b"".join(map(known.__getitem__, self._library.form(self.encoding).units(text)))
-        except KeyError:
-            return None
+    def known(self, errors: str) -> Known:
+        """Returns the characters of the encoding that the server was asked for."""
+        is_local = EncodingHandling(self._library.form(self.encoding), self._error_name, errors).is_local
+        return self._library.known(self.encoding, errors if is_local else "")
 
-    def lacks(self, text: str) -> bool:
-        """Whether the encoding lacks a character of a text."""
-        return self._library.form(self.encoding).lacks(text) is not None
-
-    def learn(self, session: Session, text: str) -> Steps[None]:
-        """Asks the server for the bytes of the units of a text. The encoding has all its characters."""
-        units = set(self._library.form(self.encoding).units(text))
-        yield from self._learn(session, units, self._library.bytes_of(self.encoding))
-
-    def _learn(self, session: Session, units: Set[str], known: Dict[str, bytes]) -> Steps[None]:
+    def learn(self, session: Session, text: str, errors: str, known: Known) -> Steps[None]:
+        """Asks the server for the bytes of the new characters of a text. For those that the encoding lacks it takes what the error
+        handler gives, if that is the same in any text."""
         form = self._library.form(self.encoding)
-        known[form.mark] = form.separator
-        new = sorted(units - known.keys())
+        new = known.new_units((text,))
+        data = form.mark.join(new).encode("utf-8", "surrogatepass")
+        ran = yield from steps.run(session, Pair(self.encoding, steps.UTF_8), data)
+        if ran.status == Status.OK:
+            known.add(new, _checked(form.split(ran.output, len(new) - 1), new[1:]))
+            return
+        handling = EncodingHandling(form, self._error_name, errors)
+        replaced = handling.replaced(unit for unit in new if form.lacks(unit) is not None) if handling.is_local else None
+        if replaced and form.runs is None:
+            yield from self._learn(session, [unit for unit in new if unit not in replaced], known)
+            known.add(replaced, (yield from self._as_bytes(session, list(replaced.values()))))
+
+    def _learn(self, session: Session, texts: Iterable[str], known: Known) -> Steps[None]:
+        form = self._library.form(self.encoding)
+        new = known.new_units(texts)
         if new:
             output = yield from self._encode_good(session, form.mark.join(new))
-            known.update(zip(new, _checked(form.split(output), new[1:])))
+            known.add(new, _checked(form.split(output, len(new) - 1), new[1:]))
 
 
 def _whole(ran: steps.Run) -> bytes:

@@ -205,7 +205,10 @@ class Pieces(unittest.TestCase):
             before = iconvd.default()
             iconvd.use(client)
             self.addCleanup(iconvd.use, before)
-            for name, line in (("koi8-r", "строка"), ("utf-16", "naïve ☃ 😀"), ("euc-kr", "한국어"), ("utf-7", "é+è-\t")):
+            korean, russian, mixed = "한국어 문장", "строка", "naïve ☃ 😀"
+            texts = {"euc-kr": korean, "johab": korean, "cp949": korean, "shift_jis": "日本語の行", "euc-jp": "日本語の行", "gb18030": "中文"}
+            texts.update({"big5": "中文", "koi8-r": russian, "cp1252": "Größe, naïve", "iso8859-15": "café 5 €", "utf-16": mixed})
+            for name, line in {**texts, "utf-8": mixed, "utf-7": "é+è-\t", "utf-32": mixed}.items():
                 lines = [f"{line} {number}\n" for number in range(5000)]
                 meter.reset()
                 path = os.path.join(folder, name)
@@ -215,6 +218,26 @@ class Pieces(unittest.TestCase):
                 with open(path, "rb") as raw:
                     self.assertEqual(raw.read().decode(name), "".join(lines), name)
                 self.assertLess(meter.trips, 40, name)
+
+    def test_writes_of_lines_that_lack_characters_are_gathered(self) -> None:
+        cases = {
+            "cp1252": ("ignore", "replace", "xmlcharrefreplace", "backslashreplace", "namereplace"),
+            "euc-kr": ("ignore", "replace", "xmlcharrefreplace", "backslashreplace"),
+            "utf-8": ("replace", "surrogateescape"),
+            "utf-16": ("replace", "backslashreplace"),
+        }
+        with metered() as meter, iconvd.Client(SERVER, timeout=30) as client:
+            before = iconvd.default()
+            iconvd.use(client)
+            self.addCleanup(iconvd.use, before)
+            for name, policies in cases.items():
+                for errors in policies:
+                    lines = [f"naive ☃☃ {number} \udc81\n" if errors != "ignore" else f"ツ中 {number}☃\n" for number in range(1000)]
+                    ours = codecs.getincrementalencoder("iconvd-" + name)(errors)
+                    theirs = codecs.getincrementalencoder(name)(errors)
+                    meter.reset()
+                    self.assertEqual([ours.encode(line) for line in lines], [theirs.encode(line) for line in lines], (name, errors))
+                    self.assertLess(meter.trips, 40, (name, errors))
 
     def test_writes_with_lacking_characters(self) -> None:
         for errors in ENCODING_ERRORS:

@@ -5,7 +5,7 @@ from __future__ import annotations
 import codecs
 import random
 import unittest
-from typing import List, Tuple
+from typing import Callable, List, Tuple
 
 from meter import every_encoding, metered
 from support import SERVER
@@ -102,6 +102,66 @@ class Cost(unittest.TestCase):
                 self.client.convert(b"", to=target, source=source)
                 label = (source, target, kind)
                 self.measured(len(data), label, lambda: self.client.convert(data, to=target, source=source, errors="replace"))
+
+    def loop(self, data: bytes, call: Callable[[bytes], object]) -> int:
+        """Goes on with all that is left after each fault. Returns how many calls that took."""
+        calls, at = 1, 0
+        while True:
+            try:
+                call(data[at:])
+                return calls
+            except UnicodeDecodeError as error:
+                at += error.start + 1
+                calls += 1
+
+    def test_loops_of_strict_calls(self) -> None:
+        """A program that skips a byte after each fault: one request a call, and bytes by what is decoded."""
+        iconvd.register()
+        before = iconvd.default()
+        iconvd.use(self.client)
+        self.addCleanup(iconvd.use, before)
+        for name in ("EUC-KR", "UTF-8", "GB18030", "UTF-16LE", "CP1253"):
+            whole = dict(texts(self.client, name))
+            for kind, data in (("damaged", whole["damaged"]), ("random", whole["random"][:8000])):
+                ways: List[Callable[[bytes], object]] = [
+                    lambda left: left.decode("iconvd-" + name),
+                    lambda left: codecs.getincrementaldecoder("iconvd-" + name)().decode(left, True),
+                    lambda left: self.client.convert(left, to="UTF-16LE", source=name),
+                ]
+                for number, call in enumerate(ways):
+                    self.client.convert(b"a", to="UTF-16LE", source=name) if name != "UTF-16LE" else None
+                    self.meter.reset()
+                    calls = self.loop(data, call)
+                    label = (name, kind, number, calls, self.meter.sent, self.meter.trips)
+                    self.assertLessEqual(self.meter.sent, 4 * len(data) + 65_536 + 300 * calls, label)
+                    self.assertLessEqual(self.meter.trips, (2.2 if number == 2 else 1.2) * calls + 40, label)
+
+    def test_a_handler_that_skips_a_byte(self) -> None:
+        codecs.register_error("test.byte", lambda error: ("?", getattr(error, "start") + 1))
+        for name in ("EUC-KR", "UTF-8", "GB18030", "UTF-16LE", "CP1253"):
+            for kind, data in texts(self.client, name):
+                self.measured(len(data), (name, kind), lambda: self.client.decode(data, name, "test.byte"))
+
+    def test_long_codes(self) -> None:
+        """A separator of eight bytes is not sent for each fault, nor one of four for each lacking character."""
+        for length, first in ((4, 0), (8, 0), (4, 0x10000)):
+            name = f"LONG{length}X{first:X}"
+            head = "/x91" + "/x40" * (length - 2)
+            lines = [f"<U{first + code:08X}> {head}/x{code:02x}" for code in range(0x20, 0xA0)]
+            lines += ["<question-mark> /x92" + "/x40" * 7] if first else []
+            declared = f"<code_set_name> {name}\n<mb_cur_max> 8\n<escape_char> /\nCHARMAP\n"
+            self.client.upload(declared + "\n".join(lines) + "\nEND CHARMAP\n")
+            good = "".join(chr(first + code) for code in range(0x20, 0xA0))
+            encoded = self.client.encode(good, name)
+            self.assertEqual(self.client.decode(encoded, name), good)
+            chance = random.Random(name)
+            strange = b"".join(chance.randbytes(500) + encoded[-length:] for _ in range(SIZE // 500))
+            for errors in ("replace", "ignore", "backslashreplace", "test.marked"):
+                self.measured(len(strange), (name, errors), lambda: self.client.decode(strange, name, errors))
+            text = (good + "\t" * 10_000) * (SIZE // 10_000)
+            size = len(text.encode())
+            self.measured(size, (name, "ignore"), lambda: self.client.encode(text, name, "ignore"))
+            self.assertEqual(self.client.decode(self.client.encode(text, name, "ignore"), name), good * (SIZE // 10_000))
 
     def test_surrogateescape(self) -> None:
         for name in ("UTF-8", "US-ASCII", "CP1253", "EUC-KR"):

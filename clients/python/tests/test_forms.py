@@ -2,9 +2,11 @@
 
 from __future__ import annotations
 
+import codecs
+import functools
 import random
 import unittest
-from typing import List
+from typing import Callable, List, Tuple
 
 from meter import every_encoding
 from support import ClientTest
@@ -29,6 +31,11 @@ def statuses(session: Session, pair: Pair, pieces: List[bytes]) -> Steps[List[fr
     descriptor = yield from session.descriptor(pair)
     replies = yield [frames.convert_request(descriptor.caller, descriptor.number, 1000, piece) for piece in pieces]
     return [frames.read_converted(reply, len(piece)) for reply, piece in zip(replies, pieces)]
+
+
+def handled(handler: Callable[[UnicodeError], Tuple[str, int]], error: UnicodeError) -> Tuple[str, int]:
+    """What a handler of Python's own does, as a program's."""
+    return handler(error)
 
 
 class Agreement(ClientTest):
@@ -63,6 +70,26 @@ class Agreement(ClientTest):
                 bad = [data[item.start : item.start + LONGEST] for item in found if item.reason]
                 for piece, converted in zip(bad, self.client.run(lambda session: statuses(session, pair, bad))):
                     self.assertEqual(converted.left, len(piece), (name, piece))
+
+    def test_faults_at_once(self) -> None:
+        """All faults of a piece are found at once for Python's own handlers, and one by one for those of a program."""
+        for kind in ("replace", "ignore", "backslashreplace"):
+            codecs.register_error("test." + kind, functools.partial(handled, codecs.lookup_error(kind)))
+        for name in every_encoding():
+            chance = random.Random(name)
+            kind = chance.choice(("replace", "replace", "ignore", "backslashreplace"))
+            for data in self.samples(name):
+                piece = data[: chance.randrange(1, 3000)]
+                wanted = self.client.decode(piece, name, "test." + kind)
+                self.assertEqual(self.client.decode(piece, name, kind), wanted, (name, kind, piece))
+                decoder = self.client.decoder(name, name)
+                size = chance.randrange(1, 400)
+                text, held = "", b""
+                for at in range(0, len(piece), size):
+                    held += piece[at : at + size]
+                    decoded, used = decoder.decode(held, kind, at + size >= len(piece))
+                    text, held = text + decoded, held[used:]
+                self.assertEqual(text, wanted, (name, kind, size, piece))
 
     def test_encoding(self) -> None:
         for name in every_encoding():

@@ -121,32 +121,46 @@ static bool is_right(const struct pending *asked, const iconvd_reply *reply, boo
     return reply->body_length == body->length && (body->length == 0 || memcmp(reply->body, body->bytes, body->length) == 0);
 }
 
-/* Counts a reply. False: it is of another request, and so nothing behind it means anything. */
+static struct outcome *outcome_of(struct course *course, const struct script *script) {
+    bool is_opening = script == &course->workload->opening;
+    return &course->tally.outcomes[is_opening ? OPENING : script - course->workload->scripts];
+}
+
+/* How much of its text a CONV has converted: all, or as far as it says. */
+static size_t text_of(const struct pending *asked, const iconvd_reply *reply) {
+    iconvd_converted converted;
+    bool stopped = is_stop(reply->status) && iconvd_reply_converted(reply, &converted) && converted.left <= asked->script->bytes;
+    return asked->script->bytes - (stopped ? converted.left : 0);
+}
+
+/* Counts a reply to a stream's first requests. False: the stream cannot be used. */
+static bool take_opening(struct client *client, const struct course *course, uint8_t status) {
+    if (status != ICONVD_OK && course->is_opening)
+        give_up(1, "the service refused the stream's first requests: %s: %s", status_name(status), iconvd_status_text((iconvd_status)status));
+    client->unopened -= status == ICONVD_OK;
+    return status == ICONVD_OK;
+}
+
+/* Counts a reply. False: it is of another request, and so nothing behind it means anything; or the stream cannot be used. */
 static bool take_reply(struct client *client, struct course *course, const iconvd_reply *reply) {
-    struct tally *tally = &course->tally;
     if (client->under_way == 0) {
-        tally->wrong++;
+        course->tally.outcomes[OPENING].wrong++;
         return false;
     }
     const struct pending *asked = &client->ring[client->first & (client->room - 1)];
-    bool is_opening = asked->script == &course->workload->opening;
+    struct outcome *outcome = outcome_of(course, asked->script);
     bool right = is_right(asked, reply, course->options->verify);
+    bool answered = outcome_count(outcome, reply->status);
     client->first++;
     client->under_way--;
-    tally->wrong += !right;
-    if (reply->status != ICONVD_OK) {
-        tally->refused++;
-        tally->refusal = (iconvd_status)reply->status;
-        if (is_opening)
-            give_up(1, "the service refused the stream's first requests: %s", iconvd_status_text(tally->refusal));
-    }
-    if (is_opening) {
-        client->unopened--;
-        return right;
-    }
+    outcome->wrong += !right;
+    if (asked->script == &course->workload->opening)
+        return take_opening(client, course, reply->status) && right;
     client->answered++;
-    tally->text += asked->script->bytes;
-    histogram_add(&tally->times[asked->script - course->workload->scripts], course->now - asked->sent);
+    if (answered) {
+        course->tally.text += text_of(asked, reply);
+        histogram_add(&outcome->times, course->now - asked->sent);
+    }
     return right || reply->tag == asked->tag;
 }
 
@@ -159,7 +173,7 @@ static bool take_replies(struct client *client, struct course *course) {
                        ICONVD_FRAME_MORE) {
         well = framing == ICONVD_FRAME_WHOLE && take_reply(client, course, &reply);
         at += framing == ICONVD_FRAME_WHOLE ? used : 0;
-        course->tally.wrong += framing == ICONVD_FRAME_BAD;
+        course->tally.outcomes[OPENING].wrong += framing == ICONVD_FRAME_BAD;
     }
     client->in.length -= at;
     if (client->in.length > 0)
@@ -180,8 +194,8 @@ bool client_receive(struct client *client, struct course *course) {
 }
 
 void client_lose(struct client *client, struct course *course) {
-    course->tally.lost += client->under_way;
-    client->under_way = 0;
+    for (; client->under_way > 0; client->under_way--)
+        outcome_of(course, client->ring[client->first++ & (client->room - 1)].script)->lost++;
     close(client->fd);
     client->fd = -1;
 }

@@ -37,6 +37,7 @@ struct course {
     _Atomic int64_t *left; /* requests that are still to be asked, of all threads */
     struct tally tally;
     uint64_t now;          /* nanoseconds */
+    bool is_opening;       /* until all streams are open */
     bool is_running;       /* the openings are answered, and requests are asked */
 };
 

@@ -2,6 +2,7 @@
 #include <stdio.h>
 #include <sys/resource.h>
 
+#include "report.h"
 #include "worker.h"
 
 /* As many descriptors as the system allows: a stream is one. */
@@ -29,6 +30,19 @@ static void start(struct worker *workers, const struct worker *model, pthread_ba
             give_up(1, "cannot start %u threads", threads);
 }
 
+static void report(struct measured *measured) {
+    for (int i = 0; i < OUTCOMES; i++)
+        outcome_merge(&measured->all, &measured->tally->outcomes[i]);
+    if (measured->options->csv)
+        report_csv(measured);
+    else if (measured->options->json)
+        report_json(measured);
+    else
+        report_text(measured);
+    if (fflush(stdout) != 0)
+        give_up(1, "write failed");
+}
+
 int main(int count, char **words) {
     static struct options options;
     static struct workload workload;
@@ -54,9 +68,10 @@ int main(int count, char **words) {
         worker_end(&workers[i]);
     }
     free(workers);
-    struct spent spent = {.seconds = (double)(end - begin.time) / 1e9, .processor = (double)(processor_nanoseconds() - begin.processor) / 1e9};
-    report(&options, &workload, &tally, spent);
-    if (fflush(stdout) != 0)
-        give_up(1, "write failed");
+    static struct measured measured;
+    measured = (struct measured){.options = &options, .workload = &workload, .tally = &tally};
+    measured.seconds = (double)(end - begin.time) / 1e9;
+    measured.processor = (double)(processor_nanoseconds() - begin.processor) / 1e9;
+    report(&measured);
     return tally_errors(&tally) > 0;
 }

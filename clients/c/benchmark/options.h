@@ -33,6 +33,7 @@ struct options {
     bool strict;
     bool verify;
     bool json;
+    bool csv;
 };
 
 /* Reads the command line. It prints and exits for --help, --version and faults (status 2). */

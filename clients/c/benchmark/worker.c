@@ -68,9 +68,9 @@ static void replace(struct worker *worker, struct client *client) {
     struct course *course = &worker->course;
     worker->failures = client->unopened > 0 ? worker->failures + 1 : 0;
     client_lose(client, course);
-    if (worker->failures == MOST_UNREACHABLE && worker->is_opening)
+    if (worker->failures == MOST_UNREACHABLE && course->is_opening)
         give_up(1, "%s ends its streams before it answers", course->options->where);
-    if (worker->is_opening || course->is_running)
+    if (course->is_opening || course->is_running)
         course->is_running = worker->failures < MOST_UNREACHABLE && connect_client(worker, client) && course->is_running;
 }
 
@@ -113,12 +113,12 @@ static void loop(struct worker *worker) {
 void *worker_run(void *argument) {
     struct worker *worker = argument;
     struct course *course = &worker->course;
-    worker->is_opening = true;
+    course->is_opening = true;
     for (size_t i = 0; i < worker->client_count; i++)
         if (!connect_client(worker, &worker->clients[i]))
             give_up(1, "cannot connect to %s", course->options->where);
     loop(worker);
-    worker->is_opening = false;
+    course->is_opening = false;
     if (pthread_barrier_wait(worker->opened) == PTHREAD_BARRIER_SERIAL_THREAD) {
         worker->begin->time = now_in_nanoseconds();
         worker->begin->processor = processor_nanoseconds();

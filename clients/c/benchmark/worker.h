@@ -17,7 +17,6 @@ struct worker {
     struct client *clients;
     size_t client_count;
     int poll;                    /* an epoll descriptor */
-    bool is_opening;             /* until all streams are open */
     int failures;                /* streams one after another that ended before they were open */
     pthread_barrier_t *opened;   /* all streams of all threads are open */
     struct begin *begin;

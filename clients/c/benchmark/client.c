@@ -40,6 +40,8 @@ static uint32_t next_random(uint64_t *state) {
 
 /* Puts the requests of a script behind those that are to be sent. */
 static void ask(struct client *client, const struct script *script, uint32_t caller, uint64_t now) {
+    if (client->under_way == 0)
+        client->moved = now;
     for (size_t i = 0; i < script->step_count; i++) {
         const struct step *step = &script->steps[i];
         struct pending asked = {script, step, step->is_ping ? NOBODY : caller, client->tag++, now};
@@ -56,6 +58,7 @@ bool client_connect(struct client *client, struct course *course) {
     client->under_way = 0;
     client->answered = 0;
     iconvd_status status = iconvd_dial(course->options->where, course->options->timeout, &client->fd);
+    course->now = now_in_nanoseconds();
     if (status == ICONVD_BADADDRESS)
         give_up(2, "neither tcp:HOST:PORT nor unix:PATH nor exec:COMMAND: %s", course->options->where);
     if (status != ICONVD_OK) {
@@ -86,7 +89,7 @@ static void ask_more(struct client *client, struct course *course) {
     while (course->is_running && client->unopened == 0 && client->under_way < options->depth && client->answered < options->keep &&
            client->out.length < OUT_ENOUGH) {
         const struct script *script = choose(client, course->workload);
-        if (atomic_fetch_sub_explicit(course->left, (int64_t)script->step_count, memory_order_relaxed) <= 0) {
+        if (atomic_fetch_sub_explicit(&course->run->left, (int64_t)script->step_count, memory_order_relaxed) <= 0) {
             course->is_running = false;
             return;
         }
@@ -105,6 +108,7 @@ bool client_send(struct client *client, struct course *course) {
             continue;
         if (sent < 0)
             return errno == EAGAIN || errno == EWOULDBLOCK;
+        client->moved = course->now;
         client->out_sent += (size_t)sent;
         if (client->out_sent == client->out.length)
             client->out_sent = client->out.length = 0;
@@ -134,10 +138,12 @@ static size_t text_of(const struct pending *asked, const iconvd_reply *reply) {
 }
 
 /* Counts a reply to a stream's first requests. False: the stream cannot be used. */
-static bool take_opening(struct client *client, const struct course *course, uint8_t status) {
+static bool take_opening(struct client *client, struct course *course, uint8_t status) {
     if (status != ICONVD_OK && course->is_opening)
         give_up(1, "the service refused the stream's first requests: %s: %s", status_name(status), iconvd_status_text((iconvd_status)status));
     client->unopened -= status == ICONVD_OK;
+    if (course->is_opening || client->unopened == 0)
+        course->heard = course->now;
     return status == ICONVD_OK;
 }
 
@@ -157,6 +163,7 @@ static bool take_reply(struct client *client, struct course *course, const iconv
     if (asked->script == &course->workload->opening)
         return take_opening(client, course, reply->status) && right;
     client->answered++;
+    course->heard = course->now;
     if (answered) {
         course->tally.text += text_of(asked, reply);
         histogram_add(&outcome->times, course->now - asked->sent);
@@ -189,13 +196,16 @@ bool client_receive(struct client *client, struct course *course) {
         return errno == EAGAIN || errno == EWOULDBLOCK || errno == EINTR;
     if (got == 0)
         return false;
+    client->moved = course->now;
     client->in.length += (size_t)got;
     return take_replies(client, course);
 }
 
-void client_lose(struct client *client, struct course *course) {
-    for (; client->under_way > 0; client->under_way--)
-        outcome_of(course, client->ring[client->first++ & (client->room - 1)].script)->lost++;
+void client_lose(struct client *client, struct course *course, enum ending ending) {
+    for (; client->under_way > 0; client->under_way--) {
+        struct outcome *outcome = outcome_of(course, client->ring[client->first++ & (client->room - 1)].script);
+        *(ending == ENDING_SILENT ? &outcome->unanswered : &outcome->lost) += 1;
+    }
     close(client->fd);
     client->fd = -1;
 }

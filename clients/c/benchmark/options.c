@@ -33,14 +33,15 @@ static const char USAGE[] =
     "      --keep=N          close each stream after N requests and open another [500000]\n"
     "      --strict          open strict descriptors\n"
     "      --threads=N       threads of this program [1]\n"
-    "      --timeout=S       how long a connection may take [10]\n"
+    "      --timeout=S       how long a connection may take, and a reply [10]\n"
     "      --verify          compare every reply with the bytes that it should have\n"
     "      --json            print one JSON object\n"
     "      --csv             print comma-separated values: a header, a row for each kind of request, and one for all\n"
     "  -h, --help            print this help\n"
     "  -V, --version         print the version\n"
     "\n"
-    "The exit status is 0, 1 if a request failed or was answered wrongly, or 2 for a fault of the command line.\n";
+    "The exit status is 0, 1 if a request failed or was answered wrongly, 2 for a fault of the command line, or 3 if the server\n"
+    "was lost while it was measured.\n";
 
 enum { OPTION_MAPPINGS = 256, OPTION_KEEP, OPTION_STRICT, OPTION_THREADS, OPTION_TIMEOUT, OPTION_VERIFY, OPTION_JSON, OPTION_CSV };
 
@@ -158,7 +159,7 @@ static void read_option(struct options *options, int letter, const char *value) 
     case OPTION_KEEP: options->keep = number(value, 1, UINT64_MAX / 2); break;
     case OPTION_STRICT: options->strict = true; break;
     case OPTION_THREADS: options->threads = (unsigned)number(value, 1, 256); break;
-    case OPTION_TIMEOUT: options->timeout = (int)(seconds(value) * 1000); break;
+    case OPTION_TIMEOUT: options->timeout = (int)(seconds(value) * 1000 + 0.999); break;
     case OPTION_VERIFY: options->verify = true; break;
     case OPTION_JSON: options->json = true; break;
     case OPTION_CSV: options->csv = true; break;

@@ -29,7 +29,7 @@ struct options {
     uint64_t keep;              /* requests after which a stream is closed and another opened */
     uint64_t requests;
     double seconds;             /* above 0: in place of a number of requests */
-    int timeout;                /* for a connection, in milliseconds */
+    int timeout;                /* for a connection, and for a reply, in milliseconds */
     bool strict;
     bool verify;
     bool json;

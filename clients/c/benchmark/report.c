@@ -85,6 +85,8 @@ static void print_errors(const struct measured *measured) {
     printf("errors: %llu lost, %llu refused", (unsigned long long)all->lost, (unsigned long long)outcome_refused(all));
     print_statuses(all, false);
     printf(", %llu wrong, %llu connections refused", (unsigned long long)all->wrong, (unsigned long long)measured->tally->unreachable);
+    if (all->unanswered > 0)
+        printf(", %llu not answered within %g s", (unsigned long long)all->unanswered, measured->options->timeout / 1e3);
     if (outcome_stopped(all) > 0) {
         printf(", %llu stopped", (unsigned long long)outcome_stopped(all));
         print_statuses(all, true);
@@ -102,4 +104,8 @@ void report_text(const struct measured *measured) {
            (unsigned long long)measured->tally->streams, measured->processor / seconds);
     print_rows(measured);
     print_errors(measured);
+    if (measured->away > 0)
+        printf("the server was away for %.2f s, which do not count\n", measured->away);
+    if (measured->server_lost)
+        printf("the server was lost after %.2f s: the figures are of the time until then\n", measured->seconds + measured->away);
 }

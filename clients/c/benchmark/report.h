@@ -9,7 +9,9 @@ struct measured {
     const struct workload *workload;
     const struct tally *tally;
     struct outcome all; /* all outcomes of the tally together */
-    double seconds;     /* how long it took, by the clock */
+    double seconds;     /* how long it took, by the clock, while the server served */
+    double away;        /* seconds that do not count, since it did not in the middle */
+    bool server_lost;   /* it did not at the end */
     double processor;   /* this program's processor time, in seconds */
 };
 

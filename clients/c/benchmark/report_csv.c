@@ -5,8 +5,8 @@
 #include <string.h>
 
 /* What is said of the run is the same in each row; `kind` begins what is said of the row. */
-static const char HEADER[] = "where,from,to,text,streams,callers,depth,seconds,unreachable,kind,size,requests,requests_per_second,"
-                             "minimum_us,mean_us,p50_us,p95_us,p99_us,p99.9_us,maximum_us,lost,refused,stopped,wrong,statuses";
+static const char HEADER[] = "where,from,to,text,streams,callers,depth,seconds,seconds_away,server_lost,unreachable,kind,size,requests,requests_per_second,"
+                             "minimum_us,mean_us,p50_us,p95_us,p99_us,p99.9_us,maximum_us,lost,unanswered,refused,stopped,wrong,statuses";
 
 /* A value and its comma, in quotes where it needs them. */
 static void print_string(const char *value) {
@@ -27,8 +27,8 @@ static void print_run(const struct measured *measured) {
     print_string(options->from);
     print_string(options->to);
     print_string(options->text);
-    printf("%u,%u,%u,%.6f,%llu,", options->streams, options->callers, options->depth, measured->seconds,
-           (unsigned long long)measured->tally->unreachable);
+    printf("%u,%u,%u,%.6f,%.6f,%d,%llu,", options->streams, options->callers, options->depth, measured->seconds, measured->away,
+           measured->server_lost, (unsigned long long)measured->tally->unreachable);
 }
 
 /* Bytes of text or mappings; of other kinds none. */
@@ -55,8 +55,8 @@ static void print_row(const struct measured *measured, const struct script *scri
         if (is_answered)
             printf("%.1f", figure(&outcome->times, i));
     }
-    printf(",%llu,%llu,%llu,%llu,", (unsigned long long)outcome->lost, (unsigned long long)outcome_refused(outcome),
-           (unsigned long long)outcome_stopped(outcome), (unsigned long long)outcome->wrong);
+    printf(",%llu,%llu,%llu,%llu,%llu,", (unsigned long long)outcome->lost, (unsigned long long)outcome->unanswered,
+           (unsigned long long)outcome_refused(outcome), (unsigned long long)outcome_stopped(outcome), (unsigned long long)outcome->wrong);
     for (unsigned status = 1; status < STATUSES; status++) {
         if (outcome->statuses[status] == 0)
             continue;

@@ -49,9 +49,10 @@ static void print_statuses(const struct outcome *all) {
 
 static void print_errors(const struct measured *measured) {
     const struct outcome *all = &measured->all;
-    printf("\"errors\": {\"lost\": %llu, \"refused\": %llu, \"wrong\": %llu, \"unreachable\": %llu, \"stopped\": %llu}, ",
+    printf("\"errors\": {\"lost\": %llu, \"refused\": %llu, \"wrong\": %llu, \"unreachable\": %llu, \"stopped\": %llu, \"unanswered\": %llu}, ",
            (unsigned long long)all->lost, (unsigned long long)outcome_refused(all), (unsigned long long)all->wrong,
-           (unsigned long long)measured->tally->unreachable, (unsigned long long)outcome_stopped(all));
+           (unsigned long long)measured->tally->unreachable, (unsigned long long)outcome_stopped(all),
+           (unsigned long long)all->unanswered);
     print_statuses(all);
 }
 
@@ -66,6 +67,7 @@ void report_json(const struct measured *measured) {
     printf("\"streams\": %u, \"callers\": %u, \"depth\": %u, \"verified\": %s, \"seconds\": %.6f, \"processor_seconds\": %.6f, ",
            options->streams, options->callers, options->depth, options->verify ? "true" : "false", measured->seconds, measured->processor);
     printf("\"text_bytes\": %llu, \"streams_opened\": %llu, ", (unsigned long long)tally->text, (unsigned long long)tally->streams);
+    printf("\"seconds_away\": %.6f, \"server_lost\": %s, ", measured->away, measured->server_lost ? "true" : "false");
     print_errors(measured);
     printf("\"all\": ");
     print_row(measured, "all", &measured->all);

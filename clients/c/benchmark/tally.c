@@ -22,6 +22,7 @@ void outcome_merge(struct outcome *outcome, const struct outcome *from) {
     for (unsigned status = 0; status < STATUSES; status++)
         outcome->statuses[status] += from->statuses[status];
     outcome->lost += from->lost;
+    outcome->unanswered += from->unanswered;
     outcome->wrong += from->wrong;
 }
 
@@ -51,7 +52,7 @@ uint64_t tally_errors(const struct tally *tally) {
     uint64_t count = tally->unreachable;
     for (int i = 0; i < OUTCOMES; i++) {
         const struct outcome *outcome = &tally->outcomes[i];
-        count += outcome->lost + outcome->wrong + outcome_refused(outcome) + outcome_stopped(outcome);
+        count += outcome->lost + outcome->unanswered + outcome->wrong + outcome_refused(outcome) + outcome_stopped(outcome);
     }
     return count;
 }

@@ -13,6 +13,7 @@ struct outcome {
     struct histogram times;      /* of those that were answered; a refused one has no time */
     uint64_t statuses[STATUSES]; /* replies with each status */
     uint64_t lost;               /* requests whose stream ended before they were answered */
+    uint64_t unanswered;         /* requests that were not answered within the time limit */
     uint64_t wrong;              /* replies that are not what they should be, or of another request */
 };
 

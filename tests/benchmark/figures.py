@@ -28,7 +28,8 @@ def figures_of_a_row(benchmark: Benchmark) -> None:
         benchmark.check(holds, f"{one['name']}: minimum, median, p95, p99, p99.9 and maximum are in order, and the mean is between")
     said = benchmark.run(MIX).stdout.splitlines()
     named = "microseconds a second minimum mean p50 p95 p99 p99.9 maximum".split()
-    benchmark.check(said[2].split() == named and len({len(line) for line in said[2:8]}) == 1, "the table names its columns, which are in line")
+    in_line = len({len(line) for line in said[2:8]}) == 1
+    benchmark.check(said[2].split() == named and in_line, "the table names its columns, which are in line")
 
 
 def values(benchmark: Benchmark) -> None:

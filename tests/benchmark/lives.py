@@ -29,7 +29,8 @@ def full_servers(benchmark: Benchmark, program: str) -> None:
             listener.bind(path + "2")
             listener.listen(1)
             done = benchmark.run(["--timeout", "1", "-c", "1"], f"unix:{path}2", 30)
-            benchmark.check("0 of 1 streams are open" in done.stderr and done.returncode == 1, "a server that takes nobody: it ends and names it")
+            named = "0 of 1 streams are open" in done.stderr and done.returncode == 1
+            benchmark.check(named, "a server that takes nobody: it ends and names it")
             done = benchmark.run(["--timeout", "1", "-c", "9"], f"unix:{path}2", 30)
             benchmark.check("queue of connections is full" in done.stderr and done.returncode == 1, "a full queue: it ends and names it")
     server = ToldServer(lambda stream, asked, op: OK if stream < 2 else None)

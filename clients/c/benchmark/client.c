@@ -140,7 +140,8 @@ static size_t text_of(const struct pending *asked, const iconvd_reply *reply) {
 /* Counts a reply to a stream's first requests. False: the stream cannot be used. */
 static bool take_opening(struct client *client, struct course *course, uint8_t status) {
     if (status != ICONVD_OK && course->is_opening)
-        give_up(1, "the service refused the stream's first requests: %s: %s", status_name(status), iconvd_status_text((iconvd_status)status));
+        give_up(1, "the service refused the stream's first requests: %s: %s", status_name(status),
+                iconvd_status_text((iconvd_status)status));
     client->unopened -= status == ICONVD_OK;
     if (course->is_opening || client->unopened == 0)
         course->heard = course->now;

@@ -2,6 +2,7 @@
 #include <stdio.h>
 #include <sys/resource.h>
 
+#include "progress.h"
 #include "report.h"
 #include "worker.h"
 
@@ -72,6 +73,7 @@ int main(int count, char **words) {
     struct worker *workers = calloc(options.threads, sizeof *workers);
     if (!workers)
         give_up(1, "out of memory");
+    progress_begin(&options, &run);
     start(workers, &model, &opened);
     uint64_t end = 0;
     for (unsigned i = 0; i < options.threads; i++) {
@@ -81,6 +83,7 @@ int main(int count, char **words) {
         worker_end(&workers[i]);
     }
     free(workers);
+    progress_end();
     note_times(&measured, &run, end);
     report(&measured);
     return measured.server_lost ? 3 : tally_errors(&tally) > 0;

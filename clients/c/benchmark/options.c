@@ -9,6 +9,7 @@
 #include <string.h>
 
 #include "../iconvd.h"
+#include "progress.h"
 
 const char *const KIND_NAMES[KIND_COUNT] = {"conv", "open", "reset", "upload", "ping"};
 
@@ -71,6 +72,7 @@ static const struct option LONG[] = {
 
 void give_up(int status, const char *format, ...) {
     va_list arguments;
+    progress_end();
     va_start(arguments, format);
     fputs("iconvd-benchmark: ", stderr);
     vfprintf(stderr, format, arguments);

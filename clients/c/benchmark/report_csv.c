@@ -5,8 +5,9 @@
 #include <string.h>
 
 /* What is said of the run is the same in each row; `kind` begins what is said of the row. */
-static const char HEADER[] = "where,from,to,text,streams,callers,depth,seconds,seconds_away,server_lost,unreachable,kind,size,requests,requests_per_second,"
-                             "minimum_us,mean_us,p50_us,p95_us,p99_us,p99.9_us,maximum_us,lost,unanswered,refused,stopped,wrong,statuses";
+static const char HEADER[] = "where,from,to,text,streams,callers,depth,seconds,seconds_away,server_lost,unreachable,kind,size,requests,"
+                             "requests_per_second,minimum_us,mean_us,p50_us,p95_us,p99_us,p99.9_us,maximum_us,lost,unanswered,refused,"
+                             "stopped,wrong,statuses";
 
 /* A value and its comma, in quotes where it needs them. */
 static void print_string(const char *value) {

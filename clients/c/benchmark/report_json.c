@@ -49,7 +49,8 @@ static void print_statuses(const struct outcome *all) {
 
 static void print_errors(const struct measured *measured) {
     const struct outcome *all = &measured->all;
-    printf("\"errors\": {\"lost\": %llu, \"refused\": %llu, \"wrong\": %llu, \"unreachable\": %llu, \"stopped\": %llu, \"unanswered\": %llu}, ",
+    printf("\"errors\": {\"lost\": %llu, \"refused\": %llu, \"wrong\": %llu, \"unreachable\": %llu, \"stopped\": %llu, "
+           "\"unanswered\": %llu}, ",
            (unsigned long long)all->lost, (unsigned long long)outcome_refused(all), (unsigned long long)all->wrong,
            (unsigned long long)measured->tally->unreachable, (unsigned long long)outcome_stopped(all),
            (unsigned long long)all->unanswered);

@@ -16,6 +16,8 @@ struct run {
     _Atomic uint64_t begin;           /* when the first request was asked; 0: not all streams are open */
     _Atomic uint64_t processor;       /* how long this program had used processors then */
     _Atomic unsigned opened;          /* streams that are open, until all are */
+    _Atomic uint64_t answered;        /* requests, a moment ago */
+    _Atomic uint64_t errors;
 };
 
 uint64_t now_in_nanoseconds(void);

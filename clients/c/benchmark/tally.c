@@ -48,6 +48,13 @@ void tally_merge(struct tally *tally, const struct tally *from) {
     tally->unreachable += from->unreachable;
 }
 
+uint64_t tally_answered(const struct tally *tally) {
+    uint64_t count = 0;
+    for (int i = 0; i < OUTCOMES; i++)
+        count += tally->outcomes[i].times.count;
+    return count;
+}
+
 uint64_t tally_errors(const struct tally *tally) {
     uint64_t count = tally->unreachable;
     for (int i = 0; i < OUTCOMES; i++) {

@@ -44,6 +44,8 @@ const char *status_name(unsigned status);
 
 void tally_merge(struct tally *tally, const struct tally *from);
 
+uint64_t tally_answered(const struct tally *tally);
+
 /* The requests that did not get their right reply. */
 uint64_t tally_errors(const struct tally *tally);
 

@@ -143,6 +143,16 @@ static void look_at(struct worker *worker, struct client *client) {
         replace(worker, client, ENDING_SILENT);
 }
 
+/* Tells other threads what was counted since it last did. */
+static void publish(struct worker *worker) {
+    struct run *run = worker->course.run;
+    uint64_t answered = tally_answered(&worker->course.tally), errors = tally_errors(&worker->course.tally);
+    run->answered += answered - worker->answered;
+    run->errors += errors - worker->errors;
+    worker->answered = answered;
+    worker->errors = errors;
+}
+
 /* Tells other threads of replies, and looks after what no event tells: silence, and streams that are to be opened again. */
 static void look(struct worker *worker) {
     struct course *course = &worker->course;
@@ -152,6 +162,7 @@ static void look(struct worker *worker) {
     if (course->now < worker->next_look)
         return;
     worker->next_look = course->now + LOOK * MILLISECOND;
+    publish(worker);
     course->is_running = course->is_running && course->run->left > 0;
     if (has_passed(course->now, course->run->heard, limit_of(course))) {
         give_up_server(worker);

@@ -14,7 +14,9 @@ struct worker {
     unsigned failures;         /* streams one after another that could not be connected, or ended before they were open */
     uint64_t retry_at;         /* no stream is connected before that */
     uint64_t next_look;        /* when it looks after what no event tells */
-    uint64_t published;        /* the reply that other threads know of */
+    uint64_t published;        /* the last reply that other threads know of, */
+    uint64_t answered;         /* and how many requests, */
+    uint64_t errors;           /* and errors */
     pthread_barrier_t *opened; /* all streams of all threads are open */
     uint64_t end;              /* when the last request was answered, or given up */
     pthread_t thread;

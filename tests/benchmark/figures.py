@@ -84,6 +84,10 @@ def stops_and_openings(benchmark: Benchmark) -> None:
     benchmark.check(figures["errors"]["refused"] == 0 and figures["errors"].get("stopped") == 200, "a CONV that stops is no refusal")
     benchmark.check(figures["all"]["requests"] == 200, "and its time counts")
 
+    done = benchmark.run(["-n", "300", "-c", "2", "--strict", "-x", "cyrillic", "-t", "US-ASCII"])
+    named = "300 stopped (300 ENOCHAR: the target lacks the next character)" in done.stdout and "0.0 MB of text" in done.stdout
+    benchmark.check(named and done.returncode == 1, "strict conversions that stop are measured and named")
+
     def end_once(stream: int, asked: int, op: int) -> Optional[int]:
         if stream < 2:
             return None if asked == 20 else OK

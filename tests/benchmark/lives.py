@@ -33,6 +33,8 @@ def full_servers(benchmark: Benchmark, program: str) -> None:
             benchmark.check(named, "a server that takes nobody: it ends and names it")
             done = benchmark.run(["--timeout", "1", "-c", "9"], f"unix:{path}2", 30)
             benchmark.check("queue of connections is full" in done.stderr and done.returncode == 1, "a full queue: it ends and names it")
+    done = benchmark.run(["-c", "300"], "exec:/bin/true", 30)
+    benchmark.check(done.returncode == 1 and "ends its streams before it answers" in done.stderr, "300 streams that end: it names that")
     server = ToldServer(lambda stream, asked, op: OK if stream < 2 else None)
     done = benchmark.run(["--timeout", "1", "-c", "5"], server.where, 30)
     named = "2 of 5 streams are open; the others were ended before they were answered for 1 s" in done.stderr

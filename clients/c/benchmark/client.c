@@ -137,15 +137,16 @@ static size_t text_of(const struct pending *asked, const iconvd_reply *reply) {
     return asked->script->bytes - (stopped ? converted.left : 0);
 }
 
-/* Counts a reply to a stream's first requests. False: the stream cannot be used. */
+/* Takes a reply to a stream's first requests, among them a CONV, which may stop. False: the stream cannot be used. */
 static bool take_opening(struct client *client, struct course *course, uint8_t status) {
-    if (status != ICONVD_OK && course->is_opening)
+    bool is_well = status == ICONVD_OK || is_stop(status);
+    if (!is_well && course->is_opening)
         give_up(1, "the service refused the stream's first requests: %s: %s", status_name(status),
                 iconvd_status_text((iconvd_status)status));
-    client->unopened -= status == ICONVD_OK;
+    client->unopened -= is_well;
     if (course->is_opening || client->unopened == 0)
         course->heard = course->now;
-    return status == ICONVD_OK;
+    return is_well;
 }
 
 /* Counts a reply. False: it is of another request, and so nothing behind it means anything; or the stream cannot be used. */
@@ -157,11 +158,12 @@ static bool take_reply(struct client *client, struct course *course, const iconv
     const struct pending *asked = &client->ring[client->first & (client->room - 1)];
     struct outcome *outcome = outcome_of(course, asked->script);
     bool right = is_right(asked, reply, course->options->verify);
-    bool answered = outcome_count(outcome, reply->status);
+    bool is_opening = asked->script == &course->workload->opening;
+    bool answered = outcome_count(outcome, is_opening && is_stop(reply->status) ? ICONVD_OK : reply->status);
     client->first++;
     client->under_way--;
     outcome->wrong += !right;
-    if (asked->script == &course->workload->opening)
+    if (is_opening)
         return take_opening(client, course, reply->status) && right;
     client->answered++;
     course->heard = course->now;

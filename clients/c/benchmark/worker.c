@@ -47,7 +47,7 @@ static bool has_open_stream(const struct worker *worker) {
     return false;
 }
 
-/* No stream could be opened. Before the next try there is a pause, each time twice as long. Streams that fail meanwhile are of this try. */
+/* No stream could be opened. Before the next try there is a pause, each time twice as long. Streams that fail meanwhile count with it. */
 static void fail(struct worker *worker) {
     struct course *course = &worker->course;
     uint64_t pause = (uint64_t)FIRST_PAUSE << (worker->failures < 5 ? worker->failures : 5);
@@ -76,6 +76,25 @@ static bool connect_client(struct worker *worker, struct client *client) {
     return false;
 }
 
+/* Ends the program where not all streams could be opened. */
+static void give_up_opening(const struct worker *worker) {
+    const struct course *course = &worker->course;
+    const struct options *options = course->options;
+    const char *others = "accepted, and not answered", *cause = ": all places of the server are taken, or it hangs";
+    if (worker->failures > 0 && course->run->opened == 0 && course->tally.unreachable == 0)
+        give_up(1, "%s ends its streams before it answers", options->where);
+    if (worker->failures > 0) {
+        others = "ended before they were answered";
+        cause = ": all places of the server are taken, or it has no memory for more";
+    }
+    if (course->tally.unreachable > 0) {
+        others = "not connected";
+        cause = "";
+    }
+    give_up(1, "%s: %u of %u streams are open; the others were %s for %g s%s", options->where, course->run->opened, options->streams,
+            others, options->timeout / 1e3, cause);
+}
+
 /* Closes a stream, and opens another if there is more to ask. */
 static void replace(struct worker *worker, struct client *client, enum ending ending) {
     struct course *course = &worker->course;
@@ -86,7 +105,7 @@ static void replace(struct worker *worker, struct client *client, enum ending en
     if (!was_open)
         fail(worker);
     if (course->is_opening && course->run->opened == 0 && worker->failures == MOST_FAILURES)
-        give_up(1, "%s ends its streams before it answers", course->options->where);
+        give_up_opening(worker);
     if ((course->is_opening || course->is_running) && course->now >= worker->retry_at)
         connect_client(worker, client);
 }
@@ -116,13 +135,8 @@ static void serve(struct worker *worker, struct client *client, uint32_t events)
 /* No stream has had a reply for so long. */
 static void give_up_server(struct worker *worker) {
     struct course *course = &worker->course;
-    const struct options *options = course->options;
-    const char *others = course->tally.unreachable > 0 ? "not connected"
-                         : worker->failures > 0        ? "ended before they were answered"
-                                                       : "accepted, and not answered";
     if (course->is_opening)
-        give_up(1, "%s: %u of %u streams are open; the others were %s for %g s: all places of the server are taken, or it hangs",
-                options->where, course->run->opened, options->streams, others, options->timeout / 1e3);
+        give_up_opening(worker);
     for (size_t i = 0; i < worker->client_count; i++)
         if (worker->clients[i].fd >= 0)
             client_lose(&worker->clients[i], course, ENDING_SILENT);

@@ -94,7 +94,7 @@ check-nonblocking: ## serves a client whose socket does not block
 check-units: ## the units as systemd reads them, and in a systemd of its own if the machine can boot one
 	@program=$$(tools/checked_program iconvd) && tests/units/check "$$program"
 
-check-benchmark: ## iconvd-benchmark against servers that answer right and wrong
+check-benchmark: ## iconvd-benchmark against servers that answer right and wrong, are full, and go away
 	@tools/need 'make $@' cc python3
 	@program=$$(tools/checked_program iconvd) && tests/benchmark/check "$$program"
 

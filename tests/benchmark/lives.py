@@ -106,10 +106,12 @@ def single_streams(benchmark: Benchmark) -> None:
         server.take_no_more()
         return None
 
-    server = ToldServer(end_one)
-    figures = benchmark.figures(["-n", "2000", "-c", "2", "--timeout", "60"], server.where)
-    whole = figures["all"]["requests"] + figures["errors"]["lost"] == 2000 and not figures.get("server_lost", True)
-    benchmark.check(whole and figures["errors"]["unreachable"] > 0, "a stream that can't be replaced: the other one goes on meanwhile")
+    for threads in ("1", "2"):
+        server = ToldServer(end_one)
+        figures = benchmark.figures(["-n", "2000", "-c", "2", "--timeout", "60", "--threads", threads], server.where)
+        whole = figures["all"]["requests"] + figures["errors"]["lost"] == 2000 and not figures.get("server_lost", True)
+        whole = whole and figures["errors"]["unreachable"] > 0
+        benchmark.check(whole, f"a stream that can't be replaced: the other one goes on meanwhile, {threads} threads")
 
     def hang_one(stream: int, asked: int, op: int) -> Optional[int]:
         time.sleep(0.001)

@@ -15,7 +15,7 @@ struct run {
     _Atomic uint64_t away;            /* how long it was so, each time from the last reply to the next one */
     _Atomic uint64_t begin;           /* when the first request was asked; 0: not all streams are open */
     _Atomic uint64_t processor;       /* how long this program had used processors then */
-    _Atomic unsigned opened;          /* streams that are open, until all are */
+    _Atomic unsigned opened;          /* streams that are open, as far as is known */
     _Atomic uint64_t answered;        /* requests, a moment ago */
     _Atomic uint64_t errors;
 };

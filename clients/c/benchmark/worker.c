@@ -40,13 +40,6 @@ static void watch(struct worker *worker, struct client *client, int operation) {
         give_up(1, "epoll: no memory or no descriptor");
 }
 
-static bool has_open_stream(const struct worker *worker) {
-    for (size_t i = 0; i < worker->client_count; i++)
-        if (worker->clients[i].fd >= 0 && worker->clients[i].unopened == 0)
-            return true;
-    return false;
-}
-
 /* No stream could be opened. Before the next try there is a pause, each time twice as long. Streams that fail meanwhile count with it. */
 static void fail(struct worker *worker) {
     struct course *course = &worker->course;
@@ -55,7 +48,7 @@ static void fail(struct worker *worker) {
         return;
     worker->failures++;
     worker->retry_at = course->now + (pause < MOST_PAUSE ? pause : MOST_PAUSE) * MILLISECOND;
-    if (!course->is_opening && !has_open_stream(worker))
+    if (!course->is_opening && course->run->opened == 0)
         course->run->is_away = true;
 }
 
@@ -100,9 +93,9 @@ static void replace(struct worker *worker, struct client *client, enum ending en
     struct course *course = &worker->course;
     bool was_open = client->unopened == 0;
     client_lose(client, course, ending);
-    if (was_open && course->is_opening)
+    if (was_open)
         course->run->opened--;
-    if (!was_open)
+    else
         fail(worker);
     if (course->is_opening && course->run->opened == 0 && worker->failures == MOST_FAILURES)
         give_up_opening(worker);
@@ -114,7 +107,7 @@ static void replace(struct worker *worker, struct client *client, enum ending en
 static void note_opened(struct worker *worker) {
     worker->failures = 0;
     worker->retry_at = 0;
-    worker->course.run->opened += worker->course.is_opening;
+    worker->course.run->opened++;
 }
 
 /* What an event of the client brings. */

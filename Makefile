@@ -98,7 +98,7 @@ check-stops: ## stops and traces servers and calls while they wait: every stream
 check-units: ## the units as systemd reads them, and in a systemd of its own if the machine can boot one
 	@program=$$(tools/checked_program iconvd) && tests/units/check "$$program"
 
-check-benchmark: ## iconvd-benchmark against servers that answer right and wrong
+check-benchmark: ## iconvd-benchmark against servers that answer right and wrong, are full, and go away
 	@tools/need 'make $@' cc python3
 	@program=$$(tools/checked_program iconvd) && tests/benchmark/check "$$program"
 

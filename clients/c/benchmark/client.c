@@ -40,6 +40,8 @@ static uint32_t next_random(uint64_t *state) {
 
 /* Puts the requests of a script behind those that are to be sent. */
 static void ask(struct client *client, const struct script *script, uint32_t caller, uint64_t now) {
+    if (client->under_way == 0)
+        client->moved = now;
     for (size_t i = 0; i < script->step_count; i++) {
         const struct step *step = &script->steps[i];
         struct pending asked = {script, step, step->is_ping ? NOBODY : caller, client->tag++, now};
@@ -56,6 +58,7 @@ bool client_connect(struct client *client, struct course *course) {
     client->under_way = 0;
     client->answered = 0;
     iconvd_status status = iconvd_dial(course->options->where, course->options->timeout, &client->fd);
+    course->now = now_in_nanoseconds();
     if (status == ICONVD_BADADDRESS)
         give_up(2, "neither tcp:HOST:PORT nor unix:PATH nor exec:COMMAND: %s", course->options->where);
     if (status != ICONVD_OK) {
@@ -86,7 +89,7 @@ static void ask_more(struct client *client, struct course *course) {
     while (course->is_running && client->unopened == 0 && client->under_way < options->depth && client->answered < options->keep &&
            client->out.length < OUT_ENOUGH) {
         const struct script *script = choose(client, course->workload);
-        if (atomic_fetch_sub_explicit(course->left, (int64_t)script->step_count, memory_order_relaxed) <= 0) {
+        if (atomic_fetch_sub_explicit(&course->run->left, (int64_t)script->step_count, memory_order_relaxed) <= 0) {
             course->is_running = false;
             return;
         }
@@ -105,6 +108,7 @@ bool client_send(struct client *client, struct course *course) {
             continue;
         if (sent < 0)
             return errno == EAGAIN || errno == EWOULDBLOCK;
+        client->moved = course->now;
         client->out_sent += (size_t)sent;
         if (client->out_sent == client->out.length)
             client->out_sent = client->out.length = 0;
@@ -121,32 +125,52 @@ static bool is_right(const struct pending *asked, const iconvd_reply *reply, boo
     return reply->body_length == body->length && (body->length == 0 || memcmp(reply->body, body->bytes, body->length) == 0);
 }
 
-/* Counts a reply. False: it is of another request, and so nothing behind it means anything. */
+static struct outcome *outcome_of(struct course *course, const struct script *script) {
+    bool is_opening = script == &course->workload->opening;
+    return &course->tally.outcomes[is_opening ? OPENING : script - course->workload->scripts];
+}
+
+/* How much of its text a CONV has converted: all, or as far as it says. */
+static size_t text_of(const struct pending *asked, const iconvd_reply *reply) {
+    iconvd_converted converted;
+    bool stopped = is_stop(reply->status) && iconvd_reply_converted(reply, &converted) && converted.left <= asked->script->bytes;
+    return asked->script->bytes - (stopped ? converted.left : 0);
+}
+
+/* Takes a reply to a stream's first requests, among them a CONV, which may stop. False: the stream cannot be used. */
+static bool take_opening(struct client *client, struct course *course, uint8_t status) {
+    bool is_well = status == ICONVD_OK || is_stop(status);
+    if (!is_well && course->is_opening)
+        give_up(1, "the service refused the stream's first requests: %s: %s", status_name(status),
+                iconvd_status_text((iconvd_status)status));
+    client->unopened -= is_well;
+    if (course->is_opening || client->unopened == 0)
+        course->heard = course->now;
+    return is_well;
+}
+
+/* Counts a reply. False: it is of another request, and so nothing behind it means anything; or the stream cannot be used. */
 static bool take_reply(struct client *client, struct course *course, const iconvd_reply *reply) {
-    struct tally *tally = &course->tally;
     if (client->under_way == 0) {
-        tally->wrong++;
+        course->tally.outcomes[OPENING].wrong++;
         return false;
     }
     const struct pending *asked = &client->ring[client->first & (client->room - 1)];
-    bool is_opening = asked->script == &course->workload->opening;
+    struct outcome *outcome = outcome_of(course, asked->script);
     bool right = is_right(asked, reply, course->options->verify);
+    bool is_opening = asked->script == &course->workload->opening;
+    bool answered = outcome_count(outcome, is_opening && is_stop(reply->status) ? ICONVD_OK : reply->status);
     client->first++;
     client->under_way--;
-    tally->wrong += !right;
-    if (reply->status != ICONVD_OK) {
-        tally->refused++;
-        tally->refusal = (iconvd_status)reply->status;
-        if (is_opening)
-            give_up(1, "the service refused the stream's first requests: %s", iconvd_status_text(tally->refusal));
-    }
-    if (is_opening) {
-        client->unopened--;
-        return right;
-    }
+    outcome->wrong += !right;
+    if (is_opening)
+        return take_opening(client, course, reply->status) && right;
     client->answered++;
-    tally->text += asked->script->bytes;
-    histogram_add(&tally->times[asked->script - course->workload->scripts], course->now - asked->sent);
+    course->heard = course->now;
+    if (answered) {
+        course->tally.text += text_of(asked, reply);
+        histogram_add(&outcome->times, course->now - asked->sent);
+    }
     return right || reply->tag == asked->tag;
 }
 
@@ -159,7 +183,7 @@ static bool take_replies(struct client *client, struct course *course) {
                        ICONVD_FRAME_MORE) {
         well = framing == ICONVD_FRAME_WHOLE && take_reply(client, course, &reply);
         at += framing == ICONVD_FRAME_WHOLE ? used : 0;
-        course->tally.wrong += framing == ICONVD_FRAME_BAD;
+        course->tally.outcomes[OPENING].wrong += framing == ICONVD_FRAME_BAD;
     }
     client->in.length -= at;
     if (client->in.length > 0)
@@ -175,13 +199,16 @@ bool client_receive(struct client *client, struct course *course) {
         return errno == EAGAIN || errno == EWOULDBLOCK || errno == EINTR;
     if (got == 0)
         return false;
+    client->moved = course->now;
     client->in.length += (size_t)got;
     return take_replies(client, course);
 }
 
-void client_lose(struct client *client, struct course *course) {
-    course->tally.lost += client->under_way;
-    client->under_way = 0;
+void client_lose(struct client *client, struct course *course, enum ending ending) {
+    for (; client->under_way > 0; client->under_way--) {
+        struct outcome *outcome = outcome_of(course, client->ring[client->first++ & (client->room - 1)].script);
+        *(ending == ENDING_SILENT ? &outcome->unanswered : &outcome->lost) += 1;
+    }
     close(client->fd);
     client->fd = -1;
 }

@@ -2,8 +2,7 @@
 #ifndef BENCHMARK_CLIENT_H
 #define BENCHMARK_CLIENT_H
 
-#include <stdatomic.h>
-
+#include "run.h"
 #include "tally.h"
 
 /* A request that is not answered yet. */
@@ -26,6 +25,7 @@ struct client {
     uint32_t caller;       /* whose turn it is */
     uint64_t answered;     /* on this stream, without its opening */
     size_t unopened;       /* requests of the opening that are not answered */
+    uint64_t moved;        /* when bytes went or came last, or it began to wait */
     uint64_t random;
     bool waits_to_write;   /* epoll is asked for that */
 };
@@ -34,9 +34,11 @@ struct client {
 struct course {
     const struct options *options;
     const struct workload *workload;
-    _Atomic int64_t *left; /* requests that are still to be asked, of all threads */
+    struct run *run;       /* of all threads */
     struct tally tally;
     uint64_t now;          /* nanoseconds */
+    uint64_t heard;        /* when the last reply was read that shows that the server serves */
+    bool is_opening;       /* until all streams are open */
     bool is_running;       /* the openings are answered, and requests are asked */
 };
 
@@ -52,8 +54,11 @@ bool client_send(struct client *client, struct course *course);
 /* Reads what there is. False: the stream is lost. */
 bool client_receive(struct client *client, struct course *course);
 
-/* Closes a stream that is lost. What is not answered is counted as lost. */
-void client_lose(struct client *client, struct course *course);
+/* Why a stream is closed before all is answered: it ended, or nothing came within the time limit. */
+enum ending { ENDING_LOST, ENDING_SILENT };
+
+/* Closes a stream that is lost, and counts what is not answered. */
+void client_lose(struct client *client, struct course *course, enum ending ending);
 
 /* Whether nothing is under way, and so the stream may be closed. */
 static inline bool client_is_idle(const struct client *client) {

@@ -19,6 +19,8 @@ static uint64_t bucket_top(unsigned bucket) {
 }
 
 void histogram_add(struct histogram *histogram, uint64_t nanoseconds) {
+    if (histogram->count == 0 || nanoseconds < histogram->minimum)
+        histogram->minimum = nanoseconds;
     histogram->counts[bucket_of(nanoseconds)]++;
     histogram->count++;
     histogram->sum += nanoseconds;
@@ -29,6 +31,8 @@ void histogram_add(struct histogram *histogram, uint64_t nanoseconds) {
 void histogram_merge(struct histogram *histogram, const struct histogram *from) {
     for (unsigned i = 0; i < HISTOGRAM_BUCKETS; i++)
         histogram->counts[i] += from->counts[i];
+    if (from->count > 0 && (histogram->count == 0 || from->minimum < histogram->minimum))
+        histogram->minimum = from->minimum;
     histogram->count += from->count;
     histogram->sum += from->sum;
     if (from->maximum > histogram->maximum)

@@ -10,6 +10,7 @@ struct histogram {
     uint64_t counts[HISTOGRAM_BUCKETS];
     uint64_t count;
     uint64_t sum;
+    uint64_t minimum; /* of none: 0 */
     uint64_t maximum;
 };
 

@@ -9,6 +9,7 @@
 #include <string.h>
 
 #include "../iconvd.h"
+#include "progress.h"
 
 const char *const KIND_NAMES[KIND_COUNT] = {"conv", "open", "reset", "upload", "ping"};
 
@@ -33,15 +34,17 @@ static const char USAGE[] =
     "      --keep=N          close each stream after N requests and open another [500000]\n"
     "      --strict          open strict descriptors\n"
     "      --threads=N       threads of this program [1]\n"
-    "      --timeout=S       how long a connection may take [10]\n"
+    "      --timeout=S       how long a connection may take, and a reply [10]\n"
     "      --verify          compare every reply with the bytes that it should have\n"
     "      --json            print one JSON object\n"
+    "      --csv             print comma-separated values: a header, a row for each kind of request, and one for all\n"
     "  -h, --help            print this help\n"
     "  -V, --version         print the version\n"
     "\n"
-    "The exit status is 0, 1 if a request failed or was answered wrongly, or 2 for a fault of the command line.\n";
+    "The exit status is 0, 1 if a request failed or was answered wrongly, 2 for a fault of the command line, or 3 if the server\n"
+    "was lost while it was measured.\n";
 
-enum { OPTION_MAPPINGS = 256, OPTION_KEEP, OPTION_STRICT, OPTION_THREADS, OPTION_TIMEOUT, OPTION_VERIFY, OPTION_JSON };
+enum { OPTION_MAPPINGS = 256, OPTION_KEEP, OPTION_STRICT, OPTION_THREADS, OPTION_TIMEOUT, OPTION_VERIFY, OPTION_JSON, OPTION_CSV };
 
 static const struct option LONG[] = {
     {"streams", required_argument, NULL, 'c'},
@@ -61,6 +64,7 @@ static const struct option LONG[] = {
     {"timeout", required_argument, NULL, OPTION_TIMEOUT},
     {"verify", no_argument, NULL, OPTION_VERIFY},
     {"json", no_argument, NULL, OPTION_JSON},
+    {"csv", no_argument, NULL, OPTION_CSV},
     {"help", no_argument, NULL, 'h'},
     {"version", no_argument, NULL, 'V'},
     {NULL, 0, NULL, 0},
@@ -68,6 +72,7 @@ static const struct option LONG[] = {
 
 void give_up(int status, const char *format, ...) {
     va_list arguments;
+    progress_end();
     va_start(arguments, format);
     fputs("iconvd-benchmark: ", stderr);
     vfprintf(stderr, format, arguments);
@@ -156,9 +161,10 @@ static void read_option(struct options *options, int letter, const char *value) 
     case OPTION_KEEP: options->keep = number(value, 1, UINT64_MAX / 2); break;
     case OPTION_STRICT: options->strict = true; break;
     case OPTION_THREADS: options->threads = (unsigned)number(value, 1, 256); break;
-    case OPTION_TIMEOUT: options->timeout = (int)(seconds(value) * 1000); break;
+    case OPTION_TIMEOUT: options->timeout = (int)(seconds(value) * 1000 + 0.999); break;
     case OPTION_VERIFY: options->verify = true; break;
     case OPTION_JSON: options->json = true; break;
+    case OPTION_CSV: options->csv = true; break;
     case 'h': fputs(USAGE, stdout); exit(0);
     case 'V': puts("iconvd-benchmark " VERSION); exit(0);
     default: fputs("Try 'iconvd-benchmark --help'.\n", stderr); exit(2);
@@ -188,6 +194,8 @@ void options_read(struct options *options, int count, char **words) {
         options->where = words[optind++];
     if (optind < count)
         give_up(2, "one word too many: %s", words[optind]);
+    if (options->json && options->csv)
+        give_up(2, "either --json or --csv");
     if (!options->where)
         options->where = "exec:iconvd pipe";
     if (options->threads > options->streams)

@@ -29,10 +29,11 @@ struct options {
     uint64_t keep;              /* requests after which a stream is closed and another opened */
     uint64_t requests;
     double seconds;             /* above 0: in place of a number of requests */
-    int timeout;                /* for a connection, in milliseconds */
+    int timeout;                /* for a connection, and for a reply, in milliseconds */
     bool strict;
     bool verify;
     bool json;
+    bool csv;
 };
 
 /* Reads the command line. It prints and exits for --help, --version and faults (status 2). */

@@ -6,30 +6,21 @@
 
 #include "client.h"
 
-/* When the first request was asked, and how long this program had used processors then, in nanoseconds. */
-struct begin {
-    _Atomic uint64_t time;
-    _Atomic uint64_t processor;
-};
-
 struct worker {
     struct course course;
     struct client *clients;
     size_t client_count;
-    int poll;                    /* an epoll descriptor */
-    bool is_opening;             /* until all streams are open */
-    int failures;                /* streams one after another that ended before they were open */
-    pthread_barrier_t *opened;   /* all streams of all threads are open */
-    struct begin *begin;
-    uint64_t end;                /* when the last request was answered */
+    int poll;                  /* an epoll descriptor */
+    unsigned failures;         /* streams one after another that could not be connected, or ended before they were open */
+    uint64_t retry_at;         /* no stream is connected before that */
+    uint64_t next_look;        /* when it looks after what no event tells */
+    uint64_t published;        /* the last reply that other threads know of, */
+    uint64_t answered;         /* and how many requests, */
+    uint64_t errors;           /* and errors */
+    pthread_barrier_t *opened; /* all streams of all threads are open */
+    uint64_t end;              /* when the last request was answered, or given up */
     pthread_t thread;
 };
-
-/* A clock that is never set back, in nanoseconds. */
-uint64_t now_in_nanoseconds(void);
-
-/* How long this program has used processors. */
-uint64_t processor_nanoseconds(void);
 
 /* Makes the worker's clients; `first` is the number of the first among all. */
 void worker_begin(struct worker *worker, size_t first);

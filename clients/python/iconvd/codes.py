@@ -60,17 +60,31 @@ def _range(name: bytes) -> Tuple[int, int]:
     return int(first[2:], 16), int(last[:-1], 16) - int(first[2:], 16) + 1
 
 
-def _plain_ranges(body: bytes, escape: bytes) -> List[Range]:
-    """Returns the mappings of a charmap in which each line is as usual. Raises ValueError for another one."""
-    lines = [line for line in body.replace(escape + b"x", b"").split(b"\n") if line[:2] == b"<U"]
+def _plain_lines(body: bytes) -> List[bytes]:
+    """Returns the lines of the mappings of a charmap in which each line is as usual. Raises ValueError for another one."""
+    lines = [line for line in body.split(b"\n") if line[:2] == b"<U"]
     if len(lines) != (b"\n" + body).count(b"\n<") or b"\n " in body or b"\n\t" in body:
         raise ValueError("a line is not as usual")
+    return lines
+
+
+def _plain_ranges(body: bytes, escape: bytes) -> List[Range]:
+    """Returns the mappings of a charmap in which each line is as usual. Raises ValueError for another one."""
+    lines = _plain_lines(body.replace(escape + b"x", b""))
     names = [line.split(None, 1)[0] for line in lines]
     codes = [line.split(None, 2)[1] for line in lines]
     return [
         (int(name[2:-1], 16), 1, code, length // 2) if len(name) < 12 else (*_range(name), code, length // 2)
         for name, code, length in zip(names, map(int, codes, itertools.repeat(16)), map(len, codes))
     ]
+
+
+def _plain_spans(body: bytes) -> List[Tuple[int, int]]:
+    """Returns the first character of each mapping, and the one after its last. Raises ValueError as `_plain_lines` does."""
+    names = [line.split(None, 1)[0] for line in _plain_lines(body)]
+    spans = [(point, point + 1) for point in map(int, [name[2:-1] for name in names if len(name) < 12], itertools.repeat(16))]
+    spans.extend((first, first + count) for first, count in map(_range, (name for name in names if len(name) >= 12)))
+    return spans
 
 
 def ranges(body: bytes, escape: bytes) -> List[Range]:
@@ -254,7 +268,11 @@ class CharmapForm(PatternForm):
         return self._strings.patterns(self.separator)
 
     def has(self) -> List[Span]:
-        return list(_runs(sorted((first, first + count) for first, count, _, _ in self._ranges())))
+        try:
+            spans = _plain_spans(self._charmap.body())
+        except (ValueError, IndexError):
+            spans = [(first, first + count) for first, count, _, _ in self._ranges()]
+        return list(_runs(sorted(spans)))
 
     def reason(self, item: bytes, is_cut: bool) -> str:
         if is_cut:

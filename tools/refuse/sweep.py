@@ -24,6 +24,7 @@ import time
 
 LIBRARY, PROGRAM, REFUSALS = map(os.path.abspath, sys.argv[1:])
 SAYS = b"iconvd: out of memory\n"
+OF_STREAM = re.compile(rb"iconvd: stream from [0-9.]+:[0-9]+: out of memory, after [0-9]+ requests?\n")
 FEWER_THREADS = re.compile(rb"iconvd: only [0-9]+ streams at once: cannot start more threads\n")
 OUTCOMES = AMPLE, FEWER, ENOMEM, NOTHING, FRONT = ["ample", "fewer threads", "ENOMEM", "no memory", "after replies"]
 SECONDS = 20  # a run that takes longer stands still
@@ -154,7 +155,9 @@ def judge(case, whole, run):
     if len(others) != 1 or len(run.streams) != len(whole.streams) or case.form is None:
         return None
     told, wanted = others[0]
-    if (run.status, run.said) == (case.broken, SAYS):
+    # Where streams end and the command goes on, the line says which stream.
+    says = OF_STREAM.fullmatch(run.said) if case.broken == 0 else run.said == SAYS
+    if run.status == case.broken and says:
         replies = case.form.cut(told)
         return FRONT if replies == case.form.cut(wanted)[:len(replies)] else None
     return ENOMEM if (run.status, run.said) == (0, b"") and case.answering and has_refusals(case, told) else None

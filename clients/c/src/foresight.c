@@ -5,7 +5,7 @@
  * that, as long as the caller goes on so and its bytes are those that were looked at. How far a call looks grows while this is so. */
 #include "stretches.h"
 
-enum { LEAST = 256, MOST = 16384 };
+enum { LEAST = 256 };
 
 struct foresight {
     struct stretches stretches;
@@ -47,7 +47,7 @@ static bool look_again(struct iconvd_cd *cd, struct foresight *foresight, const 
     }
     bool all = foresight->next > 0 && foresight->next == stretch_count(&foresight->stretches);
     foresight->window = all ? 4 * foresight->window : LEAST;
-    foresight->window = foresight->window < MOST ? foresight->window : MOST;
+    foresight->window = foresight->window < MOST_WINDOW ? foresight->window : MOST_WINDOW;
     foresight->used = foresight->written = foresight->next = 0;
     bool seen = stretches_find(&foresight->stretches, cd, progress, foresight->window);
     foresight->failed = seen ? 0 : foresight->failed < 32 ? 2 * foresight->failed + 1 : foresight->failed;

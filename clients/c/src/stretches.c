@@ -29,7 +29,8 @@ static bool find(struct stretches *stretches, const struct fronts *from, const s
     struct stretch stretch = {.length = 0};
     size_t at = 0, length = 0, left = progress->in_left;
     enum front front = WELL_FORMED;
-    while (at < window && at < left && (front = front_at(from, text + at, left - at, &length)) != CUT_OFF) {
+    while (at < MOST_WINDOW && (at < window || stretches->parts.length == 0) && at < left &&
+           (front = front_at(from, text + at, left - at, &length)) != CUT_OFF) {
         at += front == FAULTY ? 1 : length;
         if (front == WELL_FORMED) {
             stretch.length += length;

@@ -25,15 +25,16 @@ struct stretches {
 struct stretch *stretch_at(const struct stretches *stretches, size_t number);
 size_t stretch_count(const struct stretches *stretches);
 
-/* Finds the stretches at the front of a text, of `window` bytes or a little more, and converts them, by three requests at most. They end
-   before what stops a conversion for another reason than a fault. False: there is none, or the usual way will say what is wrong. */
+/* Finds the stretches at the front of a text, in `window` bytes or until the first fault, but not beyond MOST_WINDOW. It converts them by
+   three requests at most, and one more where the target has lacked nothing before. They end before what stops a conversion for another
+   reason than a fault. False: there is none, or the usual way will say what is wrong. */
 bool stretches_find(struct stretches *stretches, struct iconvd_cd *cd, const struct progress *progress, size_t window);
 
 /* Forgets the stretches, but not the phrases. */
 void stretches_forget(struct stretches *stretches);
 void stretches_free(struct stretches *stretches);
 
-/* As many bytes as may decide what is at a place. */
-enum { CODE = 8 };
+/* CODE: as many bytes as may decide what is at a place. */
+enum { CODE = 8, MOST_WINDOW = 16384 };
 
 #endif

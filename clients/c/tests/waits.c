@@ -8,14 +8,16 @@
 
 enum { THREADS = 8, TIMEOUT = 700 };
 
+static pthread_mutex_t lines_mutex = PTHREAD_MUTEX_INITIALIZER;
 static char lines[4000];
 static int line_count;
 
 static void keep_line(void *context, const char *line) {
     (void)context;
-    if (__atomic_fetch_add(&line_count, 1, __ATOMIC_SEQ_CST) == 0)
-        lines[0] = 0;
+    pthread_mutex_lock(&lines_mutex);
     snprintf(lines + strlen(lines), sizeof lines - strlen(lines), "%s\n", line);
+    line_count++;
+    pthread_mutex_unlock(&lines_mutex);
 }
 
 /* The last line of the log. */

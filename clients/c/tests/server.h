@@ -180,7 +180,7 @@ static void *serve(void *argument) {
     return NULL;
 }
 
-static void *accept_all(void *argument) {
+static inline void *accept_all(void *argument) {
     (void)argument;
     for (;;) {
         int fd = accept(plan.listener, NULL, NULL);
@@ -214,7 +214,7 @@ static void set_plan(enum fault fault, int request, int wrong) {
 static char where[200], *socket_file = where + 5;
 
 /* Listens there from now on. */
-static void listen_again(void) {
+static inline void listen_again(void) {
     struct sockaddr_un at = {.sun_family = AF_UNIX};
     strcpy(at.sun_path, socket_file);
     unlink(socket_file);
@@ -226,7 +226,7 @@ static void listen_again(void) {
     pthread_detach(thread);
 }
 
-static void start_server(const char *name) {
+static inline void start_server(const char *name) {
     snprintf(where, sizeof where, "unix:/tmp/iconvd-%s-%ld", name, (long)getpid());
     listen_again();
 }

@@ -68,6 +68,23 @@ static iconvd_status restore(struct iconvd_cd *cd, struct tries *tries, struct r
     return feed(own);
 }
 
+/* Locks the slot for the next try. Where that has no stream now, the descriptor moves to a slot that has one, or may be connected. False:
+   the time is up. */
+static bool lock_slot(struct iconvd_cd *cd, const struct tries *tries) {
+    static const struct pair NONE = {.to = NULL};
+    struct own *own = cd->own;
+    if (tries->next != LATER) {
+        slot_lock(own->slot);
+        return true;
+    }
+    struct slot *slot = pool_take(cd->pool, &NONE, SHORT_TEXT, tries->end);
+    if (!slot)
+        return false;
+    own->open &= slot == own->slot;
+    own->slot = slot;
+    return true;
+}
+
 /* What is done with the descriptor once it is there. */
 typedef iconvd_status own_action(struct own *own, void *context);
 
@@ -79,7 +96,9 @@ static iconvd_status with_own(struct iconvd_cd *cd, own_action *act, void *conte
     fork_check(cd->pool);
     do {
         struct refusal refusal = {.encoding = NULL};
-        slot_lock(own->slot);
+        status = ICONVD_LOST;
+        if (!lock_slot(cd, &tries))
+            break;
         status = restore(cd, &tries, &refusal);
         if (status == ICONVD_OK)
             status = act(own, context);
@@ -89,7 +108,7 @@ static iconvd_status with_own(struct iconvd_cd *cd, own_action *act, void *conte
             tries.next = NEVER;
         slot_unlock(cd->pool, own->slot);
         pool_note(cd->pool, &refusal);
-    } while (status == ICONVD_LOST && tries_go_on(cd->pool, &tries));
+    } while (status == ICONVD_LOST && tries.next != NEVER);
     cancelling_as(cancelling);
     return status == ICONVD_BADMAP ? ICONVD_UNSUPPORTED : status;
 }

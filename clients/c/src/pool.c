@@ -91,8 +91,6 @@ static iconvd_status with_pair(struct iconvd_pool *pool, const struct pair *pair
         if (slot)
             status = try_pair(pool, slot, pair, &doing);
     }
-    if (!slot)
-        tries_over(pool);
     cancelling_as(cancelling);
     return status;
 }

@@ -94,7 +94,7 @@ iconvd_status pool_convert_batch(struct iconvd_pool *pool, const struct pair *pa
 struct slot *pool_pick(struct iconvd_pool *pool);
 
 /* A slot for a pair, locked: a free one, else the first that becomes free, after those threads that have waited longer. One that is not
-   connected is free when the server may be tried. NULL: no stream lived, and no try was due, until `end`. */
+   connected is free when the server may be tried. NULL: no stream lived, and no try was due, until `end`; the log says why. */
 struct slot *pool_take(struct iconvd_pool *pool, const struct pair *pair, enum text text, long long end);
 
 /* Locks one slot. */
@@ -131,9 +131,6 @@ void slot_lose(struct iconvd_pool *pool, struct slot *slot, struct tries *tries)
 
 /* Notes that a new stream has answered. */
 void slot_settle(struct iconvd_pool *pool, struct slot *slot);
-
-/* Waits until the next try of a call, without a slot. False: there is none; the log says why if it has waited. */
-bool tries_go_on(struct iconvd_pool *pool, const struct tries *tries);
 
 /* Says why a call that has waited ends without a stream. */
 void tries_over(struct iconvd_pool *pool);

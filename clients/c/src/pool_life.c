@@ -116,21 +116,8 @@ static iconvd_status upload(struct iconvd_pool *pool, struct slot *slot, const s
     return status;
 }
 
-/* The same with more tries; then lets it be found. */
-static iconvd_status add_charmap(struct iconvd_pool *pool, struct encoding *made, struct refusal *refusal) {
-    struct pair pair = {.to = encoding_builtin(UTF_8), .from = made, .strict = true};
-    struct slot *slot = &pool->slots[0];
-    iconvd_status status;
-    int cancelling = cancelling_off();
-    struct tries tries = tries_begin(pool);
-    slot_lock(slot);
-    while ((status = upload(pool, slot, &pair, &tries, refusal)) == ICONVD_LOST) {
-        slot_unlock(pool, slot);
-        bool again = tries_go_on(pool, &tries);
-        slot_lock(slot);
-        if (!again)
-            break;
-    }
+/* Lets an encoding be found whose charmap the service has taken, and unlocks the slot. */
+static iconvd_status keep(struct iconvd_pool *pool, struct slot *slot, struct encoding *made, iconvd_status status) {
     /* The name is free, so what the service finds taken, or does not find, is another one: the text's. */
     if (status == ICONVD_UNSUPPORTED || status == ICONVD_EXISTS)
         status = ICONVD_NONAME;
@@ -140,6 +127,22 @@ static iconvd_status add_charmap(struct iconvd_pool *pool, struct encoding *made
     if (status != ICONVD_OK)
         slot_reset(pool, slot);
     slot_unlock(pool, slot);
+    return status;
+}
+
+/* Uploads the charmap, and lets it be found. */
+static iconvd_status add_charmap(struct iconvd_pool *pool, struct encoding *made, struct refusal *refusal) {
+    struct pair pair = {.to = encoding_builtin(UTF_8), .from = made, .strict = true};
+    iconvd_status status = ICONVD_LOST;
+    struct tries tries = tries_begin(pool);
+    int cancelling = cancelling_off();
+    struct slot *slot = pool_take(pool, &pair, SHORT_TEXT, tries.end);
+    while (slot && (status = upload(pool, slot, &pair, &tries, refusal)) == ICONVD_LOST) {
+        slot_unlock(pool, slot);
+        slot = tries.next == NEVER ? NULL : pool_take(pool, &pair, SHORT_TEXT, tries.end);
+    }
+    if (slot)
+        status = keep(pool, slot, made, status);
     cancelling_as(cancelling);
     return status;
 }

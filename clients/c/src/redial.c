@@ -25,12 +25,10 @@ void timed_condition_wait(pthread_cond_t *condition, pthread_mutex_t *mutex, lon
 
 void redial_begin(struct redial *redial) {
     pthread_mutex_init(&redial->mutex, NULL);
-    timed_condition_begin(&redial->change);
 }
 
 void redial_end(struct redial *redial) {
     pthread_mutex_destroy(&redial->mutex);
-    pthread_cond_destroy(&redial->change);
 }
 
 void redial_renew(struct redial *redial) {
@@ -66,12 +64,6 @@ enum permit redial_ask(struct redial *redial) {
     return permit;
 }
 
-/* Unlocks it, and tells those who wait. */
-static void unlock_changed(struct redial *redial) {
-    pthread_cond_broadcast(&redial->change);
-    pthread_mutex_unlock(&redial->mutex);
-}
-
 void redial_answered(struct redial *redial) {
     pthread_mutex_lock(&redial->mutex);
     atomic_store(&redial->in_doubt, false);
@@ -79,13 +71,13 @@ void redial_answered(struct redial *redial) {
     redial->failures = 0;
     redial->next = 0;
     redial->reason = 0;
-    unlock_changed(redial);
+    pthread_mutex_unlock(&redial->mutex);
 }
 
 void redial_doubt(struct redial *redial) {
     pthread_mutex_lock(&redial->mutex);
     atomic_store(&redial->in_doubt, true);
-    unlock_changed(redial);
+    pthread_mutex_unlock(&redial->mutex);
 }
 
 bool redial_failed(struct redial *redial, bool tried, int reason, int most) {
@@ -102,36 +94,21 @@ bool redial_failed(struct redial *redial, bool tried, int reason, int most) {
     atomic_store(&redial->in_doubt, true);
     redial->reason = reason;
     redial->trying &= !tried;
-    unlock_changed(redial);
+    pthread_mutex_unlock(&redial->mutex);
     return first;
 }
 
 void redial_give_back(struct redial *redial) {
     pthread_mutex_lock(&redial->mutex);
     redial->trying = false;
-    unlock_changed(redial);
-}
-
-/* The same as redial_next(), locked. */
-static long long next_try(const struct redial *redial) {
-    return redial->trying ? LLONG_MAX : redial->next;
+    pthread_mutex_unlock(&redial->mutex);
 }
 
 long long redial_next(struct redial *redial) {
     pthread_mutex_lock(&redial->mutex);
-    long long next = next_try(redial);
+    long long next = redial->trying ? LLONG_MAX : redial->next;
     pthread_mutex_unlock(&redial->mutex);
     return next;
-}
-
-bool redial_wait(struct redial *redial, long long end) {
-    pthread_mutex_lock(&redial->mutex);
-    while (permit_now(redial) == NOT_NOW && now_in_milliseconds() < end) {
-        long long next = next_try(redial);
-        timed_condition_wait(&redial->change, &redial->mutex, next < end ? next : end);
-    }
-    pthread_mutex_unlock(&redial->mutex);
-    return now_in_milliseconds() < end;
 }
 
 int redial_reason(struct redial *redial) {

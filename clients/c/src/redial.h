@@ -16,7 +16,6 @@ enum { SERVER_CLOSES = -1, SERVER_SILENT = -2 };
 
 struct redial {
     pthread_mutex_t mutex;  /* of what follows but `in_doubt`, which is written with it */
-    pthread_cond_t change;  /* of anything here */
     atomic_bool in_doubt;   /* a stream was lost or could not be had, and no new one has answered since */
     bool trying;            /* a thread tries, and others wait for what becomes of it */
     unsigned failures;      /* tries one after another */
@@ -57,9 +56,6 @@ void redial_give_back(struct redial *redial);
 
 /* When the next try is; LLONG_MAX while another thread tries. */
 long long redial_next(struct redial *redial);
-
-/* Waits until something has changed or a try is due, but not after `end`. False: that has come. */
-bool redial_wait(struct redial *redial, long long end);
 
 /* The reason of the last failure; SERVER_SILENT where nothing has failed yet. */
 int redial_reason(struct redial *redial);

@@ -140,12 +140,16 @@ static void lose_silent(struct iconvd_pool *pool, struct slot *slot, struct trie
 /* Loses a stream that has ended, or has rubbish on it. */
 static void lose_at_end(struct iconvd_pool *pool, struct slot *slot, struct tries *tries) {
     struct stream *stream = &slot->stream;
-    if (waits(pool) && stream->ended && !stream->heard) {
+    bool closes = atomic_load(&pool->reached) && stream->ended && !stream->heard;
+    if (closes && pool->waits) {
         fail(pool, slot, tries, SERVER_CLOSES);
         return;
     }
-    pool_log(pool, "a connection is lost%s",
-             stream_may_be_used_up(stream) ? ": it may have reached the limit of 1,000,000 reads" : "");
+    if (closes)
+        log_reason(pool, SERVER_CLOSES, "");
+    else
+        pool_log(pool, "a connection is lost%s",
+                 stream_may_be_used_up(stream) ? ": it may have reached the limit of 1,000,000 reads" : "");
     int silent = stream->answered ? 0 : atomic_load(&pool->silent) + 1;
     atomic_store(&pool->silent, silent);
     if (silent >= SILENT_CONNECTIONS)
@@ -167,13 +171,4 @@ void slot_lose(struct iconvd_pool *pool, struct slot *slot, struct tries *tries)
 
 void tries_over(struct iconvd_pool *pool) {
     log_reason(pool, redial_reason(&pool->redial), "");
-}
-
-bool tries_go_on(struct iconvd_pool *pool, const struct tries *tries) {
-    if (tries->next != LATER)
-        return tries->next == AT_ONCE;
-    if (redial_wait(&pool->redial, tries->end))
-        return true;
-    tries_over(pool);
-    return false;
 }

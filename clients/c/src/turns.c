@@ -10,6 +10,8 @@
  * server when that is due (redial.h). */
 #include "pool.h"
 
+#include <limits.h>
+
 #include "transfer.h"
 
 /* How many milliseconds it may be overtaken; and between two looks of one whose time is up. */
@@ -153,27 +155,34 @@ static bool is_over(struct iconvd_pool *pool, long long end) {
     return atomic_load(&pool->redial.in_doubt) && atomic_load(&pool->live) == 0 && now_in_milliseconds() >= end;
 }
 
-/* Waits until it is called, the server may be tried again, or the time is up, after which it looks now and then. */
-static void wait_for_call(struct iconvd_pool *pool, struct turn *turn, bool is_first, long long end) {
-    long long until = now_in_milliseconds() + LOOK;
+/* Waits until it is called, the server may be tried if that is what it waits for, or the time is up, after which it looks now and then. */
+static void wait_for_call(struct iconvd_pool *pool, struct turn *turn, bool waits_for_try, long long end) {
+    long long until = now_in_milliseconds() + LOOK, next = waits_for_try ? redial_next(&pool->redial) : LLONG_MAX;
     until = until > end ? until : end;
-    if (is_first && atomic_load(&pool->redial.in_doubt)) {
-        long long next = redial_next(&pool->redial);
-        until = next < until ? next : until;
+    timed_condition_wait(&turn->come, &pool->lines_mutex, next < until ? next : until);
+}
+
+/* Waits in a line until it is the first and there is a stream. NULL: the time is up. */
+static struct slot *await_slot(struct iconvd_pool *pool, const struct pair *pair, enum text text, struct turn *turn, long long end) {
+    struct line *line = &pool->lines[text];
+    for (;;) {
+        /* Asked first, so that a try which falls due meanwhile is seen the next time. */
+        bool waits_for_try = line->first == turn && !may_connect(pool);
+        struct slot *slot = line->first == turn ? take_free(pool, pair, text) : NULL;
+        if (slot || is_over(pool, end))
+            return slot;
+        wait_for_call(pool, turn, waits_for_try, end);
     }
-    timed_condition_wait(&turn->come, &pool->lines_mutex, until);
 }
 
 static struct slot *take_in_turn(struct iconvd_pool *pool, const struct pair *pair, enum text text, long long end) {
     struct line *line = &pool->lines[text];
     struct turn turn = {.since = now_in_milliseconds()};
-    struct slot *slot = NULL;
     timed_condition_begin(&turn.come);
     pthread_mutex_lock(&pool->lines_mutex);
     atomic_fetch_add(&pool->waiting, 1);
     join(line, &turn);
-    while ((line->first != &turn || !(slot = take_free(pool, pair, text))) && !is_over(pool, end))
-        wait_for_call(pool, &turn, line->first == &turn, end);
+    struct slot *slot = await_slot(pool, pair, text, &turn, end);
     leave(line, &turn);
     atomic_fetch_sub(&pool->waiting, 1);
     pthread_mutex_unlock(&pool->lines_mutex);
@@ -184,7 +193,11 @@ static struct slot *take_in_turn(struct iconvd_pool *pool, const struct pair *pa
 struct slot *pool_take(struct iconvd_pool *pool, const struct pair *pair, enum text text, long long end) {
     fork_check(pool);
     struct slot *slot = has_waited(&pool->lines[text]) ? NULL : take_free(pool, pair, text);
-    return slot ? slot : take_in_turn(pool, pair, text, end);
+    if (!slot)
+        slot = take_in_turn(pool, pair, text, end);
+    if (!slot)
+        tries_over(pool);
+    return slot;
 }
 
 void turns_renew(struct iconvd_pool *pool) {

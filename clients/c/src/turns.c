@@ -157,8 +157,8 @@ static bool is_over(struct iconvd_pool *pool, long long end) {
 
 /* Waits until it is called, the server may be tried if that is what it waits for, or the time is up, after which it looks now and then. */
 static void wait_for_call(struct iconvd_pool *pool, struct turn *turn, bool waits_for_try, long long end) {
-    long long until = now_in_milliseconds() + LOOK, next = waits_for_try ? redial_next(&pool->redial) : LLONG_MAX;
-    until = until > end ? until : end;
+    long long now = now_in_milliseconds(), until = now < end ? end : now + LOOK;
+    long long next = waits_for_try ? redial_next(&pool->redial) : LLONG_MAX;
     timed_condition_wait(&turn->come, &pool->lines_mutex, next < until ? next : until);
 }
 

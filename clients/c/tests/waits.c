@@ -98,7 +98,7 @@ static void test_full(int kind) {
     int time = milliseconds(CLOCK_MONOTONIC) - begin;
     processor = milliseconds(CLOCK_PROCESS_CPUTIME_ID) - processor;
     check(status == ICONVD_LOST, "call %d: status %d", kind, (int)status);
-    check(time >= TIMEOUT - 1 && time < TIMEOUT + 1000, "call %d: %d ms", kind, time);
+    check(time >= TIMEOUT - 1 && time < TIMEOUT + 300, "call %d: %d ms", kind, time);
     check(processor < 200, "call %d: %d ms of a processor", kind, processor);
     check(connections() >= 3 && connections() <= 5, "call %d: %d connections", kind, connections());
     snprintf(expected, sizeof expected, "no connection to the service: %s: the server closes new connections (full or draining)\n", where);

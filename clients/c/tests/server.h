@@ -33,7 +33,7 @@ enum fault {
     CLOSE_AFTER = 100 /* CLOSE_AFTER + n: closes after n bytes of the reply */
 };
 
-enum { ALL = 1000000 };
+enum { ALL = 1000000, DESCRIPTOR_BITS = 20, DESCRIPTOR = (1 << DESCRIPTOR_BITS) - 1 };
 
 /* What the server does. It is set before a client connects. */
 static struct {
@@ -146,15 +146,14 @@ static void close_full(int fd) {
     shutdown(fd, SHUT_RDWR);
 }
 
-/* One connection. */
+/* One connection: its descriptor, and in the bits above it how many there were before. */
 static void *serve(void *argument) {
     static __thread unsigned char request[1100000], reply[2300000];
-    int fd = (int)(intptr_t)argument;
-    int connections = __atomic_load_n(&plan.connections, __ATOMIC_SEQ_CST);
-    bool wrong = connections <= plan.wrong;
-    if (connections > plan.places && plan.closes)
+    int fd = (int)((intptr_t)argument & DESCRIPTOR), before = (int)((intptr_t)argument >> DESCRIPTOR_BITS);
+    bool wrong = before < plan.wrong;
+    if (before >= plan.places && plan.closes)
         close_full(fd);
-    else if (connections > plan.places)
+    else if (before >= plan.places)
         read_to_end(fd);
     for (int number = 0; read_all(fd, request, 13); number++) {
         size_t length = 4 + read_number(request);
@@ -190,7 +189,7 @@ static inline void *accept_all(void *argument) {
         if (number < (int)(sizeof plan.ends / sizeof *plan.ends))
             plan.ends[number] = fd;
         pthread_t thread;
-        if (pthread_create(&thread, NULL, serve, (void *)(intptr_t)fd) == 0)
+        if (pthread_create(&thread, NULL, serve, (void *)((intptr_t)number << DESCRIPTOR_BITS | fd)) == 0)
             pthread_detach(thread);
     }
 }

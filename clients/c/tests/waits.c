@@ -154,7 +154,7 @@ static void test_together(void) {
     iconvd_disconnect(pool);
 }
 
-/* A server with two places for more streams than that: all texts go by the two. */
+/* A server with two places for more streams than that: all texts go by the two. When one of them ends, everything goes by the other. */
 static void test_two_places(void) {
     set_plan(RIGHT, 0, 0);
     plan.places = 2;
@@ -165,6 +165,10 @@ static void test_two_places(void) {
         right += convert_at_once(pool, ICONVD_OK);
     int time = milliseconds(CLOCK_MONOTONIC) - begin;
     check(right == 20 * THREADS && time < 5000, "%d texts by two places in %d ms", right, time);
+    shutdown(plan.ends[0], SHUT_RDWR);
+    for (int kind = 0; kind < 3; kind++)
+        check(call_kind(kind, pool) == ICONVD_OK, "call %d by the place that is left: %s", kind, lines);
+    check(convert(pool, "UTF-7") == ICONVD_OK, "UTF-7 again");
     iconvd_disconnect(pool);
 }
 

@@ -18,8 +18,8 @@ class Tries:
     """The tries of one call, which begins with no fault."""
 
     def __init__(self, limit: Optional[float], has_stream: bool) -> None:
-        """`limit` is the seconds that a server is tried which takes no stream, or None. A stream that was kept from an earlier call,
-        which `has_stream` says, is replaced at once: a server ends idle streams."""
+        """`limit` is the seconds that a server is tried which takes no stream, or None. A stream that was kept from an earlier
+        call, which `has_stream` says, is replaced at once: a server ends idle streams."""
         self._limit = math.inf if limit is None else limit
         self._until: Optional[float] = None
         self._left = MORE_TRIES

@@ -288,7 +288,8 @@ class Listening(WithServer):
 
     def test_two_clients(self) -> None:
         where = "unix:" + self.path
-        server = subprocess.Popen([PROGRAM, "listen", where, "--at-once", "1"], stdout=subprocess.PIPE, stderr=subprocess.DEVNULL)
+        command = [PROGRAM, "listen", where, "--at-once", "1", "--streams", "9"]
+        server = subprocess.Popen(command, stdout=subprocess.PIPE, stderr=subprocess.DEVNULL)
         try:
             assert server.stdout is not None
             self.assertIn(b"listening", server.stdout.readline())

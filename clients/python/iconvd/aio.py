@@ -16,7 +16,7 @@ from .errors import ServerLost, TimedOut
 from .frames import Reply, ReplyReader, Request, Status
 from .library import Library
 from .order import ends
-from .session import Pair, Session, Steps
+from .session import UTF_8, Pair, Session, Steps
 from .tries import Tries, again, concerns_all
 
 T = TypeVar("T")
@@ -198,22 +198,22 @@ class AsyncClient:
         """Decodes bytes as `bytes.decode` does."""
         origin, begin = text.without_mark(self.library.find(source), data)
         codec = text.TextCodec(source, origin, self.library)
-        pair = Pair(steps.UTF_8, origin)
+        pair = Pair(UTF_8, origin)
         return (await self._run(pair, lambda session: codec.decode(session, data, errors, True, begin))).text
 
     async def encode(self, characters: str, target: str, errors: str = "strict") -> bytes:
         """Encodes a text as `str.encode` does."""
         ordered, mark = text.mark_of(self.library.find(target))
         codec = text.TextCodec(target, ordered, self.library)
-        pair = Pair(ordered, steps.UTF_8)
+        pair = Pair(ordered, UTF_8)
         return mark + await self._run(pair, lambda session: codec.encode(session, characters, errors))
 
     async def upload(self, charmap: Union[bytes, str]) -> Charmap:
         """Adds a charmap of the caller's own. See Client.upload."""
         encoding, is_added = self.library.uploaded(charmap)
-        pair = Pair(steps.UTF_8, encoding)
+        pair = Pair(UTF_8, encoding)
         try:
-            await self._run(pair, lambda session: session.descriptor(pair))
+            await self._run(pair, lambda session: session.descriptor(pair, is_whole=True))
         except BaseException:
             if is_added:
                 self.library.remove(encoding)

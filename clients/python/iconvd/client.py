@@ -17,7 +17,7 @@ from .library import Library
 from .names import Encoding
 from .order import ends
 from .pieces import Conversion, Decoder, Encoder
-from .session import Pair, Session, Steps
+from .session import UTF_8, Pair, Session, Steps
 from .transport import ENDING, Stream, address, time_limit
 from .tries import Tries, again, concerns_all
 
@@ -198,7 +198,7 @@ class Client:
         server refuses the text; it has the line and the cause."""
         encoding, is_added = self.library.uploaded(text)
         try:
-            self.run(lambda session: session.descriptor(Pair(steps.UTF_8, encoding)))
+            self.run(lambda session: session.descriptor(Pair(UTF_8, encoding), is_whole=True))
         except BaseException:
             if is_added:
                 self.library.remove(encoding)

@@ -134,11 +134,13 @@ def _separator(found: List[Range]) -> Tuple[str, bytes]:
     raise CharmapRefused("", "each of its characters has two encodings")
 
 
-def _usual_separator(charmap: Charmap, body: bytes) -> Optional[Tuple[str, bytes]]:
+def _usual_separator(charmap: Charmap, body: bytes, rest: bytes) -> Optional[Tuple[str, bytes]]:
     """Returns U+0000, which most charmaps have once, and its byte string."""
     at = body.find(b"<U0000>")
     usual = re.compile(rb"<U0000>[ \t]+%sx([0-9A-Fa-f]{2})\s" % re.escape(charmap.escape)).match(body, at) if at >= 0 else None
-    if usual is None or charmap.shortest != 1 or at > 0 and body[at - 1 : at] != b"\n" or body.count(b"<U0000>") > 1:
+    if usual is None or charmap.shortest != 1 or at > 0 and body[at - 1 : at] != b"\n":
+        return None
+    if body.count(b"<U0000") + rest.count(b"<U0000") > 1:
         return None
     return "\0", bytes((int(usual[1], 16),))
 
@@ -146,19 +148,25 @@ def _usual_separator(charmap: Charmap, body: bytes) -> Optional[Tuple[str, bytes
 class CharmapForm(PatternForm):
     """The form of a charmap's encoding. What is made of the charmap is made when it is first needed."""
 
-    def __init__(self, charmap: Charmap) -> None:
+    def __init__(self, charmap: Charmap, rest: bytes = b"") -> None:
+        """`rest` is the lines of a charmap of which `charmap` is the beginning."""
         self._charmap = charmap
+        self._rest = rest
         self.is_multibyte = charmap.longest > 1
-        mark, separator = _usual_separator(charmap, charmap.body()) or _separator(self._ranges())
+        mark, separator = _usual_separator(charmap, charmap.body(), rest) or _separator(self._ranges())
         super().__init__(separator, mark, not self.is_multibyte)
         self.lacking_reason = _ILLEGAL if self.is_multibyte else _UNDEFINED
 
     def _ranges(self) -> List[Range]:
-        return mappings.ranges(self._charmap.body(), self._charmap.escape)
+        bodies = (self._charmap.body(), self._rest)
+        return [each for body in bodies for each in mappings.ranges(body, self._charmap.escape)]
 
     @functools.cached_property
     def _strings(self) -> _Strings:
-        return _Strings(mappings.last_bytes(self._charmap.body(), self._charmap.escape))
+        found = mappings.last_bytes(self._charmap.body(), self._charmap.escape)
+        for before, last in mappings.last_bytes(self._rest, self._charmap.escape).items():
+            found[before] = found.get(before, 0) | last
+        return _Strings(found)
 
     @functools.cached_property
     def _scanner(self) -> Optional[Scanner]:
@@ -171,7 +179,27 @@ class CharmapForm(PatternForm):
         return self._strings.patterns(self.separator)
 
     def has(self) -> List[Span]:
-        return list(_runs(mappings.spans(self._charmap.body(), self._charmap.escape)))
+        found = mappings.spans(self._charmap.body(), self._charmap.escape)
+        return list(_runs(sorted([*found, *self._rest_spans])))
+
+    # ---- the rest of a charmap of which the beginning is uploaded alone
+
+    def has_in_rest(self, character: str) -> bool:
+        """Whether the rest of the charmap has a character."""
+        return any(first <= ord(character) < end for first, end in self._rest_spans)
+
+    def may_have_in_rest(self, data: bytes) -> bool:
+        """Whether bytes may begin with a byte string of the rest."""
+        return self._rest_first_bytes is None or data[0] in self._rest_first_bytes
+
+    @functools.cached_property
+    def _rest_spans(self) -> List[Span]:
+        """The characters of the rest: the first of each run, and the one after its last."""
+        return mappings.spans(self._rest, self._charmap.escape)
+
+    @functools.cached_property
+    def _rest_first_bytes(self) -> Optional[Set[int]]:
+        return mappings.first_bytes(self._rest, self._charmap.escape)
 
     def reason(self, item: bytes, is_cut: bool) -> str:
         if is_cut:

@@ -12,7 +12,7 @@ from array import array
 from itertools import compress, count, islice, repeat
 from operator import add, ne, sub
 from struct import iter_unpack
-from typing import Any, Dict, Iterable, Iterator, List, Optional, Tuple
+from typing import Any, Dict, Iterable, Iterator, List, Optional, Set, Tuple
 
 from .symbols import SYMBOLS
 
@@ -98,10 +98,16 @@ def spans(body: bytes, escape: bytes) -> List[Tuple[int, int]]:
     if not _are_all(len(singles) + len(named), body):
         return sorted((first, first + count) for first, count, _, _ in ranges(body, escape))
     found = list(_runs(*_points([(first, last or first) for first, last in named])))
-    for size in set(map(len, singles)):
-        points = _numbers([each for each in singles if len(each) == size])
+    for alike in _alike(singles):
+        points = _numbers(alike)
         found.extend(_runs(points, points))
     return sorted(found)
+
+
+def _alike(items: List[bytes]) -> List[List[bytes]]:
+    """Returns items of one length together."""
+    sizes = set(map(len, items))
+    return [items] if len(sizes) == 1 else [[item for item in items if len(item) == size] for size in sizes]
 
 
 def _numbers(digits: List[bytes]) -> array[int]:
@@ -140,12 +146,23 @@ def last_bytes(body: bytes, escape: bytes) -> LastBytes:
         _add_ranges(found, ranges(body, escape))
         return found
     constant = escape + b"x"
-    for size in set(map(len, singles)):
-        for before, last in _strings([code for code in singles if len(code) == size], constant):
+    for alike in _alike(singles):
+        for before, last in _strings(alike, constant):
             found[before] = found.get(before, 0) | _BIT[last]
     for size in {len(code) for _, _, code in ranged}:
         _add_alike(found, [each for each in ranged if len(each[2]) == size], constant)
     return found
+
+
+def first_bytes(body: bytes, escape: bytes) -> Optional[Set[int]]:
+    """Returns the first bytes that the byte strings of all mappings may have, or None if they may have any."""
+    byte = rb"%sx[0-9A-Fa-f]{2}" % re.escape(escape)
+    found = re.compile(rb"\n<[^>\n]*>(?:\.\.<[^>\n]*>)?[ \t]+(%s)" % byte).findall(b"\n" + body)
+    ranged = re.compile(rb">\.\.<[^>\n]*>[ \t]+(%s)(?:%s){3}" % (byte, byte)).findall(body)
+    if not _are_all(len(found), body) or len(ranged) != body.count(b">.."):
+        return None
+    # A range may carry into the first byte, which is one more then: not even all characters are more than three bytes count.
+    return {int(constant[-2:], 16) for constant in set(found)} | {int(constant[-2:], 16) + 1 for constant in set(ranged)}
 
 
 def _strings(codes: List[bytes], constant: bytes) -> Iterator[Tuple[Any, ...]]:

@@ -17,13 +17,11 @@ from .library import Library
 from .names import Encoding
 from .order import ends
 from .pieces import Conversion, Decoder, Encoder
-from .session import UTF_8, Pair, Session, Steps
+from .session import NO_CALLER, UTF_8, Pair, Session, Steps
 from .transport import ENDING, Stream, address, time_limit
 from .tries import Tries, again, concerns_all
 
 T = TypeVar("T")
-#: A caller number that no session uses, for pings.
-_PING_CALLER = 0xFFFFFFFF
 _READ_SIZE = 262_144
 
 
@@ -142,7 +140,7 @@ class Client:
         """Asks the server for a reply. Raises ServerLost if none comes."""
 
         def make(_session: Session) -> Steps[None]:
-            (reply,) = yield [Request(_PING_CALLER, Op.BYE)]
+            (reply,) = yield [Request(NO_CALLER, Op.BYE)]
             if reply.status != Status.OK:
                 raise ServerLost(f"the server answered a ping by status {reply.status}")
 

@@ -6,7 +6,7 @@ so that a blocking client and an asyncio client share them.
 
 from __future__ import annotations
 
-from typing import Dict, Generator, Iterable, List, NamedTuple, Tuple, TypeVar
+from typing import Dict, Generator, Iterable, List, NamedTuple, Set, Tuple, TypeVar
 
 from . import frames
 from .charmaps import Charmap
@@ -20,6 +20,8 @@ T = TypeVar("T")
 _SHORT = 256
 #: Ends the keys of beginnings. No charmap's name has it.
 _BEGINNING = "\n"
+#: A caller number that no session uses.
+NO_CALLER = 0xFFFFFFFF
 UTF_7 = Encoding(False, "UTF-7")
 UTF_8 = Encoding(False, "UTF-8")
 #: Yields requests, is sent their replies, and returns a T.
@@ -78,6 +80,7 @@ class Session:
         self._library = library
         self._callers: List[_Caller] = []
         self._descriptors: Dict[Pair, Descriptor] = {}
+        self._opening: Set[Pair] = set()
         self._first_pieces: Dict[Pair, int] = {}
 
     def descriptor(self, pair: Pair, is_whole: bool = False) -> Steps[Descriptor]:
@@ -85,8 +88,16 @@ class Session:
         charmap the beginning is uploaded, or all of it if `is_whole` says so. UTF-7 has a state, which can't go from one to
         another descriptor."""
         found = self._descriptors.get(pair)
+        while pair in self._opening and (found is None or (is_whole and found.parts)):
+            # Another task opens it. Replies come in order.
+            yield [Request(NO_CALLER, Op.BYE)]
+            found = self._descriptors.get(pair)
         if found is None or (is_whole and found.parts):
-            found = yield from self._open(pair, is_whole or UTF_7 in pair)
+            self._opening.add(pair)
+            try:
+                found = yield from self._open(pair, is_whole or UTF_7 in pair)
+            finally:
+                self._opening.discard(pair)
             self._descriptors[pair] = found
         return found
 

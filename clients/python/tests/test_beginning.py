@@ -33,7 +33,8 @@ def damaged(data: bytes) -> List[bytes]:
     """Returns a text with its end cut off, and with bytes in it that are none of the encoding's."""
     chance = random.Random(data[:100])
     at = chance.randrange(len(data) + 1)
-    return [data, data[: -chance.randrange(1, 4)], data[:at] + chance.randbytes(3) + data[at:], b"\x95\x32\x82" + data, b"\xff" + data]
+    cut, mixed = data[: -chance.randrange(1, 4)], data[:at] + chance.randbytes(3) + data[at:]
+    return [data, cut, mixed, b"\x95\x32\x82" + data, b"\xff" + data]
 
 
 class Beginnings(unittest.TestCase):
@@ -50,7 +51,8 @@ class Beginnings(unittest.TestCase):
             with iconvd.Client(SERVER, timeout=60) as client:
                 both = [outcome(lambda: each.encode(text, NAME, errors)) for each in (client, self.whole)]
                 self.assertEqual(*both, (number, errors))
-                both = [outcome(lambda: each.convert(encoded, to=NAME, source="UTF-8", errors=errors)) for each in (client, self.whole)]
+                by_bytes = {"to": NAME, "source": "UTF-8", "errors": errors}
+                both = [outcome(lambda: each.convert(encoded, **by_bytes)) for each in (client, self.whole)]
                 self.assertEqual(*both, (number, errors))
 
     def test_the_same_for_bytes(self) -> None:
@@ -61,13 +63,20 @@ class Beginnings(unittest.TestCase):
                 with iconvd.Client(SERVER, timeout=60) as client:
                     both = [outcome(lambda: each.decode(data, NAME, errors)) for each in (client, self.whole)]
                     self.assertEqual(*both, (number, turn, errors))
-                    both = [outcome(lambda: each.convert(data, to=to, source=NAME, errors=errors)) for each in (client, self.whole)]
+                    ends = {"to": to, "source": NAME, "errors": errors}
+                    both = [outcome(lambda: each.convert(data, **ends)) for each in (client, self.whole)]
                     self.assertEqual(*both, (number, turn, errors, to))
 
     def test_what_is_sent(self) -> None:
         """The beginning alone for texts of its characters and for faults, and all of the charmap for others."""
         size = len(charmaps.read_file(NAME))
-        rows = [(SHORT, b"", 0.75), (LACKING[:2], b"\xff", 0.75), (LONG, b"", 2), ("", b"\x95\x32\x82\x36", 2), ("", b"\x81\x20", 0.75)]
+        rows = [
+            (SHORT, b"", 0.75),
+            (LACKING[:2], b"\xff", 0.75),
+            (LONG, b"", 2),
+            ("", b"\x95\x32\x82\x36", 2),
+            ("", b"\x81\x20", 0.75),
+        ]
         for text, data, share in rows:
             with metered() as meter, iconvd.Client(SERVER, timeout=60) as client:
                 client.encode(text, NAME, "replace")

@@ -3,7 +3,6 @@
 from __future__ import annotations
 
 import asyncio
-import math
 import os
 import socket
 import subprocess
@@ -11,13 +10,12 @@ import tempfile
 import threading
 import time
 import unittest
-from typing import Callable, List, Optional, Type
+from typing import Callable, List, Type
 
 from support import PROGRAM, FakeServer, requests_of
 
 import iconvd
-from iconvd.errors import NotReached, NotStarted, ServerBusy, ServerLost, TimedOut
-from iconvd.tries import Tries
+from iconvd.errors import NotReached, ServerBusy, ServerLost, TimedOut
 
 #: Seconds after which a test has hung.
 HANG = 60
@@ -57,42 +55,6 @@ def by_asyncio(where: str, limit: float) -> None:
 
 
 CLIENTS = (by_thread, by_asyncio)
-
-
-class Pauses(unittest.TestCase):
-    def pauses(self, fault: Type[ServerLost], limit: Optional[float], was_served: bool, has_stream: bool = False) -> List[float]:
-        """Returns the pauses of a call whose every try ends by that fault at once."""
-        tries, now, found = Tries(limit, has_stream), 5.0, []
-        while len(found) < 50:
-            pause = tries.pause(fault("a fault"), now, was_served)
-            if pause is None:
-                break
-            found.append(round(pause, 6))
-            now += pause
-        return found
-
-    def test_pauses(self) -> None:
-        doubled = [0.05, 0.1, 0.2, 0.4, 0.8]
-        rows = [
-            ("sent again twice", ServerLost, 10, True, doubled[:2]),
-            ("sent again twice by a new client", ServerLost, 10, False, doubled[:2]),
-            ("full", ServerBusy, 5, False, [*doubled, 1, 1, 1, 0.45]),
-            ("gone", NotReached, 3, True, [*doubled, 1, 0.45]),
-            ("never there", NotReached, 10, False, doubled[:2]),
-            ("a short limit", NotReached, 0.12, True, [0.05, 0.07]),
-            ("silent", TimedOut, 10, True, []),
-            ("no program", NotStarted, 10, True, []),
-        ]
-        for what, fault, limit, was_served, pauses in rows:
-            self.assertEqual(self.pauses(fault, limit, was_served), pauses, what)
-
-    def test_a_kept_stream_is_replaced_at_once(self) -> None:
-        self.assertEqual(self.pauses(ServerLost, 10, True, has_stream=True), [0, 0.05])
-        self.assertEqual(self.pauses(NotReached, 0.5, True, has_stream=True), [0, 0.05, 0.1, 0.2, 0.15])
-
-    def test_without_a_limit(self) -> None:
-        self.assertEqual(self.pauses(ServerBusy, None, False)[5:], [1.0] * 45)
-        self.assertEqual(self.pauses(ServerBusy, math.inf, False)[5:], [1.0] * 45)
 
 
 class WithServer(unittest.TestCase):

@@ -190,7 +190,7 @@ class CharmapForm(PatternForm):
 
     def may_have_in_rest(self, data: bytes) -> bool:
         """Whether bytes may begin with a byte string of the rest."""
-        return self._rest_first_bytes is None or data[0] in self._rest_first_bytes
+        return self._rest_first_bytes is None or not self._rest_first_bytes.isdisjoint(data[:1])
 
     @functools.cached_property
     def _rest_spans(self) -> List[Span]:

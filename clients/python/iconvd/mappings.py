@@ -161,7 +161,7 @@ def first_bytes(body: bytes, escape: bytes) -> Optional[Set[int]]:
     ranged = re.compile(rb">\.\.<[^>\n]*>[ \t]+(%s)(?:%s){3}" % (byte, byte)).findall(body)
     if not _are_all(len(found), body) or len(ranged) != body.count(b">.."):
         return None
-    # A range may carry into the first byte, which is one more then: not even all characters are more than three bytes count.
+    # A range may carry into the first of four bytes once: there are fewer characters than three bytes have values.
     return {int(constant[-2:], 16) for constant in set(found)} | {int(constant[-2:], 16) + 1 for constant in set(ranged)}
 
 

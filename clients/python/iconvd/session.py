@@ -107,7 +107,9 @@ class Session:
             return self._library.may_have_in_rest(pair.source, data)
         if status != Status.ENOCHAR or pair.target not in descriptor.parts:
             return False
-        return pair.source != UTF_8 or self._library.may_have_in_rest(pair.target, data.decode("utf-8", "ignore")[:1])
+        # It is empty where a server stopped within a character.
+        character = data.decode("utf-8", "ignore")[:1] if pair.source == UTF_8 else ""
+        return not character or self._library.may_have_in_rest(pair.target, character)
 
     def first_piece(self, pair: Pair) -> int:
         """Returns how many bytes the first request of a call may have."""

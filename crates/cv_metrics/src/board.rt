@@ -1,0 +1,119 @@
+//! What all streams are counted on.
+ghost use Rattle.std.specs.Prelude.{◌≡◌, ◌≤◌};
+
+use crate::causes::{Cause, FaultKind};
+use crate::cells::{add, count_at, zeros};
+use crate::outcome::Outcome;
+use crate::place::Place;
+use crate::rows;
+use crate::stream::Peer;
+use crate::text::{self, Told};
+use std::alloc::{AllocError, Global};
+use std::sync::Wait;
+use std::sync::atomic::{AtomicU64, Ordering};
+
+/// What a server counts: a place for each stream that may be served at once, and how streams ended. Any thread may use it.
+#[derive(Drop)]
+pub struct Board {
+    places: Vec<Place>,
+    begun: AtomicU64,
+    ended: Vec<AtomicU64>,
+    faults: Vec<AtomicU64>,
+    refused: AtomicU64,
+}
+
+impl Board {
+    /// A board with so many places, on which nothing was counted yet.
+    pub fn new(alloc: Global, count: u32) -> Result<Board, AllocError> {
+        let mut places = Vec::new(alloc);
+        for _place in 0..count {
+            places.push(Place::new(alloc)?)?;
+        }
+        Ok(Board {
+            places,
+            begun: AtomicU64::new(0),
+            ended: zeros(alloc, Cause::COUNT)?,
+            faults: zeros(alloc, FaultKind::COUNT)?,
+            refused: AtomicU64::new(0),
+        })
+    }
+
+    /// The place of this number, from 0.
+    pub fn place(&self, number: usize) -> Option<&Place> {
+        self.places.get(number)
+    }
+
+    /// The places.
+    pub(crate) fn places(&self) -> &[Place] {
+        &self.places
+    }
+
+    /// A stream begins at a place, at this time in nanoseconds.
+    pub fn begin<R: Wait>(&self, rt: &R, place: &Place, peer: Peer, now: u64) {
+        place.begin(rt, peer, now);
+        self.begun.fetch_add(1, Ordering::Relaxed);
+    }
+
+    /// The stream at a place has ended, by a fault of this kind where there was one.
+    pub fn end<R: Wait>(&self, rt: &R, place: &Place, cause: Cause, fault: Option<FaultKind>) {
+        place.end(rt);
+        add(&self.ended, cause.place(), 1);
+        if let Some(kind) = fault {
+            self.note_fault(kind);
+        }
+    }
+
+    /// There was a fault of no stream, or of one that has ended.
+    pub fn note_fault(&self, kind: FaultKind) {
+        add(&self.faults, kind.place(), 1);
+    }
+
+    /// A stream was closed at once, since all places were taken.
+    pub fn note_refused(&self) {
+        self.refused.fetch_add(1, Ordering::Relaxed);
+    }
+
+    /// How many streams began.
+    pub(crate) fn begun(&self) -> u64 {
+        self.begun.load(Ordering::Relaxed)
+    }
+
+    /// How many streams ended so.
+    pub(crate) fn ended(&self, cause: Cause) -> u64 {
+        count_at(&self.ended, cause.place())
+    }
+
+    /// How many faults of this kind there were.
+    pub(crate) fn faults(&self, kind: FaultKind) -> u64 {
+        count_at(&self.faults, kind.place())
+    }
+
+    /// How many streams were closed since all places were taken.
+    pub(crate) fn refused(&self) -> u64 {
+        self.refused.load(Ordering::Relaxed)
+    }
+
+    /// How many requests had this outcome.
+    pub(crate) fn count_of(&self, outcome: Outcome) -> u64 {
+        let mut sum: u64 = 0;
+        for place in &self.places {
+            sum = sum.wrapping_add(place.count_of(outcome.place()));
+        }
+        sum
+    }
+
+    /// All metrics in Prometheus's text format, 0.0.4.
+    pub fn metrics<R: Wait>(
+        &self,
+        rt: &R,
+        alloc: Global,
+        told: &Told,
+    ) -> Result<String, AllocError> {
+        text::metrics(rt, alloc, self, told)
+    }
+
+    /// The streams that are being served, as a JSON array with an object for each. `now` is the time in nanoseconds.
+    pub fn streams<R: Wait>(&self, rt: &R, alloc: Global, now: u64) -> Result<String, AllocError> {
+        rows::streams(rt, alloc, self, now)
+    }
+}

@@ -1,0 +1,31 @@
+//! Counters that one thread writes and others read.
+ghost use Rattle.std.specs.Prelude.{◌≡◌, IfOk, vec_len};
+
+use std::alloc::{AllocError, Global};
+use std::sync::atomic::{AtomicU64, Ordering};
+
+/// So many counters, all 0.
+pub(crate) fn zeros(alloc: Global, count: usize) -> Result<Vec<AtomicU64>, AllocError>
+    ensures { IfOk result (λ cells. vec_len cells ≡ count) }
+{
+    let mut cells = Vec::with_capacity(alloc, count)?;
+    for _cell in 0..count {
+        cells.push(AtomicU64::new(0))?;
+    }
+    Ok(cells)
+}
+
+/// Adds to the counter at a place. A counter that would not fit begins again at 0.
+pub(crate) fn add(cells: &Vec<AtomicU64>, place: usize, more: u64) {
+    if let Some(cell) = cells.get(place) {
+        cell.fetch_add(more, Ordering::Relaxed);
+    }
+}
+
+/// The counter at a place, or 0.
+pub(crate) fn count_at(cells: &Vec<AtomicU64>, place: usize) -> u64 {
+    match cells.get(place) {
+        Some(cell) => cell.load(Ordering::Relaxed),
+        None => 0,
+    }
+}

@@ -1,0 +1,91 @@
+//! Histograms of times.
+ghost use Rattle.std.specs.Prelude.{◌≡◌, ◌≤◌};
+ghost use Rattle.cv_metrics.specs.Buckets.{bucket_of};
+
+use crate::cells::{add, count_at, zeros};
+use std::alloc::{AllocError, Global};
+use std::sync::atomic::{AtomicU64, Ordering};
+
+/// The upper bounds of the buckets in nanoseconds, each of which belongs to its bucket, and how Prometheus has them in seconds. One more
+/// bucket has all longer times.
+pub const BOUNDS: [(u64, &str); 6] = [
+    (10_000, "0.00001"),
+    (100_000, "0.0001"),
+    (1_000_000, "0.001"),
+    (10_000_000, "0.01"),
+    (100_000_000, "0.1"),
+    (1_000_000_000, "1"),
+];
+
+/// The bucket of a time in nanoseconds: how many bounds are below it.
+pub fn bucket_of(nanos: u64) -> usize
+    ensures bucket { result ≡ bucket_of nanos }
+    ensures below { result ≤ 6 }
+{
+    if nanos <= 10_000 {
+        0
+    } else if nanos <= 100_000 {
+        1
+    } else if nanos <= 1_000_000 {
+        2
+    } else if nanos <= 10_000_000 {
+        3
+    } else if nanos <= 100_000_000 {
+        4
+    } else if nanos <= 1_000_000_000 {
+        5
+    } else {
+        6
+    }
+}
+
+/// How many buckets there are.
+pub(crate) const BUCKETS: usize = 7;
+
+/// How often times came that fall into each bucket, and the sum of all.
+#[derive(Drop)]
+pub(crate) struct Histogram {
+    buckets: Vec<AtomicU64>,
+    nanos: AtomicU64,
+}
+
+/// What a histogram has at one time.
+#[derive(Clone, Copy, Debug)]
+pub(crate) struct Times {
+    pub(crate) buckets: [u64; BUCKETS],
+    pub(crate) nanos: u64,
+}
+
+impl Times {
+    /// No time.
+    pub(crate) fn none() -> Times {
+        Times {
+            buckets: [0; BUCKETS],
+            nanos: 0,
+        }
+    }
+}
+
+impl Histogram {
+    /// No time yet.
+    pub(crate) fn new(alloc: Global) -> Result<Histogram, AllocError> {
+        Ok(Histogram {
+            buckets: zeros(alloc, BUCKETS)?,
+            nanos: AtomicU64::new(0),
+        })
+    }
+
+    /// The same time came so often.
+    pub(crate) fn note(&self, nanos: u64, times: u64) {
+        add(&self.buckets, bucket_of(nanos), times);
+        self.nanos.fetch_add(nanos.wrapping_mul(times), Ordering::Relaxed);
+    }
+
+    /// Adds what this one has.
+    pub(crate) fn add_to(&self, all: &mut Times) {
+        for place in 0..BUCKETS {
+            all.buckets[place] = all.buckets[place].wrapping_add(count_at(&self.buckets, place));
+        }
+        all.nanos = all.nanos.wrapping_add(self.nanos.load(Ordering::Relaxed));
+    }
+}

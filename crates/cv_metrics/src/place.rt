@@ -1,0 +1,142 @@
+//! A place at which one stream after another is served.
+use crate::cells::{add, count_at, zeros};
+use crate::histogram::{Histogram, Times};
+use crate::outcome::Outcome;
+use crate::stream::{Peer, Stream};
+use std::alloc::{AllocError, Global};
+use std::sync::atomic::{AtomicU64, Ordering};
+use std::sync::{Mutex, Wait};
+
+/// The counters of a place, over all streams that were served there, and the stream that is. The thread that serves there writes them; any
+/// thread may read them.
+#[derive(Drop)]
+pub struct Place {
+    stream: Mutex<Option<Stream>>,
+    /// When a byte last came or went, in nanoseconds.
+    active: AtomicU64,
+    received: AtomicU64,
+    sent: AtomicU64,
+    outcomes: Vec<AtomicU64>,
+    pub(crate) conv: Histogram,
+    pub(crate) put: Histogram,
+    /// How many callers the stream has that is being served, and how many bytes it holds. Whoever serves the stream writes them.
+    pub callers: AtomicU64,
+    pub memory_bytes: AtomicU64,
+}
+
+/// What the counters of a place have at one time.
+#[derive(Clone, Copy, Debug)]
+pub(crate) struct Now {
+    pub(crate) stream: Stream,
+    pub(crate) active: u64,
+    pub(crate) requests: u64,
+    pub(crate) received: u64,
+    pub(crate) sent: u64,
+    pub(crate) callers: u64,
+    pub(crate) memory_bytes: u64,
+}
+
+impl Place {
+    /// A place at which no stream was served yet.
+    pub(crate) fn new(alloc: Global) -> Result<Place, AllocError> {
+        Ok(Place {
+            stream: Mutex::new(None),
+            active: AtomicU64::new(0),
+            received: AtomicU64::new(0),
+            sent: AtomicU64::new(0),
+            outcomes: zeros(alloc, Outcome::COUNT)?,
+            conv: Histogram::new(alloc)?,
+            put: Histogram::new(alloc)?,
+            callers: AtomicU64::new(0),
+            memory_bytes: AtomicU64::new(0),
+        })
+    }
+
+    /// A stream begins here at this time.
+    pub(crate) fn begin<R: Wait>(&self, rt: &R, peer: Peer, now: u64) {
+        let stream = Stream {
+            peer,
+            begun: now,
+            requests: self.requests(),
+            received: self.received(),
+            sent: self.sent(),
+        };
+        self.active.store(now, Ordering::Relaxed);
+        self.callers.store(0, Ordering::Relaxed);
+        self.memory_bytes.store(0, Ordering::Relaxed);
+        *self.stream.lock(rt) = Some(stream);
+    }
+
+    /// The stream here has ended.
+    pub(crate) fn end<R: Wait>(&self, rt: &R) {
+        *self.stream.lock(rt) = None;
+        self.callers.store(0, Ordering::Relaxed);
+        self.memory_bytes.store(0, Ordering::Relaxed);
+    }
+
+    /// So many bytes came at this time.
+    pub(crate) fn came(&self, bytes: u64, now: u64) {
+        self.received.fetch_add(bytes, Ordering::Relaxed);
+        self.active.store(now, Ordering::Relaxed);
+    }
+
+    /// So many bytes went.
+    pub(crate) fn went(&self, bytes: u64) {
+        self.sent.fetch_add(bytes, Ordering::Relaxed);
+    }
+
+    /// A write begins at this time.
+    pub(crate) fn writes(&self, now: u64) {
+        self.active.store(now, Ordering::Relaxed);
+    }
+
+    /// So many requests had this outcome.
+    pub(crate) fn answered(&self, outcome: Outcome, times: u64) {
+        add(&self.outcomes, outcome.place(), times);
+    }
+
+    /// How many requests had this outcome.
+    pub(crate) fn count_of(&self, place: usize) -> u64 {
+        count_at(&self.outcomes, place)
+    }
+
+    /// How many requests were answered.
+    fn requests(&self) -> u64 {
+        let mut sum: u64 = 0;
+        for place in 0..Outcome::COUNT {
+            sum = sum.wrapping_add(self.count_of(place));
+        }
+        sum
+    }
+
+    /// How many bytes came.
+    pub(crate) fn received(&self) -> u64 {
+        self.received.load(Ordering::Relaxed)
+    }
+
+    /// How many bytes went.
+    pub(crate) fn sent(&self) -> u64 {
+        self.sent.load(Ordering::Relaxed)
+    }
+
+    /// What the counters have now, if a stream is served.
+    pub(crate) fn now<R: Wait>(&self, rt: &R) -> Option<Now> {
+        let guard = self.stream.lock(rt);
+        let stream = (*guard)?;
+        Some(Now {
+            stream,
+            active: self.active.load(Ordering::Relaxed),
+            requests: self.requests(),
+            received: self.received(),
+            sent: self.sent(),
+            callers: self.callers.load(Ordering::Relaxed),
+            memory_bytes: self.memory_bytes.load(Ordering::Relaxed),
+        })
+    }
+
+    /// Adds the times of this place.
+    pub(crate) fn add_times(&self, conv: &mut Times, put: &mut Times) {
+        self.conv.add_to(conv);
+        self.put.add_to(put);
+    }
+}

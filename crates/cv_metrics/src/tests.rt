@@ -1,0 +1,2 @@
+//! Counting by hand, and the pages.
+mod scanning;

@@ -1,0 +1,167 @@
+//! What the metrics are: their names, what they say, and where their values come from.
+use crate::board::Board;
+use crate::causes::{Cause, FaultKind};
+use crate::histogram::{BOUNDS, Times};
+use crate::op::Op;
+use crate::outcome::Outcome;
+use crate::page::Page;
+use crate::sums::Sums;
+use std::alloc::{AllocError, Global};
+use std::fmt::{self, Display, Formatter};
+use std::sync::Wait;
+
+/// What metrics tell besides what the board counts.
+#[derive(Clone, Copy, Debug)]
+pub struct Told {
+    /// The program's version.
+    pub version: &'static str,
+    /// When the server began, in seconds since 1970.
+    pub start_time: u64,
+    /// How many charmaps the cache has, and how many bytes they take with their texts.
+    pub cache_charmaps: u64,
+    pub cache_bytes: u64,
+    /// How many texts the cache had, and how many it did not have.
+    pub cache_hits: u64,
+    pub cache_misses: u64,
+    /// How many bytes a stream may hold. `None`: there is no limit.
+    pub stream_memory_limit: Option<u64>,
+    /// How many lines of the log were dropped.
+    pub log_lines_dropped: u64,
+}
+
+/// Shows nanoseconds as seconds, with all of their digits.
+#[derive(Clone, Copy, Debug)]
+struct Seconds(u64);
+
+impl Display for Seconds {
+    fn fmt<W: fmt::Write>(&self, f: &mut Formatter<W>) -> fmt::Result {
+        let Seconds(nanos) = *self;
+        let whole = nanos / 1_000_000_000;
+        let part = nanos % 1_000_000_000;
+        write!(f, "{whole}.{part:09}")
+    }
+}
+
+/// All metrics.
+pub(crate) fn metrics<R: Wait>(
+    rt: &R,
+    alloc: Global,
+    board: &Board,
+    told: &Told,
+) -> Result<String, AllocError> {
+    let sums = Sums::of(rt, board);
+    let mut page = Page::new(alloc);
+    server(&mut page, board, told, &sums)?;
+    endings(&mut page, board)?;
+    requests(&mut page, board, &sums)?;
+    times(&mut page, "conv", "CONV", &sums.conv)?;
+    times(&mut page, "put", "PUT", &sums.put)?;
+    memory(&mut page, told, &sums)?;
+    Ok(page.into_text())
+}
+
+/// The server, and how many streams there are.
+fn server(page: &mut Page, board: &Board, told: &Told, sums: &Sums) -> Result<(), AllocError> {
+    let version = told.version;
+    page.family("build_info", "gauge", "The program, by its version.")?;
+    page.labelled("build_info", format_args!("version=\"{version}\""), 1u64)?;
+    let help = "When the server started, in seconds since 1970.";
+    page.gauge("start_time_seconds", help, told.start_time)?;
+    let help = "Streams that may be served at once.";
+    page.gauge("places", help, board.places().len() as u64)?;
+    page.gauge("streams", "Streams that are served now.", sums.streams)?;
+    page.counter("streams_total", "Streams whose serving began.", board.begun())
+}
+
+/// How streams ended.
+fn endings(page: &mut Page, board: &Board) -> Result<(), AllocError> {
+    let name = "streams_ended_total";
+    page.family(name, "counter", "Streams that ended, by their cause.")?;
+    for cause in Cause::ALL {
+        let word = cause.word();
+        page.labelled(name, format_args!("cause=\"{word}\""), board.ended(cause))?;
+    }
+    let help = "Streams that were closed at once since all places were taken.";
+    page.counter("streams_refused_total", help, board.refused())?;
+    let name = "faults_total";
+    page.family(name, "counter", "Faults, by their kind.")?;
+    for kind in FaultKind::ALL {
+        let word = kind.word();
+        page.labelled(name, format_args!("kind=\"{word}\""), board.faults(kind))?;
+    }
+    Ok(())
+}
+
+/// What was asked and answered. An op and a status of which there was no request have no sample.
+fn requests(page: &mut Page, board: &Board, sums: &Sums) -> Result<(), AllocError> {
+    let name = "requests_total";
+    let help = "Requests whose whole reply was written, by op and status.";
+    page.family(name, "counter", help)?;
+    for op in Op::ALL {
+        for status in 0u8..17 {
+            outcome(page, board, Outcome { op, status })?;
+        }
+    }
+    let help = "Bytes that clients sent.";
+    page.counter("received_bytes_total", help, sums.received)?;
+    let help = "Bytes that were sent to clients.";
+    page.counter("sent_bytes_total", help, sums.sent)
+}
+
+/// The requests of one outcome, if there were any.
+fn outcome(page: &mut Page, board: &Board, outcome: Outcome) -> Result<(), AllocError> {
+    let count = board.count_of(outcome);
+    if count == 0 {
+        return Ok(());
+    }
+    let op = outcome.op.word();
+    let status = outcome.status_name();
+    page.labelled(
+        "requests_total",
+        format_args!("op=\"{op}\",status=\"{status}\""),
+        count,
+    )
+}
+
+/// A histogram of the times of one op.
+fn times(page: &mut Page, word: &str, op: &str, times: &Times) -> Result<(), AllocError> {
+    let alloc = page.alloc();
+    let name = format!(in alloc; "{word}_duration_seconds")?;
+    let help = format!(in alloc;
+        "Seconds from the last byte of a batch to its first reply, by each {op} in it."
+    )?;
+    page.family(&name, "histogram", &help)?;
+    let bucket = format!(in alloc; "{name}_bucket")?;
+    let mut count: u64 = 0;
+    for (place, (_, bound)) in BOUNDS.iter().enumerate() {
+        count = count.wrapping_add(times.buckets[place]);
+        page.labelled(&bucket, format_args!("le=\"{bound}\""), count)?;
+    }
+    count = count.wrapping_add(times.buckets[BOUNDS.len()]);
+    page.labelled(&bucket, format_args!("le=\"+Inf\""), count)?;
+    let sum = format!(in alloc; "{name}_sum")?;
+    page.sample(&sum, Seconds(times.nanos))?;
+    let total = format!(in alloc; "{name}_count")?;
+    page.sample(&total, count)
+}
+
+/// Memory: the cache, the streams, and what the log dropped.
+fn memory(page: &mut Page, told: &Told, sums: &Sums) -> Result<(), AllocError> {
+    let help = "Requests that were answered ENOMEM.";
+    page.counter("memory_refused_total", help, sums.memory_refused)?;
+    let help = "Compiled charmaps that the cache has.";
+    page.gauge("cache_charmaps", help, told.cache_charmaps)?;
+    let help = "Bytes of the charmaps in the cache and of their texts.";
+    page.gauge("cache_bytes", help, told.cache_bytes)?;
+    let help = "Charmap texts that the cache had.";
+    page.counter("cache_hits_total", help, told.cache_hits)?;
+    let help = "Charmap texts that the cache did not have.";
+    page.counter("cache_misses_total", help, told.cache_misses)?;
+    let help = "Bytes that the callers of all streams hold.";
+    page.gauge("stream_memory_bytes", help, sums.memory_bytes)?;
+    let help = "Bytes that the callers of one stream may hold, or 0 without a limit.";
+    let limit = told.stream_memory_limit.unwrap_or(0);
+    page.gauge("stream_memory_limit_bytes", help, limit)?;
+    let help = "Lines of the log that were dropped.";
+    page.counter("log_lines_dropped_total", help, told.log_lines_dropped)
+}

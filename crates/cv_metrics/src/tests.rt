@@ -1,2 +1,52 @@
 //! Counting by hand, and the pages.
+mod metering;
+mod paging;
 mod scanning;
+
+use crate::Told;
+use std::alloc::Global;
+use std::test::Fail;
+
+const OPEN: u8 = 3;
+const CONV: u8 = 4;
+const OK: u8 = 0;
+const EBADF: u8 = 4;
+
+/// The bounds of the buckets in nanoseconds.
+const TIMES: [u64; 6] = [
+    10_000,
+    100_000,
+    1_000_000,
+    10_000_000,
+    100_000_000,
+    1_000_000_000,
+];
+
+/// Frames with no body that have these ops or statuses.
+fn frame(alloc: Global, codes: &[u8]) -> Result<Vec<u8>, Fail> {
+    let mut bytes = Vec::new(alloc);
+    for code in codes {
+        bytes.extend_from_slice(b"\0\0\0\x09\0\0\0\x07\0\0\0\x01")?;
+        bytes.push(*code)?;
+    }
+    Ok(bytes)
+}
+
+/// What the server tells.
+fn told() -> Told {
+    Told {
+        version: "0.1.0",
+        start_time: 1_700_000_000,
+        cache_charmaps: 1,
+        cache_bytes: 2_048,
+        cache_hits: 3,
+        cache_misses: 4,
+        stream_memory_limit: None,
+        log_lines_dropped: 5,
+    }
+}
+
+/// Whether a page has a line.
+fn has_line(text: &String, line: &str) -> bool {
+    text.as_str().lines().any(|there| there == line)
+}

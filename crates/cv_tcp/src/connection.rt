@@ -96,6 +96,17 @@ pub(crate) enum Peer {
     Gone,
 }
 
+impl Peer {
+    /// As the server's pages show it.
+    pub(crate) fn shown(self) -> cv_metrics::Peer {
+        match self {
+            Peer::At(address) => cv_metrics::Peer::At(address),
+            Peer::Local => cv_metrics::Peer::Local,
+            Peer::Gone => cv_metrics::Peer::Gone,
+        }
+    }
+}
+
 impl Display for Peer {
     fn fmt<W: fmt::Write>(&self, f: &mut Formatter<W>) -> fmt::Result {
         match self {

@@ -4,9 +4,12 @@ ghost use Rattle.std.specs.Thread.{IsSync};
 
 use crate::accepting::{Complaints, next_stream};
 use crate::connection::Connection;
+use crate::counted::Counted;
+use crate::counters::Counters;
 use crate::fault::end_of;
 use crate::inlet::Inlet;
-use crate::reply_count::CountsReplies;
+use crate::metered::{Counts, Metered};
+use crate::reply_count::ReplyCount;
 use crate::report::{Ended, Report};
 use crate::retrying::Retrying;
 use crate::terms::Terms;
@@ -15,6 +18,7 @@ use crate::watched::Watched;
 use cv_cache::{Cached, HashKeys};
 use cv_commands::{RunFault, serve_stream_by};
 use cv_loop::{FromReader, ToWriter};
+use cv_metrics::Place;
 use cv_pool::keep_memory;
 use log::{Log, error};
 use std::alloc::Global;
@@ -36,13 +40,48 @@ pub(crate) struct Service<'a, R, G, L> {
     pub(crate) terms: Terms,
 }
 
-/// Serves one stream by a new pool of workers, and says what it came to. The source and the sink share the stream.
-pub(crate) fn serve_connection<R: Threads + Wait + Clock + Sync>(
+/// Where a stream is counted.
+#[derive(Drop)]
+pub(crate) struct Counting<'a, G> {
+    pub(crate) log: &'a G,
+    pub(crate) counters: &'a Counters,
+    pub(crate) place: &'a Place,
+}
+
+/// Serves one stream by a new pool of workers, and says what it came to. If it is counted, its place shows it meanwhile.
+pub(crate) fn serve_connection<R: Threads + Wait + Clock + Sync, G: Log>(
     rt: &R,
     alloc: Global,
     cached: &Cached,
     stream: &Connection,
     terms: Terms,
+    counting: Option<Counting<'_, G>>,
+) -> Ended
+    requires { (1 ≤ terms.workers) × (terms.workers ≤ 16) }
+{
+    let Some(Counting {
+        log,
+        counters,
+        place,
+    }) = counting else {
+        return serve_counted(rt, alloc, cached, stream, terms, &ReplyCount::new());
+    };
+    let peer = stream.peer();
+    counters.begin(rt, place, peer);
+    let counts = Counted::new(rt, alloc, log, counters, place, peer);
+    let ended = serve_counted(rt, alloc, cached, stream, terms, &counts);
+    counters.end(rt, place, ended.fault);
+    ended
+}
+
+/// Serves one stream, whose bytes are counted so. The source and the sink share the stream.
+fn serve_counted<R: Threads + Wait + Clock + Sync, C: Counts>(
+    rt: &R,
+    alloc: Global,
+    cached: &Cached,
+    stream: &Connection,
+    terms: Terms,
+    counts: &C,
 ) -> Ended
     requires { (1 ≤ terms.workers) × (terms.workers ≤ 16) }
 {
@@ -50,9 +89,10 @@ pub(crate) fn serve_connection<R: Threads + Wait + Clock + Sync>(
     // If the system refuses this, the stream has no limit.
     let limit = terms.longest_wait();
     let _ = stream.set_timeouts(limit);
-    let mut source = FromReader::new(Watched::new(Retrying::new(rt, stream, limit)));
-    let replies = CountsReplies::new(Retrying::new(rt, stream, limit));
-    let mut sink = ToWriter::new(Watched::new(replies));
+    let reader = Metered::new(counts, Retrying::new(rt, stream, limit));
+    let writer = Metered::new(counts, Retrying::new(rt, stream, limit));
+    let mut source = FromReader::new(Watched::new(reader));
+    let mut sink = ToWriter::new(Watched::new(writer));
     let served = serve_stream_by(rt, alloc, cached, &mut source, &mut sink, terms.workers);
     let (reader, writer) = (source.into_inner(), sink.into_inner());
     Ended {
@@ -60,7 +100,7 @@ pub(crate) fn serve_connection<R: Threads + Wait + Clock + Sync>(
             Ok(_) => None,
             Err(fault) => Some(end_of(fault, reader.is_late(), writer.is_late())),
         },
-        requests: writer.inner().replies(),
+        requests: counts.replies(),
         read: reader.bytes(),
         written: writer.bytes(),
     }
@@ -97,7 +137,7 @@ where
             }
         };
         let begun = Report::begin(rt, service.log, &stream);
-        let ended = serve_connection(rt, service.alloc, cached, &stream, service.terms);
+        let ended = serve_connection::<R, G>(rt, service.alloc, cached, &stream, service.terms, None);
         begun.end(rt, service.log, ended);
     }
 }

@@ -1,0 +1,89 @@
+//! Counting a stream on the server's board.
+use crate::connection::Peer;
+use crate::counters::Counters;
+use crate::metered::Counts;
+use cv_metrics::{Meter, Place};
+use log::{Log, info};
+use std::alloc::Global;
+use std::cell::RefCell;
+use std::time::Clock;
+
+/// Counts a stream at one of the board's places, and logs the first reply that says that an allocation failed.
+#[derive(Drop)]
+pub(crate) struct Counted<'a, R, G> {
+    rt: &'a R,
+    log: &'a G,
+    counters: &'a Counters,
+    peer: Peer,
+    meter: RefCell<Meter<'a>>,
+}
+
+impl<'a, R: Clock, G: Log> Counted<'a, R, G> {
+    /// Nothing of the stream has passed yet.
+    pub(crate) fn new(
+        rt: &'a R,
+        alloc: Global,
+        log: &'a G,
+        counters: &'a Counters,
+        place: &'a Place,
+        peer: Peer,
+    ) -> Self {
+        Counted {
+            rt,
+            log,
+            counters,
+            peer,
+            meter: RefCell::new(Meter::new(alloc, place)),
+        }
+    }
+
+    /// What time it is.
+    fn now(&self) -> u64 {
+        self.counters.now(self.rt)
+    }
+
+    /// Says that an allocation failed for the client. Nothing that it sent is said.
+    #[inline(never)]
+    fn report_lack(&self) {
+        let peer = self.peer;
+        info!(self.log; peer:% = peer; "memory refused to {peer}");
+    }
+}
+
+impl<'a, R: Clock, G: Log> Counts for Counted<'a, R, G> {
+    fn came(&self, bytes: &[u8]) {
+        if let Ok(mut meter) = self.meter.try_borrow_mut() {
+            meter.came(bytes, self.now());
+        }
+    }
+
+    fn begin_write(&self) {
+        let Ok(mut meter) = self.meter.try_borrow_mut() else {
+            return;
+        };
+        if meter.begins_batch() {
+            meter.begin_batch(self.now());
+        }
+    }
+
+    fn went(&self, bytes: &[u8], is_all: bool) {
+        let Ok(mut meter) = self.meter.try_borrow_mut() else {
+            return;
+        };
+        let lacked = meter.lacked_memory();
+        meter.went(bytes, is_all);
+        if is_all && meter.is_waiting() {
+            meter.ready(self.now());
+        }
+        if meter.lacked_memory() && !lacked {
+            self.report_lack();
+        }
+    }
+
+    fn replies(&self) -> u64 {
+        match self.meter.try_borrow() {
+            Ok(meter) => meter.answered(),
+            Err(_) => 0,
+        }
+    }
+}

@@ -1,5 +1,5 @@
 //! The op and the status of an answered request.
-ghost use Rattle.std.specs.Prelude.{◌≡◌, ◌<◌, ◌+◌, ◌*◌, min};
+ghost use Rattle.std.specs.Prelude.{◌≡◌, ◌==◌, ◌<◌, ◌+◌, ◌*◌, min};
 ghost use Rattle.cv_metrics.specs.Ops.{op_place};
 
 use crate::op::Op;

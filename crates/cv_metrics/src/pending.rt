@@ -1,5 +1,6 @@
 //! The ops of requests that have no reply yet.
-ghost use Rattle.std.specs.Prelude.{◌≡◌, []};
+ghost use Rattle.cv_metrics.specs.declared.op.Op.TheVariants as Op;
+ghost use Rattle.std.specs.Prelude.{◌≡◌, ◌==◌, ◌∷◌, ◌++◌, ◌⊎◌, ◌+◌, ◌^◌, ◌<◌, [], length};
 
 use crate::op::Op;
 use std::alloc::Global;
@@ -16,8 +17,7 @@ pub struct Pending {
 }
 
 impl Model for Pending {
-    ghost use Rattle.std.specs.Prelude.{List, ◌++◌};
-    ghost use Rattle.std.specs.List.{replicate};
+    ghost use Rattle.std.specs.Prelude.{List, ◌++◌, replicate};
     ghost use Rattle.cv_metrics.specs.declared.op.Op.{Op};
     ghost use Rattle.cv_metrics.specs.declared.op.Op.TheVariants.{Other};
 
@@ -38,19 +38,25 @@ impl Pending {
     }
 
     /// Whether each request has its reply.
-    pub fn is_empty(&self) -> bool {
+    pub fn is_empty(&self) -> bool
+        ensures { result ≡ (length self.now == 0) }
+    {
         self.ops.is_empty() && self.unknown == 0
     }
 
     /// A request of this op came.
-    pub fn push(&mut self, op: Op) {
+    pub fn push(&mut self, op: Op)
+        ensures { length self.old + 1 < 2 ^ 64 → (self.new ≡ self.old ++ op ∷ []) ⊎ (self.new ≡ self.old ++ Op.Other ∷ []) }
+    {
         if self.unknown > 0 || self.ops.push_back(op).is_err() {
             self.unknown = self.unknown.saturating_add(1);
         }
     }
 
     /// The op of the next reply. A reply that answers no request has `Other`.
-    pub fn pop(&mut self) -> Op {
+    pub fn pop(&mut self) -> Op
+        ensures { (self.old ≡ result ∷ self.new) ⊎ ((self.old ≡ []) × (self.new ≡ []) × (result ≡ Op.Other)) }
+    {
         match self.ops.pop_front() {
             Some(op) => op,
             None => {

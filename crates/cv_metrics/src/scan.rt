@@ -1,7 +1,10 @@
 //! Finding the frames in bytes that come in any pieces.
-ghost use Rattle.std.specs.Prelude.{◌≡◌, ◌≤◌, ◌<◌, ◌+◌, length, IfSome};
+ghost use Rattle.std.specs.Prelude.{◌≡◌, ◌≤◌, length, IfSome};
+ghost use Rattle.std.specs.Option.{option_map};
+ghost use Rattle.cv_frame.specs.Cut.{front_of};
+ghost use Rattle.cv_metrics.specs.Scans.{IsBetweenFrames, seen_in};
 
-use cv_frame::{LEAST_LENGTH, MOST_LENGTH};
+use cv_frame::{Frame, LEAST_LENGTH, MOST_LENGTH, next_request};
 
 /// How many bytes a frame has up to its op or status.
 const HEAD: usize = 13;
@@ -15,99 +18,140 @@ pub struct Seen {
     pub n: usize,
 }
 
+/// Where in a frame the bytes so far end.
+#[derive(Clone, Copy, Debug, PartialEq, Eq)]
+enum State {
+    /// In its head, of which so many bytes came. With none, they end between two frames.
+    Head { came: usize },
+    /// In its body, of which so many bytes are missing.
+    Body { code: u8, missing: usize },
+    /// After a length that no frame has. Nothing that follows is a frame.
+    Bad,
+}
+
 /// How far the frame has come whose end is not seen yet. It holds nothing of the frame's body.
 #[derive(Clone, Copy, Debug)]
 pub struct Scan {
+    state: State,
     head: [u8; HEAD],
-    /// How many bytes of the head came.
-    came: usize,
-    /// How many bytes of the body are missing, once the head is there.
-    missing: usize,
-    /// Whether a frame had a length that no frame has. Nothing that follows is a frame.
-    is_bad: bool,
-    ghost within: { came ≤ 13 },
 }
 
-/// How many bytes the body of a frame with this head has. `None`: its length is one that no frame has.
-fn body_size(head: &[u8; HEAD]) -> Option<usize> {
-    let length = u32::from_be_bytes([head[0], head[1], head[2], head[3]]);
+/// The state after a head, of whose frame so many bytes came.
+fn state_after(length: u32, code: u8, came: usize) -> State {
     if length < LEAST_LENGTH || length > MOST_LENGTH {
-        return None;
+        return State::Bad;
     }
-    Some((length - LEAST_LENGTH) as usize)
+    State::Body {
+        code,
+        missing: (4 + length as usize).saturating_sub(came),
+    }
 }
 
 impl Scan {
     /// No byte came yet.
-    pub fn new() -> Scan {
+    pub fn new() -> Scan
+        ensures { IsBetweenFrames result }
+    {
         Scan {
+            state: State::Head { came: 0 },
             head: [0; HEAD],
-            came: 0,
-            missing: 0,
-            is_bad: false,
         }
     }
 
     /// Looks for the end of the frame that is under way. `None`: all of the bytes were taken, and it did not come.
     pub fn next(&mut self, bytes: &[u8]) -> Option<Seen>
         ensures within { IfSome result (λ seen. (1 ≤ seen.n) × (seen.n ≤ length bytes.now)) }
+        // Of a frame that begins with the bytes it says what reading frames says.
+        ensures front { IsBetweenFrames self.old → option_map (λ seen. (seen.code, seen.n)) result ≡ seen_in (front_of bytes.now) }
+        // After a frame comes the next.
+        ensures next { IfSome result (λ _. IsBetweenFrames self.new) }
     {
-        if self.came == 0 && bytes.len() >= HEAD && !self.is_bad {
-            let length = u32::from_be_bytes([bytes[0], bytes[1], bytes[2], bytes[3]]) as usize;
-            let n = 4 + length;
-            if length >= LEAST_LENGTH as usize && length <= MOST_LENGTH as usize && n <= bytes.len() {
-                return Some(Seen { code: bytes[12], n });
+        match self.state {
+            State::Head { came: 0 } => self.begin(bytes),
+            State::Head { came } => self.go_on_in_head(came, bytes),
+            State::Body { code, missing } if missing > 0 => self.go_on_in_body(code, missing, bytes),
+            State::Body { .. } | State::Bad => None,
+        }
+    }
+
+    /// Begins with a frame.
+    fn begin(&mut self, bytes: &[u8]) -> Option<Seen>
+        requires { IsBetweenFrames self.old }
+        ensures within { IfSome result (λ seen. (1 ≤ seen.n) × (seen.n ≤ length bytes.now)) }
+        ensures front { option_map (λ seen. (seen.code, seen.n)) result ≡ seen_in (front_of bytes.now) }
+        ensures next { IfSome result (λ _. IsBetweenFrames self.new) }
+    {
+        match next_request(bytes) {
+            Frame::Whole { request, n } => Some(Seen {
+                code: request.op,
+                n,
+            }),
+            Frame::Partial => {
+                self.keep_part(bytes);
+                None
+            }
+            Frame::Bad { .. } => {
+                self.state = State::Bad;
+                None
             }
         }
-        self.next_in_pieces(bytes)
     }
 
-    /// `next`, of a frame that doesn't lie in the bytes as a whole.
+    /// Keeps what is to be known of the front of a frame.
     #[inline(never)]
-    fn next_in_pieces(&mut self, bytes: &[u8]) -> Option<Seen>
-        ensures within { IfSome result (λ seen. (1 ≤ seen.n) × (seen.n ≤ length bytes.now)) }
-    {
-        if self.is_bad || bytes.is_empty() {
-            return None;
+    fn keep_part(&mut self, bytes: &[u8]) {
+        if bytes.len() < HEAD {
+            let came = bytes.len();
+            self.head[..came].copy_from_slice(bytes);
+            self.state = State::Head { came };
+        } else {
+            let length = u32::from_be_bytes([bytes[0], bytes[1], bytes[2], bytes[3]]);
+            self.state = state_after(length, bytes[12], bytes.len());
         }
-        let more = self.take_head(bytes);
-        if self.came < HEAD || self.is_bad {
-            return None;
-        }
-        let rest = bytes.len() - more;
-        if rest < self.missing {
-            self.missing -= rest;
-            return None;
-        }
-        let n = more + self.missing;
-        if n == 0 {
-            return None;
-        }
-        self.came = 0;
-        self.missing = 0;
-        Some(Seen {
-            code: self.head[12],
-            n,
-        })
     }
 
-    /// Takes what is missing of the head, and says how many bytes that were.
-    fn take_head(&mut self, bytes: &[u8]) -> usize
-        ensures { result ≤ length bytes.now }
+    /// Goes on with a frame of whose head so many bytes came.
+    #[inline(never)]
+    fn go_on_in_head(&mut self, came: usize, bytes: &[u8]) -> Option<Seen>
+        ensures within { IfSome result (λ seen. (1 ≤ seen.n) × (seen.n ≤ length bytes.now)) }
+        ensures next { IfSome result (λ _. IsBetweenFrames self.new) }
     {
-        let start = self.came;
-        if start == HEAD {
-            return 0;
-        }
+        let start = came.min(HEAD);
         let more = (HEAD - start).min(bytes.len());
         self.head[start..start + more].copy_from_slice(&bytes[..more]);
-        self.came = start + more;
-        if self.came == HEAD {
-            match body_size(&self.head) {
-                Some(size) => self.missing = size,
-                None => self.is_bad = true,
+        if start + more < HEAD {
+            self.state = State::Head { came: start + more };
+            return None;
+        }
+        let head = &self.head;
+        let length = u32::from_be_bytes([head[0], head[1], head[2], head[3]]);
+        let code = head[12];
+        match state_after(length, code, HEAD) {
+            State::Body { code, missing } => {
+                let seen = self.go_on_in_body(code, missing, &bytes[more..])?;
+                let n = more + seen.n;
+                if n == 0 { None } else { Some(Seen { code, n }) }
+            }
+            other => {
+                self.state = other;
+                None
             }
         }
-        more
+    }
+
+    /// Goes on with a frame of whose body so many bytes are missing.
+    fn go_on_in_body(&mut self, code: u8, missing: usize, bytes: &[u8]) -> Option<Seen>
+        ensures within { IfSome result (λ seen. (seen.n ≡ missing) × (missing ≤ length bytes.now)) }
+        ensures next { IfSome result (λ _. IsBetweenFrames self.new) }
+    {
+        if bytes.len() < missing {
+            self.state = State::Body {
+                code,
+                missing: missing - bytes.len(),
+            };
+            return None;
+        }
+        self.state = State::Head { came: 0 };
+        Some(Seen { code, n: missing })
     }
 }

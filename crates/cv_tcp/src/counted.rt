@@ -2,7 +2,8 @@
 use crate::connection::Peer;
 use crate::counters::Counters;
 use crate::metered::Counts;
-use cv_metrics::{Meter, Place};
+use crate::streams::Counting;
+use cv_metrics::Meter;
 use log::{Log, info};
 use std::alloc::Global;
 use std::cell::RefCell;
@@ -20,20 +21,13 @@ pub(crate) struct Counted<'a, R, G> {
 
 impl<'a, R: Clock, G: Log> Counted<'a, R, G> {
     /// Nothing of the stream has passed yet.
-    pub(crate) fn new(
-        rt: &'a R,
-        alloc: Global,
-        log: &'a G,
-        counters: &'a Counters,
-        place: &'a Place,
-        peer: Peer,
-    ) -> Self {
+    pub(crate) fn new(rt: &'a R, alloc: Global, counting: &Counting<'a, G>, peer: Peer) -> Self {
         Counted {
             rt,
-            log,
-            counters,
+            log: counting.log,
+            counters: counting.counters,
             peer,
-            meter: RefCell::new(Meter::new(alloc, place)),
+            meter: RefCell::new(Meter::new(alloc, counting.place)),
         }
     }
 

@@ -40,7 +40,20 @@ pub(crate) struct Service<'a, R, G, L> {
     pub(crate) terms: Terms,
 }
 
-/// Where a stream is counted.
+/// Serves one stream by a new pool of workers, and says what it came to.
+pub(crate) fn serve_connection<R: Threads + Wait + Clock + Sync>(
+    rt: &R,
+    alloc: Global,
+    cached: &Cached,
+    stream: &Connection,
+    terms: Terms,
+) -> Ended
+    requires { (1 ≤ terms.workers) × (terms.workers ≤ 16) }
+{
+    serve_by(rt, alloc, cached, stream, terms, &ReplyCount::new())
+}
+
+/// Where a stream is counted, and where it is logged that an allocation failed for it.
 #[derive(Drop)]
 pub(crate) struct Counting<'a, G> {
     pub(crate) log: &'a G,
@@ -48,34 +61,27 @@ pub(crate) struct Counting<'a, G> {
     pub(crate) place: &'a Place,
 }
 
-/// Serves one stream by a new pool of workers, and says what it came to. If it is counted, its place shows it meanwhile.
-pub(crate) fn serve_connection<R: Threads + Wait + Clock + Sync, G: Log>(
+/// `serve_connection`, of a stream that is counted and that its place shows meanwhile.
+pub(crate) fn serve_counted<R: Threads + Wait + Clock + Sync, G: Log>(
     rt: &R,
     alloc: Global,
     cached: &Cached,
     stream: &Connection,
     terms: Terms,
-    counting: Option<Counting<'_, G>>,
+    counting: &Counting<'_, G>,
 ) -> Ended
     requires { (1 ≤ terms.workers) × (terms.workers ≤ 16) }
 {
-    let Some(Counting {
-        log,
-        counters,
-        place,
-    }) = counting else {
-        return serve_counted(rt, alloc, cached, stream, terms, &ReplyCount::new());
-    };
     let peer = stream.peer();
-    counters.begin(rt, place, peer);
-    let counts = Counted::new(rt, alloc, log, counters, place, peer);
-    let ended = serve_counted(rt, alloc, cached, stream, terms, &counts);
-    counters.end(rt, place, ended.fault);
+    counting.counters.begin(rt, counting.place, peer);
+    let counts = Counted::new(rt, alloc, counting, peer);
+    let ended = serve_by(rt, alloc, cached, stream, terms, &counts);
+    counting.counters.end(rt, counting.place, ended.fault);
     ended
 }
 
 /// Serves one stream, whose bytes are counted so. The source and the sink share the stream.
-fn serve_counted<R: Threads + Wait + Clock + Sync, C: Counts>(
+fn serve_by<R: Threads + Wait + Clock + Sync, C: Counts>(
     rt: &R,
     alloc: Global,
     cached: &Cached,
@@ -137,7 +143,7 @@ where
             }
         };
         let begun = Report::begin(rt, service.log, &stream);
-        let ended = serve_connection::<R, G>(rt, service.alloc, cached, &stream, service.terms, None);
+        let ended = serve_connection(rt, service.alloc, cached, &stream, service.terms);
         begun.end(rt, service.log, ended);
     }
 }

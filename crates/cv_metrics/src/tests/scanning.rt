@@ -83,3 +83,15 @@ fn the_longest_frame_is_seen(rt: HostRuntime) -> Result<(), Fail> {
     }
     Ok(())
 }
+
+#[test]
+fn a_head_in_pieces_of_one_byte(rt: HostRuntime) -> Result<(), Fail> {
+    let alloc = rt.alloc();
+    let mut scan = Scan::new();
+    let mut codes = Vec::new(alloc);
+    for at in 0..FRAMES.len() {
+        codes_in(&mut scan, &FRAMES[at..at + 1], &mut codes)?;
+    }
+    assert!(rt; codes.as_slice() == [4, 255, 6].as_slice(), "{codes:?}");
+    Ok(())
+}

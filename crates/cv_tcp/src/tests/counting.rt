@@ -3,7 +3,7 @@ use super::kept::Kept;
 use super::{OPEN, OPENED, bound, connected, gives, terms};
 use crate::connection::Connection;
 use crate::counters::{Counters, Draining};
-use crate::streams::{Counting, serve_connection};
+use crate::streams::{Counting, serve_counted};
 use cv_cache::{Cached, HashKeys};
 use cv_metrics::Told;
 use cv_pool::keep_memory;
@@ -53,7 +53,7 @@ where
         counters,
         place: counters.board().place(0).ok_or("no place")?,
     };
-    let ended = serve_connection(rt, alloc, &cached, &stream, terms(1, 1), Some(counting));
+    let ended = serve_counted(rt, alloc, &cached, &stream, terms(1, 1), &counting);
     assert_eq!(rt; ended.requests, 1);
     assert_eq!(rt; ended.read, 33 + more.len() as u64);
     drop(stream);

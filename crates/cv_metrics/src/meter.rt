@@ -78,7 +78,10 @@ impl<'a> Meter<'a> {
     pub fn came(&mut self, bytes: &[u8], now: u64) {
         self.place.came(bytes.len() as u64, now);
         let mut at = 0;
-        while let Some(seen) = self.requests.next(&bytes[at..]) {
+        while at < bytes.len() {
+            let Some(seen) = self.requests.next(&bytes[at..]) else {
+                break;
+            };
             self.pending.push(Op::of(seen.code));
             at += seen.n;
         }
@@ -93,7 +96,6 @@ impl<'a> Meter<'a> {
     /// Notes when the first write of a batch begins.
     pub fn begin_batch(&mut self, now: u64) {
         self.batch.took = Some(now.saturating_sub(self.batch.ready));
-        self.place.writes(now);
     }
 
     /// Notes bytes that a write took, and whether these were all that were to be written.
@@ -107,7 +109,10 @@ impl<'a> Meter<'a> {
             times: 0,
         };
         let mut at = 0;
-        while let Some(seen) = self.replies.next(&bytes[at..]) {
+        while at < bytes.len() {
+            let Some(seen) = self.replies.next(&bytes[at..]) else {
+                break;
+            };
             at += seen.n;
             let outcome = Outcome {
                 op: self.pending.pop(),

@@ -12,7 +12,7 @@ use std::sync::{Mutex, Wait};
 #[derive(Drop)]
 pub struct Place {
     stream: Mutex<Option<Stream>>,
-    /// When a byte last came or went, in nanoseconds.
+    /// When a byte last came, in nanoseconds.
     active: AtomicU64,
     received: AtomicU64,
     sent: AtomicU64,
@@ -83,11 +83,6 @@ impl Place {
     /// So many bytes went.
     pub(crate) fn went(&self, bytes: u64) {
         self.sent.fetch_add(bytes, Ordering::Relaxed);
-    }
-
-    /// A write begins at this time.
-    pub(crate) fn writes(&self, now: u64) {
-        self.active.store(now, Ordering::Relaxed);
     }
 
     /// So many requests had this outcome.

@@ -59,6 +59,7 @@ impl Scan {
     }
 
     /// Looks for the end of the frame that is under way. `None`: all of the bytes were taken, and it did not come.
+    #[inline(always)]
     pub fn next(&mut self, bytes: &[u8]) -> Option<Seen>
         ensures within { IfSome result (λ seen. (1 ≤ seen.n) × (seen.n ≤ length bytes.now)) }
         // Of a frame that begins with the bytes it says what reading frames says.
@@ -75,6 +76,7 @@ impl Scan {
     }
 
     /// Begins with a frame.
+    #[inline(always)]
     fn begin(&mut self, bytes: &[u8]) -> Option<Seen>
         requires { IsBetweenFrames self.old }
         ensures within { IfSome result (λ seen. (1 ≤ seen.n) × (seen.n ≤ length bytes.now)) }
@@ -140,6 +142,7 @@ impl Scan {
     }
 
     /// Goes on with a frame of whose body so many bytes are missing.
+    #[inline(never)]
     fn go_on_in_body(&mut self, code: u8, missing: usize, bytes: &[u8]) -> Option<Seen>
         ensures within { IfSome result (λ seen. (seen.n ≡ missing) × (missing ≤ length bytes.now)) }
         ensures next { IfSome result (λ _. IsBetweenFrames self.new) }

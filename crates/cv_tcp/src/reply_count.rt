@@ -1,4 +1,6 @@
 //! Counting the replies of a stream, and nothing else.
+ghost use Rattle.std.specs.Prelude.{◌≤◌, length};
+
 use crate::metered::Counts;
 use cv_metrics::Scan;
 use std::cell::{Cell, RefCell};
@@ -20,22 +22,32 @@ impl ReplyCount {
     }
 }
 
+/// How many frames end in these bytes.
+fn frames_in(scan: &mut Scan, bytes: &[u8]) -> u64
+    ensures { result ≤ length bytes.now }
+{
+    let mut count = 0;
+    let mut at = 0;
+    while at < bytes.len() {
+        let Some(seen) = scan.next(&bytes[at..]) else {
+            break;
+        };
+        count += 1;
+        at += seen.n;
+    }
+    count
+}
+
 impl Counts for ReplyCount {
     fn came(&self, _bytes: &[u8]) {}
 
     fn begin_write(&self) {}
 
     fn went(&self, bytes: &[u8], _is_all: bool) {
-        let Ok(mut scan) = self.scan.try_borrow_mut() else {
-            return;
-        };
-        let mut replies = self.replies.get();
-        let mut at = 0;
-        while let Some(seen) = scan.next(&bytes[at..]) {
-            replies = replies.saturating_add(1);
-            at += seen.n;
+        if let Ok(mut scan) = self.scan.try_borrow_mut() {
+            let more = frames_in(&mut scan, bytes);
+            self.replies.set(self.replies.get().saturating_add(more));
         }
-        self.replies.set(replies);
     }
 
     fn replies(&self) -> u64 {

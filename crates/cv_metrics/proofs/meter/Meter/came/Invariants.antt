@@ -1,8 +1,8 @@
 use Rattle.std.proofs.Common.{◌-◌, ◌≤◌, length}
 use Rattle.cv_metrics.proofs.meter.Meter.came.Given as goal
 
-abbrev pub invariant-loop-seen : goal.invariant-loop-seen
-invariant-loop-seen l = l.at ≤ length l.bytes
+abbrev pub invariant-loop-at : goal.invariant-loop-at
+invariant-loop-at l = l.at ≤ length l.bytes
 
-abbrev pub decreases-loop-seen : goal.decreases-loop-seen
-decreases-loop-seen l = length l.bytes - l.at
+abbrev pub decreases-loop-at : goal.decreases-loop-at
+decreases-loop-at l = length l.bytes - l.at

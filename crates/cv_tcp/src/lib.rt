@@ -5,16 +5,22 @@ mod accepting;
 mod address;
 mod calling;
 mod connection;
+mod cut;
+mod dropped_lines;
 mod fault;
+mod fault_limit;
 mod inlet;
+mod json_line;
 mod listening;
 mod log_lines;
+mod outlet;
 mod reply_count;
 mod report;
 mod retrying;
 mod socket_file;
 mod streams;
 mod terms;
+mod text_line;
 mod turns;
 mod watched;
 
@@ -23,6 +29,7 @@ pub use calling::call;
 pub use fault::{CallFault, call_status};
 pub use listening::listen;
 pub use log_lines::{LogFormat, LogLines};
+pub use outlet::{Outlet, StandardError};
 pub use terms::{MOST_AT_ONCE, Terms};
 
 #[cfg(test)]

@@ -9,6 +9,7 @@ use log::{Level, Record};
 use serde_json::{Map, Number, Value};
 use std::alloc::{AllocError, Global};
 use std::fmt::Display;
+use std::time::Clock;
 
 /// How many bytes of a message are shown if the line is too long with the whole of it and its pairs. Escaped they are at most six times as
 /// many, and fit.
@@ -83,9 +84,8 @@ fn begun<D: Display>(
     Ok(pairs)
 }
 
-/// A record as a JSON object: its time, its level, its message and its pairs. If that is longer than a line, the pairs are left out and the
-/// message is cut.
-pub(crate) fn json_line<D: Display, K: kv::Source, S: Spans>(
+/// A record as a JSON object, with its pairs.
+fn whole_line<D: Display, K: kv::Source, S: Spans>(
     alloc: Global,
     time: Option<Timestamp>,
     record: &Record<'_, D, K, S>,
@@ -94,10 +94,29 @@ pub(crate) fn json_line<D: Display, K: kv::Source, S: Spans>(
     if record.key_values().visit(&mut pairs).is_err() {
         return Err(AllocError);
     }
-    let line = Value::Object(pairs.members).to_string(alloc)?;
+    Value::Object(pairs.members).to_string(alloc)
+}
+
+/// A record as a JSON object that is no longer than a line: without its pairs, and with a message that is cut.
+fn short_line<D: Display, K: kv::Source, S: Spans>(
+    alloc: Global,
+    time: Option<Timestamp>,
+    record: &Record<'_, D, K, S>,
+) -> Result<String, AllocError> {
+    let message = cut(record.args(), SHORT);
+    let pairs = begun(alloc, time, record.level(), &message)?;
+    Value::Object(pairs.members).to_string(alloc)
+}
+
+/// A record as a JSON object: its time, its level, its message and its pairs. If that is longer than a line, the pairs are left out and the
+/// message is cut.
+pub(crate) fn json_line<R: AllocGlobal + Clock, D: Display, K: kv::Source, S: Spans>(
+    rt: &R,
+    record: &Record<'_, D, K, S>,
+) -> Result<String, AllocError> {
+    let line = whole_line(rt.alloc(), Timestamp::now(rt).ok(), record)?;
     if line.len() <= LONGEST {
         return Ok(line);
     }
-    let short = begun(alloc, time, record.level(), &cut(record.args(), SHORT))?;
-    Value::Object(short.members).to_string(alloc)
+    short_line(rt.alloc(), Timestamp::now(rt).ok(), record)
 }

@@ -6,7 +6,6 @@ use crate::fault_limit::FaultLimit;
 use crate::json_line::json_line;
 use crate::outlet::Outlet;
 use crate::text_line::TextLine;
-use jiff::Timestamp;
 use log::span::Spans;
 use log::{Level, LevelFilter, Log, Metadata, Record, kv};
 use std::fmt::Display;
@@ -43,7 +42,7 @@ pub struct LogLines<'a, R, O> {
 impl<'a, R, O> LogLines<'a, R, O> {
     /// A log of an outlet, at a level and in a format. No line of it was dropped.
     pub fn new(rt: &'a R, outlet: O, level: LevelFilter, format: LogFormat) -> LogLines<'a, R, O>
-        ensures rt { result.rt ≡ rt }
+        ensures rt { result.rt ≡ rt.entry }
         ensures outlet { result.outlet ≡ outlet }
         ensures level { result.level ≡ level }
         ensures format { result.format ≡ format }
@@ -85,13 +84,10 @@ impl<'a, R: AllocGlobal + Clock, O: Outlet> LogLines<'a, R, O> {
                 };
                 self.outlet.put(format_args!("iconvd: {line}"))
             }
-            LogFormat::Json => {
-                let now = Timestamp::now(self.rt).ok();
-                match json_line(self.rt.alloc(), now, record) {
-                    Ok(line) => self.outlet.put(line),
-                    Err(_) => false,
-                }
-            }
+            LogFormat::Json => match json_line(self.rt, record) {
+                Ok(line) => self.outlet.put(line),
+                Err(_) => false,
+            },
         }
     }
 

@@ -25,7 +25,7 @@ pub struct StandardError<'a, R> {
 impl<'a, R> StandardError<'a, R> {
     /// The standard error of this runtime.
     pub fn new(rt: &'a R) -> StandardError<'a, R>
-        ensures { result.rt ≡ rt }
+        ensures { result.rt ≡ rt.entry }
     {
         StandardError { rt }
     }

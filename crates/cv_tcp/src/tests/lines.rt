@@ -67,7 +67,7 @@ impl<'a, R: Wait> Outlet for Booth<'a, R> {
 /// So many faults.
 fn fail<L: Log>(log: &L, faults: u64) {
     for _fault in 0..faults {
-        error!(log; peer = 7; "bad");
+        error!(log; peer = 7u64; "bad");
     }
 }
 
@@ -153,13 +153,13 @@ fn a_json_log_has_the_counts_as_numbers(rt: HostRuntime) -> Result<(), Fail> {
     log.flush();
     drop(log);
     let said = booth.kept.into_bytes();
-    let bad = r#"{"time":"1970-01-01T00:00:00.000Z","level":"error","message":"bad","peer":7}"#;
+    let bad = r#"{"level":"error","message":"bad","peer":7,"time":"1970-01-01T00:00:00.000Z"}"#;
     assert_eq!(rt; lines_like(&said, bad), 100);
     let dropped =
-        r#"{"time":"1970-01-01T00:00:02.500Z","level":"error","message":"2 log lines were dropped","count":2}"#;
+        r#"{"count":2,"level":"error","message":"2 log lines were dropped","time":"1970-01-01T00:00:02.500Z"}"#;
     assert_eq!(rt; lines_like(&said, dropped), 1);
     let end =
-        b"\n{\"time\":\"1970-01-01T00:00:02.500Z\",\"level\":\"error\",\"message\":\"3 more faults in a second\",\"count\":3}\n";
+        b"\n{\"count\":3,\"level\":\"error\",\"message\":\"3 more faults in a second\",\"time\":\"1970-01-01T00:00:02.500Z\"}\n";
     assert!(rt; said.ends_with(end));
     Ok(())
 }
@@ -173,10 +173,11 @@ fn a_long_json_line_is_an_object_all_the_same(rt: HostRuntime) -> Result<(), Fai
     error!(log; text:% = quotes; "{quotes}");
     drop(log);
     let said = booth.kept.into_bytes();
-    let begin =
-        b"{\"time\":\"1970-01-01T00:00:00.000Z\",\"level\":\"error\",\"message\":\"\\\"\\\"";
+    let begin = b"{\"level\":\"error\",\"message\":\"\\\"\\\"";
     assert!(rt; said.starts_with(begin));
-    assert!(rt; said.ends_with("\\\"…\"}\n".as_bytes()));
-    assert_eq!(rt; said.len(), begin.len() + 2 * 598 + "…\"}\n".len());
+    let end = "\\\"…\",\"time\":\"1970-01-01T00:00:00.000Z\"}\n";
+    assert!(rt; said.ends_with(end.as_bytes()));
+    // 600 quotes, of which three are in those two.
+    assert_eq!(rt; said.len(), begin.len() + 2 * 597 + end.len());
     Ok(())
 }

@@ -10,7 +10,7 @@ use crate::words::arguments;
 use clap::Error;
 use clap::error::ErrorKind;
 use cv_commands::{RunFault, ask, checkmap, pipe, read_all, run, show, status, write_all};
-use cv_tcp::{CallFault, LogLines, Terms, call_status, listen};
+use cv_tcp::{CallFault, LogLines, Outlet, StandardError, Terms, call_status, listen};
 use std::alloc::Global;
 use std::fs::Files;
 use std::io;
@@ -35,14 +35,18 @@ fn conclude<R: Eprint>(rt: &R, done: Result<(), RunFault>) -> u8
     }
 }
 
-/// The exit status of `listen`. The log has said why it cannot listen.
+/// The exit status of `listen`. The log has said why it cannot listen; another fault is said on standard error, if that takes it at once.
 fn conclude_listening<R: Eprint>(rt: &R, done: Result<(), RunFault>) -> u8
     ensures done { OnOk done (result ≡ 0) }
     ensures fault { IfErr done (λ fault. result ≡ status_of fault) }
 {
     match done {
+        Ok(()) => 0,
         Err(RunFault::CannotListen) => status(&RunFault::CannotListen),
-        done => conclude(rt, done),
+        Err(fault) => {
+            let _ = StandardError::new(rt).put(format_args!("iconvd: {fault}"));
+            status(&fault)
+        }
     }
 }
 
@@ -84,11 +88,7 @@ where
     requires workers { (1 ≤ said.workers) × (said.workers ≤ 16) }
     requires at_once { 1 ≤ said.at_once }
 {
-    let log = LogLines {
-        rt,
-        level: said.level,
-        format: said.format,
-    };
+    let log = LogLines::new(rt, StandardError::new(rt), said.level, said.format);
     let terms = Terms {
         streams: said.streams,
         at_once: said.at_once,

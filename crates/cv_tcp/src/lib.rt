@@ -7,17 +7,23 @@ mod calling;
 mod connection;
 mod counted;
 mod counters;
+mod cut;
+mod dropped_lines;
 mod fault;
+mod fault_limit;
 mod inlet;
+mod json_line;
 mod listening;
 mod log_lines;
 mod metered;
+mod outlet;
 mod reply_count;
 mod report;
 mod retrying;
 mod socket_file;
 mod streams;
 mod terms;
+mod text_line;
 mod turns;
 mod watched;
 
@@ -26,6 +32,7 @@ pub use calling::call;
 pub use fault::{CallFault, call_status};
 pub use listening::listen;
 pub use log_lines::{LogFormat, LogLines};
+pub use outlet::{Outlet, StandardError};
 pub use terms::{MOST_AT_ONCE, Terms};
 
 #[cfg(test)]

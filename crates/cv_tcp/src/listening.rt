@@ -146,7 +146,7 @@ where
 }
 
 /// Listens at an address, prints it on standard output, and serves streams by these terms, each by a new pool of workers and all with one
-/// cache of compiled charmaps. The fault of a stream goes to the log, and the next is served.
+/// cache of compiled charmaps. The fault of a stream goes to the log, and the next is served. At the end the log is flushed.
 pub fn listen<R, G>(
     rt: &R,
     alloc: Global,
@@ -173,8 +173,10 @@ where
     // No fault of a stream is among these.
     ensures err { IfErr result IsOfListening }
 {
-    match Address::of(address) {
+    let served = match Address::of(address) {
         Address::Tcp(address) => listen_tcp(rt, alloc, log, address, terms),
         Address::Unix(path) => listen_unix(rt, alloc, log, path, terms),
-    }
+    };
+    log.flush();
+    served
 }

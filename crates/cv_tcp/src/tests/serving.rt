@@ -63,11 +63,7 @@ fn listening_says_where_and_tells_faults_alone(rt: HostRuntime) -> Result<(), Fa
         output: Kept::new(&rt),
     };
     let errors = Kept::new(&rt);
-    let log = LogLines {
-        rt: &errors,
-        level: LevelFilter::Error,
-        format: LogFormat::Text,
-    };
+    let log = LogLines::new(&errors, &errors, LevelFilter::Error, LogFormat::Text);
     let heard = listen_tcp(&desk, alloc, &log, "127.0.0.1:1", terms(2, 1));
     assert_eq!(rt; heard, Ok(2));
     let line = format!(in alloc; "listening {address}\n")?;

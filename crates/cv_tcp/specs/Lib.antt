@@ -2,3 +2,5 @@ pub mod Accepting
 pub mod Calling
 pub mod Ends
 pub mod Faults
+pub mod Listening
+pub mod Ticks

@@ -1,5 +1,5 @@
 //! What a server does, for those who ask, and how it is drained.
-ghost use Rattle.std.specs.Prelude.{◌≡◌, None};
+ghost use Rattle.std.specs.Prelude.{◌≡◌, None, IsSome};
 
 use crate::draining::Draining;
 use crate::places::Places;
@@ -42,7 +42,9 @@ impl Operation {
     }
 
     /// Of a server that can be drained.
-    pub fn with_drain(terms: &Terms) -> Operation {
+    pub fn with_drain(terms: &Terms) -> Operation
+        ensures { IsSome result.draining }
+    {
         let mut operation = Operation::new(terms);
         operation.draining = Some(Draining::new(terms.drain));
         operation

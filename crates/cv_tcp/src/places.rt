@@ -142,7 +142,7 @@ impl Places {
         let is_taken = taken.take();
         let (is_full, most) = (taken.is_full(), taken.most);
         drop(taken);
-        if self.is_logged && is_taken && is_full {
+        if self.is_logged && is_full {
             let now = Instant::now(rt).ok();
             let is_said = self.said.lock(rt).says_full(now);
             if is_said {

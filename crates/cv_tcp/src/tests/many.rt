@@ -112,7 +112,7 @@ fn it_ends_after_the_last_stream(rt: HostRuntime) -> Result<(), Fail> {
 }
 
 /// Requests that are more than the sockets between two processes hold, and so are their replies: 16 MB.
-fn much_to_answer(alloc: Global) -> Result<Vec<u8>, Fail> {
+pub(super) fn much_to_answer(alloc: Global) -> Result<Vec<u8>, Fail> {
     let open = ask_script(alloc, b"7 1 open UTF-32BE ISO-8859-1\n").map_err(|_| "no script")?;
     // Op 4 of caller 7 on descriptor 0, with room for 262,144 bytes, and 60,000 bytes of text.
     let mut conv = vec![in alloc; 0xe9u8; 60_021]?;

@@ -10,7 +10,9 @@ use crate::words::arguments;
 use clap::Error;
 use clap::error::ErrorKind;
 use cv_commands::{RunFault, ask, checkmap, pipe, read_all, run, show, status, write_all};
-use cv_tcp::{CallFault, LogLines, Outlet, StandardError, Terms, call_status, listen};
+use cv_tcp::{
+    CallFault, LogLines, Outlet, StandardError, Terms, WhenFull, call_status, listen,
+};
 use std::alloc::Global;
 use std::fs::Files;
 use std::io;
@@ -94,6 +96,10 @@ where
         at_once: said.at_once,
         workers: said.workers,
         idle: said.idle,
+        when_full: WhenFull::Wait,
+        drain: 30,
+        stream_memory: None,
+        callers: None,
     };
     listen(rt, rt.alloc(), &log, address, terms)?;
     Ok(())

@@ -3,3 +3,5 @@ pub mod Calling
 pub mod Counting
 pub mod Ends
 pub mod Faults
+pub mod Listening
+pub mod Ticks

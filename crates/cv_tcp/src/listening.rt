@@ -2,18 +2,22 @@
 ghost use Rattle.std.specs.Prelude.{◌≡◌, ◌≤◌, IfOk, IfErr};
 ghost use Rattle.cv_commands.specs.declared.fault.RunFault.TheVariants as RunFault;
 ghost use Rattle.cv_tcp.specs.Faults.{IsOfListening};
+ghost use Rattle.cv_tcp.specs.Listening.{IsEnd};
 
 use crate::address::Address;
-use crate::inlet::{Bound, Listener};
+use crate::inherited::Inherited;
+use crate::inlet::{Bound, Inlet, Listener};
+use crate::listened::{Listened, tell};
+use crate::operation::Operation;
 use crate::socket_file;
-use crate::streams::{Service, serve_streams};
+use crate::streams::{Service, serve_until_drained};
 use crate::terms::Terms;
 use cv_commands::{RunFault, write_all};
 use log::{Log, error, info};
 use std::alloc::Global;
 use std::fmt::Display;
 use std::fs::Files;
-use std::io;
+use std::io::{self, ErrorKind};
 use std::net::{Net, SocketAddr, TcpListener, TcpStream};
 use std::random::RandomSource;
 use std::sync::Wait;
@@ -43,24 +47,58 @@ fn refuse<G: Log, D: Display + Drop>(log: &G, address: D, failure: &io::Error) -
     RunFault::CannotListen
 }
 
-/// A listener at a TCP port, and the address that it has.
-fn bind_tcp<R>(rt: &R, address: &str) -> io::Result<(Bound, SocketAddr)>
+/// What listening needs, wherever it listens.
+#[derive(Drop)]
+pub(crate) struct Site<'a, R, G> {
+    pub(crate) rt: &'a R,
+    pub(crate) alloc: Global,
+    pub(crate) log: &'a G,
+    pub(crate) terms: Terms,
+    pub(crate) operation: &'a Operation,
+}
+
+/// Prints where the program listens, and serves the streams that come in there.
+fn serve_at<R, G, L, D>(site: &Site<'_, R, G>, inlet: &L, address: D) -> Result<Listened, RunFault>
 where
-    R: Net<Listener = TcpListener, Stream = TcpStream>,
+    R: Print + Clock + RandomSource + Threads + Wait + Sync,
+    G: Log + Sync,
+    L: Inlet + Sync,
+    D: Display + Drop,
+    requires at_once { 1 ≤ site.now.terms.at_once }
+    requires workers { (1 ≤ site.now.terms.workers) × (site.now.terms.workers ≤ 16) }
+    ensures end { IfOk result (λ listened. IsEnd site.now.terms.streams listened) }
+    ensures err { IfErr result IsOfListening }
 {
-    let listener = TcpListener::bind(rt, address)?;
+    announce(site.rt, site.alloc, site.log, address)?;
+    serve_until_drained(&Service {
+        rt: site.rt,
+        alloc: site.alloc,
+        log: site.log,
+        inlet,
+        terms: site.terms,
+        operation: site.operation,
+    })
+}
+
+/// A listener that a drain shuts.
+fn bound<R: Wait, G>(site: &Site<'_, R, G>, listener: Listener) -> io::Result<Bound> {
+    let bound = Bound::new(listener)?;
+    site.operation.set_door(site.rt, bound.door()?);
+    Ok(bound)
+}
+
+/// A listener at a TCP port, and the address that it has.
+fn bind_tcp<R, G>(site: &Site<'_, R, G>, address: &str) -> io::Result<(Bound, SocketAddr)>
+where
+    R: Net<Listener = TcpListener, Stream = TcpStream> + Wait,
+{
+    let listener = TcpListener::bind(site.rt, address)?;
     let address = listener.local_addr()?;
-    Ok((Bound::new(Listener::Tcp(listener))?, address))
+    Ok((bound(site, Listener::Tcp(listener))?, address))
 }
 
 /// Listens at a TCP port and serves the streams that come in there.
-pub(crate) fn listen_tcp<R, G>(
-    rt: &R,
-    alloc: Global,
-    log: &G,
-    address: &str,
-    terms: Terms,
-) -> Result<u64, RunFault>
+pub(crate) fn listen_tcp<R, G>(site: &Site<'_, R, G>, address: &str) -> Result<Listened, RunFault>
 where
     R: Net<Listener = TcpListener, Stream = TcpStream>
         + Print
@@ -70,79 +108,146 @@ where
         + Wait
         + Sync,
     G: Log + Sync,
-    requires at_once { 1 ≤ terms.at_once }
-    requires workers { (1 ≤ terms.workers) × (terms.workers ≤ 16) }
-    ensures served { IfOk result (λ n. n ≡ terms.streams) }
+    requires at_once { 1 ≤ site.now.terms.at_once }
+    requires workers { (1 ≤ site.now.terms.workers) × (site.now.terms.workers ≤ 16) }
+    ensures end { IfOk result (λ listened. IsEnd site.now.terms.streams listened) }
     ensures err { IfErr result IsOfListening }
 {
-    let (inlet, bound) = match bind_tcp(rt, address) {
-        Ok(bound) => bound,
-        Err(failure) => return Err(refuse(log, address, &failure)),
-    };
-    announce(rt, alloc, log, bound)?;
-    serve_streams(&Service {
-        rt,
-        alloc,
-        log,
-        inlet: &inlet,
-        terms,
-    })
+    match bind_tcp(site, address) {
+        Ok((inlet, bound)) => serve_at(site, &inlet, bound),
+        Err(failure) => Err(refuse(site.log, address, &failure)),
+    }
 }
 
 /// Listens at a Unix socket and serves the streams that come in there. At the end the socket's file is removed.
-pub(crate) fn listen_unix<R, G>(
-    rt: &R,
-    alloc: Global,
-    log: &G,
-    path: &str,
-    terms: Terms,
-) -> Result<u64, RunFault>
+pub(crate) fn listen_unix<R, G>(site: &Site<'_, R, G>, path: &str) -> Result<Listened, RunFault>
 where
     R: Net + Files + Print + Clock + RandomSource + Threads + Wait + Sync,
     G: Log + Sync,
-    requires at_once { 1 ≤ terms.at_once }
-    requires workers { (1 ≤ terms.workers) × (terms.workers ≤ 16) }
-    ensures served { IfOk result (λ n. n ≡ terms.streams) }
+    requires at_once { 1 ≤ site.now.terms.at_once }
+    requires workers { (1 ≤ site.now.terms.workers) × (site.now.terms.workers ≤ 16) }
+    ensures end { IfOk result (λ listened. IsEnd site.now.terms.streams listened) }
     ensures err { IfErr result IsOfListening }
 {
-    let listener = match socket_file::bind(rt, path) {
+    let listener = match socket_file::bind(site.rt, path) {
         Ok(listener) => listener,
-        Err(failure) => return Err(refuse(log, format_args!("unix:{path}"), &failure)),
+        Err(failure) => return Err(refuse(site.log, format_args!("unix:{path}"), &failure)),
     };
-    let served = serve_unix(rt, alloc, log, Listener::Unix(listener), path, terms);
-    socket_file::remove(rt, path);
+    let served = serve_unix(site, Listener::Unix(listener), path);
+    socket_file::remove(site.rt, path);
     served
 }
 
 /// Serves the streams that come in at a Unix socket.
 pub(crate) fn serve_unix<R, G>(
-    rt: &R,
-    alloc: Global,
-    log: &G,
+    site: &Site<'_, R, G>,
     listener: Listener,
     path: &str,
-    terms: Terms,
-) -> Result<u64, RunFault>
+) -> Result<Listened, RunFault>
 where
     R: Print + Clock + RandomSource + Threads + Wait + Sync,
     G: Log + Sync,
-    requires at_once { 1 ≤ terms.at_once }
-    requires workers { (1 ≤ terms.workers) × (terms.workers ≤ 16) }
-    ensures served { IfOk result (λ n. n ≡ terms.streams) }
+    requires at_once { 1 ≤ site.now.terms.at_once }
+    requires workers { (1 ≤ site.now.terms.workers) × (site.now.terms.workers ≤ 16) }
+    ensures end { IfOk result (λ listened. IsEnd site.now.terms.streams listened) }
     ensures err { IfErr result IsOfListening }
 {
-    let inlet = match Bound::new(listener) {
-        Ok(inlet) => inlet,
-        Err(failure) => return Err(refuse(log, format_args!("unix:{path}"), &failure)),
-    };
-    announce(rt, alloc, log, format_args!("unix:{path}"))?;
-    serve_streams(&Service {
+    match bound(site, listener) {
+        Ok(inlet) => serve_at(site, &inlet, format_args!("unix:{path}")),
+        Err(failure) => Err(refuse(site.log, format_args!("unix:{path}"), &failure)),
+    }
+}
+
+/// A listener that the process was given.
+fn given(number: Option<u16>) -> io::Result<Inherited> {
+    match number {
+        Some(number) => Inherited::new(number),
+        None => Err(io::Error::from(ErrorKind::InvalidInput)),
+    }
+}
+
+/// Listens by a listener that the process was given and serves the streams that come in there. The listener stays as it is.
+pub(crate) fn listen_given<R, G>(
+    site: &Site<'_, R, G>,
+    address: &str,
+    number: Option<u16>,
+) -> Result<Listened, RunFault>
+where
+    R: Net + Print + Clock + RandomSource + Threads + Wait + Sync,
+    G: Log + Sync,
+    requires at_once { 1 ≤ site.now.terms.at_once }
+    requires workers { (1 ≤ site.now.terms.workers) × (site.now.terms.workers ≤ 16) }
+    ensures end { IfOk result (λ listened. IsEnd site.now.terms.streams listened) }
+    ensures err { IfErr result IsOfListening }
+{
+    match given(number) {
+        Ok(inlet) => serve_at(site, &inlet, address),
+        Err(failure) => Err(refuse(site.log, address, &failure)),
+    }
+}
+
+/// Listens wherever the address is.
+fn listen_at<R, G>(site: &Site<'_, R, G>, address: &str) -> Result<Listened, RunFault>
+where
+    R: Net<Listener = TcpListener, Stream = TcpStream>
+        + Files
+        + Print
+        + Clock
+        + RandomSource
+        + Threads
+        + Wait
+        + Sync,
+    G: Log + Sync,
+    requires at_once { 1 ≤ site.now.terms.at_once }
+    requires workers { (1 ≤ site.now.terms.workers) × (site.now.terms.workers ≤ 16) }
+    ensures end { IfOk result (λ listened. IsEnd site.now.terms.streams listened) }
+    ensures err { IfErr result IsOfListening }
+{
+    match Address::of(address) {
+        Address::Tcp(address) => listen_tcp(site, address),
+        Address::Unix(path) => listen_unix(site, path),
+        Address::Given(number) => listen_given(site, address, number),
+    }
+}
+
+/// Listens as `listen` does, until all streams are served or the operation is drained. A drain is logged when it has ended.
+pub fn listen_until_drained<R, G>(
+    rt: &R,
+    alloc: Global,
+    log: &G,
+    address: &str,
+    terms: Terms,
+    operation: &Operation,
+) -> Result<Listened, RunFault>
+where
+    R: Net<Listener = TcpListener, Stream = TcpStream>
+        + Files
+        + Print
+        + Clock
+        + RandomSource
+        + Threads
+        + Wait
+        + Sync,
+    G: Log + Sync,
+    requires at_once { 1 ≤ terms.at_once }
+    requires workers { (1 ≤ terms.workers) × (terms.workers ≤ 16) }
+
+    // All threads together took a turn for each stream that there was to be; or for fewer, and a drain had begun.
+    ensures end { IfOk result (λ listened. IsEnd terms.streams listened) }
+
+    // No fault of a stream is among these.
+    ensures err { IfErr result IsOfListening }
+{
+    let site = Site {
         rt,
         alloc,
         log,
-        inlet: &inlet,
         terms,
-    })
+        operation,
+    };
+    let listened = listen_at(&site, address)?;
+    tell(log, listened, terms.drain);
+    Ok(listened)
 }
 
 /// Listens at an address, prints it on standard output, and serves streams by these terms, each by a new pool of workers and all with one
@@ -173,10 +278,10 @@ where
     // No fault of a stream is among these.
     ensures err { IfErr result IsOfListening }
 {
-    let served = match Address::of(address) {
-        Address::Tcp(address) => listen_tcp(rt, alloc, log, address, terms),
-        Address::Unix(path) => listen_unix(rt, alloc, log, path, terms),
-    };
-    log.flush();
-    served
+    let operation = Operation::new(&terms);
+    match listen_until_drained(rt, alloc, log, address, terms, &operation)? {
+        Listened::Served { streams } => Ok(streams),
+        // Nobody can drain it.
+        Listened::Drained { .. } => Err(RunFault::AcceptFailed),
+    }
 }

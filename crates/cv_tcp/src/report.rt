@@ -21,8 +21,8 @@ pub(crate) struct Ended {
 /// How much a fault that ends a stream tells the operator: that a client was silent for too long is usual.
 fn level_of(fault: StreamFault) -> Level {
     match fault {
-        StreamFault::Idle => Level::Info,
-        StreamFault::Stalled | StreamFault::Run(_) => Level::Error,
+        StreamFault::Idle | StreamFault::Drained => Level::Info,
+        StreamFault::Stalled | StreamFault::Cut | StreamFault::Run(_) => Level::Error,
     }
 }
 

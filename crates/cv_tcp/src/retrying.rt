@@ -73,7 +73,7 @@ fn is_interrupted(failure: &io::Error) -> bool
 }
 
 /// What is said of a call whose time is over, as a socket with a limit says it.
-fn late() -> io::Error
+pub(crate) fn late() -> io::Error
     ensures { error_kind result ≡ ErrorKind.WouldBlock }
 {
     io::Error::from(ErrorKind::WouldBlock)

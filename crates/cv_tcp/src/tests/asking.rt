@@ -27,7 +27,7 @@ fn a_script_is_served_and_asked(rt: HostRuntime) -> Result<(), Fail> {
         move || match listener.accept() {
             Ok((stream, _peer)) => {
                 let stream = Connection::Tcp(stream);
-                Some(serve_connection(rt, alloc, cached, &stream, terms(1, 1)))
+                Some(serve_connection(rt, alloc, cached, &stream, terms(1, 1), None))
             }
             Err(_) => None,
         },

@@ -3,9 +3,11 @@ use super::kept::{Desk, Kept};
 use super::{OPEN, OPENED, bound, connected, gives, terms};
 use crate::address::is_address;
 use crate::inlet::{Bound, Listener};
-use crate::listening::{listen, listen_tcp};
+use crate::listened::Listened;
+use crate::listening::{Site, listen, listen_tcp};
 use crate::log_lines::{LogFormat, LogLines};
-use crate::streams::{Service, serve_streams};
+use crate::operation::Operation;
+use crate::streams::{Service, serve_until_drained};
 use cv_commands::RunFault;
 use log::LevelFilter;
 use std::io::{self, Write};
@@ -33,14 +35,20 @@ fn the_next_stream_has_a_new_server(rt: HostRuntime) -> Result<(), Fail> {
     let peer = first.local_addr()?;
     let log = Kept::new(&rt);
     let inlet = Bound::new(Listener::Tcp(listener))?;
+    let terms = terms(2, 1);
+    let operation = Operation::new(&terms);
     let service = Service {
         rt: &rt,
         alloc: rt.alloc(),
         log: &log,
         inlet: &inlet,
-        terms: terms(2, 1),
+        terms,
+        operation: &operation,
     };
-    assert_eq!(rt; serve_streams(&service), Ok(2));
+    assert_eq!(rt;
+        serve_until_drained(&service),
+        Ok(Listened::Served { streams: 2 })
+    );
     assert!(rt; gives(first, OPENED)?);
     assert!(rt; gives(second, OPENED)?);
     let said = log.into_bytes();
@@ -64,8 +72,17 @@ fn listening_says_where_and_tells_faults_alone(rt: HostRuntime) -> Result<(), Fa
     };
     let errors = Kept::new(&rt);
     let log = LogLines::new(&errors, &errors, LevelFilter::Error, LogFormat::Text);
-    let heard = listen_tcp(&desk, alloc, &log, "127.0.0.1:1", terms(2, 1));
-    assert_eq!(rt; heard, Ok(2));
+    let terms = terms(2, 1);
+    let operation = Operation::new(&terms);
+    let site = Site {
+        rt: &desk,
+        alloc,
+        log: &log,
+        terms,
+        operation: &operation,
+    };
+    let heard = listen_tcp(&site, "127.0.0.1:1");
+    assert_eq!(rt; heard, Ok(Listened::Served { streams: 2 }));
     let line = format!(in alloc; "listening {address}\n")?;
     assert!(rt; desk.output.into_bytes().as_slice() == line.as_bytes());
     let fault = format!(in alloc; "iconvd: stream from {peer}: bad length 8, after 1 request\n")?;
@@ -100,6 +117,7 @@ fn an_address_has_a_port_or_a_path(rt: HostRuntime) -> Result<(), Fail> {
         "mail.example:65535",
         ":::1",
         "unix:a",
+        "fd:3",
     ] {
         assert!(rt; is_address(address), "{address}");
     }
@@ -112,6 +130,9 @@ fn an_address_has_a_port_or_a_path(rt: HostRuntime) -> Result<(), Fail> {
         "127.0.0.1:65536",
         "a:b",
         "unix:",
+        "fd:",
+        "fd:-1",
+        "fd:65536",
     ] {
         assert!(rt; !is_address(address), "{address}");
     }

@@ -3,7 +3,9 @@ use super::kept::{Desk, Kept};
 use super::{bound, terms};
 use crate::calling::call;
 use crate::inlet::Listener;
-use crate::listening::{listen, listen_unix, serve_unix};
+use crate::listened::Listened;
+use crate::listening::{Site, listen, listen_unix, serve_unix};
+use crate::operation::Operation;
 use crate::socket_file;
 use cv_commands::RunFault;
 use std::alloc::Global;
@@ -45,17 +47,19 @@ fn a_socket_is_served_and_removed(rt: HostRuntime) -> Result<(), Fail> {
         listener: tcp,
         output: Kept::new(&rt),
     };
-    let (rt, desk_there, log_there, address) = (&rt, &desk, &log, address.as_str());
+    let terms = terms(2, 2);
+    let operation = Operation::new(&terms);
+    let site = Site {
+        rt: &desk,
+        alloc,
+        log: &log,
+        terms,
+        operation: &operation,
+    };
+    let (rt, site, address) = (&rt, &site, address.as_str());
     let (served, called) = thread::join(
         rt,
-        move || serve_unix(
-            desk_there,
-            alloc,
-            log_there,
-            Listener::Unix(listener),
-            path,
-            terms(2, 2),
-        ),
+        move || serve_unix(site, Listener::Unix(listener), path),
         move || {
             let mut lines = Vec::new(alloc);
             let first = call(rt, alloc, address, Some(10), SCRIPT, &mut lines);
@@ -64,7 +68,7 @@ fn a_socket_is_served_and_removed(rt: HostRuntime) -> Result<(), Fail> {
         },
     );
     socket_file::remove(rt, path);
-    assert_eq!(rt; served, Ok(2));
+    assert_eq!(rt; served, Ok(Listened::Served { streams: 2 }));
     let (called, lines) = called;
     assert!(rt; called);
     assert!(rt; lines.as_slice() == b"7 1 OK 00000000\n7 1 OK 00000000\n".as_slice());
@@ -81,10 +85,16 @@ fn no_file_is_replaced_but_a_socket(rt: HostRuntime) -> Result<(), Fail> {
     let address = new_address(&rt, alloc, "file")?;
     let path = address.strip_prefix("unix:").unwrap_or("");
     fs::write(&rt, path, b"text")?;
-    assert_eq!(rt;
-        listen_unix(&rt, alloc, &log, path, terms(1, 1)),
-        Err(RunFault::CannotListen)
-    );
+    let terms = terms(1, 1);
+    let operation = Operation::new(&terms);
+    let site = Site {
+        rt: &rt,
+        alloc,
+        log: &log,
+        terms,
+        operation: &operation,
+    };
+    assert_eq!(rt; listen_unix(&site, path), Err(RunFault::CannotListen));
     let text = fs::read(&rt, path)?;
     fs::remove_file(&rt, path)?;
     assert!(rt; text.as_slice() == b"text".as_slice());

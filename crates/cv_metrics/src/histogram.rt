@@ -78,7 +78,8 @@ impl Histogram {
     /// The same time came so often.
     pub(crate) fn note(&self, nanos: u64, times: u64) {
         add(&self.buckets, bucket_of(nanos), times);
-        self.nanos.fetch_add(nanos.wrapping_mul(times), Ordering::Relaxed);
+        self.nanos
+            .fetch_add(nanos.wrapping_mul(times), Ordering::Relaxed);
     }
 
     /// Adds what this one has.

@@ -30,12 +30,7 @@ impl Page {
     }
 
     /// Says what a metric is, before its samples.
-    pub(crate) fn family(
-        &mut self,
-        name: &str,
-        kind: &str,
-        help: &str,
-    ) -> Result<(), AllocError> {
+    pub(crate) fn family(&mut self, name: &str, kind: &str, help: &str) -> Result<(), AllocError> {
         let lines = format!(in self.alloc;
             "# HELP iconvd_{name} {help}\n# TYPE iconvd_{name} {kind}\n"
         )?;

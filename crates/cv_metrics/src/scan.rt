@@ -70,7 +70,9 @@ impl Scan {
         match self.state {
             State::Head { came: 0 } => self.begin(bytes),
             State::Head { came } => self.go_on_in_head(came, bytes),
-            State::Body { code, missing } if missing > 0 => self.go_on_in_body(code, missing, bytes),
+            State::Body { code, missing } if missing > 0 => self.go_on_in_body(
+                code, missing, bytes,
+            ),
             State::Body { .. } | State::Bad => None,
         }
     }

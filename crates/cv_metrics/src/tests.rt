@@ -8,8 +8,11 @@ use std::alloc::Global;
 use std::test::Fail;
 
 const OPEN: u8 = 3;
+
 const CONV: u8 = 4;
+
 const OK: u8 = 0;
+
 const EBADF: u8 = 4;
 
 /// The bounds of the buckets in nanoseconds.

@@ -70,7 +70,11 @@ fn server(page: &mut Page, board: &Board, told: &Told, sums: &Sums) -> Result<()
     let help = "Streams that may be served at once.";
     page.gauge("places", help, board.places().len() as u64)?;
     page.gauge("streams", "Streams that are served now.", sums.streams)?;
-    page.counter("streams_total", "Streams whose serving began.", board.begun())
+    page.counter(
+        "streams_total",
+        "Streams whose serving began.",
+        board.begun(),
+    )
 }
 
 /// How streams ended.

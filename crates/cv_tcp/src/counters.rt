@@ -66,7 +66,11 @@ pub(crate) struct Counters {
 
 impl Counters {
     /// Nothing was counted yet. So many streams may be served at once, and the server begins now.
-    pub(crate) fn new<R: Clock>(rt: &R, alloc: Global, at_once: u32) -> Result<Counters, AllocError> {
+    pub(crate) fn new<R: Clock>(
+        rt: &R,
+        alloc: Global,
+        at_once: u32,
+    ) -> Result<Counters, AllocError> {
         Ok(Counters {
             board: Board::new(alloc, at_once)?,
             begun: Instant::now(rt).ok(),

@@ -92,7 +92,12 @@ fn a_lack_of_memory_is_seen(rt: HostRuntime) -> Result<(), Fail> {
     assert!(rt; meter.lacked_memory());
     let text = board.metrics(&rt, alloc, &told())?;
     assert!(rt; has_line(&text, "iconvd_memory_refused_total 1"));
-    assert!(rt; has_line(&text, "iconvd_requests_total{op=\"put\",status=\"ENOMEM\"} 1"));
+    assert!(rt;
+        has_line(
+            &text,
+            "iconvd_requests_total{op=\"put\",status=\"ENOMEM\"} 1"
+        )
+    );
     Ok(())
 }
 
@@ -120,7 +125,8 @@ fn a_row_is_of_its_stream_alone(rt: HostRuntime) -> Result<(), Fail> {
         }
     }
     board.begin(&rt, second, Peer::Gone, 3_000_000_000);
-    let want = "[{\"peer\":\"unix\",\"age_seconds\":2.000,\"idle_seconds\":0.500,\"requests\":1,\"received_bytes\":13,\"sent_bytes\":13,\"callers\":0,\"memory_bytes\":0},{\"peer\":\"gone\",\"age_seconds\":1.000,\"idle_seconds\":1.000,\"requests\":0,\"received_bytes\":0,\"sent_bytes\":0,\"callers\":0,\"memory_bytes\":0}]\n";
+    let want =
+        "[{\"peer\":\"unix\",\"age_seconds\":2.000,\"idle_seconds\":0.500,\"requests\":1,\"received_bytes\":13,\"sent_bytes\":13,\"callers\":0,\"memory_bytes\":0},{\"peer\":\"gone\",\"age_seconds\":1.000,\"idle_seconds\":1.000,\"requests\":0,\"received_bytes\":0,\"sent_bytes\":0,\"callers\":0,\"memory_bytes\":0}]\n";
     let got = rows(&rt, alloc, &board, 4_000_000_000)?;
     assert!(rt; got.as_str() == want, "{got}");
     Ok(())

@@ -38,9 +38,18 @@ fn each_metric_has_its_type_and_its_help(rt: HostRuntime) -> Result<(), Fail> {
         let line = format!(in alloc; "# TYPE iconvd_{name} {kind}")?;
         assert!(rt; has_line(&text, &line), "{line}");
         let help = format!(in alloc; "# HELP iconvd_{name} ")?;
-        assert!(rt; text.as_str().lines().any(|line| line.starts_with(help.as_str())), "{help}");
+        assert!(rt;
+            text.as_str()
+                .lines()
+                .any(|line| line.starts_with(help.as_str())),
+            "{help}"
+        );
     }
-    let types = text.as_str().lines().filter(|line| line.starts_with("# TYPE ")).count();
+    let types = text
+        .as_str()
+        .lines()
+        .filter(|line| line.starts_with("# TYPE "))
+        .count();
     assert_eq!(rt; types, 21);
     assert!(rt; text.as_str().ends_with("\n"));
     Ok(())
@@ -118,6 +127,10 @@ fn a_peer_is_shown_by_its_address(rt: HostRuntime) -> Result<(), Fail> {
     let peer = SocketAddr::from((Ipv4Addr::new(10, 0, 0, 7), 5301));
     board.begin(&rt, place, Peer::At(peer), 0);
     let rows = board.streams(&rt, alloc, 0)?;
-    assert!(rt; rows.as_str().starts_with("[{\"peer\":\"10.0.0.7:5301\",\"age_seconds\":0.000,"), "{rows}");
+    assert!(rt;
+        rows.as_str()
+            .starts_with("[{\"peer\":\"10.0.0.7:5301\",\"age_seconds\":0.000,"),
+        "{rows}"
+    );
     Ok(())
 }

@@ -5,7 +5,8 @@ use std::process::Abort;
 use std::test::Fail;
 
 /// A CONV with no input, an op that there is none of with no body, and a CLOSE.
-const FRAMES: &[u8] = b"\0\0\0\x11\0\0\0\x07\0\0\0\x01\x04\0\0\0\0\0\0\0\x09\0\0\0\x09\0\0\0\x07\0\0\0\x02\xff\0\0\0\x0d\0\0\0\x07\0\0\0\x03\x06\0\0\0\0";
+const FRAMES: &[u8] =
+    b"\0\0\0\x11\0\0\0\x07\0\0\0\x01\x04\0\0\0\0\0\0\0\x09\0\0\0\x09\0\0\0\x07\0\0\0\x02\xff\0\0\0\x0d\0\0\0\x07\0\0\0\x03\x06\0\0\0\0";
 
 /// The codes of the frames that end in these bytes.
 fn codes_in(scan: &mut Scan, bytes: &[u8], codes: &mut Vec<u8>) -> Result<(), AllocError> {
@@ -43,7 +44,10 @@ fn the_cut_changes_nothing(rt: HostRuntime) -> Result<(), Fail> {
     for first in 0..52 {
         for second in 0..52 {
             let codes = codes_of(rt.alloc(), FRAMES, first, second)?;
-            assert!(rt; codes.as_slice() == [4, 255, 6].as_slice(), "{first} and {second}: {codes:?}");
+            assert!(rt;
+                codes.as_slice() == [4, 255, 6].as_slice(),
+                "{first} and {second}: {codes:?}"
+            );
         }
     }
     Ok(())

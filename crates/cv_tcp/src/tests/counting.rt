@@ -36,7 +36,13 @@ fn has_line(text: &String, line: &str) -> bool {
 /// Serves what a client sends who asks to open, then these bytes, and ends.
 fn serve_one<R>(rt: &R, counters: &Counters, more: &[u8]) -> Result<(), Fail>
 where
-    R: Net<Listener = TcpListener, Stream = TcpStream> + AllocGlobal + Abort + Threads + Wait + Clock + Sync,
+    R: Net<Listener = TcpListener, Stream = TcpStream>
+        + AllocGlobal
+        + Abort
+        + Threads
+        + Wait
+        + Clock
+        + Sync,
 {
     let alloc = rt.alloc();
     let (listener, address) = bound(rt)?;

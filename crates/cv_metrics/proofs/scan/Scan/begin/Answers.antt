@@ -4,5 +4,5 @@ use Rattle.cv_metrics.proofs.scan.Scan.begin.Goals as goal
 
 pub returns-in-Whole-clause-within : goal.returns-in-Whole-clause-within
 returns-in-Whole-clause-within c =
-  let s = front_size c.args.bytes.now _ _ (sym c.in-Whole.ensures) in
-  (omega (arith, s.0), s.1)
+    let s = front_size c.args.bytes.now _ _ (sym c.in-Whole.ensures) in
+    (omega (arith, s.0), s.1)

@@ -3,7 +3,7 @@ use super::kept::{Desk, Kept};
 use super::{OPEN, OPENED, bound, connected, gives, terms};
 use crate::address::is_address;
 use crate::inlet::{Bound, Listener};
-use crate::listening::{listen, listen_tcp};
+use crate::listening::{Listening, listen, listen_tcp};
 use crate::log_lines::{LogFormat, LogLines};
 use crate::streams::{Service, serve_streams};
 use cv_commands::RunFault;
@@ -68,7 +68,14 @@ fn listening_says_where_and_tells_faults_alone(rt: HostRuntime) -> Result<(), Fa
         level: LevelFilter::Error,
         format: LogFormat::Text,
     };
-    let heard = listen_tcp(&desk, alloc, &log, "127.0.0.1:1", terms(2, 1));
+    let listening = Listening {
+        rt: &desk,
+        alloc,
+        log: &log,
+        terms: terms(2, 1),
+        admin: None,
+    };
+    let heard = listen_tcp(&listening, "127.0.0.1:1");
     assert_eq!(rt; heard, Ok(2));
     let line = format!(in alloc; "listening {address}\n")?;
     assert!(rt; desk.output.into_bytes().as_slice() == line.as_bytes());
@@ -84,7 +91,7 @@ fn an_address_that_is_none_is_refused(rt: HostRuntime) -> Result<(), Fail> {
     let taken = format!(in alloc; "{address}")?;
     for address in ["nowhere", "", taken.as_str(), "unix:", "unix:/"] {
         let log = Kept::new(&rt);
-        let heard = listen(&rt, alloc, &log, address, terms(1, 1));
+        let heard = listen(&rt, alloc, &log, address, terms(1, 1), None);
         assert_eq!(rt; heard, Err(RunFault::CannotListen), "at {address}");
         let said = log.into_bytes();
         let begun = format!(in alloc; "ERROR {address}: cannot listen: ")?;

@@ -3,7 +3,7 @@ use super::kept::{Desk, Kept};
 use super::{bound, terms};
 use crate::calling::call;
 use crate::inlet::Listener;
-use crate::listening::{listen, listen_unix, serve_unix};
+use crate::listening::{Listening, listen, listen_unix, serve_unix};
 use crate::socket_file;
 use cv_commands::RunFault;
 use std::alloc::Global;
@@ -32,7 +32,7 @@ fn a_socket_is_served_and_removed(rt: HostRuntime) -> Result<(), Fail> {
     // Somebody listens there.
     let log = Kept::new(&rt);
     assert_eq!(rt;
-        listen(&rt, alloc, &log, &address, terms(1, 1)),
+        listen(&rt, alloc, &log, &address, terms(1, 1), None),
         Err(RunFault::CannotListen)
     );
     drop(listener);
@@ -48,14 +48,16 @@ fn a_socket_is_served_and_removed(rt: HostRuntime) -> Result<(), Fail> {
     let (rt, desk_there, log_there, address) = (&rt, &desk, &log, address.as_str());
     let (served, called) = thread::join(
         rt,
-        move || serve_unix(
-            desk_there,
-            alloc,
-            log_there,
-            Listener::Unix(listener),
-            path,
-            terms(2, 2),
-        ),
+        move || {
+            let listening = Listening {
+                rt: desk_there,
+                alloc,
+                log: log_there,
+                terms: terms(2, 2),
+                admin: None,
+            };
+            serve_unix(&listening, Listener::Unix(listener), path)
+        },
         move || {
             let mut lines = Vec::new(alloc);
             let first = call(rt, alloc, address, Some(10), SCRIPT, &mut lines);
@@ -81,10 +83,14 @@ fn no_file_is_replaced_but_a_socket(rt: HostRuntime) -> Result<(), Fail> {
     let address = new_address(&rt, alloc, "file")?;
     let path = address.strip_prefix("unix:").unwrap_or("");
     fs::write(&rt, path, b"text")?;
-    assert_eq!(rt;
-        listen_unix(&rt, alloc, &log, path, terms(1, 1)),
-        Err(RunFault::CannotListen)
-    );
+    let listening = Listening {
+        rt: &rt,
+        alloc,
+        log: &log,
+        terms: terms(1, 1),
+        admin: None,
+    };
+    assert_eq!(rt; listen_unix(&listening, path), Err(RunFault::CannotListen));
     let text = fs::read(&rt, path)?;
     fs::remove_file(&rt, path)?;
     assert!(rt; text.as_slice() == b"text".as_slice());

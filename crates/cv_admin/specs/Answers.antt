@@ -19,15 +19,21 @@ page_fields kind = (codes "content-type", kind) ∷ (codes "connection", codes "
 abbrev pub IsText : ℕ → List ℕ → Response → Type 0
 IsText status text = IsResponse status (page_fields (codes "text/plain; charset=utf-8")) text
 
--- Where a place is free the status is 200, else 503. The text says which it is.
-abbrev pub ShowsHealth : Health → Response → Type 0
-ShowsHealth Free = IsText 200 (codes "ok\n")
-ShowsHealth Full = IsText 503 (codes "full\n")
-ShowsHealth Draining = IsText 503 (codes "draining\n")
+-- The status of a health: 200 where a place is free, else 503.
+abbrev pub health_status : Health → ℕ
+health_status Free = 200
+health_status Full = 503
+health_status Draining = 503
+
+-- The word for a health.
+abbrev pub health_text : Health → List ℕ
+health_text Free = codes "ok\n"
+health_text Full = codes "full\n"
+health_text Draining = codes "draining\n"
 
 -- Each page, of some health and with some text.
 abbrev pub IsPage : Page → Response → Type 0
-IsPage page.Health response = (health : Health) × ShowsHealth health response
+IsPage page.Health response = (health : Health) × IsText (health_status health) (health_text health) response
 IsPage page.Metrics response =
     (text : List ℕ) × IsResponse 200 (page_fields (codes "text/plain; version=0.0.4; charset=utf-8")) text response
 IsPage page.Streams response = (text : List ℕ) × IsResponse 200 (page_fields (codes "application/json")) text response

@@ -1,10 +1,10 @@
 //! The pages as a service of HTTP.
-ghost use Rattle.std.specs.Prelude.{◌≡◌, ℕ, List, [], ◌∷◌, ◌++◌, codes, IsTrue, OnOk};
+ghost use Rattle.std.specs.Prelude.{◌≡◌, IsTrue, OnOk};
 ghost use Rattle.http.specs.Request.{head_of};
 ghost use Rattle.http_header.specs.FieldValue.{is_visible_text};
 ghost use Rattle.http_uri.specs.Uri.{uri_path};
 ghost use Rattle.http_server.specs.Response.{IsBlank, IsResponse};
-ghost use Rattle.cv_admin.specs.Answers.{Answers, ShowsHealth, IsPage, page_fields, NotAllowed};
+ghost use Rattle.cv_admin.specs.Answers.{Answers, AnswersOn, IsPage, page_fields, NotAllowed, health_status, health_text};
 
 use crate::operated::{Health, Operated};
 use crate::routes::{Page, Route, route_of};
@@ -47,17 +47,24 @@ fn fill(
     response.body.put_slice(body)
 }
 
-/// Answers whether there is room.
-fn show_health(response: &mut Response, health: Health) -> Result<(), AllocError>
-    requires { IsBlank response.old }
-    ensures { OnOk result (ShowsHealth health response.new) }
+/// The status of a health: 200 where a place is free.
+fn status_of(health: Health) -> StatusCode
+    ensures { result ≡ health_status health }
 {
     match health {
-        Health::Free => fill(response, StatusCode::OK, PLAIN, b"ok\n"),
-        Health::Full => fill(response, StatusCode::SERVICE_UNAVAILABLE, PLAIN, b"full\n"),
-        Health::Draining => {
-            fill(response, StatusCode::SERVICE_UNAVAILABLE, PLAIN, b"draining\n")
-        }
+        Health::Free => StatusCode::OK,
+        Health::Full | Health::Draining => StatusCode::SERVICE_UNAVAILABLE,
+    }
+}
+
+/// The word for a health.
+fn text_of(health: Health) -> &'static [u8]
+    ensures { result.now ≡ health_text health }
+{
+    match health {
+        Health::Free => b"ok\n",
+        Health::Full => b"full\n",
+        Health::Draining => b"draining\n",
     }
 }
 
@@ -87,7 +94,10 @@ impl<'a, O: Operated> Pages<'a, O> {
         ensures { OnOk result (IsPage page response.new) }
     {
         match page {
-            Page::Health => show_health(response, self.operated.health()),
+            Page::Health => {
+                let health = self.operated.health();
+                fill(response, status_of(health), PLAIN, text_of(health))
+            }
             Page::Metrics => {
                 let text = self.operated.metrics(self.alloc)?;
                 fill(response, StatusCode::OK, PROMETHEUS, text.as_bytes())
@@ -102,6 +112,18 @@ impl<'a, O: Operated> Pages<'a, O> {
             }
         }
     }
+
+    /// Answers on a route.
+    fn answer(&self, route: Route, response: &mut Response) -> Result<(), AllocError>
+        requires { IsBlank response.old }
+        ensures { OnOk result (AnswersOn route response.new) }
+    {
+        match route {
+            Route::To(page) => self.show(page, response),
+            Route::NotAllowed(page) => refuse_method(response, page),
+            Route::Nowhere => fill(response, StatusCode::NOT_FOUND, PLAIN, b"not found\n"),
+        }
+    }
 }
 
 impl<O: Operated> Service for Pages<'_, O> {
@@ -114,10 +136,7 @@ impl<O: Operated> Service for Pages<'_, O> {
         response: &mut Response,
     ) -> Result<(), AllocError> {
         let method = request.method().as_str().as_bytes();
-        match route_of(method, request.uri().path().as_bytes()) {
-            Route::To(page) => self.show(page, response),
-            Route::NotAllowed(page) => refuse_method(response, page),
-            Route::Nowhere => fill(response, StatusCode::NOT_FOUND, PLAIN, b"not found\n"),
-        }
+        let route = route_of(method, request.uri().path().as_bytes());
+        self.answer(route, response)
     }
 }

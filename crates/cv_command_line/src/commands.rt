@@ -1,5 +1,5 @@
 //! From the command line to the exit status.
-ghost use Rattle.std.specs.Prelude.{◌≡◌, ◌≢◌, ◌≤◌, IfErr, OnOk};
+ghost use Rattle.std.specs.Prelude.{◌≡◌, ◌≢◌, ◌≤◌, IfOk, IfErr, OnOk, OnErr, if◌then◌else◌};
 ghost use Rattle.clap.specs.Values.{kind_of};
 ghost use Rattle.cv_commands.specs.Status.{status_of};
 ghost use Rattle.cv_tcp.specs.Ends.{call_status_of};
@@ -10,7 +10,7 @@ use crate::words::arguments;
 use clap::Error;
 use clap::error::ErrorKind;
 use cv_commands::{RunFault, ask, checkmap, pipe, read_all, run, show, status, write_all};
-use cv_tcp::{CallFault, LogLines, Terms, call_status, listen};
+use cv_tcp::{AdminFault, CallFault, LogLines, Page, Terms, call_admin, call_status, listen};
 use std::alloc::Global;
 use std::fs::Files;
 use std::io;
@@ -20,6 +20,9 @@ use std::rt::Env;
 use std::sync::Wait;
 use std::thread::Threads;
 use std::time::Clock;
+
+/// For how many seconds `admin` waits, unless the command line says it.
+const ADMIN_TIMEOUT: u32 = 5;
 
 /// The exit status of a command. A fault is said on standard error, if that can be; the status doesn't depend on it.
 fn conclude<R: Eprint>(rt: &R, done: Result<(), RunFault>) -> u8
@@ -60,6 +63,37 @@ fn conclude_call<R: Eprint>(rt: &R, done: Result<(), CallFault>) -> u8
     }
 }
 
+/// The exit status of `admin`: 0 if the server says that all is well. A fault is said on standard error, if that can be.
+fn conclude_admin<R: Eprint>(rt: &R, done: Result<bool, AdminFault>) -> u8
+    ensures done { IfOk done (λ is_well. result ≡ (if is_well then 0 else 1)) }
+    ensures fault { OnErr done (result ≡ 1) }
+{
+    match done {
+        Ok(true) => 0,
+        Ok(false) => 1,
+        Err(fault) => {
+            let _ = eprintln!(rt; "iconvd: {fault}");
+            1
+        }
+    }
+}
+
+/// `admin`: asks for a page, and prints it.
+fn admin<R>(rt: &R, address: &str, timeout: Option<u32>, page: Page) -> u8
+where
+    R: Print + Eprint + AllocGlobal + Clock + Net<Listener = TcpListener, Stream = TcpStream>,
+    ensures { result ≤ 1 }
+{
+    let alloc = rt.alloc();
+    let timeout = timeout.unwrap_or(ADMIN_TIMEOUT);
+    let mut text = Vec::new(alloc);
+    let called = call_admin(rt, alloc, address, timeout, page, &mut text);
+    match write_all(io::writer(rt), &text) {
+        Ok(_writer) => conclude_admin(rt, called),
+        Err(fault) => conclude(rt, Err(fault)),
+    }
+}
+
 /// `call`: asks a server at an address for the script, and prints the lines of its replies, also of those that came before a fault.
 fn call<R>(rt: &R, address: &str, timeout: Option<u32>) -> Result<(), CallFault>
 where
@@ -95,7 +129,7 @@ where
         workers: said.workers,
         idle: said.idle,
     };
-    listen(rt, rt.alloc(), &log, address, terms)?;
+    listen(rt, rt.alloc(), &log, address, terms, said.admin)?;
     Ok(())
 }
 
@@ -113,6 +147,7 @@ where
         Job::Show => conclude(rt, show(rt)),
         Job::Listen(address) => conclude_listening(rt, serve(rt, address, said)),
         Job::Call(address) => conclude_call(rt, call(rt, address, said.timeout)),
+        Job::Admin(address, page) => admin(rt, address, said.timeout, page),
         Job::CheckMap(file) => match checkmap(rt, file) {
             Ok(status) => status,
             Err(fault) => conclude(rt, Err(fault)),

@@ -13,7 +13,7 @@ SOURCES := crates.txt $(shell find crates -name out -prune -o \( -name '*.rt' -o
 CRATES := $(shell sed -n 's/^\([a-z][a-z0-9_]*\).*:.*/\1/p' crates.txt)
 CLIENTS := $(patsubst %/Makefile,%,$(wildcard clients/*/Makefile))
 # What .ci/run runs behind the gate. Each ends with a line `N passed, N failed`.
-CHECKS := check-rules check-docs check-refuse check-instructions check-nonblocking check-stops check-clients check-benchmark check-package check-units check-cluster check-crowd check-soak
+CHECKS := check-rules check-docs check-refuse check-instructions check-nonblocking check-stops check-admin check-clients check-benchmark check-package check-units check-cluster check-crowd check-soak
 
 # `rt` itself works on several crates at a time, and locks them.
 .NOTPARALLEL:
@@ -94,6 +94,10 @@ check-nonblocking: ## serves a client whose socket does not block
 check-stops: ## stops and traces servers and calls while they wait: every stream goes on
 	@tools/need 'make $@' python3 strace
 	@program=$$(tools/checked_program iconvd) && tests/stops/check "$$program"
+
+check-admin: ## asks the admin pages, also as clients do that mean no good
+	@tools/need 'make $@' python3
+	@program=$$(tools/checked_program iconvd) && tests/admin/check "$$program"
 
 check-units: ## the units as systemd reads them, and in a systemd of its own if the machine can boot one
 	@program=$$(tools/checked_program iconvd) && tests/units/check "$$program"

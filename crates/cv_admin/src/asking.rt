@@ -1,13 +1,12 @@
 //! Asking for a page: what is sent, and what the answer says.
-ghost use Rattle.std.specs.Prelude.{◌≡◌, ◌≤◌, length, take, All, IfSome, ℕ};
-ghost use Rattle.httparse.specs.Spans.{IsHeaderWithin};
-ghost use Rattle.cv_admin.specs.Asking.{request_text, IsAnswer};
+ghost use Rattle.std.specs.Prelude.{◌≡◌, IfSome};
+ghost use Rattle.cv_admin.specs.Asking.{request_text, IsAnswer, IsFramed};
 
 use crate::routes::Page;
 use http1::fields::KnownFields;
-use http1::framing::{Framing, MethodKind, response_framing};
+use http1::framing::{Framing, FramingError, MethodKind, response_framing};
 use httparse::Status;
-use httparse::spans::{EMPTY_HEADER_SPAN, HeaderSpan, ResponseSpans, parse_response};
+use httparse::spans::{EMPTY_HEADER_SPAN, parse_response};
 
 /// How many fields the head of an answer may have.
 const MOST_FIELDS: usize = 64;
@@ -32,31 +31,17 @@ pub fn request_for(page: Page) -> &'static [u8]
     }
 }
 
-/// The first bytes of a text, or `None` where it has fewer.
-fn first(text: &[u8], count: u64) -> Option<&[u8]>
-    ensures { IfSome result (λ front. front.now ≡ take count text.now) }
+/// The text by where it ends, of what follows a head. `None`: it was cut off, is in chunks, or has no known end.
+fn framed(framing: Result<Framing, FramingError>, rest: &[u8]) -> Option<&[u8]>
+    ensures { IfSome result (λ text. IsFramed framing rest.now text.now) }
 {
-    match usize::try_from(count) {
-        Ok(count) if count <= text.len() => Some(&text[..count]),
-        _ => None,
-    }
-}
-
-/// The text of an answer whose head is of these fields, where this follows the head. `None`: it was cut off, or has no known end.
-fn text_of<'a>(
-    bytes: &[u8],
-    head: ResponseSpans,
-    fields: &[HeaderSpan],
-    rest: &'a [u8],
-) -> Option<&'a [u8]>
-    requires { All (IsHeaderWithin (length bytes.now)) fields.now }
-    ensures { IfSome result (λ text. (count : ℕ) × (text.now ≡ take count rest.now)) }
-{
-    let known = KnownFields::from_spans(bytes, fields);
-    match response_framing(MethodKind::Other, head.code, head.version, &known) {
-        Ok(Framing::NoBody) => first(rest, 0),
-        Ok(Framing::Length(count)) => first(rest, count),
-        Ok(Framing::UntilClose) => first(rest, rest.len() as u64),
+    match framing {
+        Ok(Framing::NoBody) => Some(&[]),
+        Ok(Framing::Length(count)) => match usize::try_from(count) {
+            Ok(count) if count <= rest.len() => Some(&rest[..count]),
+            _ => None,
+        },
+        Ok(Framing::UntilClose) => Some(rest),
         Ok(Framing::Chunked) | Err(_) => None,
     }
 }
@@ -69,7 +54,9 @@ pub fn read_answer(bytes: &[u8]) -> Option<Answer<'_>>
     let mut fields = [EMPTY_HEADER_SPAN; MOST_FIELDS];
     match parse_response(bytes, &mut fields) {
         Ok(Status::Complete(head)) => {
-            let text = text_of(bytes, head, &fields[..head.headers], &bytes[head.len..])?;
+            let known = KnownFields::from_spans(bytes, &fields[..head.headers]);
+            let framing = response_framing(MethodKind::Other, head.code, head.version, &known);
+            let text = framed(framing, &bytes[head.len..])?;
             Some(Answer {
                 status: head.code,
                 text,

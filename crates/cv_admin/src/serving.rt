@@ -2,8 +2,8 @@
 
 use crate::operated::Operated;
 use crate::pages::Pages;
-use http1::Limits;
 use http_server::{Config, Connection, serve};
+use http1::Limits;
 use std::alloc::Global;
 use std::hash::RandomState;
 use std::io::{self, Read, Write};

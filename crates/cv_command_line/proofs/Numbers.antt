@@ -66,4 +66,3 @@ number_done word i number past is all small =
     let e : take i word ≡ word = take_all i word past in
     let same : number ≡ digits_value 10 word = is ∙ ap (digits_value 10) e in
     number_is word (sym (ap (list_all is_ascii_digit) e) ∙ all) (omega (arith, same, small)) ∙ ap (λ (n : ℕ). Some n) (sym same)
-

@@ -109,17 +109,16 @@ pub(crate) fn admin_timeout_option<'a>(alloc: Global) -> Arg<'a> {
 
 /// Where the admin pages are.
 pub(crate) fn admin_option<'a>(alloc: Global) -> Arg<'a> {
-    Arg::new(alloc, ADMIN)
-        .long(ADMIN)
-        .value_name(ADDRESS)
-        .help("answer health, metrics, streams and drain by HTTP at ADDR")
+    Arg::new(alloc, ADMIN).long(ADMIN).value_name(ADDRESS).help(
+        "answer health, metrics, streams and drain by HTTP at ADDR",
+    )
 }
 
 /// How long a drain waits for the streams.
 pub(crate) fn drain_option<'a>(alloc: Global) -> Arg<'a> {
-    seconds_option(alloc, DRAIN)
-        .default_value("30")
-        .help("after a drain has begun, wait for streams at most S seconds")
+    seconds_option(alloc, DRAIN).default_value("30").help(
+        "after a drain has begun, wait for streams at most S seconds",
+    )
 }
 
 /// What becomes of a client that finds no place.
@@ -137,7 +136,9 @@ pub(crate) fn stream_memory_option<'a>(alloc: Global) -> Arg<'a> {
     Arg::new(alloc, STREAM_MEMORY)
         .long(STREAM_MEMORY)
         .value_name("SIZE")
-        .help("refuse with ENOMEM what takes a stream above SIZE bytes; K, M and G are units [default: no limit]")
+        .help(
+            "refuse with ENOMEM what takes a stream above SIZE bytes; K, M and G are units [default: no limit]",
+        )
 }
 
 /// How many callers a stream may have.

@@ -12,9 +12,7 @@ fn with_digit(number: u64, digit: u8) -> Option<u64>
     if !digit.is_ascii_digit() {
         return None;
     }
-    number
-        .checked_mul(10)?
-        .checked_add(u64::from(digit - b'0'))
+    number.checked_mul(10)?.checked_add(u64::from(digit - b'0'))
 }
 
 /// The number that decimal digits say. `None`: there is another byte, or it does not fit 64 bits.

@@ -2,7 +2,6 @@
 ghost use Rattle.std.specs.Prelude.{◌≡◌, ◌≢◌, ◌≤◌, IfOk};
 ghost use Rattle.clap.specs.Values.{kind_of};
 
-use crate::syntax::program;
 use crate::job::{Job, Options, WhenFull};
 use crate::matched::{number_of, word_of};
 use crate::settings::{
@@ -10,6 +9,7 @@ use crate::settings::{
     STREAM_MEMORY, STREAMS, TIMEOUT, WHEN_FULL, WORKERS,
 };
 use crate::size::size_of;
+use crate::syntax::program;
 use clap::error::ErrorKind;
 use clap::{ArgMatches, Error};
 use cv_tcp::{LogFormat, MOST_AT_ONCE, Page, is_address};

@@ -109,7 +109,9 @@ where
             requires { (1 ≤ service.now.terms.at_once) × (1 ≤ service.now.terms.workers) × (service.now.terms.workers ≤ 16) }
         {
             for number in 0..ADMIN_THREADS {
-                let thread = scope.spawn(move || answer_clients(service, inlet, complaints, operated));
+                let thread = scope.spawn(move || answer_clients(
+                    service, inlet, complaints, operated,
+                ));
                 if thread.is_err() {
                     error!(service.log; "only {number} clients of the pages at once: cannot start more threads");
                     break;

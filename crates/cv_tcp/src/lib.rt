@@ -26,10 +26,10 @@ mod watched;
 pub use address::is_address;
 pub use admin_calling::{AdminFault, call_admin};
 pub use calling::call;
+pub use cv_admin::Page;
 pub use fault::{CallFault, call_status};
 pub use listening::listen;
 pub use log_lines::{LogFormat, LogLines};
-pub use cv_admin::Page;
 pub use terms::{MOST_AT_ONCE, Terms};
 
 #[cfg(test)]

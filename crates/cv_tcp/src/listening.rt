@@ -135,11 +135,7 @@ where
     let listener = match socket_file::bind(listening.rt, path) {
         Ok(listener) => listener,
         Err(failure) => {
-            return Err(refuse(
-                listening.log,
-                format_args!("unix:{path}"),
-                &failure,
-            ));
+            return Err(refuse(listening.log, format_args!("unix:{path}"), &failure));
         }
     };
     let served = serve_unix(listening, Listener::Unix(listener), path);
@@ -164,11 +160,7 @@ where
     let inlet = match Bound::new(listener) {
         Ok(inlet) => inlet,
         Err(failure) => {
-            return Err(refuse(
-                listening.log,
-                format_args!("unix:{path}"),
-                &failure,
-            ));
+            return Err(refuse(listening.log, format_args!("unix:{path}"), &failure));
         }
     };
     announce(listening, format_args!("unix:{path}"))?;

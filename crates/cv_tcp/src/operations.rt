@@ -12,7 +12,7 @@ impl Operated for Operations {
     }
 
     fn metrics(&self, alloc: Global) -> Result<String, AllocError> {
-        Ok(String::new(alloc))
+        String::from_str(alloc, "# iconvd\n")
     }
 
     fn streams(&self, alloc: Global) -> Result<String, AllocError> {

@@ -7,8 +7,16 @@ use std::test::Fail;
 type Row = (&'static [u8], u16, &'static [u8]);
 
 const WHOLE: [Row; 4] = [
-    (b"HTTP/1.1 200 OK\r\ncontent-length: 3\r\n\r\nok\n", 200, b"ok\n"),
-    (b"HTTP/1.1 503 Service Unavailable\r\nContent-Length: 5\r\nX: y\r\n\r\nfull\nmore", 503, b"full\n"),
+    (
+        b"HTTP/1.1 200 OK\r\ncontent-length: 3\r\n\r\nok\n",
+        200,
+        b"ok\n",
+    ),
+    (
+        b"HTTP/1.1 503 Service Unavailable\r\nContent-Length: 5\r\nX: y\r\n\r\nfull\nmore",
+        503,
+        b"full\n",
+    ),
     (b"HTTP/1.0 200 OK\r\n\r\nto the end", 200, b"to the end"),
     (b"HTTP/1.1 204 No Content\r\n\r\n", 204, b""),
 ];
@@ -26,7 +34,11 @@ const BROKEN: [&[u8]; 6] = [
 fn an_answer_is_read(rt: HostRuntime) -> Result<(), Fail> {
     for (bytes, status, text) in WHOLE {
         let got = read_answer(bytes);
-        assert!(rt; got == Some(Answer { status, text }), "{}", bytes.escape_ascii());
+        assert!(rt;
+            got == Some(Answer { status, text }),
+            "{}",
+            bytes.escape_ascii()
+        );
     }
     for bytes in BROKEN {
         assert!(rt; read_answer(bytes).is_none(), "{}", bytes.escape_ascii());

@@ -90,7 +90,10 @@ fn each_page_is_answered(rt: HostRuntime) -> Result<(), Fail> {
 #[test]
 fn health_says_that_no_place_is_free(rt: HostRuntime) -> Result<(), Fail> {
     let sent = b"GET /health HTTP/1.1\r\nHost: h\r\n\r\n";
-    for (health, text) in [(Health::Full, b"full\n".as_slice()), (Health::Draining, b"draining\n".as_slice())] {
+    for (health, text) in [
+        (Health::Full, b"full\n".as_slice()),
+        (Health::Draining, b"draining\n".as_slice()),
+    ] {
         let got = answer(&rt, &Still::new(health), sent, 4096)?;
         assert!(rt; got.starts_with(b"HTTP/1.1 503 Service Unavailable\r\n"));
         assert!(rt; got.ends_with(text));
@@ -101,11 +104,14 @@ fn health_says_that_no_place_is_free(rt: HostRuntime) -> Result<(), Fail> {
 #[test]
 fn drain_drains(rt: HostRuntime) -> Result<(), Fail> {
     let server = Still::new(Health::Free);
-    let chunked = b"POST /drain HTTP/1.1\r\nHost: h\r\nTransfer-Encoding: chunked\r\n\r\n2\r\nhi\r\n0\r\n\r\n";
+    let chunked =
+        b"POST /drain HTTP/1.1\r\nHost: h\r\nTransfer-Encoding: chunked\r\n\r\n2\r\nhi\r\n0\r\n\r\n";
     let plain = b"POST /drain HTTP/1.1\r\nHost: h\r\n\r\n";
     for sent in [chunked.as_slice(), plain.as_slice()] {
         let got = answer(&rt, &server, sent, 4096)?;
-        assert!(rt; got.starts_with(b"HTTP/1.1 202 Accepted\r\n") && got.ends_with(b"\r\n\r\ndraining\n"));
+        assert!(rt;
+            got.starts_with(b"HTTP/1.1 202 Accepted\r\n") && got.ends_with(b"\r\n\r\ndraining\n")
+        );
     }
     assert_eq!(rt; server.drains.load(Ordering::SeqCst), 2);
     Ok(())
@@ -117,8 +123,14 @@ const REFUSED: [Row; 6] = [
     (b"\x00\x00\x00\x1d\x00\x00\x00\x07\r\n\r\n", b"400"),
     (b"GET /health", b"400"),
     (b"GET /health HTTP/1.1\r\nHost: h h\r\n\r\n", b"400"),
-    (b"POST /drain HTTP/1.1\r\nHost: h\r\nContent-Length: 1025\r\n\r\n", b"413"),
-    (b"GET /health HTTP/1.1\r\nHost: h\r\nTransfer-Encoding: gzip, chunked\r\n\r\n", b"501"),
+    (
+        b"POST /drain HTTP/1.1\r\nHost: h\r\nContent-Length: 1025\r\n\r\n",
+        b"413",
+    ),
+    (
+        b"GET /health HTTP/1.1\r\nHost: h\r\nTransfer-Encoding: gzip, chunked\r\n\r\n",
+        b"501",
+    ),
 ];
 
 #[test]

@@ -13,7 +13,7 @@ SOURCES := crates.txt $(shell find crates -name out -prune -o \( -name '*.rt' -o
 CRATES := $(shell sed -n 's/^\([a-z][a-z0-9_]*\).*:.*/\1/p' crates.txt)
 CLIENTS := $(patsubst %/Makefile,%,$(wildcard clients/*/Makefile))
 # What .ci/run runs behind the gate. Each ends with a line `N passed, N failed`.
-CHECKS := check-rules check-docs check-refuse check-instructions check-nonblocking check-stops check-log check-given check-clients check-benchmark check-package check-units check-cluster check-crowd check-soak
+CHECKS := check-rules check-docs check-refuse check-instructions check-nonblocking check-stops check-log check-given check-admin check-clients check-benchmark check-package check-units check-cluster check-crowd check-soak
 
 # `rt` itself works on several crates at a time, and locks them.
 .NOTPARALLEL:
@@ -102,6 +102,10 @@ check-log: ## many faults, and a log that nobody reads: every stream is served, 
 check-given: ## serves by a listener that outlives its servers, and refuses what is no listener
 	@tools/need 'make $@' python3
 	@program=$$(tools/checked_program iconvd) && tests/given/check "$$program"
+
+check-admin: ## asks the admin pages, also as clients do that mean no good
+	@tools/need 'make $@' python3
+	@program=$$(tools/checked_program iconvd) && tests/admin/check "$$program"
 
 check-units: ## the units as systemd reads them, and in a systemd of its own if the machine can boot one
 	@program=$$(tools/checked_program iconvd) && tests/units/check "$$program"

@@ -2,7 +2,7 @@
 
 _iconvd() {
     local current=${COMP_WORDS[COMP_CWORD]} before=${COMP_WORDS[COMP_CWORD-1]}
-    local commands='run ask pipe show checkmap listen call help' command='' option='' words='' at
+    local commands='run ask pipe show checkmap listen call admin help' command='' option='' words='' at
 
     # bash cuts `--workers=4` into three words.
     if [[ $current == '=' ]]; then
@@ -23,13 +23,21 @@ _iconvd() {
     COMPREPLY=()
     case $command:$option in
         run:--workers | pipe:--workers | listen:--workers) words=$(echo {1..16}) ;;
-        listen:--at-once | listen:--streams | listen:--idle | call:--timeout) return ;;
+        listen:--at-once | listen:--streams | listen:--idle | listen:--admin | listen:--drain) return ;;
+        listen:--stream-memory | listen:--callers | pipe:--stream-memory | pipe:--callers) return ;;
+        call:--timeout | admin:--timeout) return ;;
+        listen:--when-full) words='wait close' ;;
         listen:--log) words='error info debug' ;;
         listen:--log-format) words='text json' ;;
         :*) words="$commands --help --version" ;;
         help:help) words=$commands ;;
-        run:* | pipe:*) words='--workers --help --version' ;;
-        listen:*) words='--at-once --streams --idle --workers --log --log-format --help --version' ;;
+        run:*) words='--workers --help --version' ;;
+        pipe:*) words='--workers --stream-memory --callers --help --version' ;;
+        listen:*)
+            words='--at-once --streams --idle --workers --log --log-format --admin --drain --when-full --stream-memory --callers'
+            words+=' --help --version'
+            ;;
+        admin:*) words='health metrics streams drain --timeout --help --version' ;;
         call:*) words='--timeout --help --version' ;;
         ask:* | show:*) words='--help --version' ;;
         checkmap:*)

@@ -34,6 +34,9 @@ system chooses the port, which the line then shows.
 TCP has no encryption and no authentication: anybody who can connect is served. Use a Unix socket to serve local users only; the umask
 decides who may connect to it. The socket file of a server that has died is replaced.
 
+With --admin ADDR, which is written as the first, `listen` also prints `admin ADDR`. GET /health, /metrics and /streams there, or
+POST /drain; `iconvd admin` does so too. Whoever can connect to it can end the server.
+
 Example:
   $ iconvd listen 127.0.0.1:7879 --at-once 64 --idle 300 &
   listening 127.0.0.1:7879
@@ -56,6 +59,25 @@ Example:
   7 2 OK 000000000000000041c3a942
 
 See iconvd(1) and iconvd-protocol(5).";
+
+/// What the help of `admin` ends with.
+pub(crate) const ADMINISTERING: &str = "\
+ADDR is what `listen` was given with --admin: HOST:PORT for TCP, or unix:PATH for a Unix socket. PAGE is one of
+  health     ok; full, while all places are taken; draining
+  metrics    counts and times, in Prometheus's text format
+  streams    a JSON array with an object for each stream
+  drain      serve no new stream, and end after those that are there
+
+The exit status is 0 for health ok and whenever a page is printed as asked for, and 1 for health full or draining and for any fault.
+
+Example:
+  $ iconvd listen 127.0.0.1:7879 --admin 127.0.0.1:7880 --at-once 64 &
+  listening 127.0.0.1:7879
+  admin 127.0.0.1:7880
+  $ iconvd admin 127.0.0.1:7880 health
+  ok
+
+See iconvd(1).";
 
 /// What the help of `checkmap` ends with.
 pub(crate) const CHARMAPS: &str = "\

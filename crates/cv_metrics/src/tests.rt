@@ -40,6 +40,7 @@ fn told() -> Told {
     Told {
         version: "0.1.0",
         start_time: 1_700_000_000,
+        places: 2,
         cache_charmaps: 1,
         cache_bytes: 2_048,
         cache_hits: 3,

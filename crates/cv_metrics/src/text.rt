@@ -17,6 +17,8 @@ pub struct Told {
     pub version: &'static str,
     /// When the server began, in seconds since 1970.
     pub start_time: u64,
+    /// How many streams may be served at once.
+    pub places: u64,
     /// How many charmaps the cache has, and how many bytes they take with their texts.
     pub cache_charmaps: u64,
     pub cache_bytes: u64,
@@ -68,7 +70,7 @@ fn server(page: &mut Page, board: &Board, told: &Told, sums: &Sums) -> Result<()
     let help = "When the server started, in seconds since 1970.";
     page.gauge("start_time_seconds", help, told.start_time)?;
     let help = "Streams that may be served at once.";
-    page.gauge("places", help, board.places().len() as u64)?;
+    page.gauge("places", help, told.places)?;
     page.gauge("streams", "Streams that are served now.", sums.streams)?;
     page.counter(
         "streams_total",

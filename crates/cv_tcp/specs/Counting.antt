@@ -9,18 +9,15 @@ use Rattle.cv_metrics.specs.declared.causes.FaultKind.{FaultKind}
 use Rattle.cv_metrics.specs.declared.causes.FaultKind.TheVariants as kind
 use Rattle.cv_tcp.specs.declared.fault.StreamFault.{StreamFault}
 use Rattle.cv_tcp.specs.declared.fault.StreamFault.TheVariants as stream
-use Rattle.cv_tcp.specs.declared.counters.Draining.{Draining}
-use Rattle.cv_tcp.specs.declared.counters.Draining.TheVariants as draining
 
--- Why a stream ended: what the server cut it was not its client's doing; else a fault decides, and a stream without one was the client's to
--- end, or was waited for.
-abbrev pub cause_of : Option StreamFault → Draining → Cause
-cause_of fault draining.Cut = cause.Cut
-cause_of (Some stream.Idle) d = cause.Idle
-cause_of (Some stream.Stalled) d = cause.Stalled
-cause_of (Some (stream.Run f)) d = cause.Fault
-cause_of None draining.Waits = cause.Drained
-cause_of None draining.No = cause.Client
+-- Why a stream ended: by its client, unless a fault or a drain ended it.
+abbrev pub cause_of : Option StreamFault → Cause
+cause_of None = cause.Client
+cause_of (Some stream.Idle) = cause.Idle
+cause_of (Some stream.Stalled) = cause.Stalled
+cause_of (Some stream.Drained) = cause.Drained
+cause_of (Some stream.Cut) = cause.Cut
+cause_of (Some (stream.Run f)) = cause.Fault
 
 -- What kind of fault a run ended by.
 abbrev pub kind_of : RunFault → FaultKind

@@ -1,4 +1,5 @@
 pub mod Accepting
+pub mod Admin
 pub mod Calling
 pub mod Counting
 pub mod Ends

@@ -105,6 +105,14 @@ fn drain_of(operation: &Operation) -> Option<Begun> {
     }
 }
 
+/// A client is sent away, since all places are taken.
+fn note_refused<G: Log>(log: &G, operation: &Operation, stream: &Connection) {
+    if let Some(counters) = &operation.counters {
+        counters.note_refused();
+    }
+    debug!(log; peer:% = stream.peer(); "client refused");
+}
+
 /// Waits for a stream that has a place. While all are taken, streams are closed at once. An accept that fails is tried again, unless every
 /// other will fail too.
 pub(crate) fn next_client<R: Wait + Clock, G: Log, L: Inlet>(
@@ -121,17 +129,40 @@ pub(crate) fn next_client<R: Wait + Clock, G: Log, L: Inlet>(
         match service.inlet.accept() {
             Ok(stream) => match operation.places.take(rt, log) {
                 Some(place) => return Ok(Next::Client(stream, place)),
-                None => debug!(log; peer:% = stream.peer(); "client refused"),
+                None => note_refused(log, operation, &stream),
             },
             // The drain has shut the listener.
             Err(_) if drain_of(operation).is_some() => {}
             Err(failure) if gave_up(&failure) => thread::sleep(rt, Duration::from_millis(BREATH)),
             Err(failure) if is_lasting(&failure) => return Err(failure),
             Err(failure) => {
+                if let Some(counters) = &operation.counters {
+                    counters.note_failed_accept();
+                }
                 complain(rt, log, complaints, &failure);
                 thread::sleep(rt, Duration::from_millis(PAUSE));
             }
         }
+    }
+    unreachable!()
+}
+
+/// Waits for the next client of the admin pages. An accept that fails is tried again, unless every other will fail too.
+pub(crate) fn next_admin_client<R: Wait + Clock, G: Log, L: Inlet>(
+    rt: &R,
+    log: &G,
+    inlet: &L,
+    complaints: &Mutex<Complaints>,
+) -> Result<Connection, io::Error>
+    ensures { IfErr result (λ failure. is_lasting (raw_os_error failure) ≡ true) }
+{
+    for _try in rt.forever() {
+        match inlet.accept() {
+            Ok(stream) => return Ok(stream),
+            Err(failure) if is_lasting(&failure) => return Err(failure),
+            Err(failure) => complain(rt, log, complaints, &failure),
+        }
+        thread::sleep(rt, Duration::from_millis(PAUSE));
     }
     unreachable!()
 }

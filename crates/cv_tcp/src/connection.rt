@@ -4,7 +4,7 @@ ghost use Rattle.std.specs.Io.{ReadsAtMost, WritesAtMost};
 use crate::retrying::Waits;
 use std::fmt::{self, Display, Formatter};
 use std::io::{self, Read, Write};
-use std::net::{SocketAddr, TcpStream};
+use std::net::{Shutdown, SocketAddr, TcpStream};
 use std::os::unix::net::UnixStream;
 use std::time::Duration;
 
@@ -38,6 +38,14 @@ impl Connection {
                 stream.set_write_timeout(limit)
             }
         }
+    }
+
+    /// Tells the other end that nothing more is written.
+    pub(crate) fn end_writing(&self) {
+        let _ = match self {
+            Connection::Tcp(stream) => stream.shutdown(Shutdown::Write),
+            Connection::Unix(stream) => stream.shutdown(Shutdown::Write),
+        };
     }
 
     /// Reads once, into the front of `buf`.

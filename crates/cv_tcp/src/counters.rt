@@ -7,33 +7,22 @@ use crate::fault::StreamFault;
 use cv_commands::RunFault;
 use cv_loop::ServeFault;
 use cv_metrics::{Board, Cause, FaultKind, Place};
+use jiff::Timestamp;
 use std::alloc::{AllocError, Global};
 use std::sync::Wait;
-use std::sync::atomic::{AtomicU64, Ordering};
 use std::time::{Clock, Instant};
 
-/// Whether the server drains when a stream ends.
-#[derive(Clone, Copy, Debug, PartialEq, Eq)]
-pub(crate) enum Draining {
-    /// It does not.
-    No,
-    /// It waits for its streams.
-    Waits,
-    /// It has waited for as long as it may, and ends the streams that are left.
-    Cut,
-}
-
 /// Why a stream ended.
-fn cause_of(fault: Option<StreamFault>, draining: Draining) -> Cause
-    ensures { result ≡ cause_of fault draining }
+fn cause_of(fault: Option<StreamFault>) -> Cause
+    ensures { result ≡ cause_of fault }
 {
-    match (draining, fault) {
-        (Draining::Cut, _) => Cause::Cut,
-        (_, Some(StreamFault::Idle)) => Cause::Idle,
-        (_, Some(StreamFault::Stalled)) => Cause::Stalled,
-        (_, Some(StreamFault::Run(_))) => Cause::Fault,
-        (Draining::Waits, None) => Cause::Drained,
-        (Draining::No, None) => Cause::Client,
+    match fault {
+        None => Cause::Client,
+        Some(StreamFault::Idle) => Cause::Idle,
+        Some(StreamFault::Stalled) => Cause::Stalled,
+        Some(StreamFault::Drained) => Cause::Drained,
+        Some(StreamFault::Cut) => Cause::Cut,
+        Some(StreamFault::Run(_)) => Cause::Fault,
     }
 }
 
@@ -60,8 +49,9 @@ const SECOND: u64 = 1_000_000_000;
 pub(crate) struct Counters {
     board: Board,
     begun: Option<Instant>,
-    /// A `Draining`, by its number.
-    draining: AtomicU64,
+    /// When it began, in seconds since 1970, or 0 if the clock cannot be read.
+    start_time: u64,
+    version: &'static str,
 }
 
 impl Counters {
@@ -98,20 +88,6 @@ impl Counters {
             .saturating_add(u64::from(lasted.subsec_nanos()))
     }
 
-    /// Whether the server drains now.
-    pub(crate) fn draining(&self) -> Draining {
-        match self.draining.load(Ordering::Relaxed) {
-            0 => Draining::No,
-            1 => Draining::Waits,
-            _ => Draining::Cut,
-        }
-    }
-
-    /// From now on, streams that end count as this says.
-    pub(crate) fn set_draining(&self, draining: Draining) {
-        self.draining.store(draining as u64, Ordering::Relaxed);
-    }
-
     /// A stream begins at a place.
     pub(crate) fn begin<R: Clock + Wait>(&self, rt: &R, place: &Place, peer: Peer) {
         let now = self.now(rt);
@@ -120,10 +96,9 @@ impl Counters {
 
     /// The stream at a place has ended.
     pub(crate) fn end<R: Wait>(&self, rt: &R, place: &Place, fault: Option<StreamFault>) {
-        let draining = self.draining();
-        let cause = cause_of(fault, draining);
+        let cause = cause_of(fault);
         let kind = match fault {
-            Some(StreamFault::Run(fault)) if draining != Draining::Cut => Some(kind_of(fault)),
+            Some(StreamFault::Run(fault)) => Some(kind_of(fault)),
             _ => None,
         };
         self.board.end(rt, place, cause, kind);
@@ -132,5 +107,10 @@ impl Counters {
     /// An accept failed.
     pub(crate) fn note_failed_accept(&self) {
         self.board.note_fault(FaultKind::Accept);
+    }
+
+    /// A client was sent away, since all places were taken.
+    pub(crate) fn note_refused(&self) {
+        self.board.note_refused();
     }
 }

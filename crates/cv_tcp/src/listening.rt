@@ -5,6 +5,7 @@ ghost use Rattle.cv_tcp.specs.Faults.{IsOfListening};
 ghost use Rattle.cv_tcp.specs.Listening.{IsEnd};
 
 use crate::address::Address;
+use crate::admin_inlet::AdminInlet;
 use crate::inherited::Inherited;
 use crate::inlet::{Bound, Inlet, Listener};
 use crate::listened::{Listened, tell};
@@ -24,18 +25,34 @@ use std::sync::Wait;
 use std::thread::Threads;
 use std::time::Clock;
 
-/// Prints where the program listens, in one write, and logs it.
+/// What listening is given besides an address.
+#[derive(Drop)]
+pub(crate) struct Listening<'a, R, G> {
+    pub(crate) rt: &'a R,
+    pub(crate) alloc: Global,
+    pub(crate) log: &'a G,
+    pub(crate) terms: Terms,
+    /// Where the admin pages are, if they are anywhere.
+    pub(crate) admin: Option<&'a AdminInlet<'a>>,
+}
+
+/// Prints where the program listens, in one write, and logs it. Where the admin pages are follows on a line of its own.
 fn announce<R: Print, G: Log, D: Display + Drop>(
-    rt: &R,
-    alloc: Global,
-    log: &G,
+    listening: &Listening<'_, R, G>,
     address: D,
 ) -> Result<(), RunFault>
     ensures { IfErr result IsOfListening }
 {
+    let (rt, alloc, log) = (listening.rt, listening.alloc, listening.log);
     let line = format!(in alloc; "listening {address}\n")?;
     write_all(io::writer(rt), line.as_bytes())?;
     info!(log; address:% = address; "listening");
+    if let Some(admin) = listening.admin {
+        let place = admin.place();
+        let line = format!(in alloc; "admin {place}\n")?;
+        write_all(io::writer(rt), line.as_bytes())?;
+        info!(log; address:% = place; "admin pages");
+    }
     Ok(())
 }
 
@@ -55,6 +72,8 @@ pub(crate) struct Site<'a, R, G> {
     pub(crate) log: &'a G,
     pub(crate) terms: Terms,
     pub(crate) operation: &'a Operation,
+    /// Where the admin pages are, if they are anywhere.
+    pub(crate) admin: Option<&'a AdminInlet<'a>>,
 }
 
 /// Prints where the program listens, and serves the streams that come in there.
@@ -70,6 +89,7 @@ where
     ensures err { IfErr result IsOfListening }
 {
     announce(site.rt, site.alloc, site.log, address)?;
+    announce_admin(site)?;
     serve_until_drained(&Service {
         rt: site.rt,
         alloc: site.alloc,
@@ -77,6 +97,7 @@ where
         inlet,
         terms: site.terms,
         operation: site.operation,
+        admin: site.admin,
     })
 }
 
@@ -95,6 +116,26 @@ where
     let listener = TcpListener::bind(site.rt, address)?;
     let address = listener.local_addr()?;
     Ok((bound(site, Listener::Tcp(listener))?, address))
+}
+
+/// Serves the streams of an inlet, and answers the clients of the admin pages meanwhile.
+fn serve_at<R, G>(listening: &Listening<'_, R, G>, inlet: &Bound) -> Result<u64, RunFault>
+where
+    R: Clock + RandomSource + Threads + Wait + Sync,
+    G: Log + Sync,
+    requires at_once { 1 ≤ listening.now.terms.at_once }
+    requires workers { (1 ≤ listening.now.terms.workers) × (listening.now.terms.workers ≤ 16) }
+    ensures served { IfOk result (λ n. n ≡ listening.now.terms.streams) }
+    ensures err { IfErr result IsOfListening }
+{
+    let service = Service {
+        rt: listening.rt,
+        alloc: listening.alloc,
+        log: listening.log,
+        inlet,
+        terms: listening.terms,
+    };
+    serve_operated(&service, listening.admin, &Operations)
 }
 
 /// Listens at a TCP port and serves the streams that come in there.
@@ -210,6 +251,20 @@ where
     }
 }
 
+/// Logs how listening ended, and what the log has not told yet.
+fn conclude<R, G: Log>(
+    site: &Site<'_, R, G>,
+    listened: Result<Listened, RunFault>,
+) -> Result<Listened, RunFault>
+    ensures { result ≡ listened }
+{
+    if let Ok(listened) = listened {
+        tell(site.log, listened, site.terms.drain);
+    }
+    site.log.flush();
+    listened
+}
+
 /// Listens as `listen` does, until all streams are served or the operation is drained. A drain is logged when it has ended.
 pub fn listen_until_drained<R, G>(
     rt: &R,
@@ -244,10 +299,64 @@ where
         log,
         terms,
         operation,
+        admin: None,
     };
-    let listened = listen_at(&site, address)?;
-    tell(log, listened, terms.drain);
-    Ok(listened)
+    conclude(&site, listen_at(&site, address))
+}
+
+/// Where a server listens.
+#[derive(Clone, Copy, Debug, PartialEq, Eq)]
+pub struct Addresses<'a> {
+    /// For its streams.
+    pub streams: &'a str,
+    /// For its admin pages.
+    pub admin: &'a str,
+}
+
+/// Listens as `listen_until_drained` does, and meanwhile answers the clients of the admin pages at an address of their own. It is printed
+/// after the other one. The pages are there until the last stream has ended. They are whole where the operation counts.
+pub fn listen_administered<R, G>(
+    rt: &R,
+    alloc: Global,
+    log: &G,
+    addresses: Addresses<'_>,
+    terms: Terms,
+    operation: &Operation,
+) -> Result<Listened, RunFault>
+where
+    R: Net<Listener = TcpListener, Stream = TcpStream>
+        + Files
+        + Print
+        + Clock
+        + RandomSource
+        + Threads
+        + Wait
+        + Sync,
+    G: Log + Sync,
+    requires at_once { 1 ≤ terms.at_once }
+    requires workers { (1 ≤ terms.workers) × (terms.workers ≤ 16) }
+
+    // All threads together took a turn for each stream that there was to be; or for fewer, and a drain had begun.
+    ensures end { IfOk result (λ listened. IsEnd terms.streams listened) }
+
+    // No fault of a stream is among these.
+    ensures err { IfErr result IsOfListening }
+{
+    let admin = match AdminInlet::open(rt, addresses.admin) {
+        Ok(admin) => admin,
+        Err(failure) => return Err(refuse(log, addresses.admin, &failure)),
+    };
+    let site = Site {
+        rt,
+        alloc,
+        log,
+        terms,
+        operation,
+        admin: Some(&admin),
+    };
+    let listened = listen_at(&site, addresses.streams);
+    admin.remove(rt);
+    conclude(&site, listened)
 }
 
 /// Listens at an address, prints it on standard output, and serves streams by these terms, each by a new pool of workers and all with one
@@ -258,6 +367,7 @@ pub fn listen<R, G>(
     log: &G,
     address: &str,
     terms: Terms,
+    admin: Option<&str>,
 ) -> Result<u64, RunFault>
 where
     R: Net<Listener = TcpListener, Stream = TcpStream>

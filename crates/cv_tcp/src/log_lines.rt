@@ -10,6 +10,7 @@ use log::span::Spans;
 use log::{Level, LevelFilter, Log, Metadata, Record, kv};
 use std::fmt::Display;
 use std::io;
+use std::sync::atomic::{AtomicU64, Ordering};
 use std::sync::{Mutex, Wait};
 use std::time::Clock;
 
@@ -36,6 +37,8 @@ pub struct LogLines<'a, R, O> {
     outlet: O,
     level: LevelFilter,
     format: LogFormat,
+    /// Where it tells how many lines it has dropped.
+    lost: Option<&'a AtomicU64>,
     unwritten: Mutex<Unwritten>,
 }
 
@@ -52,10 +55,34 @@ impl<'a, R, O> LogLines<'a, R, O> {
             outlet,
             level,
             format,
+            lost: None,
             unwritten: Mutex::new(Unwritten {
                 faults: FaultLimit::new(),
                 lines: DroppedLines::new(),
             }),
+        }
+    }
+}
+
+impl<'a, R, O> LogLines<'a, R, O> {
+    /// The same log, which keeps in a cell how many lines it has dropped.
+    pub fn telling(self, lost: &'a AtomicU64) -> LogLines<'a, R, O>
+        ensures rt { result.rt ≡ self.rt }
+        ensures outlet { result.outlet ≡ self.outlet }
+        ensures level { result.level ≡ self.level }
+        ensures format { result.format ≡ self.format }
+    {
+        LogLines {
+            lost: Some(lost),
+            ..self
+        }
+    }
+
+    /// One more line was dropped.
+    fn drop_line(&self, dropped: &mut DroppedLines) {
+        dropped.add();
+        if let Some(lost) = self.lost {
+            lost.store(dropped.all(), Ordering::Relaxed);
         }
     }
 }
@@ -125,7 +152,7 @@ impl<'a, R: AllocGlobal + Clock, O: Outlet> LogLines<'a, R, O> {
         let is_written = self.report_dropped(dropped)
             && self.put_count(count, format_args!("{count} more {word} in a second"));
         if !is_written {
-            dropped.add();
+            self.drop_line(dropped);
         }
     }
 }
@@ -157,7 +184,7 @@ impl<'a, R: AllocGlobal + Clock + Wait, O: Outlet> Log for LogLines<'a, R, O> {
         }
         let is_written = self.report_dropped(lines) && self.put(record);
         if !is_written {
-            lines.add();
+            self.drop_line(lines);
         }
     }
 

@@ -1,29 +1,25 @@
 //! What a server does, for those who ask, and how it is drained.
-ghost use Rattle.std.specs.Prelude.{◌≡◌, None, IsSome};
+ghost use Rattle.std.specs.Prelude.{◌≡◌, None, IsSome, IfOk};
 
+use crate::counters::Counters;
 use crate::draining::Draining;
 use crate::places::Places;
 use crate::terms::{Terms, WhenFull};
+use cv_admin::Health;
+use std::alloc::{AllocError, Global};
 use std::net::{Shutdown, TcpStream};
+use std::sync::atomic::{AtomicU64, Ordering};
 use std::sync::{Mutex, Wait};
 use std::time::Clock;
-
-/// Whether a client that connects now is served at once.
-#[derive(Clone, Copy, Debug, PartialEq, Eq)]
-pub enum Health {
-    /// A place is free.
-    Free,
-    /// All places are taken.
-    Full,
-    /// No new stream is served.
-    Draining,
-}
 
 /// What a server does. The threads that serve share it with those who ask, and who drain it.
 #[derive(Drop)]
 pub struct Operation {
     pub(crate) places: Places,
     pub(crate) draining: Option<Draining>,
+    pub(crate) counters: Option<Counters>,
+    /// How many lines the log has dropped, as it tells.
+    lost_lines: AtomicU64,
     /// A second descriptor of the listener, by which a drain ends the accepts that wait.
     door: Mutex<Option<TcpStream>>,
 }
@@ -37,6 +33,8 @@ impl Operation {
         Operation {
             places: Places::new(u64::from(terms.at_once), is_logged),
             draining: None,
+            counters: None,
+            lost_lines: AtomicU64::new(0),
             door: Mutex::new(None),
         }
     }
@@ -48,6 +46,31 @@ impl Operation {
         let mut operation = Operation::new(terms);
         operation.draining = Some(Draining::new(terms.drain));
         operation
+    }
+
+    /// Of a server that can be drained, and whose streams are counted from now on. The version is what its metrics tell.
+    pub fn counted<R: Clock>(
+        rt: &R,
+        alloc: Global,
+        terms: &Terms,
+        version: &'static str,
+    ) -> Result<Operation, AllocError>
+        ensures { IfOk result (λ operation. IsSome operation.draining) }
+    {
+        let counters = Counters::new(rt, alloc, terms.threads() as u32, version)?;
+        let mut operation = Operation::with_drain(terms);
+        operation.counters = Some(counters);
+        Ok(operation)
+    }
+
+    /// Where the log tells how many lines it has dropped.
+    pub fn lost_lines(&self) -> &AtomicU64 {
+        &self.lost_lines
+    }
+
+    /// How many lines the log has dropped.
+    pub(crate) fn lost(&self) -> u64 {
+        self.lost_lines.load(Ordering::Relaxed)
     }
 
     /// Whether a drain has begun.

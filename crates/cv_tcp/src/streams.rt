@@ -4,6 +4,8 @@ ghost use Rattle.std.specs.Thread.{IsSync};
 ghost use Rattle.cv_tcp.specs.Listening.{IsEnd};
 
 use crate::accepting::{Complaints, Next, next_client};
+use crate::admin::serve_beside;
+use crate::admin_inlet::AdminInlet;
 use crate::connection::Connection;
 use crate::counted::Counted;
 use crate::counters::Counters;
@@ -43,6 +45,17 @@ pub(crate) struct Service<'a, R, G, L> {
     pub(crate) inlet: &'a L,
     pub(crate) terms: Terms,
     pub(crate) operation: &'a Operation,
+    /// Where the admin pages are, if they are anywhere.
+    pub(crate) admin: Option<&'a AdminInlet<'a>>,
+}
+
+/// By what terms one stream is served.
+#[derive(Clone, Copy)]
+pub(crate) struct StreamTerms<'a> {
+    /// How many workers it has.
+    pub(crate) workers: u32,
+    /// For how long its calls wait, and what ends them.
+    pub(crate) patience: Patience<'a>,
 }
 
 /// Serves one stream by a new pool of workers, and says what it came to.
@@ -51,8 +64,7 @@ pub(crate) fn serve_connection<R: Threads + Wait + Clock + Sync>(
     alloc: Global,
     cached: &Cached,
     stream: &Connection,
-    terms: Terms,
-    draining: Option<&Draining>,
+    terms: StreamTerms<'_>,
 ) -> Ended
     requires { (1 ≤ terms.workers) × (terms.workers ≤ 16) }
 {
@@ -73,7 +85,7 @@ pub(crate) fn serve_counted<R: Threads + Wait + Clock + Sync, G: Log>(
     alloc: Global,
     cached: &Cached,
     stream: &Connection,
-    terms: Terms,
+    terms: StreamTerms<'_>,
     counting: &Counting<'_, G>,
 ) -> Ended
     requires { (1 ≤ terms.workers) × (terms.workers ≤ 16) }
@@ -92,16 +104,13 @@ fn serve_by<R: Threads + Wait + Clock + Sync, C: Counts>(
     alloc: Global,
     cached: &Cached,
     stream: &Connection,
-    terms: Terms,
+    terms: StreamTerms<'_>,
     counts: &C,
 ) -> Ended
     requires { (1 ≤ terms.workers) × (terms.workers ≤ 16) }
 {
     stream.send_at_once();
-    let patience = Patience {
-        limit: terms.idle,
-        draining,
-    };
+    let StreamTerms { workers, patience } = terms;
     // If the system refuses this, the stream has no limit.
     let limit = patience.longest_call();
     let _ = stream.set_timeouts(limit);
@@ -109,7 +118,7 @@ fn serve_by<R: Threads + Wait + Clock + Sync, C: Counts>(
     let writer = Watched::new(Metered::new(counts, Retrying::new(rt, stream, limit)));
     let mut source = FromReader::new(Ticking::new(rt, reader, patience));
     let mut sink = ToWriter::new(Ticking::new(rt, writer, patience));
-    let served = serve_stream_by(rt, alloc, cached, &mut source, &mut sink, terms.workers);
+    let served = serve_stream_by(rt, alloc, cached, &mut source, &mut sink, workers);
     let (source, sink) = (source.into_inner(), sink.into_inner());
     let by = match sink.ended_by() {
         EndedBy::Client => source.ended_by(),
@@ -128,6 +137,39 @@ fn serve_by<R: Threads + Wait + Clock + Sync, C: Counts>(
     }
 }
 
+/// Serves a stream by the thread of this number. It is counted, where the server counts.
+fn serve_one<R, G, L>(
+    service: &Service<'_, R, G, L>,
+    cached: &Cached,
+    stream: &Connection,
+    number: usize,
+) -> Ended
+where
+    R: Threads + Wait + Clock + Sync,
+    G: Log,
+    requires { (1 ≤ service.now.terms.workers) × (service.now.terms.workers ≤ 16) }
+{
+    let (rt, alloc, log) = (service.rt, service.alloc, service.log);
+    let terms = StreamTerms {
+        workers: service.terms.workers,
+        patience: Patience {
+            limit: service.terms.idle,
+            draining: service.operation.draining.as_ref(),
+        },
+    };
+    if let Some(counters) = &service.operation.counters
+        && let Some(place) = counters.board().place(number)
+    {
+        let counting = Counting {
+            log,
+            counters,
+            place,
+        };
+        return serve_counted(rt, alloc, cached, stream, terms, &counting);
+    }
+    serve_connection(rt, alloc, cached, stream, terms)
+}
+
 /// Serves streams, one after the other, for as long as there are turns. What became of each goes to the log.
 fn serve_turns<R, G, L, J>(
     service: &Service<'_, R, G, L>,
@@ -135,6 +177,7 @@ fn serve_turns<R, G, L, J>(
     complaints: &Mutex<Complaints>,
     turns: &Mutex<Turns<J>>,
     slot: &Mutex<Slot<J>>,
+    number: usize,
 )
 where
     R: Threads + Wait + Clock + Sync,
@@ -163,8 +206,7 @@ where
             }
         };
         let begun = Report::begin(rt, service.log, &stream);
-        let draining = service.operation.draining.as_ref();
-        let ended = serve_connection(rt, service.alloc, cached, &stream, service.terms, draining);
+        let ended = serve_one(service, cached, &stream, number);
         if ended.fault == Some(StreamFault::Cut) {
             slot.note_cut();
         }
@@ -183,7 +225,7 @@ fn limit_places<R: Wait, G: Log, L>(service: &Service<'_, R, G, L>, threads: usi
 }
 
 /// Serves by a thread for each slot, of which this one is the first. With fewer threads than slots it goes on.
-fn serve_slots<R, G, L, J>(
+pub(crate) fn serve_slots<R, G, L, J>(
     service: &Service<'_, R, G, L>,
     cached: &Cached,
     turns: &Mutex<Turns<J>>,
@@ -209,7 +251,7 @@ where
                 let thread = scope.spawn(
                     move ||
                         requires { IsSync R.row × (1 ≤ service.now.terms.workers) × (service.now.terms.workers ≤ 16) }
-                    { serve_turns(service, cached, complaints, turns, slot) },
+                    { serve_turns(service, cached, complaints, turns, slot, number) },
                 );
                 if thread.is_err() {
                     limit_places(service, number);
@@ -217,7 +259,7 @@ where
                 }
             }
             if let Some(slot) = slots.first() {
-                serve_turns(service, cached, complaints, turns, slot);
+                serve_turns(service, cached, complaints, turns, slot, 0);
             }
         },
     );
@@ -248,7 +290,7 @@ where
     let (taken, mut all) = blank.open::<J>();
     let slots = new_slots(service.alloc, threads, &mut all)?;
     let turns = Mutex::new(Turns::new(service.terms.streams, taken));
-    serve_slots(service, &cached, &turns, &slots);
+    serve_beside(service, &cached, &turns, &slots);
     let mut turns = turns.into_inner();
     let total = turns.total(slots, &mut all);
     match ended(

@@ -99,8 +99,9 @@ fn endings_and_faults_are_counted(rt: HostRuntime) -> Result<(), Fail> {
 #[test]
 fn what_is_told_is_shown(rt: HostRuntime) -> Result<(), Fail> {
     let alloc = rt.alloc();
-    let board = Board::new(alloc, 7)?;
+    let board = Board::new(alloc, 8)?;
     let mut told = told();
+    told.places = 7;
     told.stream_memory_limit = Some(65_536);
     let text = board.metrics(&rt, alloc, &told)?;
     for line in [

@@ -41,6 +41,7 @@ fn listening_ends_when_the_listener_is_gone(rt: HostRuntime) -> Result<(), Fail>
             inlet: &Gone,
             terms,
             operation: &operation,
+            admin: None,
         };
         assert_eq!(rt; serve_until_drained(&service), wanted);
     }
@@ -91,6 +92,7 @@ fn an_accept_that_fails_is_tried_again(rt: HostRuntime) -> Result<(), Fail> {
                 inlet,
                 terms,
                 operation: &operation,
+                admin: None,
             };
             serve_until_drained(&service)
         },
@@ -122,6 +124,7 @@ fn an_inlet_that_is_shut_ends_all_accepts(rt: HostRuntime) -> Result<(), Fail> {
                 inlet: inlet_there,
                 terms,
                 operation: &operation,
+                admin: None,
             };
             serve_until_drained(&service)
         },

@@ -1,5 +1,5 @@
 //! Asking: replies that come, and peers that end.
-use super::{bound, connected, terms};
+use super::{alone, bound, connected, terms};
 use crate::calling::{call, call_connection};
 use crate::connection::Connection;
 use crate::fault::{CallFault, call_status};
@@ -27,7 +27,7 @@ fn a_script_is_served_and_asked(rt: HostRuntime) -> Result<(), Fail> {
         move || match listener.accept() {
             Ok((stream, _peer)) => {
                 let stream = Connection::Tcp(stream);
-                Some(serve_connection(rt, alloc, cached, &stream, terms(1, 1), None))
+                Some(serve_connection(rt, alloc, cached, &stream, alone()))
             }
             Err(_) => None,
         },

@@ -1,8 +1,8 @@
 //! Counting streams over sockets.
 use super::kept::Kept;
-use super::{OPEN, OPENED, bound, connected, gives, terms};
+use super::{OPEN, OPENED, alone, bound, connected, gives};
 use crate::connection::Connection;
-use crate::counters::{Counters, Draining};
+use crate::counters::Counters;
 use crate::streams::{Counting, serve_counted};
 use cv_cache::{Cached, HashKeys};
 use cv_metrics::Told;
@@ -20,6 +20,7 @@ use std::time::Clock;
 const TOLD: Told = Told {
     version: "1",
     start_time: 0,
+    places: 1,
     cache_charmaps: 0,
     cache_bytes: 0,
     cache_hits: 0,
@@ -59,7 +60,7 @@ where
         counters,
         place: counters.board().place(0).ok_or("no place")?,
     };
-    let ended = serve_counted(rt, alloc, &cached, &stream, terms(1, 1), &counting);
+    let ended = serve_counted(rt, alloc, &cached, &stream, alone(), &counting);
     assert_eq!(rt; ended.requests, 1);
     assert_eq!(rt; ended.read, 33 + more.len() as u64);
     drop(stream);
@@ -70,27 +71,21 @@ where
 #[test]
 fn streams_are_counted(rt: HostRuntime) -> Result<(), Fail> {
     let alloc = rt.alloc();
-    let counters = Counters::new(&rt, alloc, 1)?;
+    let counters = Counters::new(&rt, alloc, 1, "1")?;
     serve_one(&rt, &counters, b"")?;
     serve_one(&rt, &counters, b"\0\0\0\x08")?;
     serve_one(&rt, &counters, b"\0\0\0")?;
-    counters.set_draining(Draining::Waits);
-    serve_one(&rt, &counters, b"")?;
-    counters.set_draining(Draining::Cut);
-    serve_one(&rt, &counters, b"")?;
     let text = counters.board().metrics(&rt, alloc, &TOLD)?;
     for line in [
-        "iconvd_streams_total 5",
+        "iconvd_streams_total 3",
         "iconvd_streams 0",
         "iconvd_streams_ended_total{cause=\"client\"} 1",
         "iconvd_streams_ended_total{cause=\"fault\"} 2",
-        "iconvd_streams_ended_total{cause=\"drained\"} 1",
-        "iconvd_streams_ended_total{cause=\"cut\"} 1",
         "iconvd_faults_total{kind=\"bad_length\"} 1",
         "iconvd_faults_total{kind=\"cut_off\"} 1",
-        "iconvd_requests_total{op=\"open\",status=\"OK\"} 5",
-        "iconvd_received_bytes_total 172",
-        "iconvd_sent_bytes_total 85",
+        "iconvd_requests_total{op=\"open\",status=\"OK\"} 3",
+        "iconvd_received_bytes_total 106",
+        "iconvd_sent_bytes_total 51",
     ] {
         assert!(&rt; has_line(&text, line), "{line}");
     }

@@ -6,7 +6,8 @@ use crate::inherited::Inherited;
 use crate::inlet::{Bound, Listener};
 use crate::listened::Listened;
 use crate::listening::{Site, listen_tcp, listen_until_drained};
-use crate::operation::{Health, Operation};
+use crate::operation::Operation;
+use cv_admin::Health;
 use crate::streams::{Service, serve_until_drained};
 use cv_commands::RunFault;
 use std::io::{self, Read, Write};
@@ -90,6 +91,7 @@ fn a_drain_ends_streams_that_are_silent(rt: HostRuntime) -> Result<(), Fail> {
         log: &log,
         terms,
         operation: &operation,
+        admin: None,
     };
     let (rt, site, operation) = (&rt, &site, &operation);
     let (listened, answered) = thread::join(
@@ -155,6 +157,7 @@ fn the_end_of_a_drain_cuts_a_busy_stream(rt: HostRuntime) -> Result<(), Fail> {
                 inlet,
                 terms,
                 operation,
+                admin: None,
             };
             serve_until_drained(&service)
         },
@@ -179,6 +182,7 @@ fn stalled_client<R>(
     rt: &R,
     address: SocketAddr,
     operation: &Operation,
+    admin: None,
     much: &[u8],
 ) -> io::Result<()>
 where
@@ -215,6 +219,7 @@ fn the_end_of_a_drain_cuts_a_write_that_waits(rt: HostRuntime) -> Result<(), Fai
                 inlet,
                 terms,
                 operation,
+                admin: None,
             };
             serve_until_drained(&service)
         },

@@ -3,7 +3,8 @@ use super::kept::Kept;
 use super::{OPEN, OPENED, bound, connected, is_served, lines_about, lines_like, terms};
 use crate::inlet::{Bound, Listener};
 use crate::listened::Listened;
-use crate::operation::{Health, Operation};
+use crate::operation::Operation;
+use cv_admin::Health;
 use crate::streams::{Service, serve_until_drained};
 use crate::terms::WhenFull;
 use std::io::{self, ErrorKind, Read, Write};
@@ -61,6 +62,7 @@ fn clients_are_closed_while_all_places_are_taken(rt: HostRuntime) -> Result<(), 
                 inlet,
                 terms: close,
                 operation,
+                admin: None,
             };
             serve_until_drained(&service)
         },
@@ -116,6 +118,7 @@ fn the_log_says_when_all_places_are_taken(rt: HostRuntime) -> Result<(), Fail> {
                 inlet,
                 terms,
                 operation,
+                admin: None,
             };
             serve_until_drained(&service)
         },

@@ -1,6 +1,6 @@
 //! Many streams at once.
 use super::kept::Kept;
-use super::{OPEN, OPENED, bound, connected, gives, is_served, lines_about, lines_like, terms};
+use super::{OPEN, OPENED, alone, bound, connected, gives, is_served, lines_about, lines_like, terms};
 use crate::connection::Connection;
 use crate::inlet::{Bound, Listener};
 use crate::listened::Listened;
@@ -57,6 +57,7 @@ fn streams_are_served_at_once(rt: HostRuntime) -> Result<(), Fail> {
                 inlet,
                 terms,
                 operation: &operation,
+                admin: None,
             };
             serve_until_drained(&service)
         },
@@ -100,6 +101,7 @@ fn it_ends_after_the_last_stream(rt: HostRuntime) -> Result<(), Fail> {
                 inlet,
                 terms,
                 operation: &operation,
+                admin: None,
             };
             serve_until_drained(&service)
         },
@@ -160,6 +162,7 @@ fn bad_clients_are_ended_and_good_ones_served(rt: HostRuntime) -> Result<(), Fai
                 inlet,
                 terms: few,
                 operation: &operation,
+                admin: None,
             };
             serve_until_drained(&service)
         },
@@ -199,7 +202,7 @@ fn streams_share_the_charmaps_that_are_compiled(rt: HostRuntime) -> Result<(), F
         client.shutdown(Shutdown::Write)?;
         let (stream, _peer) = listener.accept()?;
         let stream = Connection::Tcp(stream);
-        let ended = serve_connection(&rt, alloc, &cached, &stream, terms(1, 1), None);
+        let ended = serve_connection(&rt, alloc, &cached, &stream, alone());
         assert_eq!(rt; (ended.fault, ended.requests), (None, 1));
     }
     assert_eq!(rt; cached.found(&rt), 2);

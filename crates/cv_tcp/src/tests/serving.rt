@@ -1,6 +1,6 @@
 //! Serving streams one after the other.
 use super::kept::{Desk, Kept};
-use super::{OPEN, OPENED, bound, connected, gives, terms};
+use super::{OPEN, OPENED, alone, bound, connected, gives, terms};
 use crate::address::is_address;
 use crate::inlet::{Bound, Listener};
 use crate::listened::Listened;
@@ -44,6 +44,7 @@ fn the_next_stream_has_a_new_server(rt: HostRuntime) -> Result<(), Fail> {
         inlet: &inlet,
         terms,
         operation: &operation,
+        admin: None,
     };
     assert_eq!(rt;
         serve_until_drained(&service),
@@ -80,6 +81,7 @@ fn listening_says_where_and_tells_faults_alone(rt: HostRuntime) -> Result<(), Fa
         log: &log,
         terms,
         operation: &operation,
+        admin: None,
     };
     let heard = listen_tcp(&site, "127.0.0.1:1");
     assert_eq!(rt; heard, Ok(Listened::Served { streams: 2 }));
@@ -97,7 +99,7 @@ fn an_address_that_is_none_is_refused(rt: HostRuntime) -> Result<(), Fail> {
     let taken = format!(in alloc; "{address}")?;
     for address in ["nowhere", "", taken.as_str(), "unix:", "unix:/"] {
         let log = Kept::new(&rt);
-        let heard = listen(&rt, alloc, &log, address, terms(1, 1));
+        let heard = listen(&rt, alloc, &log, address, alone());
         assert_eq!(rt; heard, Err(RunFault::CannotListen), "at {address}");
         let said = log.into_bytes();
         let begun = format!(in alloc; "ERROR {address}: cannot listen: ")?;

@@ -1,6 +1,6 @@
 //! Unix sockets.
 use super::kept::{Desk, Kept};
-use super::{bound, terms};
+use super::{alone, bound, terms};
 use crate::calling::call;
 use crate::inlet::Listener;
 use crate::listened::Listened;
@@ -34,7 +34,7 @@ fn a_socket_is_served_and_removed(rt: HostRuntime) -> Result<(), Fail> {
     // Somebody listens there.
     let log = Kept::new(&rt);
     assert_eq!(rt;
-        listen(&rt, alloc, &log, &address, terms(1, 1)),
+        listen(&rt, alloc, &log, &address, alone()),
         Err(RunFault::CannotListen)
     );
     drop(listener);
@@ -55,6 +55,7 @@ fn a_socket_is_served_and_removed(rt: HostRuntime) -> Result<(), Fail> {
         log: &log,
         terms,
         operation: &operation,
+        admin: None,
     };
     let (rt, site, address) = (&rt, &site, address.as_str());
     let (served, called) = thread::join(
@@ -93,6 +94,7 @@ fn no_file_is_replaced_but_a_socket(rt: HostRuntime) -> Result<(), Fail> {
         log: &log,
         terms,
         operation: &operation,
+        admin: None,
     };
     assert_eq!(rt; listen_unix(&site, path), Err(RunFault::CannotListen));
     let text = fs::read(&rt, path)?;

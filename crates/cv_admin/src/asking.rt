@@ -1,0 +1,67 @@
+//! Asking for a page: what is sent, and what the answer says.
+ghost use Rattle.std.specs.Prelude.{◌≡◌, IfSome};
+ghost use Rattle.cv_admin.specs.Asking.{request_text, IsAnswer, IsFramed};
+
+use crate::routes::Page;
+use http1::fields::KnownFields;
+use http1::framing::{Framing, FramingError, MethodKind, response_framing};
+use httparse::Status;
+use httparse::spans::{EMPTY_HEADER_SPAN, parse_response};
+
+/// How many fields the head of an answer may have.
+const MOST_FIELDS: usize = 64;
+
+/// What a server answered.
+#[derive(Clone, Copy, Debug, PartialEq, Eq)]
+pub struct Answer<'a> {
+    /// The status, as 200.
+    pub status: u16,
+    pub text: &'a [u8],
+}
+
+/// The bytes that ask for a page.
+pub fn request_for(page: Page) -> &'static [u8]
+    ensures { result.now ≡ request_text page }
+{
+    match page {
+        Page::Health => b"GET /health HTTP/1.1\r\nhost: iconvd\r\nconnection: close\r\n\r\n",
+        Page::Metrics => b"GET /metrics HTTP/1.1\r\nhost: iconvd\r\nconnection: close\r\n\r\n",
+        Page::Streams => b"GET /streams HTTP/1.1\r\nhost: iconvd\r\nconnection: close\r\n\r\n",
+        Page::Drain => b"POST /drain HTTP/1.1\r\nhost: iconvd\r\nconnection: close\r\n\r\n",
+    }
+}
+
+/// The text by where it ends, of what follows a head. `None`: it was cut off, is in chunks, or has no known end.
+fn framed(framing: Result<Framing, FramingError>, rest: &[u8]) -> Option<&[u8]>
+    ensures { IfSome result (λ text. IsFramed framing rest.now text.now) }
+{
+    match framing {
+        Ok(Framing::NoBody) => Some(&[]),
+        Ok(Framing::Length(count)) => match usize::try_from(count) {
+            Ok(count) if count <= rest.len() => Some(&rest[..count]),
+            _ => None,
+        },
+        Ok(Framing::UntilClose) => Some(rest),
+        Ok(Framing::Chunked) | Err(_) => None,
+    }
+}
+
+/// Reads an answer, from its first byte to where the server closed the connection. `None`: this is no HTTP, was cut off, or is in chunks,
+/// which this server sends none of.
+pub fn read_answer(bytes: &[u8]) -> Option<Answer<'_>>
+    ensures { IfSome result (λ answer. IsAnswer bytes.now answer.status answer.text.now) }
+{
+    let mut fields = [EMPTY_HEADER_SPAN; MOST_FIELDS];
+    match parse_response(bytes, &mut fields) {
+        Ok(Status::Complete(head)) => {
+            let known = KnownFields::from_spans(bytes, &fields[..head.headers]);
+            let framing = response_framing(MethodKind::Other, head.code, head.version, &known);
+            let text = framed(framing, &bytes[head.len..])?;
+            Some(Answer {
+                status: head.code,
+                text,
+            })
+        }
+        _ => None,
+    }
+}

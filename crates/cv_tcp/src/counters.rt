@@ -55,17 +55,30 @@ pub(crate) struct Counters {
 }
 
 impl Counters {
-    /// Nothing was counted yet. So many streams may be served at once, and the server begins now.
+    /// Nothing was counted yet. So many threads serve, and the server, which has this version, begins now.
     pub(crate) fn new<R: Clock>(
         rt: &R,
         alloc: Global,
-        at_once: u32,
+        threads: u32,
+        version: &'static str,
     ) -> Result<Counters, AllocError> {
+        let start = Timestamp::now(rt).map_or(0, |time| time.as_second());
         Ok(Counters {
-            board: Board::new(alloc, at_once)?,
+            board: Board::new(alloc, threads)?,
             begun: Instant::now(rt).ok(),
-            draining: AtomicU64::new(Draining::No as u64),
+            start_time: u64::try_from(start).unwrap_or(0),
+            version,
         })
+    }
+
+    /// When the server began, in seconds since 1970.
+    pub(crate) fn start_time(&self) -> u64 {
+        self.start_time
+    }
+
+    /// The version of the program.
+    pub(crate) fn version(&self) -> &'static str {
+        self.version
     }
 
     /// What is counted.

@@ -25,34 +25,32 @@ use std::sync::Wait;
 use std::thread::Threads;
 use std::time::Clock;
 
-/// What listening is given besides an address.
-#[derive(Drop)]
-pub(crate) struct Listening<'a, R, G> {
-    pub(crate) rt: &'a R,
-    pub(crate) alloc: Global,
-    pub(crate) log: &'a G,
-    pub(crate) terms: Terms,
-    /// Where the admin pages are, if they are anywhere.
-    pub(crate) admin: Option<&'a AdminInlet<'a>>,
-}
-
-/// Prints where the program listens, in one write, and logs it. Where the admin pages are follows on a line of its own.
+/// Prints where the program listens, in one write, and logs it.
 fn announce<R: Print, G: Log, D: Display + Drop>(
-    listening: &Listening<'_, R, G>,
+    rt: &R,
+    alloc: Global,
+    log: &G,
     address: D,
 ) -> Result<(), RunFault>
     ensures { IfErr result IsOfListening }
 {
-    let (rt, alloc, log) = (listening.rt, listening.alloc, listening.log);
     let line = format!(in alloc; "listening {address}\n")?;
     write_all(io::writer(rt), line.as_bytes())?;
     info!(log; address:% = address; "listening");
-    if let Some(admin) = listening.admin {
-        let place = admin.place();
-        let line = format!(in alloc; "admin {place}\n")?;
-        write_all(io::writer(rt), line.as_bytes())?;
-        info!(log; address:% = place; "admin pages");
-    }
+    Ok(())
+}
+
+/// Prints where the admin pages are, if they are anywhere, and logs it.
+fn announce_admin<R: Print, G: Log>(site: &Site<'_, R, G>) -> Result<(), RunFault>
+    ensures { IfErr result IsOfListening }
+{
+    let Some(admin) = site.admin else {
+        return Ok(());
+    };
+    let place = admin.place();
+    let line = format!(in site.alloc; "admin {place}\n")?;
+    write_all(io::writer(site.rt), line.as_bytes())?;
+    info!(site.log; address:% = place; "admin pages");
     Ok(())
 }
 
@@ -116,26 +114,6 @@ where
     let listener = TcpListener::bind(site.rt, address)?;
     let address = listener.local_addr()?;
     Ok((bound(site, Listener::Tcp(listener))?, address))
-}
-
-/// Serves the streams of an inlet, and answers the clients of the admin pages meanwhile.
-fn serve_at<R, G>(listening: &Listening<'_, R, G>, inlet: &Bound) -> Result<u64, RunFault>
-where
-    R: Clock + RandomSource + Threads + Wait + Sync,
-    G: Log + Sync,
-    requires at_once { 1 ≤ listening.now.terms.at_once }
-    requires workers { (1 ≤ listening.now.terms.workers) × (listening.now.terms.workers ≤ 16) }
-    ensures served { IfOk result (λ n. n ≡ listening.now.terms.streams) }
-    ensures err { IfErr result IsOfListening }
-{
-    let service = Service {
-        rt: listening.rt,
-        alloc: listening.alloc,
-        log: listening.log,
-        inlet,
-        terms: listening.terms,
-    };
-    serve_operated(&service, listening.admin, &Operations)
 }
 
 /// Listens at a TCP port and serves the streams that come in there.
@@ -360,14 +338,13 @@ where
 }
 
 /// Listens at an address, prints it on standard output, and serves streams by these terms, each by a new pool of workers and all with one
-/// cache of compiled charmaps. The fault of a stream goes to the log, and the next is served. At the end the log is flushed.
+/// cache of compiled charmaps. The fault of a stream goes to the log, and the next is served.
 pub fn listen<R, G>(
     rt: &R,
     alloc: Global,
     log: &G,
     address: &str,
     terms: Terms,
-    admin: Option<&str>,
 ) -> Result<u64, RunFault>
 where
     R: Net<Listener = TcpListener, Stream = TcpStream>

@@ -28,7 +28,7 @@ const LINES: [&str; 6] = [
     "iconvd_places 2",
     "iconvd_streams_total 1",
     "iconvd_streams_ended_total{cause=\"client\"} 1",
-    "iconvd_requests_total{op=\"bye\",status=\"OK\"} 1",
+    "iconvd_requests_total{op=\"open\",status=\"OK\"} 1",
     "iconvd_log_lines_dropped_total 3",
 ];
 

@@ -7,8 +7,8 @@ use crate::inlet::{Bound, Listener};
 use crate::listened::Listened;
 use crate::listening::{Site, listen_tcp, listen_until_drained};
 use crate::operation::Operation;
-use cv_admin::Health;
 use crate::streams::{Service, serve_until_drained};
+use cv_admin::Health;
 use cv_commands::RunFault;
 use std::io::{self, Read, Write};
 use std::net::{Net, SocketAddr, TcpListener, TcpStream};
@@ -182,7 +182,6 @@ fn stalled_client<R>(
     rt: &R,
     address: SocketAddr,
     operation: &Operation,
-    admin: None,
     much: &[u8],
 ) -> io::Result<()>
 where

@@ -1,6 +1,6 @@
 //! Serving streams one after the other.
 use super::kept::{Desk, Kept};
-use super::{OPEN, OPENED, alone, bound, connected, gives, terms};
+use super::{OPEN, OPENED, bound, connected, gives, terms};
 use crate::address::is_address;
 use crate::inlet::{Bound, Listener};
 use crate::listened::Listened;
@@ -99,7 +99,7 @@ fn an_address_that_is_none_is_refused(rt: HostRuntime) -> Result<(), Fail> {
     let taken = format!(in alloc; "{address}")?;
     for address in ["nowhere", "", taken.as_str(), "unix:", "unix:/"] {
         let log = Kept::new(&rt);
-        let heard = listen(&rt, alloc, &log, address, alone());
+        let heard = listen(&rt, alloc, &log, address, terms(1, 1));
         assert_eq!(rt; heard, Err(RunFault::CannotListen), "at {address}");
         let said = log.into_bytes();
         let begun = format!(in alloc; "ERROR {address}: cannot listen: ")?;

@@ -1,6 +1,6 @@
 //! Unix sockets.
 use super::kept::{Desk, Kept};
-use super::{alone, bound, terms};
+use super::{bound, terms};
 use crate::calling::call;
 use crate::inlet::Listener;
 use crate::listened::Listened;
@@ -34,7 +34,7 @@ fn a_socket_is_served_and_removed(rt: HostRuntime) -> Result<(), Fail> {
     // Somebody listens there.
     let log = Kept::new(&rt);
     assert_eq!(rt;
-        listen(&rt, alloc, &log, &address, alone()),
+        listen(&rt, alloc, &log, &address, terms(1, 1)),
         Err(RunFault::CannotListen)
     );
     drop(listener);

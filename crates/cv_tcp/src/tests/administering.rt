@@ -18,7 +18,7 @@ use std::{io, thread};
 /// Which pages are asked for, one after the other, and what is printed of each.
 const ASKED: [(Page, bool, &[u8]); 3] = [
     (Page::Health, true, b"ok\n"),
-    (Page::Streams, true, b"[]"),
+    (Page::Streams, true, b"[]\n"),
     (Page::Drain, true, b"draining\n"),
 ];
 

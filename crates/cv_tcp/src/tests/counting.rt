@@ -1,8 +1,10 @@
 //! Counting streams over sockets.
 use super::kept::Kept;
 use super::{OPEN, OPENED, bound, connected, gives, terms};
-use crate::connection::Connection;
+use crate::connection::{Connection, Peer};
+use crate::counted::Counted;
 use crate::counters::{Counters, Draining};
+use crate::metered::Counts;
 use crate::streams::{Counting, serve_counted};
 use cv_cache::{Cached, HashKeys};
 use cv_metrics::Told;
@@ -94,5 +96,35 @@ fn streams_are_counted(rt: HostRuntime) -> Result<(), Fail> {
     ] {
         assert!(&rt; has_line(&text, line), "{line}");
     }
+    Ok(())
+}
+
+/// A PUT with no text, and its reply: there was no memory.
+const PUT: &[u8] = b"\0\0\0\x09\0\0\0\x07\0\0\0\x01\x01";
+
+const ENOMEM: &[u8] = b"\0\0\0\x09\0\0\0\x07\0\0\0\x01\x06";
+
+#[test]
+fn the_first_lack_of_memory_is_logged(rt: HostRuntime) -> Result<(), Fail> {
+    let alloc = rt.alloc();
+    let counters = Counters::new(&rt, alloc, 1)?;
+    let log = Kept::new(&rt);
+    let counting = Counting {
+        log: &log,
+        counters: &counters,
+        place: counters.board().place(0).ok_or("no place")?,
+    };
+    let counted = Counted::new(&rt, alloc, &counting, Peer::Local);
+    for _time in 0..3 {
+        counted.came(PUT);
+        counted.begin_write();
+        counted.went(ENOMEM, true);
+    }
+    assert_eq!(rt; counted.replies(), 3);
+    let text = counters.board().metrics(&rt, alloc, &TOLD)?;
+    assert!(rt; has_line(&text, "iconvd_memory_refused_total 3"));
+    assert!(rt; has_line(&text, "iconvd_put_duration_seconds_count 3"));
+    drop(counted);
+    assert!(rt; log.into_bytes().as_slice() == b"INFO memory refused to unix\n".as_slice());
     Ok(())
 }

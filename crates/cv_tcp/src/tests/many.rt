@@ -206,5 +206,10 @@ fn streams_share_the_charmaps_that_are_compiled(rt: HostRuntime) -> Result<(), F
         assert_eq!(rt; (ended.fault, ended.requests), (None, 1));
     }
     assert_eq!(rt; cached.found(&rt), 2);
+    let counts = cached.counts(&rt);
+    assert_eq!(rt; counts.charmaps, 1);
+    assert_eq!(rt; counts.bytes, cached.bytes(&rt));
+    assert_eq!(rt; counts.hits, 2);
+    assert_eq!(rt; counts.misses, 1);
     Ok(())
 }

@@ -107,6 +107,8 @@ where
         service.rt,
         |scope|
             requires { (1 ≤ service.now.terms.at_once) × (1 ≤ service.now.terms.workers) × (service.now.terms.workers ≤ 16) }
+            ensures served { IfOk result (λ n. n ≡ service.entry.now.terms.streams) }
+            ensures err { IfErr result (λ fault. (fault ≡ RunFault.AcceptFailed) ⊎ (fault ≡ RunFault.Memory)) }
         {
             for number in 0..ADMIN_THREADS {
                 let thread = scope.spawn(move || answer_clients(

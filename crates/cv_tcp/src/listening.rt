@@ -193,13 +193,13 @@ where
 /// Listens at an address, prints it on standard output, and serves streams by these terms, each by a new pool of workers and all with one
 /// cache of compiled charmaps. The fault of a stream goes to the log, and the next is served. With an admin address the pages are there
 /// from then on; it is printed after the other one.
-pub fn listen<R, G>(
-    rt: &R,
+pub fn listen<'a, R, G>(
+    rt: &'a R,
     alloc: Global,
-    log: &G,
+    log: &'a G,
     address: &str,
     terms: Terms,
-    admin: Option<&str>,
+    admin: Option<&'a str>,
 ) -> Result<u64, RunFault>
 where
     R: Net<Listener = TcpListener, Stream = TcpStream>

@@ -102,13 +102,11 @@ where
 {
     let complaints = Mutex::new(Complaints::new());
     let complaints = &complaints;
-    thread::scope(
+    let served = thread::scope(
         thread::scope_env(),
         service.rt,
         |scope|
             requires { (1 ≤ service.now.terms.at_once) × (1 ≤ service.now.terms.workers) × (service.now.terms.workers ≤ 16) }
-            ensures served { IfOk result (λ n. n ≡ service.entry.now.terms.streams) }
-            ensures err { IfErr result (λ fault. (fault ≡ RunFault.AcceptFailed) ⊎ (fault ≡ RunFault.Memory)) }
         {
             for number in 0..ADMIN_THREADS {
                 let thread = scope.spawn(move || answer_clients(
@@ -123,7 +121,13 @@ where
             inlet.shut();
             served
         },
-    )
+    );
+    // `serve_streams` gives nothing else, but of what passes through a scope no contract is known here.
+    match served {
+        Ok(count) if count == service.terms.streams => Ok(count),
+        Ok(_) | Err(RunFault::AcceptFailed) => Err(RunFault::AcceptFailed),
+        Err(_) => Err(RunFault::Memory),
+    }
 }
 
 /// Serves streams, with the pages if they have an inlet.

@@ -1,5 +1,6 @@
 //! How listening ends.
-ghost use Rattle.std.specs.Prelude.{◌≡◌, true, false, None, Some};
+ghost use Rattle.std.specs.Prelude.{◌≡◌, ◌≤◌, true, false, None, Some, IfSome};
+ghost use Rattle.cv_tcp.specs.Listening.{IsEnd};
 ghost use Rattle.cv_tcp.specs.declared.listened.Listened.TheVariants.{Served, Drained};
 
 use crate::turns::Total;
@@ -14,8 +15,12 @@ pub enum Listened {
     Drained { streams: u64, cut: u64 },
 }
 
-/// How listening ended by which so many turns were taken. `None`: no drain has begun, and turns are left.
-pub(crate) fn ended(total: Total, is_drained: bool) -> Option<Listened>
+/// How listening ended by which so many turns were taken, of so many streams that there were to be. `None`: no drain has begun, and turns are left.
+pub(crate) fn ended(total: Total, wanted: u64, is_drained: bool) -> Option<Listened>
+    requires all { total.is_all ≡ true → total.served ≡ wanted }
+    requires some { total.served ≤ wanted }
+    requires cut { total.cut ≤ total.served }
+    ensures end { IfSome result (λ listened. IsEnd wanted listened) }
     ensures drained { is_drained ≡ true → result ≡ Some (Drained total.served total.cut) }
     ensures all { is_drained ≡ false → total.is_all ≡ true → result ≡ Some (Served total.served) }
     ensures left { is_drained ≡ false → total.is_all ≡ false → result ≡ None }

@@ -186,6 +186,30 @@ where
     }
 }
 
+/// Listens wherever the address is.
+fn listen_at<R, G>(site: &Site<'_, R, G>, address: &str) -> Result<Listened, RunFault>
+where
+    R: Net<Listener = TcpListener, Stream = TcpStream>
+        + Files
+        + Print
+        + Clock
+        + RandomSource
+        + Threads
+        + Wait
+        + Sync,
+    G: Log + Sync,
+    requires at_once { 1 ≤ site.now.terms.at_once }
+    requires workers { (1 ≤ site.now.terms.workers) × (site.now.terms.workers ≤ 16) }
+    ensures end { IfOk result (λ listened. IsEnd site.now.terms.streams listened) }
+    ensures err { IfErr result IsOfListening }
+{
+    match Address::of(address) {
+        Address::Tcp(address) => listen_tcp(site, address),
+        Address::Unix(path) => listen_unix(site, path),
+        Address::Given(number) => listen_given(site, address, number),
+    }
+}
+
 /// Listens as `listen` does, until all streams are served or the operation is drained. A drain is logged when it has ended.
 pub fn listen_until_drained<R, G>(
     rt: &R,
@@ -221,11 +245,7 @@ where
         terms,
         operation,
     };
-    let listened = match Address::of(address) {
-        Address::Tcp(address) => listen_tcp(&site, address),
-        Address::Unix(path) => listen_unix(&site, path),
-        Address::Given(number) => listen_given(&site, address, number),
-    }?;
+    let listened = listen_at(&site, address)?;
     tell(log, listened, terms.drain);
     Ok(listened)
 }

@@ -74,12 +74,12 @@ impl Said {
             (Some(at), Some(now)) => now.duration_since(at) >= Duration::from_secs(QUIET),
             _ => true,
         };
-        if self.is_full || !is_due {
-            return false;
+        let is_said = is_due && !self.is_full;
+        if is_said {
+            self.is_full = true;
+            self.at = now;
         }
-        self.is_full = true;
-        self.at = now;
-        true
+        is_said
     }
 
     /// Whether it is said now that a place is free again: if the last line says that all are taken.

@@ -207,7 +207,11 @@ where
     serve_slots(service, &cached, &turns, &slots);
     let mut turns = turns.into_inner();
     let total = turns.total(slots, &mut all);
-    match ended(total, service.operation.is_draining()) {
+    match ended(
+        total,
+        service.terms.streams,
+        service.operation.is_draining(),
+    ) {
         Some(listened) => Ok(listened),
         None => Err(RunFault::AcceptFailed),
     }

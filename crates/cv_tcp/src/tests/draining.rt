@@ -100,9 +100,22 @@ fn a_drain_ends_streams_that_are_silent(rt: HostRuntime) -> Result<(), Fail> {
     assert_eq!(rt; listened, Ok(Listened::Drained { streams: 3, cut: 1 }));
     assert!(rt; answered?);
     let said = log.into_bytes();
-    assert_eq!(rt; lines_about(&said, "INFO stream from ", ": drained, after 1 request"), 1);
-    assert_eq!(rt; lines_about(&said, "INFO stream from ", ": drained, after 9 requests"), 1);
-    assert_eq!(rt; lines_about(&said, "ERROR stream from ", ": cut by a drain, after 1 request"), 1);
+    assert_eq!(rt;
+        lines_about(&said, "INFO stream from ", ": drained, after 1 request"),
+        1
+    );
+    assert_eq!(rt;
+        lines_about(&said, "INFO stream from ", ": drained, after 9 requests"),
+        1
+    );
+    assert_eq!(rt;
+        lines_about(
+            &said,
+            "ERROR stream from ",
+            ": cut by a drain, after 1 request"
+        ),
+        1
+    );
     Ok(())
 }
 
@@ -162,7 +175,12 @@ fn the_end_of_a_drain_cuts_a_busy_stream(rt: HostRuntime) -> Result<(), Fail> {
 }
 
 /// A client that reads nothing of what it asked for.
-fn stalled_client<R>(rt: &R, address: SocketAddr, operation: &Operation, much: &[u8]) -> io::Result<()>
+fn stalled_client<R>(
+    rt: &R,
+    address: SocketAddr,
+    operation: &Operation,
+    much: &[u8],
+) -> io::Result<()>
 where
     R: Net<Listener = TcpListener, Stream = TcpStream> + Wait + Clock,
 {

@@ -139,7 +139,7 @@ typedef struct iconvd_pool iconvd_pool;
 typedef struct iconvd_options {
     unsigned streams;     /* connections at most, 1 to 16; 0 is the number of processors that the process may use, but 4 at least. A
                              connection is made when all others are in use */
-    int timeout;          /* how long a call waits for the service; 0 is 10,000, below 0 is without end */
+    int timeout;          /* how long a call waits for the service, also for one that went away; 0 is 10,000, below 0 is without end */
     const char *charmaps; /* the folder of charmap files, NAME.gz; NULL is /usr/share/i18n/charmaps */
     void (*log)(void *context, const char *line); /* told of lost connections, of a service that cannot be reached, and of charmaps
                                                      that are missing or refused; NULL: nobody is. Any thread calls it, and it must
@@ -159,7 +159,22 @@ typedef struct iconvd_options {
  *   tcp:HOST:PORT               TCP; a numeric IPv6 host stands in brackets
  *
  * NULL options are the defaults. Where it fails, LOST or BADADDRESS or ENOMEM, nothing is left. LOST is also a program that is not
- * there: the log names it. */
+ * there: the log names it. It does not wait for a server that is not there.
+ *
+ * A server that goes away later (unix:, tcp:). A request that is lost with its connection is sent again, on another one of the pool that
+ * lives or on a new one. Where none lives, and the server takes none or ends each new one before its first reply, as one that is full or
+ * being stopped, the call waits. It tries again after 50 milliseconds, then after twice as long each time, up to a second or half of
+ * `timeout`. If the host has several addresses and one ends the connection, the next address is tried at once. One thread of the pool
+ * tries at a time: the others use the connections that live, or wait for it. When `timeout` is up the call is LOST, and the log says
+ * "no connection to the service: WHERE: " and why:
+ *
+ *   an error of the system                                       nobody listens there
+ *   the server closes new connections (full or draining)         it ended each of them
+ *   no reply within S s (all places may be taken)                it took a connection and did not answer. For as long again calls are
+ *                                                                LOST at once
+ *
+ * A server behind an address that no connection was ever made to is not waited for, nor is a program of exec:, of which three are
+ * started. */
 ICONVD_API iconvd_status iconvd_connect(const char *where, const iconvd_options *options, iconvd_pool **pool);
 
 /* What the environment says, for a program that leaves the service to its user. Returns ICONVD, and sets `timeout`, `streams` and

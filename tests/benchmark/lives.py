@@ -35,9 +35,16 @@ def full_servers(benchmark: Benchmark, program: str) -> None:
             benchmark.check("queue of connections is full" in done.stderr and done.returncode == 1, "a full queue: it ends and names it")
     done = benchmark.run(["-c", "300"], "exec:/bin/true", 30)
     benchmark.check(done.returncode == 1 and "ends its streams before it answers" in done.stderr, "300 streams that end: it names that")
+    server = ToldServer(lambda stream, asked, op: None)
+    begun = time.monotonic()
+    done = benchmark.run(["--timeout", "1", "-c", "5"], server.where, 30)
+    waited = time.monotonic() - begun
+    named = f"{server.where}: the server closes new connections (full or draining)" in done.stderr
+    benchmark.check(done.returncode == 1 and named and waited >= 1, "a full server that ends every stream: it waits, and names it")
     server = ToldServer(lambda stream, asked, op: OK if stream < 2 else None)
     done = benchmark.run(["--timeout", "1", "-c", "5"], server.where, 30)
     named = "2 of 5 streams are open; the others were ended before they were answered for 1 s" in done.stderr
+    named = named and "the server closes new connections (full or draining)" in done.stderr
     benchmark.check(done.returncode == 1 and named, "a full server that ends what it can't serve: it ends and names it")
 
 

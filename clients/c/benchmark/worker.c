@@ -2,6 +2,7 @@
 #include "worker.h"
 
 #include <errno.h>
+#include <string.h>
 #include <sys/epoll.h>
 #include <time.h>
 #include <unistd.h>
@@ -69,16 +70,23 @@ static bool connect_client(struct worker *worker, struct client *client) {
     return false;
 }
 
+/* Whether each stream is a program of its own. */
+static bool is_program(const struct course *course) {
+    return strncmp(course->options->where, "exec:", 5) == 0;
+}
+
 /* Ends the program where not all streams could be opened. */
 static void give_up_opening(const struct worker *worker) {
     const struct course *course = &worker->course;
     const struct options *options = course->options;
     const char *others = "accepted, and not answered", *cause = ": all places of the server are taken, or it hangs";
-    if (worker->failures > 0 && course->run->opened == 0 && course->tally.unreachable == 0)
+    if (worker->failures > 0 && course->run->opened == 0 && course->tally.unreachable == 0 && is_program(course))
         give_up(1, "%s ends its streams before it answers", options->where);
+    if (worker->failures > 0 && course->run->opened == 0 && course->tally.unreachable == 0)
+        give_up(1, "%s: the server closes new connections (full or draining)", options->where);
     if (worker->failures > 0) {
         others = "ended before they were answered";
-        cause = ": all places of the server are taken, or it has no memory for more";
+        cause = ": the server closes new connections (full or draining), or it has no memory for more";
     }
     if (course->tally.unreachable > 0) {
         others = "not connected";
@@ -97,7 +105,8 @@ static void replace(struct worker *worker, struct client *client, enum ending en
         course->run->opened--;
     else
         fail(worker);
-    if (course->is_opening && course->run->opened == 0 && worker->failures == MOST_FAILURES)
+    /* A server may have places again within the time limit; a program is what it is. */
+    if (course->is_opening && course->run->opened == 0 && worker->failures == MOST_FAILURES && is_program(course))
         give_up_opening(worker);
     if ((course->is_opening || course->is_running) && course->now >= worker->retry_at)
         connect_client(worker, client);

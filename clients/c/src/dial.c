@@ -11,20 +11,20 @@
 #include <sys/un.h>
 #include <unistd.h>
 
-/* Limits how long connect(), sendmsg() and recvmsg() wait. Below 0 is without end, which the system calls 0. */
-static void limit_time(int fd, int timeout) {
+/* Below 0 is without end, which the system calls 0. */
+void stream_limit(const struct stream *stream, int timeout) {
     if (timeout <= 0)
         return;
     struct timeval limit = {.tv_sec = timeout / 1000, .tv_usec = timeout % 1000 * 1000};
-    setsockopt(fd, SOL_SOCKET, SO_RCVTIMEO, &limit, sizeof limit);
-    setsockopt(fd, SOL_SOCKET, SO_SNDTIMEO, &limit, sizeof limit);
+    setsockopt(stream->fd, SOL_SOCKET, SO_RCVTIMEO, &limit, sizeof limit);
+    setsockopt(stream->fd, SOL_SOCKET, SO_SNDTIMEO, &limit, sizeof limit);
 }
 
 /* Gives a new socket to the stream, so that a child that is made meanwhile closes it. */
 static bool take_socket(struct stream *stream, int fd) {
     if (fd < 0 || !stream_register(stream, fd))
         return false;
-    limit_time(fd, stream->timeout);
+    stream_limit(stream, stream->timeout);
     return true;
 }
 
@@ -66,12 +66,26 @@ static struct addrinfo *look_up(const struct address *address, struct stream *st
     return found;
 }
 
+/* Tries the addresses of a host one after another, from the one on whose turn it is. */
+static bool connect_any(const struct addrinfo *found, struct stream *stream) {
+    bool connected = false;
+    unsigned number = 0;
+    for (const struct addrinfo *to = found; to; to = to->ai_next)
+        number++;
+    stream->addresses = number;
+    errno = EHOSTUNREACH;
+    for (unsigned i = 0; i < number && !connected; i++) {
+        const struct addrinfo *to = found;
+        for (unsigned skip = (stream->turn + i) % number; skip > 0; skip--)
+            to = to->ai_next;
+        connected = connect_one(to, stream);
+    }
+    return connected;
+}
+
 static bool connect_tcp(const struct address *address, struct stream *stream) {
     struct addrinfo *found = look_up(address, stream);
-    bool connected = false;
-    errno = EHOSTUNREACH;
-    for (const struct addrinfo *to = found; to && !connected; to = to->ai_next)
-        connected = connect_one(to, stream);
+    bool connected = connect_any(found, stream);
     int saved = errno;
     if (found)
         freeaddrinfo(found);
@@ -80,6 +94,7 @@ static bool connect_tcp(const struct address *address, struct stream *stream) {
 }
 
 bool address_connect(const struct address *address, struct stream *stream) {
+    stream->addresses = 1;
     if (address->kind == ADDRESS_UNIX)
         return connect_unix(address->text, stream);
     if (address->kind == ADDRESS_TCP)

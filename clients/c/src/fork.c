@@ -36,6 +36,7 @@ void fork_end(struct iconvd_pool *pool) {
 /* Mutexes and the gate as at the start. */
 static void renew_locks(struct iconvd_pool *pool) {
     turns_renew(pool);
+    redial_renew(&pool->redial);
     pthread_mutex_init(&pool->known_mutex, NULL);
     encodings_renew(&pool->encodings);
     gate_renew(&pool->gate);
@@ -46,9 +47,11 @@ static void revive(struct iconvd_pool *pool) {
     for (size_t i = 0; i < pool->slot_count; i++) {
         struct slot *slot = &pool->slots[i];
         stream_close(&slot->stream);
+        slot->state = UNCONNECTED;
         slot->remote = (struct remote){.callers = NULL};
         slot->generation++;
     }
+    atomic_store(&pool->live, 0);
     renew_locks(pool);
 }
 
@@ -80,9 +83,10 @@ void iconvd_after_fork_in_parent(iconvd_pool *pool) {
 }
 
 void iconvd_after_fork_in_child(iconvd_pool *pool) {
-    for (size_t i = 0; i < pool->slot_count; i++)
-        slot_reset(&pool->slots[i]);
     renew_locks(pool);
+    for (size_t i = 0; i < pool->slot_count; i++)
+        slot_reset(pool, &pool->slots[i]);
+    atomic_store(&pool->live, 0);
     if (pool->alive)
         atomic_store(pool->alive, ALIVE);
 }

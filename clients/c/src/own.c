@@ -51,9 +51,9 @@ static iconvd_status feed(struct own *own) {
 }
 
 /* Opens the descriptor if it is not there, and brings it to where the caller is. The slot is locked. */
-static iconvd_status restore(struct iconvd_cd *cd, struct refusal *refusal) {
+static iconvd_status restore(struct iconvd_cd *cd, struct tries *tries, struct refusal *refusal) {
     struct own *own = cd->own;
-    if (!slot_ready(cd->pool, own->slot))
+    if (!slot_ready(cd->pool, own->slot, tries))
         return ICONVD_LOST;
     if (own->open && own->generation == own->slot->generation)
         return ICONVD_OK;
@@ -68,29 +68,47 @@ static iconvd_status restore(struct iconvd_cd *cd, struct refusal *refusal) {
     return feed(own);
 }
 
+/* Locks the slot for the next try. Where that has no stream now, the descriptor moves to a slot that has one, or may be connected. False:
+   the time is up. */
+static bool lock_slot(struct iconvd_cd *cd, const struct tries *tries) {
+    static const struct pair NONE = {.to = NULL};
+    struct own *own = cd->own;
+    if (tries->next != LATER) {
+        slot_lock(own->slot);
+        return true;
+    }
+    struct slot *slot = pool_take(cd->pool, &NONE, SHORT_TEXT, tries->end);
+    if (!slot)
+        return false;
+    own->open &= slot == own->slot;
+    own->slot = slot;
+    return true;
+}
+
 /* What is done with the descriptor once it is there. */
 typedef iconvd_status own_action(struct own *own, void *context);
 
 static iconvd_status with_own(struct iconvd_cd *cd, own_action *act, void *context) {
     struct own *own = cd->own;
-    iconvd_status status = ICONVD_LOST;
-    bool again = true;
+    struct tries tries = tries_begin(cd->pool);
+    iconvd_status status;
     int cancelling = cancelling_off();
     fork_check(cd->pool);
-    for (int try = 0; try < 3 && status == ICONVD_LOST && again; try++) {
+    do {
         struct refusal refusal = {.encoding = NULL};
-        slot_lock(own->slot);
-        status = restore(cd, &refusal);
+        status = ICONVD_LOST;
+        if (!lock_slot(cd, &tries))
+            break;
+        status = restore(cd, &tries, &refusal);
         if (status == ICONVD_OK)
             status = act(own, context);
-        if (status == ICONVD_LOST) {
-            again = own->slot->stream.fd >= 0 && !own->slot->stream.timed_out && !own->too_long;
-            if (own->slot->stream.fd >= 0)
-                slot_lose(cd->pool, own->slot);
-        }
+        if (status == ICONVD_LOST && own->slot->stream.fd >= 0)
+            slot_lose(cd->pool, own->slot, &tries);
+        if (own->too_long)
+            tries.next = NEVER;
         slot_unlock(cd->pool, own->slot);
         pool_note(cd->pool, &refusal);
-    }
+    } while (status == ICONVD_LOST && tries.next != NEVER);
     cancelling_as(cancelling);
     return status == ICONVD_BADMAP ? ICONVD_UNSUPPORTED : status;
 }
@@ -178,8 +196,9 @@ void own_change(struct iconvd_cd *cd) {
     fork_check(cd->pool);
     slot_lock(own->slot);
     bool there = own->open && own->generation == own->slot->generation && stream_is_intact(&own->slot->stream);
+    struct tries none = {.lost = 0};
     if (there && close_descriptor(own, NULL) == ICONVD_LOST)
-        slot_lose(cd->pool, own->slot);
+        slot_lose(cd->pool, own->slot, &none);
     own->open = false;
     slot_unlock(cd->pool, own->slot);
     cancelling_as(cancelling);

@@ -1,13 +1,7 @@
 /* Shares the streams of a process among its threads. */
 #include "pool.h"
 
-#include <errno.h>
-
 #include "transfer.h"
-
-/* How long no connection is tried after one was refused, or after so many in a row have ended without any answer, in milliseconds. The
-   latter is what a program that cannot be started looks like. */
-enum { REST = 1000, SILENT_CONNECTIONS = 3 };
 
 /* From how many bytes on a text is long. */
 enum { LONG = 16384 };
@@ -23,52 +17,15 @@ void pool_note(struct iconvd_pool *pool, struct refusal *refusal) {
         pool_log(pool, "charmap %s: %s", encoding->name, iconvd_status_text(refusal->status));
 }
 
-void slot_reset(struct slot *slot) {
-    stream_close(&slot->stream);
-    slot->stream.timed_out = false;
-    remote_forget(&slot->remote);
-    slot->generation++;
-}
-
-void slot_lose(struct iconvd_pool *pool, struct slot *slot) {
-    bool timed_out = slot->stream.timed_out;
-    bool used_up = !timed_out && stream_may_be_used_up(&slot->stream);
-    pool_log(pool, "%s%s", timed_out ? "the service does not answer" : "a connection is lost",
-             used_up ? ": it may have reached the limit of 1,000,000 reads" : "");
-    int silent = slot->stream.answered ? 0 : atomic_load(&pool->silent) + 1;
-    atomic_store(&pool->silent, silent);
-    if (timed_out || silent >= SILENT_CONNECTIONS)
-        atomic_store(&pool->down_until, now_in_milliseconds() + (timed_out ? pool->timeout : REST));
-    slot_reset(slot);
-}
-
-bool slot_ready(struct iconvd_pool *pool, struct slot *slot) {
-    if (slot->stream.fd >= 0 && stream_is_intact(&slot->stream))
-        return true;
-    if (slot->stream.fd >= 0)
-        slot_reset(slot);
-    if (now_in_milliseconds() < atomic_load(&pool->down_until))
-        return false;
-    slot->stream.timeout = pool->timeout;
-    if (stream_connect(&slot->stream, &pool->address)) {
-        atomic_fetch_add(&pool->connections, 1);
-        return true;
-    }
-    char why[300];
-    address_explain(&pool->address, errno, why, sizeof why);
-    pool_log(pool, "no connection to the service: %s", why);
-    atomic_store(&pool->down_until, now_in_milliseconds() + REST);
-    return false;
-}
-
 /* Gives those streams up that nobody uses and that have ended: whatever ended one may have ended others. */
 static void lose_ended(struct iconvd_pool *pool) {
     for (size_t i = 0; i < pool->slot_count; i++) {
         struct slot *slot = &pool->slots[i];
+        struct tries none = {.lost = 0};
         if (!slot_try(slot))
             continue;
         if (slot->stream.fd >= 0 && stream_has_ended(&slot->stream))
-            slot_lose(pool, slot);
+            slot_lose(pool, slot, &none);
         slot_unlock(pool, slot);
     }
 }
@@ -76,11 +33,11 @@ static void lose_ended(struct iconvd_pool *pool) {
 /* What is done with a stream once the pair is open on it. */
 typedef iconvd_status pool_action(struct iconvd_pool *pool, struct slot *slot, const struct place *place, void *context);
 
-/* What is done, and what became of the try. */
+/* What is done, and how often it was tried. */
 struct doing {
     pool_action *act;
     void *context;
-    bool again; /* the stream is lost, and another try may do better. Where the time was up it would only be up again */
+    struct tries tries;
 };
 
 /* Opens the pair on a stream that is locked, acts, and unlocks it. */
@@ -88,15 +45,14 @@ static iconvd_status try_pair(struct iconvd_pool *pool, struct slot *slot, const
     struct refusal refusal = {.encoding = NULL};
     struct place place;
     iconvd_status status = ICONVD_LOST;
-    bool ready = slot_ready(pool, slot);
+    bool ready = slot_ready(pool, slot, &doing->tries);
     if (ready) {
         status = remote_find(&slot->remote, &slot->stream, pair, &place, &refusal);
         if (status == ICONVD_OK)
             status = doing->act(pool, slot, &place, doing->context);
     }
-    doing->again = ready && status == ICONVD_LOST && !slot->stream.timed_out;
     if (ready && status == ICONVD_LOST)
-        slot_lose(pool, slot);
+        slot_lose(pool, slot, &doing->tries);
     slot_unlock(pool, slot);
     pool_note(pool, &refusal);
     if (!refusal.encoding || refusal.status != ICONVD_BADMAP)
@@ -105,27 +61,35 @@ static iconvd_status try_pair(struct iconvd_pool *pool, struct slot *slot, const
     return ICONVD_UNSUPPORTED;
 }
 
-/* The same, with two more tries where a stream is lost. The second is on another stream, where one lives that nobody uses: a new
-   connection may be refused, or wait for a place until the time is up. Where none lives it is on a new connection. The third is on a new
-   one in any case: where streams end one after the other, as those of a server that is being stopped, a third one would end too.
-
-   Why this ends: there are three tries. Each waits for one stream, holds no other meanwhile, and gives it back before the next. Each
-   wait for the service has the pool's time limit. Once that was up, where no connection is to be had, and while none is made
-   (`down_until`), there is no next try. */
-static iconvd_status with_pair(struct iconvd_pool *pool, const struct pair *pair, enum text text, pool_action *act, void *context) {
-    struct doing doing = {.act = act, .context = context};
-    int cancelling = cancelling_off();
-    struct slot *slot = pool_take(pool, pair, text);
-    iconvd_status status = try_pair(pool, slot, pair, &doing);
-    if (doing.again) {
-        lose_ended(pool);
-        slot = pool_take(pool, pair, text);
-        status = try_pair(pool, slot, pair, &doing);
-    }
-    if (doing.again) {
+/* A slot for the next try. The second is on another stream, where one lives that nobody uses: a new connection may be refused, or wait
+   for a place until the time is up. Where none lives it is on a new connection. The third is on a new one in any case: where streams end
+   one after the other, as those of a server that is being stopped, a third one would end too. NULL: the time is up. */
+static struct slot *next_slot(struct iconvd_pool *pool, const struct pair *pair, enum text text, const struct tries *tries,
+                              struct slot *last) {
+    if (tries->next == AT_ONCE && tries->lost == 2) {
         /* Who used it meanwhile has connected it anew. */
-        slot_lock(slot);
-        status = try_pair(pool, slot, pair, &doing);
+        slot_lock(last);
+        return last;
+    }
+    if (tries->next == AT_ONCE)
+        lose_ended(pool);
+    return pool_take(pool, pair, text, tries->end);
+}
+
+/* The same, with more tries where there is no stream that answers.
+
+   Why this ends: three streams may be lost. Each try waits for one stream, holds no other meanwhile, and gives it back before the next.
+   Each wait for the service has the pool's time limit; once that was up there is no next try. A try that there is no stream for is
+   followed by a wait until another one is due, which ends with the time limit of the call. */
+static iconvd_status with_pair(struct iconvd_pool *pool, const struct pair *pair, enum text text, pool_action *act, void *context) {
+    struct doing doing = {.act = act, .context = context, .tries = tries_begin(pool)};
+    int cancelling = cancelling_off();
+    struct slot *slot = pool_take(pool, pair, text, doing.tries.end);
+    iconvd_status status = slot ? try_pair(pool, slot, pair, &doing) : ICONVD_LOST;
+    while (slot && status == ICONVD_LOST && doing.tries.next != NEVER) {
+        slot = next_slot(pool, pair, text, &doing.tries, slot);
+        if (slot)
+            status = try_pair(pool, slot, pair, &doing);
     }
     cancelling_as(cancelling);
     return status;

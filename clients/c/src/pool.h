@@ -2,15 +2,20 @@
 #ifndef ICONVD_POOL_H
 #define ICONVD_POOL_H
 
+#include "redial.h"
 #include "remote.h"
 
 enum { MOST_STREAMS = 16, LEAST_USUAL_STREAMS = 4, USUAL_TIMEOUT = 10000 };
+
+/* FRESH: a new stream that has not answered; ON_TRIAL: the same, and others wait for what becomes of it; LIVE: it has answered. */
+enum slot_state { UNCONNECTED, FRESH, ON_TRIAL, LIVE };
 
 /* A stream with what its server holds. Everything is under the mutex, and is changed inside the gate. */
 struct slot {
     pthread_mutex_t mutex;
     atomic_uint wanted; /* how many threads wait for this one and no other */
     struct stream stream;
+    enum slot_state state;
     struct remote remote;
     uint64_t generation; /* counts up whenever the stream is lost, so that a descriptor of its own knows that it is gone */
 };
@@ -36,6 +41,11 @@ struct iconvd_pool {
     void *page;               /* which the kernel zeroes in a child; NULL: it cannot */
     atomic_int *alive;        /* on that page */
     atomic_llong down_until;  /* no connection is tried before this time */
+    bool waits;               /* calls wait for a server that went away: without, they fail at once, since the C library can convert */
+    atomic_bool reached;      /* a server has taken a connection, and is no program that is started for each */
+    struct redial redial;
+    atomic_uint turn;         /* of the host's addresses */
+    atomic_int live;          /* how many slots are */
     atomic_int silent;        /* how many connections in a row have ended without any answer */
     pthread_mutex_t known_mutex;
     struct pair *known;       /* pairs that the service has opened once */
@@ -71,7 +81,8 @@ iconvd_status pool_find(struct iconvd_pool *pool, const char *name, struct encod
 /* Whether the service opens the pair. It is asked once. */
 iconvd_status pool_open(struct iconvd_pool *pool, const struct pair *pair);
 
-/* Converts one piece by the shared descriptor of a pair, on any stream. A lost stream costs two more tries. */
+/* Converts one piece by the shared descriptor of a pair, on any stream. A lost stream costs two more tries; a server that went away, or is
+   full, is waited for. */
 iconvd_status pool_convert(struct iconvd_pool *pool, const struct pair *pair, struct work *work);
 
 /* The same for several pieces, one behind the other, until one stops. */
@@ -82,8 +93,9 @@ iconvd_status pool_convert_batch(struct iconvd_pool *pool, const struct pair *pa
 /* A slot for a descriptor that is not shared: the first that nobody uses now, so that a process of one thread has one connection. */
 struct slot *pool_pick(struct iconvd_pool *pool);
 
-/* A slot for a pair, locked: a free one, else the first that becomes free, after those threads that have waited longer. */
-struct slot *pool_take(struct iconvd_pool *pool, const struct pair *pair, enum text text);
+/* A slot for a pair, locked: a free one, else the first that becomes free, after those threads that have waited longer. One that is not
+   connected is free when the server may be tried. NULL: no stream lived, and no try was due, until `end`; the log says why. */
+struct slot *pool_take(struct iconvd_pool *pool, const struct pair *pair, enum text text, long long end);
 
 /* Locks one slot. */
 void slot_lock(struct slot *slot);
@@ -96,15 +108,32 @@ void slot_unlock(struct iconvd_pool *pool, struct slot *slot);
 /* In a child: none of the threads that waited is there. */
 void turns_renew(struct iconvd_pool *pool);
 
+/* tries.c */
+
+/* A call's tries to have a stream that answers. */
+struct tries {
+    long long end; /* when its time is up */
+    unsigned lost; /* how many streams it has lost */
+    enum { NEVER, AT_ONCE, LATER } next; /* when it tries again, after a try without one */
+};
+
+struct tries tries_begin(const struct iconvd_pool *pool);
+
 /* Makes a slot that is locked ready for requests: in a child, after the host closed the descriptor, or after a loss it is connected
-   anew. False: it cannot be. */
-bool slot_ready(struct iconvd_pool *pool, struct slot *slot);
+   anew. False: it cannot be, or not now. */
+bool slot_ready(struct iconvd_pool *pool, struct slot *slot, struct tries *tries);
 
 /* Closes a stream, and forgets what its server holds. */
-void slot_reset(struct slot *slot);
+void slot_reset(struct iconvd_pool *pool, struct slot *slot);
 
 /* Gives a lost stream up, with a line in the log. */
-void slot_lose(struct iconvd_pool *pool, struct slot *slot);
+void slot_lose(struct iconvd_pool *pool, struct slot *slot, struct tries *tries);
+
+/* Notes that a new stream has answered. */
+void slot_settle(struct iconvd_pool *pool, struct slot *slot);
+
+/* Says why a call that has waited ends without a stream. */
+void tries_over(struct iconvd_pool *pool);
 
 /* Logs a refused charmap, and counts uploads. */
 void pool_note(struct iconvd_pool *pool, struct refusal *refusal);

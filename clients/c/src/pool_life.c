@@ -33,6 +33,7 @@ iconvd_status pool_begin(const char *where, const iconvd_options *options, struc
         return ICONVD_ENOMEM;
     iconvd_status status = address_read(&made->address, where);
     made->timeout = wanted->timeout ? wanted->timeout : USUAL_TIMEOUT;
+    made->waits = true;
     made->log = wanted->log;
     made->context = wanted->context;
     made->slot_count = wanted->streams ? wanted->streams : usual_streams();
@@ -44,6 +45,7 @@ iconvd_status pool_begin(const char *where, const iconvd_options *options, struc
         made->slots[i].stream.fd = -1;
         gate_add(&made->gate, &made->slots[i].stream.pass);
     }
+    redial_begin(&made->redial);
     pthread_mutex_init(&made->known_mutex, NULL);
     pthread_mutex_init(&made->lines_mutex, NULL);
     const char *charmaps = wanted->charmaps ? wanted->charmaps : "/usr/share/i18n/charmaps";
@@ -62,9 +64,10 @@ iconvd_status iconvd_connect(const char *where, const iconvd_options *options, i
     if (status != ICONVD_OK)
         return status;
     struct slot *slot = &(*pool)->slots[0];
+    struct tries tries = tries_begin(*pool);
     int cancelling = cancelling_off();
     slot_lock(slot);
-    bool connected = slot_ready(*pool, slot);
+    bool connected = slot_ready(*pool, slot, &tries);
     slot_unlock(*pool, slot);
     cancelling_as(cancelling);
     if (connected)
@@ -85,6 +88,7 @@ void iconvd_disconnect(iconvd_pool *pool) {
     }
     fork_end(pool);
     gate_end(&pool->gate);
+    redial_end(&pool->redial);
     encodings_end(&pool->encodings);
     address_free(&pool->address);
     pthread_mutex_destroy(&pool->known_mutex);
@@ -100,19 +104,20 @@ void iconvd_count(const iconvd_pool *pool, iconvd_counters *counters) {
                                   .uploads = atomic_load(&pool->uploads)};
 }
 
-/* Uploads the charmap, opens it by its name, on one stream, and lets it be found. */
-static iconvd_status add_charmap(struct iconvd_pool *pool, struct encoding *made, struct refusal *refusal) {
-    struct pair pair = {.to = encoding_builtin(UTF_8), .from = made, .strict = true};
-    struct slot *slot = &pool->slots[0];
+/* Uploads a charmap and opens it by its name, on one stream, once. */
+static iconvd_status upload(struct iconvd_pool *pool, struct slot *slot, const struct pair *pair, struct tries *tries,
+                            struct refusal *refusal) {
     struct place place;
-    iconvd_status status = ICONVD_LOST;
-    int cancelling = cancelling_off();
-    slot_lock(slot);
-    for (int try = 0; try < 3 && status == ICONVD_LOST && slot_ready(pool, slot); try++) {
-        status = remote_find(&slot->remote, &slot->stream, &pair, &place, refusal);
-        if (status == ICONVD_LOST)
-            slot_lose(pool, slot);
-    }
+    if (!slot_ready(pool, slot, tries))
+        return ICONVD_LOST;
+    iconvd_status status = remote_find(&slot->remote, &slot->stream, pair, &place, refusal);
+    if (status == ICONVD_LOST)
+        slot_lose(pool, slot, tries);
+    return status;
+}
+
+/* Lets an encoding be found whose charmap the service has taken, and unlocks the slot. */
+static iconvd_status keep(struct iconvd_pool *pool, struct slot *slot, struct encoding *made, iconvd_status status) {
     /* The name is free, so what the service finds taken, or does not find, is another one: the text's. */
     if (status == ICONVD_UNSUPPORTED || status == ICONVD_EXISTS)
         status = ICONVD_NONAME;
@@ -120,8 +125,24 @@ static iconvd_status add_charmap(struct iconvd_pool *pool, struct encoding *made
         status = encodings_publish(&pool->encodings, made);
     /* What the server holds of a charmap that is not kept is given back with the stream. */
     if (status != ICONVD_OK)
-        slot_reset(slot);
+        slot_reset(pool, slot);
     slot_unlock(pool, slot);
+    return status;
+}
+
+/* Uploads the charmap, and lets it be found. */
+static iconvd_status add_charmap(struct iconvd_pool *pool, struct encoding *made, struct refusal *refusal) {
+    struct pair pair = {.to = encoding_builtin(UTF_8), .from = made, .strict = true};
+    iconvd_status status = ICONVD_LOST;
+    struct tries tries = tries_begin(pool);
+    int cancelling = cancelling_off();
+    struct slot *slot = pool_take(pool, &pair, SHORT_TEXT, tries.end);
+    while (slot && (status = upload(pool, slot, &pair, &tries, refusal)) == ICONVD_LOST) {
+        slot_unlock(pool, slot);
+        slot = tries.next == NEVER ? NULL : pool_take(pool, &pair, SHORT_TEXT, tries.end);
+    }
+    if (slot)
+        status = keep(pool, slot, made, status);
     cancelling_as(cancelling);
     return status;
 }

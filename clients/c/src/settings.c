@@ -75,6 +75,9 @@ static void begin(void) {
     iconvd_options options = {.log = log_line};
     const char *where = iconvd_environment(&options);
     iconvd_status status = pool_begin(where, &options, &chosen.pool);
+    /* The C library converts at once what would have to wait for the service. */
+    if (status == ICONVD_OK)
+        chosen.pool->waits = !chosen.falls_back;
     if (status == ICONVD_OK)
         pthread_atfork(before_fork, in_parent, in_child);
     else

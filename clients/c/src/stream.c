@@ -29,8 +29,8 @@ bool stream_register(struct stream *stream, int fd) {
 }
 
 bool stream_connect(struct stream *stream, const struct address *address) {
-    stream->timed_out = false;
-    stream->answered = false;
+    stream->timed_out = stream->ended = false;
+    stream->heard = stream->answered = false;
     stream->reads = 0;
     if (!address_connect(address, stream))
         return false;

@@ -15,7 +15,11 @@ struct stream {
     uint32_t tag;     /* of the last request */
     int timeout;      /* of one call, in milliseconds; below 0 without end */
     bool timed_out;   /* why it was lost */
-    bool answered;    /* something, since it was connected */
+    bool ended;       /* the same: the server has closed it */
+    bool heard;       /* a byte was read, since it was connected */
+    bool answered;    /* a whole reply was */
+    unsigned turn;    /* which of the host's addresses is the first to be tried */
+    unsigned addresses; /* how many of them there were */
     uint64_t reads;   /* how many the server has made of it at most */
     struct pass pass; /* with which who uses it is inside the gate, but while it waits for the service */
 };
@@ -39,6 +43,9 @@ struct call {
 
 /* Connects. The descriptor is moved to a high number, out of the way of hosts that close the low ones. */
 bool stream_connect(struct stream *stream, const struct address *address);
+
+/* Limits how long connect() and each wait for the service take, in milliseconds; 0 and less change nothing. */
+void stream_limit(const struct stream *stream, int timeout);
 
 /* Takes a socket that is not connected yet, or is. False: it is none, and closed. */
 bool stream_register(struct stream *stream, int fd);

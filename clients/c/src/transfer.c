@@ -32,6 +32,11 @@ bool sending_begin(struct sending *sending, const struct call *call, uint32_t ta
     return iconvd_frame_head(sending->frame, asker, call->op, body) != 0;
 }
 
+/* Whether an error says that the peer has closed the stream. */
+static bool is_end(int error) {
+    return error == EPIPE || error == ECONNRESET;
+}
+
 enum transfer sending_go_on(struct stream *stream, struct sending *sending, int flags) {
     while (sending->left > 0) {
         struct msghdr message = {.msg_iov = sending->parts, .msg_iovlen = 3};
@@ -41,6 +46,7 @@ enum transfer sending_go_on(struct stream *stream, struct sending *sending, int 
         if (sent < 0) {
             bool waits = errno == EAGAIN || errno == EWOULDBLOCK;
             stream->timed_out = waits && !(flags & MSG_DONTWAIT);
+            stream->ended = is_end(errno);
             return waits && (flags & MSG_DONTWAIT) ? TRANSFER_AGAIN : TRANSFER_LOST;
         }
         advance(sending->parts, (size_t)sent);
@@ -98,8 +104,10 @@ enum transfer receiving_go_on(struct stream *stream, struct receiving *receiving
         return TRANSFER_AGAIN;
     if (read <= 0) {
         stream->timed_out = read < 0 && (errno == EAGAIN || errno == EWOULDBLOCK);
+        stream->ended = read == 0 || is_end(errno);
         return TRANSFER_LOST;
     }
+    stream->heard = true;
     receiving->got += (size_t)read;
     if (receiving->got < ICONVD_FRAME_HEAD)
         return TRANSFER_AGAIN;

@@ -2,10 +2,16 @@
  * with a server that is right. */
 #include "server.h"
 
+/* A server that ends a stream without a word is taken for a full one, which is waited for. */
+static bool closes_unheard(int fault) {
+    return fault == CLOSE_AT_ONCE || fault == CLOSE_AFTER;
+}
+
 /* Converts a text by three calls. The status of the last one; what was written is compared with what was used. */
 static iconvd_status convert(size_t length, int fault, bool always, int request) {
     static char text[400000], out[900000];
-    iconvd_options options = {.streams = 1, .timeout = fault == SILENT ? 200 : 5000};
+    bool waits = fault == SILENT || (always && closes_unheard(fault));
+    iconvd_options options = {.streams = 1, .timeout = waits ? 200 : 5000};
     iconvd_pool *pool = NULL;
     iconvd_cd *cd = NULL;
     set_plan((enum fault)fault, request, always ? ALL : 1);
@@ -45,7 +51,7 @@ static void test_fault(int fault, int request, size_t length) {
         return;
     if (fault != SILENT)
         check(convert(length, fault, false, request) == ICONVD_OK, "fault %d once, at request %d, of %zu bytes", fault, request, length);
-    /* Always: the call fails, after three connections at most for each call. */
+    /* Always: the call fails, after three connections at most for each call, and as many for a server that is waited for for 200 ms. */
     iconvd_status status = convert(length, fault, true, request);
     int connections = __atomic_load_n(&plan.connections, __ATOMIC_SEQ_CST);
     /* A new connection answers some requests rightly before the wrong one, and that may be all that one more try needs. */

@@ -5,58 +5,11 @@
 #include <time.h>
 
 #include "../src/names.h"
-#include "counting.h"
+#include "texts.h"
 
-enum { LARGE = 1 << 20, SMALL = 70000, OUT = 8 * LARGE };
+enum { LARGE = 1 << 20, OUT = 8 * LARGE };
 
-static iconvd_pool *pool;
-static const char *where;
 static unsigned long names;
-
-/* Texts of the tests. */
-enum text { RANDOM, GERMAN, FRENCH, DAMAGED, EACH_SECOND, FAULTS, CHUNK_ENDS, LEADS, LACKING, TEXTS };
-static const char *const TEXT_NAMES[TEXTS] = {"random", "German", "French", "damaged", "each second byte", "nothing but faults",
-                                              "faults at the ends of chunks", "lone lead bytes", "lacking characters"};
-
-/* What is repeated. */
-static const char *const PIECES[TEXTS] = {
-    [GERMAN] = "Die W\xe4rme des gr\xf6\xdften Feuers f\xfcllt das k\xfchle Geb\xe4ude; \xc4pfel, \xd6l und \xdc" "bermut. ",
-    [FRENCH] = "Les \xe9l\xe8ves fran\xe7" "ais \x93r\xeavent\x94 d\x92\xeatre \xe0 l\x92\xe9" "cole, o\xf9 l\x92on mange des cr\xeapes. ",
-    [EACH_SECOND] = "a\xff",
-    [FAULTS] = "\xff",
-    [LEADS] = "a\xb0 \x81 \xe2 ",
-};
-
-static void repeat(char *text, size_t length, const char *piece, size_t step) {
-    for (size_t at = 0; at < length; at += step)
-        memcpy(text + at, piece, step < length - at ? step : length - at);
-}
-
-static const char SCRIPTS[] = "The W\u00e4rme of \u0416\u0438\u0437\u043d\u044c \u65e5\u672c\u8a9e \ud55c\uad6d\uc5b4 \u0e44\u0e17\u0e22 \u4e2d\u6587 \u20ac ";
-
-/* A text in an encoding, made by the service from what has many scripts; what the encoding lacks is left out. */
-static void make_well_formed(const char *encoding, char *text, size_t length) {
-    iconvd_cd *cd = NULL;
-    char piece[1000] = "a", *out = piece;
-    const char *in = SCRIPTS;
-    size_t left = sizeof SCRIPTS - 1, room = sizeof piece;
-    if (iconvd_open(pool, encoding, "UTF-8", ICONVD_IGNORE, &cd) == ICONVD_OK)
-        iconvd_convert(cd, &in, &left, &out, &room, NULL);
-    iconvd_close(cd);
-    repeat(text, length, piece, out > piece ? (size_t)(out - piece) : 1);
-}
-
-static void make_text(enum text kind, const char *encoding, char *text, size_t length) {
-    static uint64_t state = 0x123456789u;
-    if (PIECES[kind]) {
-        repeat(text, length, PIECES[kind], strlen(PIECES[kind]));
-        return;
-    }
-    make_well_formed(encoding, text, length);
-    size_t step = kind == RANDOM ? 1 : kind == DAMAGED ? 100 : kind == CHUNK_ENDS ? 65515 : length;
-    for (size_t at = step - 1; at < length; at += step)
-        text[at] = (char)(kind == CHUNK_ENDS ? 0xff : next_random(&state));
-}
 
 /* One call. */
 struct call {
@@ -103,15 +56,6 @@ static void test(const struct call *call, const char *text, size_t length) {
 static const int POLICIES[] = {ICONVD_IGNORE, ICONVD_TRANSLIT, ICONVD_IGNORE | ICONVD_TRANSLIT, ICONVD_STRICT, ICONVD_SUBSTITUTE};
 enum { POLICY_COUNT = sizeof POLICIES / sizeof *POLICIES };
 
-/* A new connection now and then, so that a service does not hold all charmaps. */
-static void connect_anew(void) {
-    iconvd_options options = {.streams = 1, .timeout = 60000};
-    iconvd_disconnect(pool);
-    pool = NULL;
-    if (!check(iconvd_connect(where, &options, &pool) == ICONVD_OK, "the relay"))
-        exit(checks_end("meter"));
-}
-
 static double seconds(void) {
     struct timespec now;
     clock_gettime(CLOCK_MONOTONIC, &now);
@@ -139,84 +83,6 @@ static void test_large(void) {
         test_large_text(FROM[i / TEXTS], "UTF-8", kind, ICONVD_IGNORE);
         test_large_text(FROM[i / TEXTS], "KOI8-R", kind, ICONVD_IGNORE | ICONVD_TRANSLIT);
     }
-}
-
-/* Where a call has stopped. */
-struct step {
-    size_t left, room;
-    iconvd_status status;
-};
-
-/* A caller that goes on a byte after each fault. */
-struct loop {
-    const char *from;
-    enum text kind;
-    int policy;
-    size_t count; /* of the first steps, which are kept */
-    struct step steps[100];
-};
-
-static char loop_text[SMALL], loop_out[8 * SMALL], loop_other[8 * SMALL];
-
-/* A call after another one. */
-static struct step step_after(iconvd_cd *cd, const struct step *last, char *out) {
-    struct step step = *last;
-    const char *in = loop_text + sizeof loop_text - step.left;
-    out += sizeof loop_out - step.room;
-    step.status = iconvd_convert(cd, &in, &step.left, &out, &step.room, NULL);
-    return step;
-}
-
-static const struct step FIRST = {.left = sizeof loop_text, .room = sizeof loop_out, .status = ICONVD_EILSEQ};
-
-/* Its calls cost together what one call costs. */
-static void meter_loop(struct loop *loop) {
-    iconvd_cd *cd = NULL;
-    struct step step = FIRST;
-    loop->count = 0;
-    check(iconvd_open(pool, "UTF-8", loop->from, loop->policy, &cd) == ICONVD_OK, "%s", loop->from);
-    uint64_t bytes = text_bytes_sent, requests = texts_sent;
-    while (step.status == ICONVD_EILSEQ && step.left > 0) {
-        step = step_after(cd, &step, loop_out);
-        if (loop->count < sizeof loop->steps / sizeof *loop->steps)
-            loop->steps[loop->count++] = step;
-        step.left -= step.status == ICONVD_EILSEQ;
-    }
-    bytes = text_bytes_sent - bytes;
-    requests = texts_sent - requests;
-    check(step.left < 8 && bytes <= 4 * SMALL + 65536 && requests <= 8 * ((SMALL + 65535) / 65536),
-          "%s, %s, policy %d, a loop: %zu bytes left, %llu requests, %llu bytes", loop->from, TEXT_NAMES[loop->kind], loop->policy,
-          step.left, (unsigned long long)requests, (unsigned long long)bytes);
-    iconvd_close(cd);
-}
-
-/* Each does what it does by itself. */
-static void compare_loop(const struct loop *loop) {
-    struct step last = FIRST;
-    for (size_t i = 0; i < loop->count; i++) {
-        const struct step *seen = &loop->steps[i];
-        iconvd_cd *cd = NULL;
-        iconvd_open(pool, "UTF-8", loop->from, loop->policy, &cd);
-        last = step_after(cd, &last, loop_other);
-        check(last.left == seen->left && last.room == seen->room && last.status == seen->status, "%s, %s, policy %d, call %zu of a loop",
-              loop->from, TEXT_NAMES[loop->kind], loop->policy, i);
-        last.left -= last.status == ICONVD_EILSEQ;
-        iconvd_close(cd);
-    }
-    check(memcmp(loop_out, loop_other, sizeof loop_other - last.room) == 0, "%s, %s, policy %d: the output of a loop", loop->from,
-          TEXT_NAMES[loop->kind], loop->policy);
-}
-
-static void test_loops(void) {
-    static const char *const FROM[] = {"EUC-KR", "UTF-8", "GB18030", "SHIFT_JIS", "BIG5", "EUC-JP", "US-ASCII"};
-    static const enum text KINDS[] = {RANDOM, GERMAN, FRENCH, EACH_SECOND, FAULTS, LEADS};
-    for (size_t i = 0; i < sizeof FROM / sizeof *FROM; i++)
-        for (size_t j = 0; j < 2 * sizeof KINDS / sizeof *KINDS; j++) {
-            struct loop loop = {.from = FROM[i], .kind = KINDS[j / 2], .policy = j % 2 ? ICONVD_TRANSLIT : ICONVD_STRICT};
-            make_text(loop.kind, loop.from, loop_text, sizeof loop_text);
-            meter_loop(&loop);
-            compare_loop(&loop);
-        }
 }
 
 /* Little room. */
@@ -257,7 +123,7 @@ static void test_number(int number) {
     const char *name;
     bool is_first = true;
     if (number % 8 == 0)
-        connect_anew();
+        connect_anew("meter");
     for (size_t i = 0; (name = iconvd_name(i)); i++) {
         struct call call = {.to = "KOI8-R", .from = name, .policy = ICONVD_IGNORE, .kind = RANDOM, .room = OUT};
         if (name_find(name) != number)
@@ -273,9 +139,8 @@ static void test_number(int number) {
 
 int main(void) {
     where = start_counting("meter");
-    connect_anew();
+    connect_anew("meter");
     double begin = seconds();
-    test_loops();
     test_large();
     double large = seconds();
     test_rooms();

@@ -139,12 +139,12 @@ static void test_policy(const struct policy *policy) {
     iconvd_disconnect(pool);
 }
 
-/* A stream that ends after a few requests is told. */
+/* A stream that ends before its first reply is told. */
 static void test_lost(void) {
     iconvd_pool *pool = connect_server(&LOGGED, 1);
     iconvd_cd *cd = NULL;
     check(iconvd_open(pool, "UTF-8", "ASCII", ICONVD_STRICT, &cd) == ICONVD_OK, "by another connection");
-    check(strcmp(lines, "a connection is lost\n") == 0, "%s", lines);
+    check(strstr(lines, ": the server closes new connections (full or draining); trying again\n") != NULL && line_count == 1, "%s", lines);
     iconvd_close(cd);
     iconvd_disconnect(pool);
 }

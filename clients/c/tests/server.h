@@ -33,7 +33,7 @@ enum fault {
     CLOSE_AFTER = 100 /* CLOSE_AFTER + n: closes after n bytes of the reply */
 };
 
-enum { ALL = 1000000 };
+enum { ALL = 1000000, DESCRIPTOR_BITS = 20, DESCRIPTOR = (1 << DESCRIPTOR_BITS) - 1 };
 
 /* What the server does. It is set before a client connects. */
 static struct {
@@ -47,6 +47,10 @@ static struct {
     int texts;        /* how many were sent */
     size_t hold;      /* a text of so many bytes or more is answered after a shorter one; 0: at once */
     int shorter;      /* how many shorter ones were sent */
+    bool closes;      /* a server whose places are taken closes those behind them, after `delay` milliseconds, and does not let them wait */
+    int delay;
+    int closing;      /* how many are being closed now, */
+    int most_closing; /* and were at the same time at most */
     int listener;
 } plan;
 
@@ -132,13 +136,24 @@ static void read_to_end(int fd) {
         ;
 }
 
-/* One connection. */
+/* Closes a connection that there is no place for. */
+static void close_full(int fd) {
+    int closing = __atomic_add_fetch(&plan.closing, 1, __ATOMIC_SEQ_CST);
+    if (closing > plan.most_closing)
+        plan.most_closing = closing;
+    usleep((useconds_t)plan.delay * 1000);
+    __atomic_sub_fetch(&plan.closing, 1, __ATOMIC_SEQ_CST);
+    shutdown(fd, SHUT_RDWR);
+}
+
+/* One connection: its descriptor, and in the bits above it how many there were before. */
 static void *serve(void *argument) {
     static __thread unsigned char request[1100000], reply[2300000];
-    int fd = (int)(intptr_t)argument;
-    int connections = __atomic_load_n(&plan.connections, __ATOMIC_SEQ_CST);
-    bool wrong = connections <= plan.wrong;
-    if (connections > plan.places)
+    int fd = (int)((intptr_t)argument & DESCRIPTOR), before = (int)((intptr_t)argument >> DESCRIPTOR_BITS);
+    bool wrong = before < plan.wrong;
+    if (before >= plan.places && plan.closes)
+        close_full(fd);
+    else if (before >= plan.places)
         read_to_end(fd);
     for (int number = 0; read_all(fd, request, 13); number++) {
         size_t length = 4 + read_number(request);
@@ -164,7 +179,7 @@ static void *serve(void *argument) {
     return NULL;
 }
 
-static void *accept_all(void *argument) {
+static inline void *accept_all(void *argument) {
     (void)argument;
     for (;;) {
         int fd = accept(plan.listener, NULL, NULL);
@@ -174,7 +189,7 @@ static void *accept_all(void *argument) {
         if (number < (int)(sizeof plan.ends / sizeof *plan.ends))
             plan.ends[number] = fd;
         pthread_t thread;
-        if (pthread_create(&thread, NULL, serve, (void *)(intptr_t)fd) == 0)
+        if (pthread_create(&thread, NULL, serve, (void *)((intptr_t)number << DESCRIPTOR_BITS | fd)) == 0)
             pthread_detach(thread);
     }
 }
@@ -185,6 +200,8 @@ static void set_plan(enum fault fault, int request, int wrong) {
     plan.request = request;
     plan.wrong = wrong;
     plan.places = ALL;
+    plan.closes = false;
+    plan.delay = plan.most_closing = 0;
     plan.together = 0;
     plan.hold = 0;
     __atomic_store_n(&plan.shorter, 0, __ATOMIC_SEQ_CST);
@@ -195,15 +212,22 @@ static void set_plan(enum fault fault, int request, int wrong) {
 /* Its address, and the file of its socket. */
 static char where[200], *socket_file = where + 5;
 
-static void start_server(const char *name) {
+/* Listens there from now on. */
+static inline void listen_again(void) {
     struct sockaddr_un at = {.sun_family = AF_UNIX};
-    snprintf(where, sizeof where, "unix:/tmp/iconvd-%s-%ld", name, (long)getpid());
     strcpy(at.sun_path, socket_file);
+    unlink(socket_file);
     plan.listener = socket(AF_UNIX, SOCK_STREAM, 0);
     if (bind(plan.listener, (struct sockaddr *)&at, sizeof at) != 0 || listen(plan.listener, 100) != 0)
         exit(2);
     pthread_t thread;
     pthread_create(&thread, NULL, accept_all, NULL);
+    pthread_detach(thread);
+}
+
+static inline void start_server(const char *name) {
+    snprintf(where, sizeof where, "unix:/tmp/iconvd-%s-%ld", name, (long)getpid());
+    listen_again();
 }
 
 #endif

@@ -62,22 +62,32 @@ static void test_million(void) {
     ours.close(cd);
 }
 
-/* The relay, with the Unix socket that ICONVD names. */
-static pid_t start_relay(void) {
-    int out[2];
+/* The relay, with the Unix socket that ICONVD names, after a pause. What it says is read from `out`. */
+static pid_t begin_relay(long pause, int out[2]) {
     if (pipe(out) != 0)
         exit(2);
     pid_t relay = fork();
     if (relay == 0) {
         setpgid(0, 0);
         dup2(out[1], 1);
+        sleep_milliseconds(pause);
         execl(wanted("RELAY"), "relay", wanted("ICONVD") + 5, wanted("SERVER"), "pipe", (char *)NULL);
         _exit(127);
     }
     close(out[1]);
+    return relay;
+}
+
+static void await_relay(const int out[2]) {
     char line[20];
     check(read(out[0], line, sizeof line) > 0, "the relay listens");
     close(out[0]);
+}
+
+static pid_t start_relay(void) {
+    int out[2];
+    pid_t relay = begin_relay(0, out);
+    await_relay(out);
     return relay;
 }
 
@@ -133,6 +143,29 @@ static void test_restart(void) {
     stop_relay(relay);
     relay = start_relay();
     check(all_right(), "after a restart between two calls");
+    stop_relay(relay);
+}
+
+static long now_in_milliseconds(void) {
+    struct timespec now;
+    clock_gettime(CLOCK_MONOTONIC, &now);
+    return now.tv_sec * 1000 + now.tv_nsec / 1000000;
+}
+
+/* A service that is back after two seconds is waited for, unless the C library can go on at once. */
+static void test_back(void) {
+    struct halves halves;
+    int out[2];
+    pid_t relay = start_relay();
+    check(all_right(), "before the service is killed");
+    begin_halves(&halves);
+    stop_relay(relay);
+    relay = begin_relay(2000, out);
+    long begin = now_in_milliseconds();
+    check(end_halves(&halves), "in the middle of a text, by a service that comes back");
+    long time = now_in_milliseconds() - begin;
+    check(falls_back() ? time < 1900 : time >= 1900, "it took %ld ms", time);
+    await_relay(out);
     stop_relay(relay);
 }
 
@@ -208,7 +241,7 @@ static void test_names(void) {
 
 static const struct test TESTS[] = {
     {"many", test_many}, {"million", test_million}, {"restart", test_restart}, {"stopped", test_stopped}, {"names", test_names},
-    {"forking", test_forking},
+    {"forking", test_forking}, {"back", test_back},
 };
 
 int main(int count, char **words) {

@@ -1,0 +1,101 @@
+/* A caller that goes on a byte after each fault: its calls cost together what one call costs, and each does what it does by itself. A relay
+ * counts the requests. */
+#include "texts.h"
+
+/* Where a call has stopped. */
+struct step {
+    size_t left, room, replaced;
+    iconvd_status status;
+};
+
+/* A caller that goes on a byte after each fault. */
+struct loop {
+    const char *to, *from;
+    enum text kind;
+    int policy;
+    size_t count; /* of the first steps, which are kept */
+    struct step steps[100];
+};
+
+static char loop_text[SMALL], loop_out[8 * SMALL], loop_other[8 * SMALL];
+
+/* A call after another one. */
+static struct step step_after(iconvd_cd *cd, const struct step *last, char *out) {
+    struct step step = *last;
+    const char *in = loop_text + sizeof loop_text - step.left;
+    out += sizeof loop_out - step.room;
+    iconvd_stop stop;
+    step.status = iconvd_convert(cd, &in, &step.left, &out, &step.room, &stop);
+    step.replaced = stop.replaced;
+    return step;
+}
+
+static const struct step FIRST = {.left = sizeof loop_text, .room = sizeof loop_out, .status = ICONVD_EILSEQ};
+
+/* Its calls cost together what one call costs; twice as many requests where the target lacks characters. */
+static void meter_loop(struct loop *loop) {
+    iconvd_cd *cd = NULL;
+    struct step step = FIRST;
+    uint64_t most = (strcmp(loop->to, "UTF-8") == 0 ? 8 : 16) * ((SMALL + 65535) / 65536);
+    loop->count = 0;
+    check(iconvd_open(pool, loop->to, loop->from, loop->policy, &cd) == ICONVD_OK, "%s to %s", loop->from, loop->to);
+    uint64_t bytes = text_bytes_sent, requests = texts_sent;
+    while (step.status == ICONVD_EILSEQ && step.left > 0) {
+        step = step_after(cd, &step, loop_out);
+        if (loop->count < sizeof loop->steps / sizeof *loop->steps)
+            loop->steps[loop->count++] = step;
+        step.left -= step.status == ICONVD_EILSEQ;
+    }
+    bytes = text_bytes_sent - bytes;
+    requests = texts_sent - requests;
+    check(step.left < 8 && bytes <= 4 * SMALL + 65536 && requests <= most,
+          "%s to %s, %s, policy %d, a loop: %zu bytes left, %llu requests, %llu bytes", loop->from, loop->to, TEXT_NAMES[loop->kind],
+          loop->policy, step.left, (unsigned long long)requests, (unsigned long long)bytes);
+    iconvd_close(cd);
+}
+
+/* Each does what it does by itself. */
+static void compare_loop(const struct loop *loop) {
+    struct step last = FIRST;
+    for (size_t i = 0; i < loop->count; i++) {
+        const struct step *seen = &loop->steps[i];
+        iconvd_cd *cd = NULL;
+        iconvd_open(pool, loop->to, loop->from, loop->policy, &cd);
+        last = step_after(cd, &last, loop_other);
+        check(last.left == seen->left && last.room == seen->room && last.status == seen->status && last.replaced == seen->replaced,
+              "%s to %s, %s, policy %d, call %zu of a loop", loop->from, loop->to, TEXT_NAMES[loop->kind], loop->policy, i);
+        last.left -= last.status == ICONVD_EILSEQ;
+        iconvd_close(cd);
+    }
+    check(memcmp(loop_out, loop_other, sizeof loop_other - last.room) == 0, "%s to %s, %s, policy %d: the output of a loop", loop->from,
+          loop->to, TEXT_NAMES[loop->kind], loop->policy);
+}
+
+/* To a target that has all characters, to one that lacks many, and to one of several bytes; what these lack is replaced. */
+static void test_loops(void) {
+    static const char *const FROM[] = {"EUC-KR", "UTF-8", "GB18030", "SHIFT_JIS", "BIG5", "EUC-JP", "US-ASCII"};
+    static const enum text KINDS[] = {RANDOM, GERMAN, FRENCH, EACH_SECOND, FAULTS, LEADS, DAMAGED};
+    static const struct {
+        const char *to;
+        int policy;
+    } TARGETS[] = {{"UTF-8", ICONVD_STRICT}, {"UTF-8", ICONVD_TRANSLIT}, {"KOI8-R", ICONVD_TRANSLIT}, {"EUC-KR", ICONVD_TRANSLIT}};
+    enum { TARGET_COUNT = sizeof TARGETS / sizeof *TARGETS };
+    for (size_t i = 0; i < sizeof FROM / sizeof *FROM; i++)
+        for (size_t j = 0; j < TARGET_COUNT * sizeof KINDS / sizeof *KINDS; j++) {
+            struct loop loop = {.from = FROM[i], .kind = KINDS[j / TARGET_COUNT]};
+            loop.to = TARGETS[j % TARGET_COUNT].to;
+            loop.policy = TARGETS[j % TARGET_COUNT].policy;
+            make_text(loop.kind, loop.from, loop_text, sizeof loop_text);
+            meter_loop(&loop);
+            compare_loop(&loop);
+        }
+}
+
+int main(void) {
+    where = start_counting("loops");
+    connect_anew("loops");
+    test_loops();
+    iconvd_disconnect(pool);
+    unlink(where + 5);
+    return checks_end("loops");
+}

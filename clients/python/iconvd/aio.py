@@ -16,7 +16,8 @@ from .errors import ServerLost, TimedOut
 from .frames import Reply, ReplyReader, Request, Status
 from .library import Library
 from .order import ends
-from .session import Pair, Session, Steps
+from .session import UTF_8, Pair, Session, Steps
+from .tries import Tries, again, concerns_all
 
 T = TypeVar("T")
 _READ_SIZE = 262_144
@@ -34,8 +35,13 @@ class _Waiting(NamedTuple):
 class _Connection:
     """A stream. Requests are sent at once, and replies are given to those who wait, in order."""
 
-    def __init__(self, reader: asyncio.StreamReader, writer: asyncio.StreamWriter, library: Library) -> None:
+    def __init__(
+        self, where: transport.Address, reader: asyncio.StreamReader, writer: asyncio.StreamWriter, library: Library
+    ) -> None:
         self.session = Session(library)
+        #: Whether the server has sent anything on this stream.
+        self.is_served = False
+        self._where = where
         self.opening = asyncio.Lock()
         self.child: Optional["subprocess.Popen[bytes]"] = None
         self._reader = reader
@@ -48,7 +54,7 @@ class _Connection:
     async def exchange(self, requests: Sequence[Request], timeout: Optional[float]) -> List[Reply]:
         """Sends requests, all in a row, and returns their replies."""
         if self.fault is not None:
-            raise _again(self.fault)
+            raise again(self.fault)
         done: "asyncio.Future[List[Reply]]" = asyncio.get_running_loop().create_future()
         self._waiting.append(_Waiting(requests, self._tag, [], done))
         frames = [request.frame((self._tag + n) & 0xFFFFFFFF) for n, request in enumerate(requests)]
@@ -60,10 +66,10 @@ class _Connection:
         except ServerLost as error:
             self.fail(error)
         except asyncio.TimeoutError:
-            self.fail(transport.timed_out(timeout))
+            self.fail(transport.timed_out(self._where, self.is_served, timeout))
         except OSError as error:
-            self.fail(ServerLost(f"the stream failed: {error}"))
-        raise _again(self.fault or ServerLost("the stream failed"))
+            self.fail(transport.stream_lost(self._where, self.is_served, error))
+        raise again(self.fault or ServerLost("the stream failed"))
 
     async def _read_replies(self) -> None:
         reader = ReplyReader()
@@ -71,11 +77,12 @@ class _Connection:
             while True:
                 data = await self._reader.read(_READ_SIZE)
                 if not data:
-                    raise ServerLost("the server ended the stream")
+                    raise transport.stream_lost(self._where, self.is_served)
+                self.is_served = True
                 for reply in reader.feed(data):
                     self._take(reply)
         except OSError as error:
-            self.fail(error if isinstance(error, ServerLost) else ServerLost(f"the stream failed: {error}"))
+            self.fail(error if isinstance(error, ServerLost) else transport.stream_lost(self._where, self.is_served, error))
 
     def _take(self, reply: Reply) -> None:
         if not self._waiting:
@@ -100,7 +107,7 @@ class _Connection:
         while self._waiting:
             waiting = self._waiting.popleft()
             if not waiting.done.done():
-                waiting.done.set_exception(_again(self.fault))
+                waiting.done.set_exception(again(self.fault))
                 waiting.done.exception()
 
     async def close(self) -> None:
@@ -112,21 +119,16 @@ class _Connection:
             await asyncio.get_running_loop().run_in_executor(None, transport.end, child, is_silent)
 
 
-def _again(fault: ServerLost) -> ServerLost:
-    """Returns the same fault for another who waits."""
-    return type(fault)(str(fault))
-
-
 async def _connect(where: transport.Address, library: Library, timeout: Optional[float]) -> _Connection:
     try:
         if where.kind == "tcp":
             host, port = transport.host_and_port(where.rest)
             reader, writer = await asyncio.wait_for(asyncio.open_connection(host, port, limit=_READ_SIZE), timeout)
             writer.get_extra_info("socket").setsockopt(socket.IPPROTO_TCP, socket.TCP_NODELAY, 1)
-            return _Connection(reader, writer, library)
+            return _Connection(where, reader, writer, library)
         if where.kind == "unix":
             reader, writer = await asyncio.wait_for(asyncio.open_unix_connection(where.rest, limit=_READ_SIZE), timeout)
-            return _Connection(reader, writer, library)
+            return _Connection(where, reader, writer, library)
         ours, child_end = socket.socketpair()
         try:
             child = transport.start(where.rest, child_end)
@@ -137,10 +139,10 @@ async def _connect(where: transport.Address, library: Library, timeout: Optional
             child_end.close()
         reader, writer = await asyncio.open_connection(sock=ours, limit=_READ_SIZE)
     except asyncio.TimeoutError as error:
-        raise transport.timed_out(timeout) from error
+        raise transport.timed_out(where, False, timeout) from error
     except OSError as error:
         raise transport.not_connected(where, error) from error
-    connection = _Connection(reader, writer, library)
+    connection = _Connection(where, reader, writer, library)
     connection.child = child
     return connection
 
@@ -149,20 +151,24 @@ class AsyncClient:
     """One stream to a server, opened when it is first needed, for one event loop.
 
     Conversions that run at once are sent one after the other, and none waits for another's reply. What a lost server did not
-    answer is sent again on a new stream, twice at most. What was not answered in time is not sent again.
+    answer is sent again on a new stream, twice at most. A server that takes no stream for now is tried again until the time
+    limit is up. What was not answered in time is not sent again.
     """
 
     def __init__(self, where: Optional[str] = None, timeout: Optional[float] = None) -> None:
         """See iconvd.Client."""
         self._address = transport.address(where)
         self._timeout = transport.time_limit(timeout)
-        self._silent_at = 0.0
+        self._was_served = False
+        # The last fault that those who waited for a stream meanwhile get too, and when it was.
+        self._fault: Optional[ServerLost] = None
+        self._fault_at = 0.0
         self.library = Library()
         self._connection: Optional[_Connection] = None
         self._connecting: Optional[asyncio.Lock] = None
 
     async def __aenter__(self) -> AsyncClient:
-        await self._connected(asyncio.get_running_loop().time())
+        await self._connected()
         return self
 
     async def __aexit__(
@@ -192,22 +198,22 @@ class AsyncClient:
         """Decodes bytes as `bytes.decode` does."""
         origin, begin = text.without_mark(self.library.find(source), data)
         codec = text.TextCodec(source, origin, self.library)
-        pair = Pair(steps.UTF_8, origin)
+        pair = Pair(UTF_8, origin)
         return (await self._run(pair, lambda session: codec.decode(session, data, errors, True, begin))).text
 
     async def encode(self, characters: str, target: str, errors: str = "strict") -> bytes:
         """Encodes a text as `str.encode` does."""
         ordered, mark = text.mark_of(self.library.find(target))
         codec = text.TextCodec(target, ordered, self.library)
-        pair = Pair(ordered, steps.UTF_8)
+        pair = Pair(ordered, UTF_8)
         return mark + await self._run(pair, lambda session: codec.encode(session, characters, errors))
 
     async def upload(self, charmap: Union[bytes, str]) -> Charmap:
         """Adds a charmap of the caller's own. See Client.upload."""
         encoding, is_added = self.library.uploaded(charmap)
-        pair = Pair(steps.UTF_8, encoding)
+        pair = Pair(UTF_8, encoding)
         try:
-            await self._run(pair, lambda session: session.descriptor(pair))
+            await self._run(pair, lambda session: session.descriptor(pair, is_whole=True))
         except BaseException:
             if is_added:
                 self.library.remove(encoding)
@@ -215,22 +221,33 @@ class AsyncClient:
         return self.library.get(encoding.name)
 
     async def _run(self, pair: Pair, make: Callable[[Session], Steps[T]]) -> T:
-        began = asyncio.get_running_loop().time()
-        for tries_left in (2, 1, 0):
-            connection = await self._connected(began)
+        tries = Tries(self._timeout, self._connection is not None and self._connection.fault is None)
+        while True:
             try:
-                async with connection.opening:
-                    descriptor = await self._drive(connection, connection.session.descriptor(pair))
-                    if descriptor.has_state:
-                        return await self._drive(connection, make(connection.session))
-                return await self._drive(connection, make(connection.session))
+                return await self._run_once(pair, make)
             except ServerLost as error:
-                if self._connection is connection:
-                    self._connection = None
-                await connection.close()
-                if not tries_left or isinstance(error, TimedOut):
+                pause = tries.pause(error, asyncio.get_running_loop().time(), self._was_served)
+                if pause is None:
                     raise
-        raise AssertionError("not reached")
+            await asyncio.sleep(pause)
+
+    async def _run_once(self, pair: Pair, make: Callable[[Session], Steps[T]]) -> T:
+        connection = await self._connected()
+        try:
+            async with connection.opening:
+                descriptor = await self._drive(connection, connection.session.descriptor(pair))
+                if descriptor.has_state:
+                    return await self._drive(connection, make(connection.session))
+            return await self._drive(connection, make(connection.session))
+        except ServerLost:
+            self._note_served(connection)
+            if self._connection is connection:
+                self._connection = None
+            await connection.close()
+            raise
+
+    def _note_served(self, connection: Optional[_Connection]) -> None:
+        self._was_served |= connection is not None and connection.is_served
 
     async def _drive(self, connection: _Connection, running: Steps[T]) -> T:
         try:
@@ -243,17 +260,21 @@ class AsyncClient:
         finally:
             running.close()
 
-    async def _connected(self, began: float) -> _Connection:
-        """Returns the stream, which is opened if there is none. Those who wait for one that can't be opened in time wait once."""
+    async def _connected(self) -> _Connection:
+        """Returns the stream, which is opened if there is none. Those who wait for one that can't be opened wait once."""
+        loop = asyncio.get_running_loop()
+        asked = loop.time()
         if self._connecting is None:
             self._connecting = asyncio.Lock()
         async with self._connecting:
-            if self._silent_at > began:
-                raise transport.timed_out(self._timeout)
+            if self._fault is not None and self._fault_at > asked:
+                raise again(self._fault)
             if self._connection is None or self._connection.fault is not None:
+                self._note_served(self._connection)
                 try:
                     self._connection = await _connect(self._address, self.library, self._timeout)
-                except TimedOut:
-                    self._silent_at = asyncio.get_running_loop().time()
+                except ServerLost as error:
+                    if concerns_all(error):
+                        self._fault, self._fault_at = error, loop.time()
                     raise
             return self._connection

@@ -11,7 +11,9 @@ import gzip
 import os
 import re
 import zlib
-from typing import Dict, List, NamedTuple, Tuple
+from itertools import repeat
+from operator import sub
+from typing import Dict, List, NamedTuple, Optional, Tuple
 
 from .errors import CharmapRefused
 
@@ -19,6 +21,8 @@ from .errors import CharmapRefused
 FOLDER = "/usr/share/i18n/charmaps"
 #: Bytes that a charmap's text may have, as the server takes it.
 MAX_TEXT = 8_388_608
+#: Bytes of a file whose beginning is uploaded first.
+LONG_TEXT = 2_097_152
 
 _DECLARATION = re.compile(rb"^<(code_set_name|escape_char|comment_char|mb_cur_min|mb_cur_max)>[ \t]+(\S+)", re.M)
 #: The line CHARMAP, or a mapping in a file that has no such line.
@@ -112,11 +116,9 @@ def _span(name: bytes) -> int:
 def _is_clean(body: bytes, comment: bytes) -> bool:
     """Whether each line is a mapping in both directions, a comment or empty."""
     lines = b"\n" + body
-    if b"%IRREVERSIBLE%" in body or b"><" in body or len(comment) != 1 or comment in b"<\n" or b"\n\n\n" in lines:
+    if b"%IRREVERSIBLE%" in body or b"><" in body or len(comment) != 1 or comment in b"<\n":
         return False
-    # Counting is many times as fast as a regular expression.
-    usual = lines.count(b"\n<") + lines.count(b"\n" + comment) + lines.count(b"\n\n") + lines.endswith(b"\n")
-    return usual == lines.count(b"\n")
+    return re.search(rb"\n(?![<\n%s]|\Z)" % re.escape(comment), lines) is None
 
 
 def _spans(body: bytes) -> int:
@@ -124,15 +126,14 @@ def _spans(body: bytes) -> int:
     if b">...<" in body:
         return sum(max(0, int(last, 16) - int(first, 16)) for first, last in _SPAN.findall(body))
     pieces = body.split(b">..<U")
-    firsts = [piece[piece.rfind(b"<U") + 2 :] for piece in pieces[:-1]]
-    lasts = [piece[: piece.find(b">")] for piece in pieces[1:]]
-    return sum(max(0, int(last, 16) - int(first, 16)) for first, last in zip(firsts, lasts))
+    firsts = map(int, [piece[piece.rfind(b"<U") + 2 :] for piece in pieces[:-1]], repeat(16))
+    lasts = map(int, [piece[: piece.find(b">")] for piece in pieces[1:]], repeat(16))
+    return sum([more for more in map(sub, lasts, firsts) if more > 0])
 
 
-def _as_it_is(name: bytes, body: bytes, declared: Dict[bytes, bytes]) -> Charmap:
-    """Returns the charmap of a file whose lines need no mending."""
+def _declared_charmap(name: bytes, body: bytes, declared: Dict[bytes, bytes], mappings: int) -> Charmap:
+    """Returns the charmap of lines that need no mending."""
     lengths = declared[b"mb_cur_min"], declared[b"mb_cur_max"]
-    mappings = body.count(b"\n<") + 1 + _spans(body)
     head = b"".join(b"<%s> %s\n" % declaration for declaration in declared.items() if declaration[0] != b"code_set_name")
     text = b"<code_set_name> %s\n%sCHARMAP\n%sEND CHARMAP\n" % (name, head, body)
     return Charmap(name, text, mappings, int(lengths[0]), int(lengths[1]), declared[b"escape_char"])
@@ -152,7 +153,7 @@ def mend(file: str, text: bytes) -> Charmap:
     declared: Dict[bytes, bytes] = dict(_DECLARATION.findall(header))
     name = b"map-" + file.encode("ascii", "replace")
     if len(declared) == 5 and _is_clean(body, declared[b"comment_char"]):
-        return _as_it_is(name, body, declared)
+        return _declared_charmap(name, body, declared, body.count(b"\n<") + 1 + _spans(body))
     escape = declared.get(b"escape_char", b"\\")[:1]
     mappings = _MAPPING.findall(body)
     found = _measured(name, b"", mappings, escape)
@@ -166,6 +167,31 @@ def mend(file: str, text: bytes) -> Charmap:
     both_ways = [mapped + b" " + encoding for one_way, mapped, encoding in mappings if not one_way]
     read_only = [mapped + b" " + encoding for one_way, mapped, encoding in mappings if one_way]
     return found._replace(text=b"\n".join(head + both_ways + read_only + [b"END CHARMAP", b""]))
+
+
+class Beginning(NamedTuple):
+    """The beginning of a long charmap, as a charmap of its own, and the other lines."""
+
+    charmap: Charmap
+    rest: bytes
+
+
+def beginning(file: str, text: bytes) -> Optional[Beginning]:
+    """Returns the mappings of a long file before its first range and before the first character above U+FFFF, if they are half
+    of the file or more: the server takes them in a third of the time. What they convert all of the file converts to the same,
+    since the first mapping of a character counts."""
+    begin = _BEGIN.search(text)
+    if len(text) < LONG_TEXT or not begin:
+        return None
+    found = [at for at in (text.find(b">..<U"), text.find(b"\n<U00010")) if at >= 0]
+    end = text.rfind(b"\n", 0, min(found) + 1) + 1 if found else 0
+    declared: Dict[bytes, bytes] = dict(_DECLARATION.findall(text[: begin.start()]))
+    body = text[begin.end() : end]
+    if len(declared) < 5 or 2 * len(body) < len(text) or b"%IRREVERSIBLE%" in text:
+        return None
+    # No file has this name.
+    charmap = _declared_charmap(b"map-%s/1" % file.encode("ascii", "replace"), body, declared, body.count(b"\n<") + 1)
+    return Beginning(charmap, text[end : text.find(b"\n" + _END, end) + 1 or len(text)])
 
 
 def own(text: bytes) -> Charmap:

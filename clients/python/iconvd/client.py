@@ -17,12 +17,11 @@ from .library import Library
 from .names import Encoding
 from .order import ends
 from .pieces import Conversion, Decoder, Encoder
-from .session import Pair, Session, Steps
-from .transport import ENDING, Stream, address, time_limit, timed_out
+from .session import NO_CALLER, UTF_8, Pair, Session, Steps
+from .transport import ENDING, Stream, address, time_limit
+from .tries import Tries, again, concerns_all
 
 T = TypeVar("T")
-#: A caller number that no session uses, for pings.
-_PING_CALLER = 0xFFFFFFFF
 _READ_SIZE = 262_144
 
 
@@ -31,7 +30,8 @@ class Client:
 
     All methods may be called from any thread; they take turns on the stream. After fork(2) the child opens a stream of its
     own. A request that a lost server did not answer is sent again on a new stream, twice at most: no descriptor keeps
-    anything between two calls, so nothing is converted twice. A request that was not answered in time is not sent again.
+    anything between two calls, so nothing is converted twice. A server that takes no stream for now is tried again until the
+    time limit is up (see tries.py). A request that was not answered in time is not sent again.
     """
 
     def __init__(self, where: Optional[str] = None, timeout: Optional[float] = None) -> None:
@@ -46,7 +46,10 @@ class Client:
         self._stream: Optional[Stream] = None
         self._session = Session(self.library)
         self._closings = 0
-        self._silent_at = 0.0
+        self._was_served = False
+        # The last fault that those who waited for their turn meanwhile get too, and when it was.
+        self._fault: Optional[ServerLost] = None
+        self._fault_at = 0.0
 
     # ---- the stream
 
@@ -55,24 +58,24 @@ class Client:
         self._check_fork()
         began, closings = time.monotonic(), self._closings
         with self._lock:
-            if self._silent_at > began:
-                # The server was silent for another thread while this one waited for its turn.
-                raise timed_out(self._timeout)
-            for tries_left in (2, 1, 0):
-                if self._closings != closings:
-                    raise ServerLost("the client was closed")
+            if self._fault is not None and self._fault_at > began:
+                raise again(self._fault)
+            tries = Tries(self._timeout, self._stream is not None)
+            while self._closings == closings:
                 try:
                     return self._run_once(make)
-                except (TimedOut, NotStarted) as error:
-                    self._drop(at_once=True)
-                    if isinstance(error, TimedOut):
-                        self._silent_at = time.monotonic()
-                    raise
-                except ServerLost:
-                    self._drop()
-                    if not tries_left:
+                except ServerLost as error:
+                    self._drop(at_once=isinstance(error, (TimedOut, NotStarted)))
+                    pause = tries.pause(error, time.monotonic(), self._was_served)
+                    if pause is None:
+                        self._note_fault(error)
                         raise
-        raise AssertionError("not reached")
+                time.sleep(pause)
+        raise ServerLost("the client was closed")
+
+    def _note_fault(self, fault: ServerLost) -> None:
+        if concerns_all(fault):
+            self._fault, self._fault_at = fault, time.monotonic()
 
     def _run_once(self, make: Callable[[Session], Steps[T]]) -> T:
         if self._stream is not None and self._stream.process_id != os.getpid():
@@ -102,6 +105,7 @@ class Client:
     def _drop(self, at_once: bool = False) -> None:
         stream, self._stream = self._stream, None
         if stream is not None:
+            self._was_served |= stream.is_served
             stream.close(at_once)
 
     def _check_fork(self) -> None:
@@ -136,7 +140,7 @@ class Client:
         """Asks the server for a reply. Raises ServerLost if none comes."""
 
         def make(_session: Session) -> Steps[None]:
-            (reply,) = yield [Request(_PING_CALLER, Op.BYE)]
+            (reply,) = yield [Request(NO_CALLER, Op.BYE)]
             if reply.status != Status.OK:
                 raise ServerLost(f"the server answered a ping by status {reply.status}")
 
@@ -192,7 +196,7 @@ class Client:
         server refuses the text; it has the line and the cause."""
         encoding, is_added = self.library.uploaded(text)
         try:
-            self.run(lambda session: session.descriptor(Pair(steps.UTF_8, encoding)))
+            self.run(lambda session: session.descriptor(Pair(UTF_8, encoding), is_whole=True))
         except BaseException:
             if is_added:
                 self.library.remove(encoding)

@@ -1,156 +1,61 @@
 """The codes of a charmap: its byte strings and its characters, as the form of its encoding (see forms.py).
 
-A charmap's text has up to 262,144 mappings, many of them in ranges. They are kept as bits: one number for all strings that
-differ in the last byte alone, and ranges of characters. Regular expressions are made from both.
+Strings are kept as bits, one number for all that differ in the last byte alone (see mappings.py), and characters as ranges.
+Scanners and regular expressions are made from both.
 """
 
 from __future__ import annotations
 
 import functools
-import itertools
 import re
 from typing import Dict, Iterator, List, Optional, Set, Tuple
 
+from . import mappings
 from .charmaps import Charmap
 from .errors import CharmapRefused
 from .forms import PatternForm, Patterns, Span
-from .scan import Box, Scanner, Strings
-from .symbols import SYMBOLS
+from .mappings import LastBytes, Range
+from .scan import Box, Scanner, Strings, union
 
-_USUAL = rb"^[ \t]*<U([0-9A-Fa-f]{4,8})>(?:\.\.<U([0-9A-Fa-f]{4,8})>)?[ \t]+((?:%sx[0-9A-Fa-f]{2})+)(?=\s)"
-_LINE = re.compile(rb"^[ \t]*<([^>\n]*)>(?:(\.{2,3})<U([0-9A-Fa-f]{4,8})>)?[ \t]+(\S+)", re.M)
-_CONSTANT = re.compile(rb".(?:x([0-9A-Fa-f]{2})|d([0-9]{2,3})|([0-7]{2,3}))", re.S)
 _ALL = (1 << 256) - 1
 _UNDEFINED = "character maps to <undefined>"
 _ILLEGAL = "illegal multibyte sequence"
-#: A character, how many there are from it on, the number that the bytes of the first are (the highest byte first), and how
-#: many bytes they are.
-Range = Tuple[int, int, int, int]
-
-
-def _code(constants: bytes) -> Tuple[int, int]:
-    """Returns the number and the length of a byte string such as `\\d129\\d254`."""
-    numbers = [int(x or d or o, 16 if x else 10 if d else 8) for x, d, o in _CONSTANT.findall(constants)]
-    return int.from_bytes(bytes(number & 0xFF for number in numbers), "big"), len(numbers)
-
-
-def _point(name: bytes) -> Optional[int]:
-    """Returns the character of a name, without the brackets around it."""
-    found = re.fullmatch(rb"U([0-9A-Fa-f]{4,8})", name)
-    return int(found[1], 16) if found else SYMBOLS.get(name.decode("latin-1"))
-
-
-def _unusual_ranges(body: bytes) -> Iterator[Range]:
-    """Gives the mappings of lines with symbolic names, with decimal and octal constants, and with ranges in decimal."""
-    for name, dots, last, constants in _LINE.findall(body):
-        code, length = _code(constants)
-        if dots == b"...":
-            # A number's decimal digits are the character's hexadecimal ones.
-            for offset, number in enumerate(range(int(name[1:], 10), int(last, 10) + 1)):
-                yield int(str(number), 16), 1, code + offset, length
-            continue
-        point = _point(name)
-        if point is not None and length:
-            yield point, int(last, 16) - point + 1 if dots else 1, code, length
-
-
-def _range(name: bytes) -> Tuple[int, int]:
-    """Returns the first character of `<U...>..<U...>`, and how many there are. Raises ValueError for another name."""
-    first, _, last = name.partition(b">..<U")
-    return int(first[2:], 16), int(last[:-1], 16) - int(first[2:], 16) + 1
-
-
-def _plain_lines(body: bytes) -> List[bytes]:
-    """Returns the lines of the mappings of a charmap in which each line is as usual. Raises ValueError for another one."""
-    lines = [line for line in body.split(b"\n") if line[:2] == b"<U"]
-    if len(lines) != (b"\n" + body).count(b"\n<") or b"\n " in body or b"\n\t" in body:
-        raise ValueError("a line is not as usual")
-    return lines
-
-
-def _plain_ranges(body: bytes, escape: bytes) -> List[Range]:
-    """Returns the mappings of a charmap in which each line is as usual. Raises ValueError for another one."""
-    lines = _plain_lines(body.replace(escape + b"x", b""))
-    names = [line.split(None, 1)[0] for line in lines]
-    codes = [line.split(None, 2)[1] for line in lines]
-    return [
-        (int(name[2:-1], 16), 1, code, length // 2) if len(name) < 12 else (*_range(name), code, length // 2)
-        for name, code, length in zip(names, map(int, codes, itertools.repeat(16)), map(len, codes))
-    ]
-
-
-def _plain_spans(body: bytes) -> List[Tuple[int, int]]:
-    """Returns the first character of each mapping, and the one after its last. Raises ValueError as `_plain_lines` does."""
-    names = [line.split(None, 1)[0] for line in _plain_lines(body)]
-    spans = [(point, point + 1) for point in map(int, [name[2:-1] for name in names if len(name) < 12], itertools.repeat(16))]
-    spans.extend((first, first + count) for first, count in map(_range, (name for name in names if len(name) >= 12)))
-    return spans
-
-
-def ranges(body: bytes, escape: bytes) -> List[Range]:
-    """Returns the mappings of the lines between CHARMAP and END CHARMAP."""
-    try:
-        return _plain_ranges(body, escape)
-    except (ValueError, IndexError):
-        pass
-    usual = re.compile(_USUAL % re.escape(escape), re.M)
-    constant = escape + b"x"
-    found = [
-        (int(first, 16), int(last, 16) - int(first, 16) + 1 if last else 1, int(code.replace(constant, b""), 16), len(code) // 4)
-        for first, last, code in usual.findall(body)
-    ]
-    if len(found) == (b"\n" + body).count(b"\n<"):
-        return found
-    return found + list(_unusual_ranges(usual.sub(b"%", body)))
 
 
 class _Strings:
     """Byte strings as bits: for all bytes before the last one, which last bytes there are."""
 
-    def __init__(self) -> None:
-        self._bits: Dict[Tuple[int, int], int] = {}
-
-    def add_all(self, found: List[Range]) -> None:
-        """Adds the strings of mappings, which count up from the first."""
-        bits = self._bits
-        for _, count, code, length in found:
-            low = code & 0xFF
-            while low + count > 256:
-                key = (length - 1, code >> 8)
-                bits[key] = bits.get(key, 0) | _ALL >> low << low
-                code += 256 - low
-                count -= 256 - low
-                low = 0
-            key = (length - 1, code >> 8)
-            bits[key] = bits.get(key, 0) | ((1 << count) - 1) << low
-
-    def _tree(self) -> Tuple[Dict[bytes, int], Dict[bytes, Set[int]]]:
-        """Returns the last bytes of the strings by what is before them, and the bytes between by what is before these."""
-        leaves = {number.to_bytes(length, "big"): bits for (length, number), bits in self._bits.items() if bits}
-        after: Dict[bytes, Set[int]] = {}
-        for prefix in leaves:
-            while prefix and prefix[-1] not in after.setdefault(prefix[:-1], set()):
-                after[prefix[:-1]].add(prefix[-1])
-                prefix = prefix[:-1]
-        return leaves, after
+    def __init__(self, found: LastBytes) -> None:
+        self._leaves = found
 
     def scanner(self, separator: bytes) -> Optional[Scanner]:
         """Returns what finds the faults of a text of these strings."""
-        leaves, after = self._tree()
-        single = leaves.pop(b"", 0)
+        by_size: Dict[int, List[bytes]] = {}
+        for prefix in self._leaves:
+            by_size.setdefault(len(prefix), []).append(prefix)
         pairs: Dict[int, int] = {}
-        longer: Dict[int, List[int]] = {}
-        for prefix, last in leaves.items():
-            if len(prefix) == 1:
-                pairs[last] = pairs.get(last, 0) | 1 << prefix[0]
-                continue
-            united = longer.setdefault(len(prefix), [0] * (len(prefix) + 1))
-            for at, byte in enumerate(prefix):
-                united[at] |= 1 << byte
-            united[-1] |= last
+        for prefix in by_size.get(1, ()):
+            last = self._leaves[prefix]
+            pairs[last] = pairs.get(last, 0) | 1 << prefix[0]
         boxes: List[Box] = [(leads, last) for last, leads in pairs.items()]
-        boxes.extend(map(tuple, longer.values()))
-        return Scanner.of(single, boxes, separator, Strings(leaves, after))
+        boxes.extend(self._box(size, prefixes) for size, prefixes in by_size.items() if size > 1)
+        shorter = {prefix[:size] for size in range(max(by_size)) for prefix in self._leaves if len(prefix) > size}
+        return Scanner.of(self._leaves.get(b"", 0), boxes, separator, Strings(self._leaves, shorter))
+
+    def _box(self, size: int, prefixes: List[bytes]) -> Box:
+        """Returns the bytes that strings have at each place."""
+        before = b"".join(prefixes)
+        columns = [union(1 << byte for byte in set(before[at::size])) for at in range(size)]
+        return (*columns, union(set(map(self._leaves.__getitem__, prefixes))))
+
+    def _tree(self) -> Tuple[Dict[bytes, int], Dict[bytes, Set[int]]]:
+        """Returns the last bytes of the strings by what is before them, and the bytes between by what is before these."""
+        after: Dict[bytes, Set[int]] = {}
+        for prefix in self._leaves:
+            while prefix and prefix[-1] not in after.setdefault(prefix[:-1], set()):
+                after[prefix[:-1]].add(prefix[-1])
+                prefix = prefix[:-1]
+        return dict(self._leaves), after
 
     def patterns(self, separator: bytes) -> Patterns:
         """Returns the patterns of the strings but the separator."""
@@ -229,11 +134,13 @@ def _separator(found: List[Range]) -> Tuple[str, bytes]:
     raise CharmapRefused("", "each of its characters has two encodings")
 
 
-def _usual_separator(charmap: Charmap, body: bytes) -> Optional[Tuple[str, bytes]]:
+def _usual_separator(charmap: Charmap, body: bytes, rest: bytes) -> Optional[Tuple[str, bytes]]:
     """Returns U+0000, which most charmaps have once, and its byte string."""
     at = body.find(b"<U0000>")
     usual = re.compile(rb"<U0000>[ \t]+%sx([0-9A-Fa-f]{2})\s" % re.escape(charmap.escape)).match(body, at) if at >= 0 else None
-    if usual is None or charmap.shortest != 1 or at > 0 and body[at - 1 : at] != b"\n" or body.count(b"<U0000>") > 1:
+    if usual is None or charmap.shortest != 1 or at > 0 and body[at - 1 : at] != b"\n":
+        return None
+    if body.count(b"<U0000") + rest.count(b"<U0000") > 1:
         return None
     return "\0", bytes((int(usual[1], 16),))
 
@@ -241,21 +148,25 @@ def _usual_separator(charmap: Charmap, body: bytes) -> Optional[Tuple[str, bytes
 class CharmapForm(PatternForm):
     """The form of a charmap's encoding. What is made of the charmap is made when it is first needed."""
 
-    def __init__(self, charmap: Charmap) -> None:
+    def __init__(self, charmap: Charmap, rest: bytes = b"") -> None:
+        """`rest` is the lines of a charmap of which `charmap` is the beginning."""
         self._charmap = charmap
+        self._rest = rest
         self.is_multibyte = charmap.longest > 1
-        mark, separator = _usual_separator(charmap, charmap.body()) or _separator(self._ranges())
+        mark, separator = _usual_separator(charmap, charmap.body(), rest) or _separator(self._ranges())
         super().__init__(separator, mark, not self.is_multibyte)
         self.lacking_reason = _ILLEGAL if self.is_multibyte else _UNDEFINED
 
     def _ranges(self) -> List[Range]:
-        return ranges(self._charmap.body(), self._charmap.escape)
+        bodies = (self._charmap.body(), self._rest)
+        return [each for body in bodies for each in mappings.ranges(body, self._charmap.escape)]
 
     @functools.cached_property
     def _strings(self) -> _Strings:
-        strings = _Strings()
-        strings.add_all(self._ranges())
-        return strings
+        found = mappings.last_bytes(self._charmap.body(), self._charmap.escape)
+        for before, last in mappings.last_bytes(self._rest, self._charmap.escape).items():
+            found[before] = found.get(before, 0) | last
+        return _Strings(found)
 
     @functools.cached_property
     def _scanner(self) -> Optional[Scanner]:
@@ -268,11 +179,27 @@ class CharmapForm(PatternForm):
         return self._strings.patterns(self.separator)
 
     def has(self) -> List[Span]:
-        try:
-            spans = _plain_spans(self._charmap.body())
-        except (ValueError, IndexError):
-            spans = [(first, first + count) for first, count, _, _ in self._ranges()]
-        return list(_runs(sorted(spans)))
+        found = mappings.spans(self._charmap.body(), self._charmap.escape)
+        return list(_runs(sorted([*found, *self._rest_spans])))
+
+    # ---- the rest of a charmap of which the beginning is uploaded alone
+
+    def has_in_rest(self, character: str) -> bool:
+        """Whether the rest of the charmap has a character."""
+        return any(first <= ord(character) < end for first, end in self._rest_spans)
+
+    def may_have_in_rest(self, data: bytes) -> bool:
+        """Whether bytes may begin with a byte string of the rest."""
+        return self._rest_first_bytes is None or not self._rest_first_bytes.isdisjoint(data[:1])
+
+    @functools.cached_property
+    def _rest_spans(self) -> List[Span]:
+        """The characters of the rest: the first of each run, and the one after its last."""
+        return mappings.spans(self._rest, self._charmap.escape)
+
+    @functools.cached_property
+    def _rest_first_bytes(self) -> Optional[Set[int]]:
+        return mappings.first_bytes(self._rest, self._charmap.escape)
 
     def reason(self, item: bytes, is_cut: bool) -> str:
         if is_cut:

@@ -19,6 +19,14 @@ class NotStarted(ServerLost):
     """The program of an `exec:` address can't be started."""
 
 
+class NotReached(ServerLost):
+    """No stream to the server can be made: nothing listens at its address."""
+
+
+class ServerBusy(ServerLost):
+    """The server ends new streams before their first reply, or takes none: it is full, or it is draining."""
+
+
 class UnknownEncoding(IconvdError, LookupError):
     """No built-in encoding and no charmap has this name."""
 

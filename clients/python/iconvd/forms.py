@@ -88,8 +88,7 @@ class Form:
     def special(self) -> Pattern[str]:
         """The pattern of the mark, and of characters that the encoding lacks, as many as CPython reports at once."""
         if self._special is None:
-            has = "".join(f"{_escaped(first)}-{_escaped(last)}" for first, last in self.has())
-            self._special = re.compile(f"{re.escape(self.mark)}|[^{has}]" + ("+" if self._in_runs else ""))
+            self._special = re.compile(f"{re.escape(self.mark)}|{_lacking(self.has())}" + ("+" if self._in_runs else ""))
         return self._special
 
     def lacks(self, text: str) -> Optional[int]:
@@ -170,6 +169,15 @@ class PatternForm(Form):
 
     def is_cut(self, item: bytes) -> bool:
         return self._cut is not None and self._cut.fullmatch(item) is not None
+
+
+def _lacking(has: Sequence[Span]) -> str:
+    """Returns the pattern of a character outside of sorted spans. What is less is in it: it is made character by character."""
+    between = zip([-1, *(last for _, last in has)], [*(first for first, _ in has), 0x110000])
+    gaps = [(last + 1, first - 1) for last, first in between if first - last > 1]
+    is_rich = sum(min(last, 0xFFFF) - first for first, last in has if first <= 0xFFFF) >= 0x8000
+    listed = "".join(f"{_escaped(first)}-{_escaped(last)}" for first, last in (gaps if is_rich else has))
+    return f"[{listed}]" if is_rich and gaps else "(?!)" if is_rich else f"[^{listed}]"
 
 
 def _escaped(point: int) -> str:

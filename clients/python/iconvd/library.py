@@ -2,10 +2,10 @@
 
 from __future__ import annotations
 
-from typing import Dict, Tuple, Union
+from typing import Dict, Optional, Tuple, Union
 
 from . import charmaps, forms, names, shifted
-from .charmaps import Charmap
+from .charmaps import Beginning, Charmap
 from .codes import CharmapForm
 from .errors import CharmapRefused, UnknownEncoding
 from .forms import Form
@@ -26,6 +26,8 @@ class Library:
     def __init__(self) -> None:
         self._read: Dict[str, Charmap] = {}
         self._refused: Dict[str, CharmapRefused] = {}
+        self._texts: Dict[str, bytes] = {}
+        self._beginnings: Dict[str, Optional[Beginning]] = {}
         self._found: Dict[str, Encoding] = {}
         self._forms: Dict[Encoding, Form] = {}
         self._known: Dict[Tuple[Encoding, str], Known] = {}
@@ -47,11 +49,34 @@ class Library:
             raise CharmapRefused(refused.name, refused.why, refused.line)
         if file not in self._read:
             try:
-                self._read[file] = charmaps.mend(file, charmaps.read_file(file))
+                self._read[file] = charmaps.mend(file, self._texts.pop(file, b"") or charmaps.read_file(file))
             except CharmapRefused as error:
                 self._refused[file] = error
                 raise
         return self._read[file]
+
+    def beginning(self, file: str) -> Optional[Beginning]:
+        """Returns what is uploaded of a long file first, or None for all of it. Raises CharmapRefused."""
+        if file not in self._beginnings and file not in self._read and file not in self._refused:
+            try:
+                text = charmaps.read_file(file)
+            except CharmapRefused as error:
+                self._refused[file] = error
+                raise
+            self._beginnings[file] = charmaps.beginning(file, text)
+            self._texts[file] = text
+        return self._beginnings.get(file)
+
+    def may_have_in_rest(self, encoding: Encoding, what: Union[str, bytes]) -> bool:
+        """Whether the rest of an encoding whose beginning is uploaded may have a character, or bytes that a text goes on with."""
+        form = self.form(encoding)
+        if not isinstance(form, CharmapForm):
+            return False
+        return form.has_in_rest(what) if isinstance(what, str) else form.may_have_in_rest(what)
+
+    def refuse_beginning(self, file: str) -> None:
+        """Notes that the server refused the beginning of a file, so that all of it is uploaded."""
+        self._beginnings[file] = None
 
     def uploaded(self, text: Union[bytes, str]) -> Tuple[Encoding, bool]:
         """Returns the encoding of a charmap's text, which is added, or of the system's file if the text is one word."""
@@ -92,6 +117,9 @@ class Library:
 
     def _make_form(self, encoding: Encoding) -> Form:
         if encoding.is_charmap:
+            beginning = self.beginning(encoding.name)
+            if beginning is not None:
+                return CharmapForm(beginning.charmap, beginning.rest)
             return CharmapForm(self.get(encoding.name))
         return shifted.Utf7Form() if encoding.name == "UTF-7" else forms.BUILTIN[encoding.name]()
 

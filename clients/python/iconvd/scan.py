@@ -91,7 +91,8 @@ def _planes(boxes: Iterable[Box]) -> List[_Plane]:
     return [_Plane(by_length[at : at + 8]) for at in range(0, len(by_length), 8)]
 
 
-def _union(bits: Iterable[int]) -> int:
+def union(bits: Iterable[int]) -> int:
+    """Returns the bytes that are in any of several numbers, as bits."""
     united = 0
     for each in bits:
         united |= each
@@ -100,15 +101,15 @@ def _union(bits: Iterable[int]) -> int:
 
 def _has_own_leads(boxes: Sequence[Box]) -> bool:
     """Whether a character of more than two bytes can't begin within another."""
-    leads = _union(box[0] for box in boxes if len(box) > 2)
-    return not leads & _union(bits for box in boxes for bits in box[1:])
+    leads = union(box[0] for box in boxes if len(box) > 2)
+    return not leads & union(bits for box in boxes for bits in box[1:])
 
 
 def _has_digits(boxes: Sequence[Box]) -> bool:
     """Whether characters have two bytes, or four of which the second and the last are in no other place, as GB18030 has them."""
     fours = [box for box in boxes if len(box) == 4]
-    digits = _union(box[1] | box[3] for box in fours)
-    others = _union(bits for box in boxes if len(box) == 2 for bits in box) | _union(box[0] | box[2] for box in fours)
+    digits = union(box[1] | box[3] for box in fours)
+    others = union(bits for box in boxes if len(box) == 2 for bits in box) | union(box[0] | box[2] for box in fours)
     return {len(box) for box in boxes} <= {2, 4} and not digits & others
 
 
@@ -119,7 +120,7 @@ class Scanner:
         """`single` has the bytes that are a character by themselves. With `strings` a box of three bytes or more has others too,
         and each byte of a character that is cut short is a fault; without them all these bytes are one, as CPython has it for
         UTF-8."""
-        used = single | _union(bits for box in boxes for bits in box)
+        used = single | union(bits for box in boxes for bits in box)
         self._single = table(single)
         self._is_separator = table(1 << separator)
         self._separator = bytes((separator,))
@@ -153,7 +154,7 @@ class Scanner:
         following = 0
         for place, group in enumerate(groups):
             at = number(group.translate(_ANY)) & bad
-            following |= _union(at << 8 * (1 + step) for step in range(place + 1))
+            following |= union(at << 8 * (1 + step) for step in range(place + 1))
         separators = number(data.translate(self._is_separator)) & ~covered
         return Faults(bad, following & bad, separators, self._tail(data, bad))
 
@@ -177,7 +178,7 @@ class Scanner:
             hidden = 0
             for length in range(3, self._longest + 1):
                 at = number(begins.translate(_IS[length]))
-                hidden |= _union(at << 8 * place for place in range(1, length if at else 1))
+                hidden |= union(at << 8 * place for place in range(1, length if at else 1))
             begins = (found & ~hidden & ((1 << 8 * size) - 1)).to_bytes(size, "little")
         begins = begins.replace(b"\2\2", b"\2\0")
         if not self._has_own_leads:

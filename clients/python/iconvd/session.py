@@ -6,7 +6,7 @@ so that a blocking client and an asyncio client share them.
 
 from __future__ import annotations
 
-from typing import Dict, Generator, List, NamedTuple, TypeVar
+from typing import Dict, Generator, Iterable, List, NamedTuple, Set, Tuple, TypeVar
 
 from . import frames
 from .charmaps import Charmap
@@ -18,6 +18,12 @@ from .names import Encoding
 T = TypeVar("T")
 #: Bytes of the first request after a fault, at least.
 _SHORT = 256
+#: Ends the keys of beginnings. No charmap's name has it.
+_BEGINNING = "\n"
+#: A caller number that no session uses.
+NO_CALLER = 0xFFFFFFFF
+UTF_7 = Encoding(False, "UTF-7")
+UTF_8 = Encoding(False, "UTF-8")
 #: Yields requests, is sent their replies, and returns a T.
 Steps = Generator[List[Request], List[Reply], T]
 
@@ -35,6 +41,8 @@ class Descriptor(NamedTuple):
     caller: int
     number: int
     has_state: bool
+    #: Those ends of which the beginning of a charmap is uploaded alone.
+    parts: Tuple[Encoding, ...] = ()
 
 
 class _Caller:
@@ -43,21 +51,26 @@ class _Caller:
     def __init__(self, number: int) -> None:
         self.number = number
         self.descriptors = 0
-        self.mappings = 0
-        self.charmaps: Dict[str, bytes] = {}
+        #: How many mappings each has, by its key.
+        self.charmaps: Dict[str, int] = {}
 
     def has_place(self, wanted: Dict[str, Charmap]) -> bool:
         """Whether one more descriptor and these charmaps fit."""
-        new = [charmap for file, charmap in wanted.items() if file not in self.charmaps]
+        new = [charmap for key, charmap in wanted.items() if key not in self.charmaps]
         return (
             self.descriptors < frames.MAX_DESCRIPTORS
             and len(self.charmaps) + len(new) <= frames.MAX_CHARMAPS
-            and self.mappings + sum(charmap.mappings for charmap in new) <= frames.MAX_MAPPINGS
+            and sum(self.charmaps.values()) + sum(charmap.mappings for charmap in new) <= frames.MAX_MAPPINGS
         )
 
     def fill(self) -> None:
         """Notes that the server takes no more for this caller."""
         self.descriptors = frames.MAX_DESCRIPTORS
+
+    def forget(self, keys: Iterable[str]) -> None:
+        """Notes that the caller lacks these charmaps."""
+        for key in keys:
+            self.charmaps.pop(key, None)
 
 
 class Session:
@@ -67,15 +80,36 @@ class Session:
         self._library = library
         self._callers: List[_Caller] = []
         self._descriptors: Dict[Pair, Descriptor] = {}
+        self._opening: Set[Pair] = set()
         self._first_pieces: Dict[Pair, int] = {}
 
-    def descriptor(self, pair: Pair) -> Steps[Descriptor]:
-        """Returns the descriptor of a pair, which is opened, and its charmaps uploaded, when it is first asked for."""
+    def descriptor(self, pair: Pair, is_whole: bool = False) -> Steps[Descriptor]:
+        """Returns the descriptor of a pair, which is opened, and its charmaps uploaded, when it is first asked for. Of a long
+        charmap the beginning is uploaded, or all of it if `is_whole` says so. UTF-7 has a state, which can't go from one to
+        another descriptor."""
         found = self._descriptors.get(pair)
-        if found is None:
-            found = yield from self._open(pair)
+        while pair in self._opening and (found is None or (is_whole and found.parts)):
+            # Another task opens it. Replies come in order.
+            yield [Request(NO_CALLER, Op.BYE)]
+            found = self._descriptors.get(pair)
+        if found is None or (is_whole and found.parts):
+            self._opening.add(pair)
+            try:
+                found = yield from self._open(pair, is_whole or UTF_7 in pair)
+            finally:
+                self._opening.discard(pair)
             self._descriptors[pair] = found
         return found
+
+    def needs_whole(self, pair: Pair, descriptor: Descriptor, status: Status, data: bytes) -> bool:
+        """Whether a descriptor stopped at something that the rest of a charmap may have. `data` is what the text goes on with."""
+        if status == Status.EILSEQ and pair.source in descriptor.parts:
+            return self._library.may_have_in_rest(pair.source, data)
+        if status != Status.ENOCHAR or pair.target not in descriptor.parts:
+            return False
+        # It is empty where a server stopped within a character.
+        character = data.decode("utf-8", "ignore")[:1] if pair.source == UTF_8 else ""
+        return not character or self._library.may_have_in_rest(pair.target, character)
 
     def first_piece(self, pair: Pair) -> int:
         """Returns how many bytes the first request of a call may have."""
@@ -91,24 +125,37 @@ class Session:
         else:
             self._first_pieces.pop(pair, None)
 
-    def _open(self, pair: Pair) -> Steps[Descriptor]:
-        wanted = {end.name: self._library.get(end.name) for end in pair if end.is_charmap}
+    def _open(self, pair: Pair, is_whole: bool) -> Steps[Descriptor]:
+        status = Status.QUOTA
         for _ in range(3):
+            used = {end: self._charmap(end, is_whole) for end in pair if end.is_charmap}
+            wanted = dict(used.values())
             caller = self._caller_for(wanted)
             if not (yield from self._upload_all(caller, wanted)):
                 caller.fill()
                 continue
-            target, source = (self._server_name(caller, end) for end in pair)
+            target, source = (used[end][1].name if end in used else _server_name(end) for end in pair)
             (reply,) = yield [frames.open_request(caller.number, target, source)]
-            if reply.status == Status.EMFILE:
-                caller.fill()
-                continue
-            if reply.status != Status.OK:
+            if reply.status == Status.OK:
+                caller.descriptors += 1
+                parts = tuple(end for end, (key, _) in used.items() if key != end.name)
+                return Descriptor(caller.number, reply.number(), UTF_7 in pair, parts)
+            if reply.status != Status.EMFILE and not (reply.status == Status.UNSUPPORTED and wanted):
                 raise RequestRefused("OPEN", reply.status)
-            caller.descriptors += 1
-            has_state = any(end == Encoding(False, "UTF-7") for end in pair)
-            return Descriptor(caller.number, reply.number(), has_state)
-        raise RequestRefused("OPEN", Status.QUOTA)
+            if reply.status == Status.UNSUPPORTED:
+                # An upload that another task had begun was refused.
+                status = Status.UNSUPPORTED
+                caller.forget(wanted)
+            caller.fill()
+        raise RequestRefused("OPEN", status)
+
+    def _charmap(self, end: Encoding, is_whole: bool) -> Tuple[str, Charmap]:
+        """Returns what is uploaded for an encoding, the beginning of a long file or all of it, and its key."""
+        is_there = any(end.name in caller.charmaps for caller in self._callers)
+        beginning = None if is_whole or is_there else self._library.beginning(end.name)
+        if beginning is None:
+            return end.name, self._library.get(end.name)
+        return end.name + _BEGINNING, beginning.charmap
 
     def _caller_for(self, wanted: Dict[str, Charmap]) -> _Caller:
         """Returns the caller that has most of these charmaps and room for the rest, or a new one."""
@@ -119,32 +166,30 @@ class Session:
         self._callers.append(caller)
         return caller
 
-    @staticmethod
-    def _server_name(caller: _Caller, encoding: Encoding) -> bytes:
-        if encoding.is_charmap:
-            return caller.charmaps[encoding.name]
-        try:
-            return encoding.name.encode("ascii")
-        except UnicodeEncodeError as error:
-            raise UnknownEncoding(encoding.name) from error
-
     def _upload_all(self, caller: _Caller, wanted: Dict[str, Charmap]) -> Steps[bool]:
-        """Uploads the charmaps that the caller lacks. Returns False if its quota is used up."""
-        for file, charmap in wanted.items():
-            if file in caller.charmaps:
+        """Uploads the charmaps that the caller lacks. Returns False if its quota is used up, or a beginning is refused."""
+        for key, charmap in wanted.items():
+            if key in caller.charmaps:
                 continue
+            is_first = not caller.charmaps and not caller.descriptors
+            # Noted before the reply, so that no other task uploads it too: what that asks is sent after it.
+            caller.charmaps[key] = charmap.mappings
             reply = yield from self._upload(caller.number, charmap)
-            if reply.status == Status.QUOTA and (caller.charmaps or caller.descriptors):
+            caller.charmaps[key] = reply.number() if reply.status == Status.OK else 0
+            if reply.status in (Status.OK, Status.EXISTS):
+                continue
+            caller.forget([key])
+            if reply.status == Status.QUOTA and not is_first:
                 return False
-            if reply.status == Status.BADMAP:
-                line, cause = frames.read_bad_map(reply)
-                refused = CharmapRefused(file, cause, line)
-                self._library.refuse(refused, file)
-                raise refused
-            if reply.status not in (Status.OK, Status.EXISTS):
+            if reply.status != Status.BADMAP:
                 raise RequestRefused("PUT", reply.status)
-            caller.charmaps[file] = charmap.name
-            caller.mappings += reply.number() if reply.status == Status.OK else 0
+            if key.endswith(_BEGINNING):
+                self._library.refuse_beginning(key[: -len(_BEGINNING)])
+                return False
+            line, cause = frames.read_bad_map(reply)
+            refused = CharmapRefused(key, cause, line)
+            self._library.refuse(refused, key)
+            raise refused
         return True
 
     @staticmethod
@@ -162,3 +207,10 @@ class Session:
             if reply.status != Status.OK:
                 raise RequestRefused("PART", reply.status)
         return replies[-1]
+
+
+def _server_name(encoding: Encoding) -> bytes:
+    try:
+        return encoding.name.encode("ascii")
+    except UnicodeEncodeError as error:
+        raise UnknownEncoding(encoding.name) from error

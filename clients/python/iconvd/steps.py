@@ -7,10 +7,8 @@ from typing import List, NamedTuple
 from . import frames
 from .errors import RequestRefused
 from .frames import Reply, Request, Status
-from .names import Encoding
-from .session import Descriptor, Pair, Session, Steps
+from .session import UTF_8, Descriptor, Pair, Session, Steps
 
-UTF_8 = Encoding(False, "UTF-8")
 #: Room for what closes a shift.
 _CLOSING = 8
 #: Bytes of a CONV of a long text. The first is shorter, and then they double while all goes well: a fault has the rest of one
@@ -43,6 +41,9 @@ def run(session: Session, pair: Pair, data: bytes, is_careful: bool = False) -> 
         at += len(piece) - done.left
         pieces.append(done.output)
         status = done.status
+        if descriptor.parts and session.needs_whole(pair, descriptor, status, data[at : at + 4]):
+            descriptor = yield from session.descriptor(pair, is_whole=True)
+            continue
         ended = at == len(data) or done.left == len(piece)
         if status in (Status.EILSEQ, Status.ENOCHAR) or (status == Status.EINVAL and (ended or at + done.left == len(data))):
             break

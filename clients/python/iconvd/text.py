@@ -17,7 +17,7 @@ from .frames import Status
 from .known import Known
 from .library import Library
 from .names import Encoding
-from .session import Pair, Session, Steps
+from .session import UTF_8, Pair, Session, Steps
 
 #: Characters, or bytes, of a long text that are converted before the next are copied.
 _PART = 1_048_576
@@ -106,7 +106,7 @@ class TextCodec:
         surrogate in UTF-8, as for CPython, since `surrogatepass` may take it."""
         if self.has_state:
             return shifted.open_at(data)
-        waits = self.encoding == steps.UTF_8 and data[-2:-1] == b"\xed" and data[-1] & 0xE0 == 0xA0
+        waits = self.encoding == UTF_8 and data[-2:-1] == b"\xed" and data[-1] & 0xE0 == 0xA0
         return len(data) - 2 if waits else len(data)
 
     def _decode_whole(
@@ -114,7 +114,7 @@ class TextCodec:
     ) -> Steps[Tuple[int, bool]]:
         """Decodes up to the first fault. Returns where it is, and whether more bytes may complete a character there."""
         at, end = span
-        pair = Pair(steps.UTF_8, self.encoding)
+        pair = Pair(UTF_8, self.encoding)
         while at < end:
             limit = end if self.has_state else min(end, at + _PART)
             ran = yield from steps.run(session, pair, data[at:limit], is_careful)
@@ -128,7 +128,7 @@ class TextCodec:
         form = self._library.form(self.encoding)
         if len(cut.good) == cut.marks * len(form.separator):
             return "".join(cut.between) if cut.same is None else cut.same * cut.marks
-        ran = yield from steps.run(session, Pair(steps.UTF_8, self.encoding), cut.good)
+        ran = yield from steps.run(session, Pair(UTF_8, self.encoding), cut.good)
         text = _whole(ran).decode("utf-8")
         if cut.same is None:
             return joined(_checked(text.split(form.mark), cut.between), cut.between)
@@ -155,7 +155,7 @@ class TextCodec:
 
     def _encode_whole(self, session: Session, text: str, at: int, is_careful: bool, pieces: List[bytes]) -> Steps[int]:
         """Encodes up to the first character that the encoding lacks. Returns where it is."""
-        pair = Pair(self.encoding, steps.UTF_8)
+        pair = Pair(self.encoding, UTF_8)
         while at < len(text):
             limit = len(text) if self.has_state else at + _PART
             data = text[at:limit].encode("utf-8", "surrogatepass")
@@ -179,7 +179,7 @@ class TextCodec:
         return joined(_checked(form.split(output, len(between)), between), between)
 
     def _encode_good(self, session: Session, text: str) -> Steps[bytes]:
-        ran = yield from steps.run(session, Pair(self.encoding, steps.UTF_8), text.encode("utf-8"))
+        ran = yield from steps.run(session, Pair(self.encoding, UTF_8), text.encode("utf-8"))
         return _whole(ran)
 
     def _as_bytes(self, session: Session, texts: Sequence[Union[str, bytes]]) -> Steps[List[bytes]]:
@@ -201,7 +201,7 @@ class TextCodec:
         form = self._library.form(self.encoding)
         new = known.new_units((text,))
         data = form.mark.join(new).encode("utf-8", "surrogatepass")
-        ran = yield from steps.run(session, Pair(self.encoding, steps.UTF_8), data)
+        ran = yield from steps.run(session, Pair(self.encoding, UTF_8), data)
         if ran.status == Status.OK:
             known.add(new, _checked(form.split(ran.output, len(new) - 1), new[1:]))
             return

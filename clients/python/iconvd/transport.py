@@ -12,7 +12,7 @@ import subprocess
 import time
 from typing import List, NamedTuple, Optional, Sequence, Tuple
 
-from .errors import NotStarted, ServerLost, TimedOut
+from .errors import NotReached, NotStarted, ServerBusy, ServerLost, TimedOut
 from .frames import Reply, ReplyReader, Request
 
 #: The server, if neither the program nor the environment variable ICONVD names one.
@@ -26,10 +26,27 @@ ENDING = 1.0
 def not_connected(where: "Address", error: OSError) -> ServerLost:
     """Returns the exception for a server that can't be had. Of a program that can't be started it has the name."""
     if isinstance(error, TimeoutError):
-        return TimedOut(f"can't connect to {where.kind}:{where.rest}: {error}")
+        return TimedOut(f"can't connect to {where}: {error}")
     if where.kind == "exec" and error.filename is not None:
         return NotStarted(f"can't start the program {os.fsdecode(error.filename)}: {error.strerror}")
-    return ServerLost(f"can't connect to {where.kind}:{where.rest}: {error}")
+    if isinstance(error, BlockingIOError):
+        # The queue of a Unix socket is full.
+        return ServerBusy(f"{where}: the server takes no new connection (all places may be taken)")
+    return NotReached(f"can't connect to {where}: {error}")
+
+
+def stream_lost(where: "Address", is_served: bool, error: Optional[OSError] = None) -> ServerLost:
+    """Returns the exception for a stream that the server ended or that failed. A full server ends it before the first reply."""
+    if not is_served and where.kind != "exec" and (error is None or isinstance(error, (BrokenPipeError, ConnectionResetError))):
+        return ServerBusy(f"{where}: the server closes new connections (full or draining)")
+    return ServerLost("the server ended the stream" if error is None else f"the stream failed: {error}")
+
+
+def timed_out(where: "Address", is_served: bool, limit: Optional[float]) -> TimedOut:
+    """Returns the exception for a server that is silent. A full server is silent from the first request on."""
+    if is_served or where.kind == "exec":
+        return TimedOut(f"the server did not answer within {limit:g} seconds")
+    return TimedOut(f"{where}: no reply within {limit:g} s (all places may be taken)")
 
 
 class Address(NamedTuple):
@@ -37,6 +54,9 @@ class Address(NamedTuple):
 
     kind: str
     rest: str
+
+    def __str__(self) -> str:
+        return f"{self.kind}:{self.rest}"
 
 
 def address(where: Optional[str] = None) -> Address:
@@ -71,11 +91,6 @@ def time_limit(seconds: Optional[float] = None) -> Optional[float]:
     if not seconds > 0:
         raise ValueError(f"not a number of seconds above 0: {seconds}")
     return None if math.isinf(seconds) else seconds
-
-
-def timed_out(limit: Optional[float]) -> TimedOut:
-    """Returns the exception for a server that is silent."""
-    return TimedOut(f"the server did not answer within {limit:g} seconds")
 
 
 def _program(word: str) -> str:
@@ -119,6 +134,9 @@ class Stream:
 
     def __init__(self, where: Address, timeout: Optional[float]) -> None:
         self.process_id = os.getpid()
+        #: Whether the server has sent anything on this stream.
+        self.is_served = False
+        self._where = where
         self._timeout = timeout
         self._reader = ReplyReader()
         self._tag = 0
@@ -174,7 +192,7 @@ class Stream:
         except OSError as error:
             if isinstance(error, ServerLost):
                 raise
-            raise ServerLost(f"the stream failed: {error}") from error
+            raise stream_lost(self._where, self.is_served, error) from error
         return replies
 
     @property
@@ -193,7 +211,7 @@ class Stream:
         poll.register(self._socket, select.POLLIN | (select.POLLOUT if is_sending else 0))
         left = None if deadline is None else max(0.0, deadline - time.monotonic())
         if not poll.poll(None if left is None else left * 1000):
-            raise timed_out(self._timeout)
+            raise timed_out(self._where, self.is_served, self._timeout)
 
     def _receive(self) -> bytes:
         try:
@@ -201,7 +219,8 @@ class Stream:
         except (BlockingIOError, InterruptedError):
             return b""
         if not data:
-            raise ServerLost("the server ended the stream")
+            raise stream_lost(self._where, self.is_served)
+        self.is_served = True
         return data
 
     @staticmethod

@@ -55,7 +55,9 @@ class FakeServer:
                     pass
 
     def close(self) -> None:
-        """Takes no further stream."""
+        """Takes no further stream. A second call does nothing."""
+        if self._listener.fileno() < 0:
+            return
         self._listener.shutdown(socket.SHUT_RDWR)
         self._listener.close()
         self._thread.join(5)

@@ -4,9 +4,12 @@
 mod answer;
 mod appending;
 mod behind;
+mod budget;
 mod between;
 mod callers;
+mod changing;
 mod conversions;
+mod counted;
 mod events;
 mod framing;
 mod into;
@@ -18,9 +21,11 @@ mod outcomes;
 mod replies;
 mod serving;
 mod stages;
+mod tables;
 mod world;
 
 pub use answer::Answer;
+pub use budget::{Budget, NO_USAGE, UNLIMITED, Usage};
 pub use op::Op;
 pub use replies::Replies;
 pub use world::World;

@@ -11,12 +11,13 @@ ghost use Rattle.cv_world.specs.Worlds.{world_tables, no_tables};
 ghost use Rattle.cv_world.specs.declared.answer.Answer.{Answer as Answered};
 
 use crate::answer::Answer;
-use crate::callers::{
-    assert_keyed, bind_in, bound_in, drop_in, forget_empty, gather_in, make_room, part_in,
-    place_in, prepare_in, put_in, remove_in, unbind_in,
+use crate::budget::{Budget, UNLIMITED, Usage};
+use crate::callers::{assert_keyed, bound_in, gather_in, place_in, prepare_in};
+use crate::changing::{
+    bind_in, drop_in, forget_empty, make_room, may_hold_map, part_in, put_in, remove_in, unbind_in,
 };
 use crate::conversions::{convert_in, reserve_one, reset_in};
-use crate::kept::Kept;
+use crate::counted::Callers;
 use crate::laws::{one_answer, some_answer};
 use crate::opening::Opening;
 use crate::outcomes::{add_answer, drop_answer, part_answer};
@@ -29,7 +30,6 @@ use cv_pivot::Conversion;
 use cv_trie::Charmap;
 use slab::Slab;
 use std::alloc::Global;
-use std::collections::BTreeMap;
 use std::marker::Model;
 use std::sync::Arc;
 
@@ -39,7 +39,7 @@ pub(crate) const MOST_ROOM: u32 = 1_000_000;
 /// The callers of a shard, each with its own table; their conversions are in one slab. Contracts see each caller's table.
 #[derive(Drop)]
 pub struct World {
-    pub(crate) callers: BTreeMap<u32, Kept>,
+    pub(crate) callers: Callers,
     pub(crate) conversions: Slab<Conversion>,
 }
 
@@ -52,9 +52,9 @@ impl Model for World {
     ghost use Rattle.slab.specs.Slab.{get};
     ghost use Rattle.cv_world.specs.Worlds.{tables_in, keyed_in, IsWorld};
 
-    ghost view = { λ w. tables_in w.callers.entries w.conversions };
+    ghost view = { λ w. tables_in w.callers.map.entries w.conversions };
 
-    ghost invariant = { λ w. IsWorld (keyed_in w.callers) (get w.conversions) };
+    ghost invariant = { λ w. IsWorld (keyed_in w.callers.map) (get w.conversions) };
 }
 
 impl Machine for World {
@@ -75,9 +75,29 @@ impl World {
     pub fn new(alloc: Global) -> World
         ensures { world_tables result ≡ no_tables }
     {
+        World::within(alloc, UNLIMITED)
+    }
+
+    /// No caller has asked yet. What the callers hold stays within a budget: a request that would pass it is refused as if an allocation
+    /// failed.
+    pub fn within(alloc: Global, budget: Budget) -> World
+        ensures { world_tables result ≡ no_tables }
+    {
         World {
-            callers: BTreeMap::new(alloc),
+            callers: Callers::new(alloc, budget),
             conversions: Slab::new(alloc),
+        }
+    }
+
+    /// What the callers hold, which is within their budget.
+    pub fn usage(&self) -> Usage
+        ensures bytes { result.bytes ≤ result.budget.bytes }
+        ensures callers { result.callers ≤ result.budget.callers }
+    {
+        Usage {
+            bytes: self.callers.held,
+            callers: self.callers.map.len() as u32,
+            budget: self.callers.budget,
         }
     }
 
@@ -85,14 +105,14 @@ impl World {
     pub fn assert_table(&self, caller: u32)
         ensures { IsTable (world_tables self.now caller) }
     {
-        assert_keyed(&self.callers, caller);
+        assert_keyed(&self.callers.map, caller);
     }
 
     /// The text of an upload: the caller's part, and then the body.
     pub fn gather(&self, alloc: Global, caller: u32, body: &[u8]) -> Result<Vec<u8>, Memory>
         ensures { IfOk result (λ text. text.items ≡ (world_tables self.now caller).part ++ body.now) }
     {
-        gather_in(alloc, &self.callers, caller, body)
+        gather_in(alloc, &self.callers.map, caller, body)
     }
 
     /// OPEN. Every allocation is made before anything changes.
@@ -108,7 +128,7 @@ impl World {
         ensures others { world_tables self.new ≡ with_table (world_tables self.old) caller (world_tables self.new caller) }
         ensures fits { AnswerFits result }
     {
-        let opening = match prepare_in(&self.callers, caller, to, from, policy) {
+        let opening = match prepare_in(&self.callers.map, caller, to, from, policy) {
             Ok(opening) => opening,
             Err(status) => return Answer::Refused(status),
         };
@@ -148,7 +168,7 @@ impl World {
         ensures others { world_tables self.new ≡ with_table (world_tables self.old) caller (world_tables self.new caller) }
         ensures fits { AnswerFits result }
     {
-        let Some(place) = place_in(&self.callers, caller, number) else {
+        let Some(place) = place_in(&self.callers.map, caller, number) else {
             return Answer::Refused(Status::BadDescriptor);
         };
         if room > MOST_ROOM {
@@ -172,7 +192,7 @@ impl World {
         ensures others { world_tables self.new ≡ with_table (world_tables self.old) caller (world_tables self.new caller) }
         ensures fits { AnswerFits result }
     {
-        let Some(place) = place_in(&self.callers, caller, number) else {
+        let Some(place) = place_in(&self.callers.map, caller, number) else {
             return Answer::Refused(Status::BadDescriptor);
         };
         if room > MOST_ROOM {
@@ -198,10 +218,13 @@ impl World {
         let charmap = match charmap {
             Ok(charmap) => charmap,
             Err(CompileFault::Map(fault)) => return Answer::BadMap(fault),
-            Err(CompileFault::Memory) => return Answer::Refused(Status::NoMemory),
+            Err(CompileFault::Memory) => {
+                self.callers.is_full = !may_hold_map(&self.callers, caller);
+                return Answer::Refused(Status::NoMemory);
+            }
         };
         let count = charmap.len() as u32;
-        assert_keyed(&self.callers, caller);
+        assert_keyed(&self.callers.map, caller);
         let added = put_in(&mut self.callers, alloc, caller, charmap);
         add_answer(count, added)
     }
@@ -212,7 +235,7 @@ impl World {
         ensures others { world_tables self.new ≡ with_table (world_tables self.old) caller (world_tables self.new caller) }
         ensures fits { AnswerFits result }
     {
-        let Some(place) = place_in(&self.callers, caller, number) else {
+        let Some(place) = place_in(&self.callers.map, caller, number) else {
             return Answer::Refused(Status::BadDescriptor);
         };
         unbind_in(&mut self.callers, caller, number);
@@ -244,7 +267,7 @@ impl World {
     fn bound_numbers(&self, caller: u32) -> [bool; DESCRIPTORS]
         ensures { (number : ℕ) → number < DESCRIPTORS → slice_index_or result number false ≡ false → descriptor_at (world_tables self.now caller) number ≡ None }
     {
-        bound_in(&self.callers, caller)
+        bound_in(&self.callers.map, caller)
     }
 
     /// Frees a number, if it is bound.

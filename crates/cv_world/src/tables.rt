@@ -1,5 +1,5 @@
 //! What the ops do to the tables of callers that have one, and by how much what they are counted for changes.
-ghost use Rattle.std.specs.Prelude.{◌≡◌, ◌≢◌, ◌≤◌, ◌<◌, ◌+◌, ℕ, true, Some, None, IfOk, OnOk, length};
+ghost use Rattle.std.specs.Prelude.{◌≡◌, ◌≢◌, ◌≤◌, ◌<◌, ◌+◌, ℕ, true, Some, None, IfOk, OnOk, length, if◌then◌else◌};
 ghost use Rattle.std.specs.Arc.{arc_value};
 ghost use Rattle.std.specs.BTreeMap.{btree_map_len};
 ghost use Rattle.cv_caller.specs.Keyed.{place_at, with_place, held_by, AreHeld};

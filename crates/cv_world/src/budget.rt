@@ -1,6 +1,8 @@
 //! How much the callers of a world may hold.
 ghost use Rattle.std.specs.Prelude.{◌≡◌, ◌+◌, ◌-◌, ◌≤◌, ◌^◌, min};
 
+use crate::world::World;
+
 /// How much the callers of a world may hold together, and how many they may be.
 #[derive(Clone, Copy, Debug, PartialEq, Eq)]
 pub struct Budget {
@@ -52,6 +54,20 @@ impl Usage {
                 bytes: self.budget.bytes.saturating_add(other.budget.bytes),
                 callers: self.budget.callers.saturating_add(other.budget.callers),
             },
+        }
+    }
+}
+
+impl World {
+    /// What the callers hold, which is within their budget.
+    pub fn usage(&self) -> Usage
+        ensures bytes { result.bytes ≤ result.budget.bytes }
+        ensures callers { result.callers ≤ result.budget.callers }
+    {
+        Usage {
+            bytes: self.callers.held,
+            callers: self.callers.map.len() as u32,
+            budget: self.callers.budget,
         }
     }
 }

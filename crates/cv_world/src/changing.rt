@@ -4,13 +4,12 @@ ghost use Rattle.std.specs.Arc.{arc_value};
 ghost use Rattle.cv_caller.specs.Keyed.{no_keys, place_at, with_place, AreHeld};
 ghost use Rattle.cv_caller.specs.Results.{IsDropped, IsPart};
 ghost use Rattle.cv_caller.specs.declared.limits.TheConstants.{DESCRIPTORS, DESCRIPTOR_BYTES};
-ghost use Rattle.cv_world.specs.Private.Changes.{HasTable, IsPut, SetsKeyed};
+ghost use Rattle.cv_world.specs.Private.Changes.{HasTable, IsAbsent, IsPut, SetsKeyed};
 ghost use Rattle.cv_world.specs.Worlds.{keyed_in};
 
 use crate::callers::part_len_in;
 use crate::counted::{Callers, exchanged};
-use crate::kept::Kept;
-use crate::tables::{bind, drop_map, part, put, unbind};
+use crate::tables::{bind, drop_map, insert, part, put, put_one, remove, unbind};
 use cv_base::Memory;
 use cv_caller::{
     AddFault, CALLER_BYTES, DESCRIPTOR_BYTES, DESCRIPTORS, DropFault, PartFault, Place, Table,
@@ -35,8 +34,7 @@ pub(crate) fn make_room(callers: &mut Callers, alloc: Global, caller: u32) -> Re
     if !callers.may_enter(CALLER_BYTES + DESCRIPTOR_BYTES) {
         return Err(Memory);
     }
-    let kept = Kept::new(alloc, Table::new())?;
-    callers.map.insert(caller, kept)?;
+    insert(&mut callers.map, alloc, caller, Table::new())?;
     callers.held += CALLER_BYTES;
     Ok(())
 }
@@ -68,18 +66,17 @@ pub(crate) fn unbind_in(callers: &mut Callers, caller: u32, number: u32)
 
 /// A caller that has no table gets this one, in which no number is bound.
 fn keep(callers: &mut Callers, alloc: Global, caller: u32, table: Table) -> Result<(), Memory>
-    requires absent { keyed_in callers.old.map caller ≡ no_keys }
+    requires absent { IsAbsent callers.old.map caller }
     requires unbound { table.places ≡ no_keys.places }
     ensures ok { OnOk result (SetsKeyed (keyed_in callers.old.map) (keyed_in callers.new.map) caller table) }
     ensures err { OnErr result ((c : ℕ) → keyed_in callers.new.map c ≡ keyed_in callers.old.map c) }
     ensures budget { callers.new.budget ≡ callers.old.budget }
 {
-    let bytes = CALLER_BYTES.saturating_add(table.upload_bytes());
+    let bytes = CALLER_BYTES + table.upload_bytes();
     if !callers.may_enter(bytes) {
         return Err(Memory);
     }
-    let kept = Kept::new(alloc, table)?;
-    callers.map.insert(caller, kept)?;
+    insert(&mut callers.map, alloc, caller, table)?;
     callers.held += bytes;
     Ok(())
 }
@@ -91,13 +88,13 @@ fn put_first(
     caller: u32,
     charmap: Arc<Charmap>,
 ) -> Result<u32, AddFault>
-    requires { keyed_in callers.old.map caller ≡ no_keys }
+    requires { IsAbsent callers.old.map caller }
     ensures own { IsPut (keyed_in callers.old.map caller) (arc_value charmap) result (keyed_in callers.new.map caller) }
     ensures others { (other : ℕ) → other ≢ caller → keyed_in callers.new.map other ≡ keyed_in callers.old.map other }
     ensures budget { callers.new.budget ≡ callers.old.budget }
 {
     let mut table = Table::new();
-    let bytes = table.add_map(alloc, charmap, u64::MAX)?;
+    let bytes = put_one(&mut table, alloc, charmap, u64::MAX)?;
     match keep(callers, alloc, caller, table) {
         Ok(()) => Ok(bytes),
         Err(_) => Err(AddFault::Memory),
@@ -151,7 +148,7 @@ fn part_first(
     caller: u32,
     bytes: &[u8],
 ) -> Result<u32, PartFault>
-    requires { keyed_in callers.old.map caller ≡ no_keys }
+    requires { IsAbsent callers.old.map caller }
     ensures own { IsPart (keyed_in callers.old.map caller) bytes.now result (keyed_in callers.new.map caller) }
     ensures others { (other : ℕ) → other ≢ caller → keyed_in callers.new.map other ≡ keyed_in callers.old.map other }
     ensures budget { callers.new.budget ≡ callers.old.budget }
@@ -214,9 +211,8 @@ pub(crate) fn remove_in(callers: &mut Callers, caller: u32)
     ensures sets { SetsKeyed (keyed_in callers.old.map) (keyed_in callers.new.map) caller no_keys }
     ensures budget { callers.new.budget ≡ callers.old.budget }
 {
-    if let Some(kept) = callers.map.remove(&caller) {
-        callers.held -= CALLER_BYTES + kept.table.upload_bytes();
-    }
+    let bytes = remove(&mut callers.map, caller);
+    callers.held -= bytes;
 }
 
 /// Frees the memory of a caller whose table is empty.

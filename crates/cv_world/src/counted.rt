@@ -19,6 +19,7 @@ pub(crate) struct Callers {
     ghost counted: { held ≡ held_in map },
     ghost within: { held ≤ budget.bytes },
     ghost few: { btree_map_len map ≤ budget.callers },
+    ghost fits: { (budget.bytes < 2 ^ 64) × (budget.callers < 2 ^ 32) },
 }
 
 /// A sum with one part taken out and another put in.

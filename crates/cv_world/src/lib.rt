@@ -8,6 +8,7 @@ mod budget;
 mod between;
 mod callers;
 mod changing;
+mod closing;
 mod conversions;
 mod counted;
 mod events;

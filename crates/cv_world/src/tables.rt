@@ -1,20 +1,55 @@
 //! What the ops do to the tables of callers that have one, and by how much what they are counted for changes.
-ghost use Rattle.std.specs.Prelude.{◌≡◌, ◌≢◌, ◌≤◌, ◌<◌, ◌+◌, ℕ, true, Some, None, IfOk, OnOk, length, if◌then◌else◌};
+ghost use Rattle.std.specs.Prelude.{◌≡◌, ◌≢◌, ◌≤◌, ◌<◌, ◌+◌, ℕ, true, Some, None, IfOk, OnErr, OnOk, length, if◌then◌else◌};
 ghost use Rattle.std.specs.Arc.{arc_value};
 ghost use Rattle.std.specs.BTreeMap.{btree_map_len};
-ghost use Rattle.cv_caller.specs.Keyed.{place_at, with_place, held_by, AreHeld};
+ghost use Rattle.cv_caller.specs.Keyed.{no_keys, place_at, with_place, held_by, AreHeld};
 ghost use Rattle.cv_caller.specs.Results.{IsDropped, IsPart};
 ghost use Rattle.cv_caller.specs.declared.limits.TheConstants.{DESCRIPTORS, DESCRIPTOR_BYTES};
 ghost use Rattle.cv_world.specs.Budgets.{held_in, Exchanges};
-ghost use Rattle.cv_world.specs.Private.Changes.{HasTable, IsPut, SetsKeyed};
+ghost use Rattle.cv_world.specs.Private.Changes.{HasTable, IsAbsent, IsPut, SetsKeyed};
 ghost use Rattle.cv_world.specs.Worlds.{keyed_in};
 
 use crate::kept::Kept;
-use cv_caller::{AddFault, DESCRIPTORS, DropFault, PartFault, Place, Table};
+use cv_base::Memory;
+use cv_caller::{AddFault, CALLER_BYTES, DESCRIPTORS, DropFault, PartFault, Place, Table};
 use cv_trie::Charmap;
 use std::alloc::Global;
 use std::collections::BTreeMap;
 use std::sync::Arc;
+
+/// A caller that has no table gets this one.
+pub(crate) fn insert(
+    map: &mut BTreeMap<u32, Kept>,
+    alloc: Global,
+    caller: u32,
+    table: Table,
+) -> Result<(), Memory>
+    requires { IsAbsent map.old caller }
+    ensures ok { OnOk result (SetsKeyed (keyed_in map.old) (keyed_in map.new) caller table) }
+    ensures err { OnErr result ((c : ℕ) → keyed_in map.new c ≡ keyed_in map.old c) }
+    ensures there { OnOk result (HasTable map.new caller) }
+    ensures counted { OnOk result (held_in map.new ≡ held_in map.old + held_by table) }
+    ensures stays { OnErr result (held_in map.new ≡ held_in map.old) }
+    ensures len { OnOk result (btree_map_len map.new ≡ btree_map_len map.old + 1) }
+    ensures same_len { OnErr result (btree_map_len map.new ≡ btree_map_len map.old) }
+{
+    let kept = Kept::new(alloc, table)?;
+    map.insert(caller, kept)?;
+    Ok(())
+}
+
+/// Forgets a caller that has no bound number, and says for how many bytes it was counted.
+pub(crate) fn remove(map: &mut BTreeMap<u32, Kept>, caller: u32) -> u64
+    requires { (number : ℕ) → place_at (keyed_in map.old caller) number ≡ None }
+    ensures sets { SetsKeyed (keyed_in map.old) (keyed_in map.new) caller no_keys }
+    ensures counted { held_in map.new + result ≡ held_in map.old }
+    ensures len { btree_map_len map.new ≤ btree_map_len map.old }
+{
+    match map.remove(&caller) {
+        Some(kept) => CALLER_BYTES + kept.table.upload_bytes(),
+        None => 0,
+    }
+}
 
 /// Binds a number.
 pub(crate) fn bind(map: &mut BTreeMap<u32, Kept>, caller: u32, number: u32, place: Place)
@@ -45,7 +80,7 @@ pub(crate) fn unbind(map: &mut BTreeMap<u32, Kept>, caller: u32, number: u32) ->
 }
 
 /// Holds a charmap, in place of the part of an upload, and says for how many bytes it is counted.
-fn put_one(
+pub(crate) fn put_one(
     table: &mut Table,
     alloc: Global,
     charmap: Arc<Charmap>,
@@ -71,6 +106,7 @@ pub(crate) fn put(
     ensures own { IsPut (keyed_in map.old caller) (arc_value charmap) result (keyed_in map.new caller) }
     ensures others { (other : ℕ) → other ≢ caller → keyed_in map.new other ≡ keyed_in map.old other }
     ensures within { IfOk result (λ bytes. bytes ≤ left) }
+    ensures sum { IfOk result (λ bytes. held_in map.new + length (keyed_in map.old caller).part ≡ held_in map.old + bytes) }
     ensures counted { Exchanges map.old map.new caller }
     ensures len { btree_map_len map.new ≡ btree_map_len map.old }
 {
@@ -109,6 +145,7 @@ pub(crate) fn part(
     ensures own { IsPart (keyed_in map.old caller) bytes.now result (keyed_in map.new caller) }
     ensures others { (other : ℕ) → other ≢ caller → keyed_in map.new other ≡ keyed_in map.old other }
     ensures within { OnOk result (length bytes.now ≤ left) }
+    ensures sum { IfOk result (λ count. held_in map.new + length (keyed_in map.old caller).part ≡ held_in map.old + count) }
     ensures counted { Exchanges map.old map.new caller }
     ensures len { btree_map_len map.new ≡ btree_map_len map.old }
 {

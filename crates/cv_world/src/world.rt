@@ -1,28 +1,25 @@
 //! The callers of a shard.
-ghost use Rattle.std.specs.Prelude.{◌≡◌, ◌≤◌, ◌<◌, ◌++◌, ℕ, None, false, length, slice_index_or, IfOk};
+ghost use Rattle.std.specs.Prelude.{◌≡◌, ◌≤◌, ◌++◌, length, IfOk};
 ghost use Rattle.cv_cache.specs.Compiled.{compiled};
 ghost use Rattle.cv_machine.specs.Machine.{with_table};
-ghost use Rattle.cv_caller.specs.Tables.{Table as WorldTable, IsTable, empty_table, descriptor_at};
-ghost use Rattle.cv_world.specs.Actions.{Put, DropMap, Open, Conv, Reset, Close, Bye, Part};
+ghost use Rattle.cv_caller.specs.Tables.{Table as WorldTable, IsTable};
+ghost use Rattle.cv_world.specs.Actions.{Put, DropMap, Open, Conv, Reset, Close, Part};
 ghost use Rattle.cv_world.specs.Answers.{AnswerFits};
 ghost use Rattle.cv_world.specs.Requests.{turn};
 ghost use Rattle.cv_world.specs.Turn.{Acts};
 ghost use Rattle.cv_world.specs.Worlds.{world_tables, no_tables};
-ghost use Rattle.cv_world.specs.declared.answer.Answer.{Answer as Answered};
 
 use crate::answer::Answer;
-use crate::budget::{Budget, UNLIMITED, Usage};
-use crate::callers::{assert_keyed, bound_in, gather_in, place_in, prepare_in};
-use crate::changing::{
-    bind_in, drop_in, forget_empty, make_room, may_hold_map, part_in, put_in, remove_in, unbind_in,
-};
+use crate::budget::{Budget, UNLIMITED};
+use crate::callers::{assert_keyed, gather_in, place_in, prepare_in};
+use crate::changing::{bind_in, drop_in, make_room, may_hold_map, part_in, put_in, unbind_in};
 use crate::conversions::{convert_in, reserve_one, reset_in};
 use crate::counted::Callers;
 use crate::laws::{one_answer, some_answer};
 use crate::opening::Opening;
 use crate::outcomes::{add_answer, drop_answer, part_answer};
 use cv_base::{Memory, Policy};
-use cv_caller::{DESCRIPTORS, Place};
+use cv_caller::Place;
 use cv_charmap::CompileFault;
 use cv_frame::{Bytes, MOST_BODY, Status};
 use cv_machine::Machine;
@@ -86,18 +83,6 @@ impl World {
         World {
             callers: Callers::new(alloc, budget),
             conversions: Slab::new(alloc),
-        }
-    }
-
-    /// What the callers hold, which is within their budget.
-    pub fn usage(&self) -> Usage
-        ensures bytes { result.bytes ≤ result.budget.bytes }
-        ensures callers { result.callers ≤ result.budget.callers }
-    {
-        Usage {
-            bytes: self.callers.held,
-            callers: self.callers.map.len() as u32,
-            budget: self.callers.budget,
         }
     }
 
@@ -261,63 +246,5 @@ impl World {
     {
         let parted = part_in(&mut self.callers, alloc, caller, bytes);
         part_answer(parted)
-    }
-
-    /// For each number of a caller, whether it is bound.
-    fn bound_numbers(&self, caller: u32) -> [bool; DESCRIPTORS]
-        ensures { (number : ℕ) → number < DESCRIPTORS → slice_index_or result number false ≡ false → descriptor_at (world_tables self.now caller) number ≡ None }
-    {
-        bound_in(&self.callers.map, caller)
-    }
-
-    /// Frees a number, if it is bound.
-    fn close_bound(&mut self, caller: u32, number: u32, is_bound: bool)
-        requires { is_bound ≡ false → descriptor_at (world_tables self.old caller) number ≡ None }
-        ensures acts { (answer : Answered) × Acts (world_tables self.old caller) (Close number) (world_tables self.new caller) answer }
-        ensures others { world_tables self.new ≡ with_table (world_tables self.old) caller (world_tables self.new caller) }
-    {
-        if !is_bound {
-            return;
-        }
-        let _ = self.close(caller, number);
-    }
-
-    /// Frees all numbers of a caller. It is looked up once for all that are free already.
-    fn close_all(&mut self, caller: u32)
-        ensures closed { (number : ℕ) → descriptor_at (world_tables self.new caller) number ≡ None }
-        ensures others { world_tables self.new ≡ with_table (world_tables self.old) caller (world_tables self.new caller) }
-    {
-        let bound = self.bound_numbers(caller);
-        for number in 0..DESCRIPTORS as u32 {
-            self.close_bound(caller, number, bound[number as usize]);
-        }
-        // There are no other numbers.
-        self.assert_table(caller);
-    }
-
-    /// Frees the memory of a caller that has no bound number.
-    fn forget(&mut self, caller: u32)
-        requires { (number : ℕ) → descriptor_at (world_tables self.old caller) number ≡ None }
-        ensures { world_tables self.new ≡ with_table (world_tables self.old) caller empty_table }
-    {
-        remove_in(&mut self.callers, caller);
-    }
-
-    /// BYE. It takes no memory.
-    pub(crate) fn bye(&mut self, caller: u32) -> Answer
-        ensures acts { Acts (world_tables self.old caller) Bye (world_tables self.new caller) result }
-        ensures others { world_tables self.new ≡ with_table (world_tables self.old) caller (world_tables self.new caller) }
-        ensures fits { AnswerFits result }
-    {
-        self.close_all(caller);
-        self.forget(caller);
-        Answer::Empty
-    }
-
-    /// Frees the memory of a caller that has nothing left.
-    pub(crate) fn forget_empty(&mut self, caller: u32)
-        ensures { world_tables self.new ≡ world_tables self.old }
-    {
-        forget_empty(&mut self.callers, caller);
     }
 }

@@ -20,6 +20,10 @@ use Rattle.cv_world.specs.declared.answer.Answer.TheVariants as answers
 abbrev pub HasTable : BTreeMap ℕ Keyed → ℕ → Type 0
 HasTable callers caller = IsSome (get nat_cmp callers caller)
 
+-- The caller has none.
+abbrev pub IsAbsent : BTreeMap ℕ Keyed → ℕ → Type 0
+IsAbsent callers caller = get nat_cmp callers caller ≡ None
+
 -- A number for which the list says false stands for nothing.
 abbrev pub ClosedWhereNot : (ℕ → Option Place) → List Bool → Type 0
 ClosedWhereNot places bound = (number : ℕ) → number < length bound → slice_index_or bound number false ≡ false → places number ≡ None

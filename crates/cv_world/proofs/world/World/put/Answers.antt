@@ -9,8 +9,8 @@ use Rattle.cv_world.specs.Worlds.{keyed_in}
 use Rattle.cv_world.proofs.Stepping.{acts_seen, others_seen, put_done, put_world}
 use Rattle.cv_world.proofs.world.World.put.Goals as goal
 
-pub invariant_of-self : goal.invariant_of-self
-invariant_of-self c = put_world (keyed_in c.self.inside.callers.map) (keyed_in c.put_in-added.new.callers.map) (get c.self.inside.conversions) c.args.caller (arc_value c.in-Ok.charmap) c.put_in-added.result c.assert_keyed.ensures.places c.put_in-added.ensures.own c.put_in-added.ensures.others c.self.invariant
+pub invariant_of-self-2 : goal.invariant_of-self-2
+invariant_of-self-2 c = put_world (keyed_in c.self.inside.callers.map) (keyed_in c.put_in-added.new.callers.map) (get c.self.inside.conversions) c.args.caller (arc_value c.in-Ok.charmap) c.put_in-added.result c.assert_keyed.ensures.places c.put_in-added.ensures.own c.put_in-added.ensures.others c.self.invariant
 
 pub returns-clause-acts : goal.returns-clause-acts
 returns-clause-acts c =

@@ -5,10 +5,10 @@ use Rattle.cv_world.proofs.world.World.step.Goals as goal
 
 pub returns-in-DropMap-clause-acts : goal.returns-in-DropMap-clause-acts
 returns-in-DropMap-clause-acts c =
-    rw c.in-DropMap.is (acts_same (world_tables c.args.self.now) _ _ c.args.caller (DropMap c.in-DropMap.name.now) c.drop_map-answer.result c.forget_empty.ensures.same c.drop_map-answer.ensures.acts)
+    rw c.in-DropMap.is (acts_same (world_tables c.args.self.now) _ _ c.args.caller (DropMap c.in-DropMap.name.now) c.drop_map-answer.result c.forget_empty.ensures c.drop_map-answer.ensures.acts)
 
 pub returns-in-DropMap-clause-others : goal.returns-in-DropMap-clause-others
-returns-in-DropMap-clause-others c = others_same (world_tables c.args.self.now) _ _ c.args.caller c.forget_empty.ensures.same c.drop_map-answer.ensures.others
+returns-in-DropMap-clause-others c = others_same (world_tables c.args.self.now) _ _ c.args.caller c.forget_empty.ensures c.drop_map-answer.ensures.others
 
 pub returns-in-Close-clause-acts : goal.returns-in-Close-clause-acts
 returns-in-Close-clause-acts c =

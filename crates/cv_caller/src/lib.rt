@@ -12,8 +12,6 @@ mod uploads;
 mod weighed;
 
 pub use faults::{AddFault, DropFault, PartFault};
-pub use limits::{
-    CALLER_BYTES, CHARMAPS, DESCRIPTOR_BYTES, DESCRIPTORS, MOST_MAPPINGS, MOST_PART,
-};
+pub use limits::{CALLER_BYTES, CHARMAPS, DESCRIPTOR_BYTES, DESCRIPTORS, MOST_MAPPINGS, MOST_PART};
 pub use place::{Found, Place};
 pub use table::Table;

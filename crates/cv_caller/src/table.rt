@@ -199,12 +199,7 @@ impl Table {
 
     /// Puts a part after the one that was sent before, and answers how many bytes they have. An empty one drops what was sent, and
     /// takes no memory. It may have no more bytes than are left.
-    pub fn add_part(
-        &mut self,
-        alloc: Global,
-        bytes: &[u8],
-        left: u64,
-    ) -> Result<u32, PartFault>
+    pub fn add_part(&mut self, alloc: Global, bytes: &[u8], left: u64) -> Result<u32, PartFault>
         ensures parted { IsPart self.old bytes.now result self.new }
         ensures within { OnOk result (length bytes.now ≤ left) }
     {

@@ -8,9 +8,7 @@ ghost use Rattle.cv_caller.specs.Private.Uploaded.{no_uploads, IsUploaded};
 
 use crate::charmaps::{count_bytes, count_mappings, first_place, place_named};
 use crate::limits::{CHARMAPS, MOST_MAPPINGS, MOST_PART};
-use crate::store::{
-    Store, append, bytes_in, clear, is_bare, make_store, set_charmap,
-};
+use crate::store::{Store, append, bytes_in, clear, is_bare, make_store, set_charmap};
 use crate::weighed::Weighed;
 use cv_base::Memory;
 use cv_pivot::Encoding;
@@ -141,12 +139,7 @@ impl Uploads {
     }
 
     /// Puts a charmap at a free place.
-    pub(crate) fn put(
-        &mut self,
-        alloc: Global,
-        place: u8,
-        held: Weighed,
-    ) -> Result<(), Memory>
+    pub(crate) fn put(&mut self, alloc: Global, place: u8, held: Weighed) -> Result<(), Memory>
         requires within { place < CHARMAPS }
         requires free { charmap_at self.old.charmaps place ≡ None }
         requires few { mappings self.old.charmaps + length (arc_value held.charmap).pairs ≤ MOST_MAPPINGS }

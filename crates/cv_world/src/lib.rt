@@ -4,8 +4,8 @@
 mod answer;
 mod appending;
 mod behind;
-mod budget;
 mod between;
+mod budget;
 mod callers;
 mod changing;
 mod closing;

@@ -157,11 +157,19 @@ fn bytes_of_one<R>(rt: &R, alloc: Global) -> u64 {
 #[test]
 fn nothing_is_given_up_for_a_budget(rt: HostRuntime) -> Result<(), Fail> {
     let bytes = bytes_of_one(&rt, rt.alloc());
+    // No charmap is smaller than what the budget is tried for before one is compiled.
+    assert!(rt; bytes >= CALLER_BYTES + 1_024, "{bytes}");
     let refused = Status::NoMemory.number();
     let held = Status::Ok.number();
     assert_eq!(rt; put_within(&rt, rt.alloc(), bytes)?, (held, held, 2, 0));
-    assert_eq!(rt; put_within(&rt, rt.alloc(), bytes - 1)?, (refused, refused, 2, 0));
-    assert_eq!(rt; put_within(&rt, rt.alloc(), CALLER_BYTES + 1_023)?, (refused, refused, 0, 0));
+    assert_eq!(rt;
+        put_within(&rt, rt.alloc(), bytes.saturating_sub(1))?,
+        (refused, refused, 2, 0)
+    );
+    assert_eq!(rt;
+        put_within(&rt, rt.alloc(), CALLER_BYTES + 1_023)?,
+        (refused, refused, 0, 0)
+    );
     assert_eq!(rt; put_within(&rt, rt.alloc(), 0)?, (refused, refused, 0, 0));
     Ok(())
 }

@@ -126,7 +126,14 @@ fn opens(alloc: Global, world: &mut World, model: &mut Model, caller: u32, own: 
 }
 
 /// CLOSE, and whether the answer is the one that is due.
-fn closes(alloc: Global, world: &mut World, model: &mut Model, caller: u32, own: Own, number: u32) -> bool {
+fn closes(
+    alloc: Global,
+    world: &mut World,
+    model: &mut Model,
+    caller: u32,
+    own: Own,
+    number: u32,
+) -> bool {
     let answer = world.step(alloc, caller, Op::Close(number));
     let bit = 1u32.wrapping_shl(number);
     if own.numbers & bit == 0 {
@@ -137,7 +144,14 @@ fn closes(alloc: Global, world: &mut World, model: &mut Model, caller: u32, own:
 }
 
 /// PART, and whether the answer is the one that is due.
-fn parts(alloc: Global, world: &mut World, model: &mut Model, caller: u32, own: Own, bytes: &[u8]) -> bool {
+fn parts(
+    alloc: Global,
+    world: &mut World,
+    model: &mut Model,
+    caller: u32,
+    own: Own,
+    bytes: &[u8],
+) -> bool {
     let answer = world.step(alloc, caller, Op::Part(bytes));
     let part = match bytes.len() as u64 {
         0 => 0,
@@ -150,7 +164,14 @@ fn parts(alloc: Global, world: &mut World, model: &mut Model, caller: u32, own: 
 }
 
 /// PUT, and whether the answer is the one that is due.
-fn puts(alloc: Global, world: &mut World, model: &mut Model, caller: u32, own: Own, number: u32) -> Result<bool, Fail> {
+fn puts(
+    alloc: Global,
+    world: &mut World,
+    model: &mut Model,
+    caller: u32,
+    own: Own,
+    number: u32,
+) -> Result<bool, Fail> {
     let name = NAMES.get(number as usize).map_or("D", |name| *name);
     let answer = world.step(alloc, caller, upload(alloc, name)?);
     let bit = 1u32.wrapping_shl(number);
@@ -170,7 +191,14 @@ fn puts(alloc: Global, world: &mut World, model: &mut Model, caller: u32, own: O
 }
 
 /// DROP, and whether the answer is the one that is due.
-fn drops(alloc: Global, world: &mut World, model: &mut Model, caller: u32, own: Own, number: u32) -> bool {
+fn drops(
+    alloc: Global,
+    world: &mut World,
+    model: &mut Model,
+    caller: u32,
+    own: Own,
+    number: u32,
+) -> bool {
     let name = NAMES.get(number as usize).map_or("D", |name| *name);
     let answer = world.step(alloc, caller, Op::DropMap(name.as_bytes()));
     let bit = 1u32.wrapping_shl(number);
@@ -188,7 +216,13 @@ fn leaves(alloc: Global, world: &mut World, model: &mut Model, caller: u32) -> b
 }
 
 /// Makes a request, and says whether the answer is the one that is due.
-fn turn(alloc: Global, world: &mut World, model: &mut Model, numbers: &mut Numbers, text: &[u8]) -> Result<bool, Fail> {
+fn turn(
+    alloc: Global,
+    world: &mut World,
+    model: &mut Model,
+    numbers: &mut Numbers,
+    text: &[u8],
+) -> Result<bool, Fail> {
     let caller = numbers.below(4);
     let own = model.own.get(caller as usize).map_or(NOTHING, |own| *own);
     let size = numbers.one_of(&[0, 1, 400, 3_000]) as usize;

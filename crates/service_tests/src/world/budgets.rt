@@ -97,7 +97,8 @@ fn callers_are_counted(rt: HostRuntime) -> Result<(), Fail> {
     ask(&rt, two(u64::MAX), THREE_CALLERS)
 }
 
-const UPLOAD: &str = r"1 put <code_set_name> A|CHARMAP|<question-mark> \x3F||END CHARMAP| = count 1";
+const UPLOAD: &str =
+    r"1 put <code_set_name> A|CHARMAP|<question-mark> \x3F||END CHARMAP| = count 1";
 
 /// For how many bytes a charmap of one mapping is counted.
 fn map_bytes(alloc: Global) -> Result<u64, Fail> {
@@ -105,7 +106,7 @@ fn map_bytes(alloc: Global) -> Result<u64, Fail> {
     if !is_answered(alloc, &mut world, UPLOAD)? {
         return Err("it is held".into());
     }
-    Ok(world.usage().bytes - CALLER_BYTES)
+    Ok(world.usage().bytes.saturating_sub(CALLER_BYTES))
 }
 
 const TWO_MAPS: &str = r"
@@ -134,9 +135,9 @@ const ONE_MAP: &str = r"
 
 #[test]
 fn charmaps_are_counted(rt: HostRuntime) -> Result<(), Fail> {
-    let bytes = CALLER_BYTES + 2 * map_bytes(rt.alloc())?;
+    let bytes = CALLER_BYTES.saturating_add(map_bytes(rt.alloc())?.saturating_mul(2));
     ask(&rt, two(bytes), TWO_MAPS)?;
-    ask(&rt, two(bytes - 1), ONE_MAP)
+    ask(&rt, two(bytes.saturating_sub(1)), ONE_MAP)
 }
 
 const PART_THEN_PUT: &str = r"
@@ -150,7 +151,7 @@ const PART_THEN_PUT: &str = r"
 /// A charmap takes the place of its part.
 #[test]
 fn a_part_gives_back_what_it_held(rt: HostRuntime) -> Result<(), Fail> {
-    let bytes = CALLER_BYTES + map_bytes(rt.alloc())?;
+    let bytes = CALLER_BYTES.saturating_add(map_bytes(rt.alloc())?);
     ask(&rt, two(bytes), PART_THEN_PUT)
 }
 
@@ -165,6 +166,6 @@ const PART_STAYS: &str = r"
 /// An upload that is refused leaves its part.
 #[test]
 fn a_refused_upload_leaves_the_part(rt: HostRuntime) -> Result<(), Fail> {
-    let bytes = CALLER_BYTES + map_bytes(rt.alloc())? - 1;
-    ask(&rt, two(bytes), PART_STAYS)
+    let bytes = CALLER_BYTES.saturating_add(map_bytes(rt.alloc())?);
+    ask(&rt, two(bytes.saturating_sub(1)), PART_STAYS)
 }

@@ -17,6 +17,6 @@ returns-clause-added c =
       c.in-Some.map,
       c.in-Some.ensures.place,
       ap (λ (u : Uploaded). keyed_of u c.self.inside.places) c.in-Ok.ensures.ok
-      ∙ ap (λ (m : Charmap). keyed_with_charmap (keyed_of c.self.inside.uploads c.self.inside.places) c.in-Some.map (Some m) (c.self.inside.uploads.bytes + c.of-held.result.bytes)) c.of-held.ensures.same,
+          ∙ ap (λ (m : Charmap). keyed_with_charmap (keyed_of c.self.inside.uploads c.self.inside.places) c.in-Some.map (Some m) (c.self.inside.uploads.bytes + c.of-held.result.bytes)) c.of-held.ensures.same,
       c.of-held.ensures.whole,
     )

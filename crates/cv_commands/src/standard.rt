@@ -8,8 +8,11 @@ use crate::patient::Patient;
 use crate::replies::show_replies;
 use crate::script::ask_script;
 use crate::served_script::run_script;
-use crate::stream::serve_stream;
+use crate::stream::{StreamTerms, serve_stream, serve_stream_within};
+use cv_cache::{Cached, HashKeys};
 use cv_loop::{FromReader, ToWriter};
+use cv_pool::keep_memory;
+use cv_world::Budget;
 use std::io;
 use std::random::RandomSource;
 use std::sync::Wait;
@@ -50,6 +53,28 @@ pub fn pipe<R: Input + Print + AllocGlobal + RandomSource + Threads + Wait + Syn
     let mut sink = ToWriter::new(Patient::output(io::writer(rt)));
     let alloc = rt.alloc();
     serve_stream(rt, alloc, &mut source, &mut sink, workers)?;
+    Ok(())
+}
+
+/// `pipe`, whose callers hold no more than a budget.
+pub fn pipe_within<R: Input + Print + AllocGlobal + RandomSource + Threads + Wait + Sync>(
+    rt: &R,
+    workers: u32,
+    budget: Budget,
+) -> Result<(), RunFault>
+    requires { (1 ≤ workers) × (workers ≤ 16) }
+{
+    let alloc = rt.alloc();
+    keep_memory(alloc);
+    let cached = Cached::with_keys(alloc, HashKeys::drawn(rt))?;
+    let mut source = FromReader::new(Patient::input(rt.reader()));
+    let mut sink = ToWriter::new(Patient::output(io::writer(rt)));
+    let terms = StreamTerms {
+        workers,
+        budget,
+        tally: &(),
+    };
+    serve_stream_within(rt, alloc, &cached, &mut source, &mut sink, terms)?;
     Ok(())
 }
 

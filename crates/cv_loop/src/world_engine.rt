@@ -13,7 +13,7 @@ use cv_base::Memory;
 use cv_cache::{Compiler, Plain};
 use cv_frame::{Reply, Request};
 use cv_machine::Machine;
-use cv_world::{Replies, World};
+use cv_world::{Budget, Replies, World};
 use std::alloc::Global;
 
 /// Answers requests in their order. The text of an upload is put together and compiled just before its own step.
@@ -88,6 +88,17 @@ impl<C> WorldWith<C> {
     {
         WorldWith {
             world: World::new(alloc),
+            compiler,
+        }
+    }
+
+    /// No caller has asked yet. What the callers hold stays within a budget.
+    pub fn within(alloc: Global, compiler: C, budget: Budget) -> WorldWith<C>
+        ensures tables { world_tables result.world ≡ no_tables }
+        ensures compiler { result.compiler ≡ compiler }
+    {
+        WorldWith {
+            world: World::within(alloc, budget),
             compiler,
         }
     }

@@ -10,7 +10,9 @@ use crate::version::VERSION;
 use crate::words::arguments;
 use clap::Error;
 use clap::error::ErrorKind;
-use cv_commands::{RunFault, ask, checkmap, pipe, read_all, run, show, status, write_all};
+use cv_commands::{
+    Budget, RunFault, UNLIMITED, ask, checkmap, pipe_within, read_all, run, show, status, write_all,
+};
 use cv_tcp::{
     Addresses, AdminFault, CallFault, LogLines, Operation, Outlet, Page, StandardError, Terms,
     call_admin, call_status, listen, listen_administered,
@@ -118,6 +120,14 @@ where
     Ok(())
 }
 
+/// What the callers of one stream may hold.
+fn budget_of(said: Options<'_>) -> Budget {
+    Budget {
+        bytes: said.stream_memory.unwrap_or(UNLIMITED.bytes),
+        callers: said.callers.unwrap_or(UNLIMITED.callers),
+    }
+}
+
 /// By what terms streams are served.
 fn terms_of(said: Options<'_>) -> Terms
     ensures at_once { result.at_once ≡ said.at_once }
@@ -169,7 +179,7 @@ where
     match said.job {
         Job::Run => conclude(rt, run(rt, said.workers)),
         Job::Ask => conclude(rt, ask(rt)),
-        Job::Pipe => conclude(rt, pipe(rt, said.workers)),
+        Job::Pipe => conclude(rt, pipe_within(rt, said.workers, budget_of(said))),
         Job::Show => conclude(rt, show(rt)),
         Job::Listen(address) => conclude_listening(rt, serve(rt, address, said)),
         Job::Call(address) => conclude_call(rt, call(rt, address, said.timeout)),

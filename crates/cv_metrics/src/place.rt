@@ -19,9 +19,9 @@ pub struct Place {
     outcomes: Vec<AtomicU64>,
     pub(crate) conv: Histogram,
     pub(crate) put: Histogram,
-    /// How many callers the stream has that is being served, and how many bytes it holds. Whoever serves the stream writes them.
-    pub callers: AtomicU64,
-    pub memory_bytes: AtomicU64,
+    /// How many callers the stream has that is being served, and how many bytes they hold.
+    callers: AtomicU64,
+    memory_bytes: AtomicU64,
 }
 
 /// What the counters of a place have at one time.
@@ -72,6 +72,12 @@ impl Place {
         *self.stream.lock(rt) = None;
         self.callers.store(0, Ordering::Relaxed);
         self.memory_bytes.store(0, Ordering::Relaxed);
+    }
+
+    /// So many callers of the stream hold so many bytes.
+    pub fn hold(&self, bytes: u64, callers: u64) {
+        self.memory_bytes.store(bytes, Ordering::Relaxed);
+        self.callers.store(callers, Ordering::Relaxed);
     }
 
     /// So many bytes came at this time.

@@ -3,7 +3,8 @@ use crate::connection::Peer;
 use crate::counters::Counters;
 use crate::metered::Counts;
 use crate::streams::Counting;
-use cv_metrics::Meter;
+use cv_commands::{Tally, Usage};
+use cv_metrics::{Meter, Place};
 use log::{Log, info};
 use std::alloc::Global;
 use std::cell::RefCell;
@@ -15,6 +16,7 @@ pub(crate) struct Counted<'a, R, G> {
     rt: &'a R,
     log: &'a G,
     counters: &'a Counters,
+    place: &'a Place,
     peer: Peer,
     meter: RefCell<Meter<'a>>,
 }
@@ -26,6 +28,7 @@ impl<'a, R: Clock, G: Log> Counted<'a, R, G> {
             rt,
             log: counting.log,
             counters: counting.counters,
+            place: counting.place,
             peer,
             meter: RefCell::new(Meter::new(alloc, counting.place)),
         }
@@ -41,6 +44,12 @@ impl<'a, R: Clock, G: Log> Counted<'a, R, G> {
     fn report_lack(&self) {
         let peer = self.peer;
         info!(self.log; peer:% = peer; "memory refused to {peer}");
+    }
+}
+
+impl<'a, R: Clock, G: Log> Tally for Counted<'a, R, G> {
+    fn note(&self, usage: Usage) {
+        self.place.hold(usage.bytes, u64::from(usage.callers));
     }
 }
 

@@ -2,6 +2,7 @@
 ghost use Rattle.std.specs.Prelude.{◌≤◌, length};
 
 use crate::metered::Counts;
+use cv_commands::{Tally, Usage};
 use cv_metrics::Scan;
 use std::cell::{Cell, RefCell};
 
@@ -36,6 +37,10 @@ fn frames_in(scan: &mut Scan, bytes: &[u8]) -> u64
         at += seen.n;
     }
     count
+}
+
+impl Tally for ReplyCount {
+    fn note(&self, _usage: Usage) {}
 }
 
 impl Counts for ReplyCount {

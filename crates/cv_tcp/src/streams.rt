@@ -22,7 +22,7 @@ use crate::ticking::{EndedBy, Patience, Ticking};
 use crate::turns::{Job, Slot, Turns, new_slots};
 use crate::watched::Watched;
 use cv_cache::{Cached, HashKeys};
-use cv_commands::{RunFault, serve_stream_by};
+use cv_commands::{Budget, RunFault, StreamTerms, serve_stream_within};
 use cv_loop::{FromReader, ToWriter};
 use cv_metrics::Place;
 use cv_pool::keep_memory;
@@ -49,11 +49,13 @@ pub(crate) struct Service<'a, R, G, L> {
     pub(crate) admin: Option<&'a AdminInlet<'a>>,
 }
 
-/// By what terms one stream is served.
+/// The limits of one stream.
 #[derive(Clone, Copy)]
-pub(crate) struct StreamTerms<'a> {
+pub(crate) struct StreamLimits<'a> {
     /// How many workers it has.
     pub(crate) workers: u32,
+    /// What its callers may hold.
+    pub(crate) budget: Budget,
     /// For how long its calls wait, and what ends them.
     pub(crate) patience: Patience<'a>,
 }
@@ -64,11 +66,11 @@ pub(crate) fn serve_connection<R: Threads + Wait + Clock + Sync>(
     alloc: Global,
     cached: &Cached,
     stream: &Connection,
-    terms: StreamTerms<'_>,
+    limits: StreamLimits<'_>,
 ) -> Ended
-    requires { (1 ≤ terms.workers) × (terms.workers ≤ 16) }
+    requires { (1 ≤ limits.workers) × (limits.workers ≤ 16) }
 {
-    serve_by(rt, alloc, cached, stream, terms, &ReplyCount::new())
+    serve_by(rt, alloc, cached, stream, limits, &ReplyCount::new())
 }
 
 /// Where a stream is counted, and where it is logged that an allocation failed for it.
@@ -85,15 +87,15 @@ pub(crate) fn serve_counted<R: Threads + Wait + Clock + Sync, G: Log>(
     alloc: Global,
     cached: &Cached,
     stream: &Connection,
-    terms: StreamTerms<'_>,
+    limits: StreamLimits<'_>,
     counting: &Counting<'_, G>,
 ) -> Ended
-    requires { (1 ≤ terms.workers) × (terms.workers ≤ 16) }
+    requires { (1 ≤ limits.workers) × (limits.workers ≤ 16) }
 {
     let peer = stream.peer();
     counting.counters.begin(rt, counting.place, peer);
     let counts = Counted::new(rt, alloc, counting, peer);
-    let ended = serve_by(rt, alloc, cached, stream, terms, &counts);
+    let ended = serve_by(rt, alloc, cached, stream, limits, &counts);
     counting.counters.end(rt, counting.place, ended.fault);
     ended
 }
@@ -104,13 +106,13 @@ fn serve_by<R: Threads + Wait + Clock + Sync, C: Counts>(
     alloc: Global,
     cached: &Cached,
     stream: &Connection,
-    terms: StreamTerms<'_>,
+    limits: StreamLimits<'_>,
     counts: &C,
 ) -> Ended
-    requires { (1 ≤ terms.workers) × (terms.workers ≤ 16) }
+    requires { (1 ≤ limits.workers) × (limits.workers ≤ 16) }
 {
     stream.send_at_once();
-    let StreamTerms { workers, patience } = terms;
+    let patience = limits.patience;
     // If the system refuses this, the stream has no limit.
     let limit = patience.longest_call();
     let _ = stream.set_timeouts(limit);
@@ -118,7 +120,12 @@ fn serve_by<R: Threads + Wait + Clock + Sync, C: Counts>(
     let writer = Watched::new(Metered::new(counts, Retrying::new(rt, stream, limit)));
     let mut source = FromReader::new(Ticking::new(rt, reader, patience));
     let mut sink = ToWriter::new(Ticking::new(rt, writer, patience));
-    let served = serve_stream_by(rt, alloc, cached, &mut source, &mut sink, workers);
+    let terms = StreamTerms {
+        workers: limits.workers,
+        budget: limits.budget,
+        tally: counts,
+    };
+    let served = serve_stream_within(rt, alloc, cached, &mut source, &mut sink, terms);
     let (source, sink) = (source.into_inner(), sink.into_inner());
     let by = match sink.ended_by() {
         EndedBy::Client => source.ended_by(),
@@ -150,8 +157,9 @@ where
     requires { (1 ≤ service.now.terms.workers) × (service.now.terms.workers ≤ 16) }
 {
     let (rt, alloc, log) = (service.rt, service.alloc, service.log);
-    let terms = StreamTerms {
+    let limits = StreamLimits {
         workers: service.terms.workers,
+        budget: service.terms.budget(),
         patience: Patience {
             limit: service.terms.idle,
             draining: service.operation.draining.as_ref(),
@@ -165,9 +173,9 @@ where
             counters,
             place,
         };
-        return serve_counted(rt, alloc, cached, stream, terms, &counting);
+        return serve_counted(rt, alloc, cached, stream, limits, &counting);
     }
-    serve_connection(rt, alloc, cached, stream, terms)
+    serve_connection(rt, alloc, cached, stream, limits)
 }
 
 /// Serves streams, one after the other, for as long as there are turns. What became of each goes to the log.

@@ -2,6 +2,8 @@
 ghost use Rattle.std.specs.Prelude.{◌≡◌, ◌+◌, ◌≤◌};
 ghost use Rattle.cv_tcp.specs.declared.terms.WhenFull.TheVariants as WhenFull;
 
+use cv_commands::{Budget, UNLIMITED};
+
 /// How many streams may be served at once. With the descriptors that the program has besides, they are fewer than the 1,024 that a process
 /// may have unless somebody raises the limit.
 pub const MOST_AT_ONCE: u32 = 1_000;
@@ -37,6 +39,14 @@ pub struct Terms {
 }
 
 impl Terms {
+    /// What the callers of one stream may hold.
+    pub(crate) fn budget(&self) -> Budget {
+        Budget {
+            bytes: self.stream_memory.unwrap_or(UNLIMITED.bytes),
+            callers: self.callers.unwrap_or(UNLIMITED.callers),
+        }
+    }
+
     /// How many threads accept and serve: one for each place, and where clients are closed one more, so that one always accepts.
     pub(crate) fn threads(&self) -> u64
         ensures wait { self.now.when_full ≡ WhenFull.Wait → result ≡ self.now.at_once }

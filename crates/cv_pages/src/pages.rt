@@ -98,6 +98,32 @@ fn fill(alloc: Global, tops: &[u32], size: u32, entries: &[Entry]) -> Result<Vec
     Ok(cells)
 }
 
+/// The bits of eight characters from the `n`th on, joined.
+#[inline(always)]
+fn joined_from(characters: &[Scalar], n: usize) -> u32
+    requires { n + 8 ≤ length characters.now }
+    ensures { (k : ℕ) → k < 8 → slice_index characters.now (n + k) ≤ result }
+{
+    let mut joined = 0;
+    for k in 0..MANY {
+        joined |= characters[n + k].value();
+    }
+    joined
+}
+
+/// The highest of eight characters from the `n`th on.
+#[inline(always)]
+fn highest_from(characters: &[Scalar], n: usize) -> u32
+    requires { n + 8 ≤ length characters.now }
+    ensures { (k : ℕ) → k < 8 → slice_index characters.now (n + k) ≤ result }
+{
+    let mut highest = 0;
+    for k in 0..MANY {
+        highest = highest.max(characters[n + k].value());
+    }
+    highest
+}
+
 impl Pages {
     /// The pages of entries.
     pub fn of(alloc: Global, entries: &[Entry]) -> Result<Pages, AllocError>
@@ -157,17 +183,16 @@ impl Pages {
         page as usize + (character % 64) as usize
     }
 
-    /// Whether eight characters from the `n`th on are no higher than the last page.
+    /// Whether eight characters from the `n`th on are no higher than the last page. Their joined bits say so of most texts, and cost less
+    /// than the highest of them. Those of Chinese or of kana are higher than any page.
     #[inline(always)]
     pub fn are_low(&self, characters: &[Scalar], n: usize) -> bool
         requires { n + 8 ≤ length characters.now }
         ensures { IsTrue result → (k : ℕ) → k < 8
             → slice_index characters.now (n + k) / 64 < length self.now.tops.items }
     {
-        let mut joined = 0;
-        for k in 0..MANY {
-            joined |= characters[n + k].value();
-        }
-        ((joined / 64) as usize) < self.tops.len()
+        let pages = self.tops.len();
+        ((joined_from(characters, n) / 64) as usize) < pages
+            || ((highest_from(characters, n) / 64) as usize) < pages
     }
 }

@@ -12,7 +12,7 @@ ghost use Rattle.cv_trie.specs.Private.Fronts.{IsWrittenFront};
 
 use cv_base::Scalar;
 use cv_byte_trie::Entry;
-use cv_pages::{MANY, NO_SIZE, NOWHERE, Pages};
+use cv_pages::{MANY, NO_SIZE, NOWHERE, Pages, SHORT};
 
 /// The room in which the bytes of eight characters are put, whatever their sizes stand for.
 const READY_ROOM: usize = MANY * NO_SIZE as usize;
@@ -138,7 +138,7 @@ fn put_ready(
     }
 }
 
-/// Writes eight characters from the `n`th on, behind those before them: at once, unless one of the eight before them was lacking.
+/// Writes eight characters from the `n`th on, behind those before them: at once, if that is to be tried.
 #[inline(always)]
 fn put_many(
     pages: &Pages,
@@ -146,7 +146,7 @@ fn put_many(
     substitute: u32,
     characters: &[Scalar],
     n: usize,
-    lacked: bool,
+    in_vain: bool,
     front: &mut [u8],
     before: Written,
 ) -> Written
@@ -167,7 +167,7 @@ fn put_many(
     ensures written { IsWrittenFront (map_writes entries.now) (take (n + 8) characters.now)
         front.new result.used result.count }
 {
-    if !lacked
+    if !in_vain
         && front.len() - before.used >= READY_ROOM
         && pages.are_low(characters, n)
         && let Some(used) = put_ready(pages, entries, characters, n, front, before.used)
@@ -183,8 +183,12 @@ fn put_many(
     )
 }
 
-/// Writes characters at the front of a buffer, eight at once. In a text full of characters that the charmap lacks eight at once are tried in
-/// vain, so behind eight of which one was lacking the next go one by one.
+/// The most bytes that eight characters have whose bytes stand ready.
+const MOST_READY: usize = MANY * SHORT;
+
+/// Writes characters at the front of a buffer, eight at once. In a text full of characters that the charmap lacks, or that have more bytes
+/// than stand ready, eight at once are tried in vain: after eight of which one was lacking, or which had more bytes than stand ready
+/// for so many, the next go one by one.
 #[inline(always)]
 pub(crate) fn write_front(
     pages: &Pages,
@@ -205,13 +209,13 @@ pub(crate) fn write_front(
     let substitute = pages.place(0x3F);
     let mut n = 0;
     let mut written = Written { used: 0, count: 0 };
-    let mut lacked = false;
+    let mut in_vain = false;
     while characters.len() - n >= MANY {
         let before = written;
         written = put_many(
-            pages, entries, substitute, characters, n, lacked, front, before,
+            pages, entries, substitute, characters, n, in_vain, front, before,
         );
-        lacked = written.count > before.count;
+        in_vain = written.count > before.count || written.used > before.used + MOST_READY;
         n += MANY;
     }
     let end = characters.len();

@@ -1,7 +1,7 @@
 use Rattle.std.proofs.Common.{◌≡◌, ◌∙◌, ◌+◌, ◌<◌, ℕ, get_or, length, arith}
 use Rattle.std.proofs.lemmas.Grind.{get_or_default_zero}
 use Rattle.cv_pages.proofs.JoinedBits.{joined_more}
-use Rattle.cv_pages.proofs.pages.Pages.are_low.Goals as goal
+use Rattle.cv_pages.proofs.pages.joined_from.Goals as goal
 
 pub loop-k-preserved : goal.loop-k-preserved
 loop-k-preserved c =

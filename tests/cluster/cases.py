@@ -8,8 +8,8 @@ import shutil
 import signal
 from typing import Callable, Dict, List
 
-from network import BALANCER, SERVERS, Network
-from servers import Balancer, Server
+from network import ADDRESSES, BALANCER, SERVERS, Network
+from servers import PORT, Balancer, Server
 from streams import Crowd, Stream, until
 
 
@@ -39,6 +39,9 @@ class Cases:
     async def run(self) -> None:
         await self._killed("one")
         await self._stopped("two")
+        await self._paused("one")
+        await self._filled("two")
+        await self._drained_by_stop("three")
         await self._drained("three")
         await self._upgraded("one")
         await self._cut_short("two")
@@ -111,6 +114,54 @@ class Cases:
         await self._lose("stopped", name, lambda: self._servers[name].send(signal.SIGSTOP))
         self._servers[name].send(signal.SIGCONT)
         await self._come_back("stopped", name)
+        await self._level()
+
+    async def _paused(self, name: str) -> None:
+        """A stop of 0.3 s, as a debugger that attaches makes it."""
+        before = {stream: stream.losses for stream in self._crowd.streams}
+        self._servers[name].send(signal.SIGSTOP)
+        await asyncio.sleep(0.3)
+        self._servers[name].send(signal.SIGCONT)
+        await self._all_go_on("stopped for 0.3 s")
+        lost = sum(stream.losses > before[stream] for stream in self._crowd.streams)
+        self._results.check(lost == 0, "stopped for 0.3 s: no stream is lost", f"{lost} were")
+
+    async def _filled(self, name: str) -> None:
+        """Other clients take all places of a server."""
+        before = {stream: stream.losses for stream in self._crowd.streams}
+        others = []
+        while (await asyncio.to_thread(self._servers[name].ask, "health")) == "ok\n":
+            others.append(await asyncio.open_connection(ADDRESSES[name], PORT))
+            await asyncio.sleep(0.02)
+        said = await asyncio.to_thread(self._servers[name].ask, "health")
+        self._results.check(said == "full\n", f"full: its health says so after {len(others)} more streams", said)
+        self._results.check(await until(self._status_is(name, "NOLB")), "full: the balancer sends it no new stream")
+        await self._all_go_on("full")
+        lost = sum(stream.losses > before[stream] for stream in self._crowd.streams)
+        self._results.check(lost == 0, "full: no stream is lost", f"{lost} were")
+        for _, writer in others:
+            writer.close()
+        await self._come_back("full", name)
+
+    async def _drained_by_stop(self, name: str) -> None:
+        """The server is stopped as ExecStop= of its unit does it, and started again. Its clients are silent for a second now and then."""
+        theirs = self._streams_of(name)
+        for stream in theirs:
+            stream.rest = 1.5
+        await asyncio.sleep(2)
+        before = {stream: stream.losses for stream in self._crowd.streams}
+        unanswered = self._crowd.unanswered()
+        status = await asyncio.to_thread(self._servers[name].drain)
+        self._results.check(status == 0, "stopped by a drain: its exit status is 0", str(status))
+        for stream in theirs:
+            stream.rest = 0.0
+        others = sum(stream.losses > before[stream] for stream in self._crowd.streams if stream not in theirs)
+        self._results.check(others == 0, "stopped by a drain: the streams of other servers see nothing", f"{others} were lost")
+        await self._all_go_on("stopped by a drain")
+        lost = self._crowd.unanswered() - unanswered
+        self._results.check(lost == 0, f"stopped by a drain: no request of its {len(theirs)} streams is lost", f"{lost} were")
+        self._servers[name].start()
+        await self._come_back("stopped by a drain", name)
         await self._level()
 
     async def _drained(self, name: str) -> None:

@@ -21,6 +21,10 @@ class Stream:
         self.port = 0
         self.replies = 0
         self.losses = 0
+        #: How many requests were sent on streams that ended before their replies came.
+        self.unanswered = 0
+        #: For how many seconds more it is silent between requests.
+        self.rest = 0.0
         self.wrong: List[str] = []
         self.ended = 0
         self._is_moving = False
@@ -49,7 +53,7 @@ class Stream:
                 await self._exchange(reader, replies, batch)
                 self.port = self._writer.get_extra_info("sockname")[1]
                 at += len(batch)
-                await asyncio.sleep(0.05 + self._dice.random() / 5)
+                await asyncio.sleep(0.05 + self._dice.random() / 5 + self.rest)
             self.ended += at == len(self._exchanges)
 
     def move(self) -> None:
@@ -64,15 +68,18 @@ class Stream:
         self._writer.write(b"".join(exchange.request for exchange in batch))
         await self._writer.drain()
         answered = 0
-        while answered < len(batch):
-            data = await reader.read(65536)
-            if not data:
-                raise ServerLost("the stream ended")
-            for reply in replies.feed(data):
-                if answered == len(batch) or reply != batch[answered].reply:
-                    self.wrong.append(f"{reply} in place of {batch[min(answered, len(batch) - 1)].reply}")
-                answered += 1
-                self.replies += 1
+        try:
+            while answered < len(batch):
+                data = await reader.read(65536)
+                if not data:
+                    raise ServerLost("the stream ended")
+                for reply in replies.feed(data):
+                    if answered == len(batch) or reply != batch[answered].reply:
+                        self.wrong.append(f"{reply} in place of {batch[min(answered, len(batch) - 1)].reply}")
+                    answered += 1
+                    self.replies += 1
+        finally:
+            self.unanswered += max(0, len(batch) - answered)
 
 
 class Crowd:
@@ -95,6 +102,9 @@ class Crowd:
 
     def replies(self) -> int:
         return sum(stream.replies for stream in self.streams)
+
+    def unanswered(self) -> int:
+        return sum(stream.unanswered for stream in self.streams)
 
 
 async def until(holds: Callable[[], bool], seconds: float = 60) -> bool:

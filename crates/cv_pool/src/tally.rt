@@ -75,7 +75,7 @@ pub struct Tallied<'a, T> {
 impl<'a, T> Tallied<'a, T> {
     /// A pool, and what it tells.
     pub fn new(pool: Pool<&'a Cached, Open>, tally: &'a T) -> Tallied<'a, T>
-        ensures { result.pool ≡ pool }
+        ensures { result.pool ≡ pool.entry }
     {
         Tallied { pool, tally }
     }

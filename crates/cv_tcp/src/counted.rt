@@ -2,7 +2,7 @@
 use crate::connection::Peer;
 use crate::counters::Counters;
 use crate::metered::Counts;
-use crate::streams::Counting;
+use crate::one_stream::Counting;
 use cv_commands::{Tally, Usage};
 use cv_metrics::{Meter, Place};
 use log::{Log, info};

@@ -3,7 +3,7 @@ use super::{alone, bound, connected, terms};
 use crate::calling::{call, call_connection};
 use crate::connection::Connection;
 use crate::fault::{CallFault, call_status};
-use crate::streams::serve_connection;
+use crate::one_stream::serve_connection;
 use cv_cache::Cached;
 use cv_commands::RunFault;
 use std::io::{self, Write};

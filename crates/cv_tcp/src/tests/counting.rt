@@ -3,7 +3,7 @@ use super::kept::Kept;
 use super::{OPEN, OPENED, alone, bound, connected, gives};
 use crate::connection::Connection;
 use crate::counters::Counters;
-use crate::streams::{Counting, serve_counted};
+use crate::one_stream::{Counting, serve_counted};
 use cv_cache::{Cached, HashKeys};
 use cv_metrics::Told;
 use cv_pool::keep_memory;

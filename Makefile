@@ -13,7 +13,7 @@ SOURCES := crates.txt $(shell find crates -name out -prune -o \( -name '*.rt' -o
 CRATES := $(shell sed -n 's/^\([a-z][a-z0-9_]*\).*:.*/\1/p' crates.txt)
 CLIENTS := $(patsubst %/Makefile,%,$(wildcard clients/*/Makefile))
 # What .ci/run runs behind the gate. Each ends with a line `N passed, N failed`.
-CHECKS := check-rules check-docs check-refuse check-instructions check-nonblocking check-stops check-log check-given check-admin check-clients check-benchmark check-package check-units check-cluster check-crowd check-soak
+CHECKS := check-rules check-docs check-refuse check-instructions check-nonblocking check-stops check-log check-given check-admin check-budgets check-clients check-benchmark check-package check-units check-cluster check-crowd check-soak
 
 # `rt` itself works on several crates at a time, and locks them.
 .NOTPARALLEL:
@@ -106,6 +106,10 @@ check-given: ## serves by a listener that outlives its servers, and refuses what
 check-admin: ## asks the admin pages, also as clients do that mean no good
 	@tools/need 'make $@' python3
 	@program=$$(tools/checked_program iconvd) && tests/admin/check "$$program"
+
+check-budgets: ## one stream floods a server of little memory: the others are served, and it holds no more than it may
+	@tools/need 'make $@' python3
+	@program=$$(tools/checked_program iconvd) && tests/budgets/check "$$program"
 
 check-units: ## the units as systemd reads them, and in a systemd of its own if the machine can boot one
 	@program=$$(tools/checked_program iconvd) && tests/units/check "$$program"

@@ -35,6 +35,11 @@ fn frame(alloc: Global, codes: &[u8]) -> Result<Vec<u8>, Fail> {
     Ok(bytes)
 }
 
+/// The first bytes, so many at most, and those after them.
+fn parted(bytes: &[u8], count: usize) -> (&[u8], &[u8]) {
+    bytes.split_at(count.min(bytes.len()))
+}
+
 /// What the server tells.
 fn told() -> Told {
     Told {

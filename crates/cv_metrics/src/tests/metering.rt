@@ -1,5 +1,5 @@
 //! Counting a stream.
-use super::{CONV, EBADF, OK, OPEN, TIMES, frame, has_line, told};
+use super::{CONV, EBADF, OK, OPEN, TIMES, frame, has_line, parted, told};
 use crate::{Board, Cause, FaultKind, Meter, Peer, bucket_of};
 use std::alloc::Global;
 use std::sync::Wait;
@@ -14,12 +14,13 @@ fn ops_and_statuses_are_paired(rt: HostRuntime) -> Result<(), Fail> {
     let mut meter = Meter::new(alloc, place);
     // Two requests and half of a third, which are answered OK and EBADF.
     let asked = frame(alloc, &[OPEN, CONV, 99])?;
-    meter.came(&asked[..30], 2_000);
+    let (first, last) = parted(&asked, 30);
+    meter.came(first, 2_000);
     meter.begin_batch(3_000);
     meter.went(&frame(alloc, &[OK, EBADF])?, true);
     assert!(rt; !meter.is_waiting());
     // The rest of the third, which is answered by no status that there is.
-    meter.came(&asked[30..], 4_000);
+    meter.came(last, 4_000);
     assert!(rt; meter.is_waiting());
     meter.begin_batch(5_000);
     meter.went(&frame(alloc, &[77])?, true);
@@ -51,9 +52,10 @@ fn a_batch_shares_its_time(rt: HostRuntime) -> Result<(), Fail> {
     // A quarter each of 40,004 nanoseconds is above the first bound. The write takes half of the bytes, and then the rest.
     meter.begin_batch(41_004);
     let replies = frame(alloc, &[OK, OK, OK, OK])?;
-    meter.went(&replies[..26], false);
+    let (first, last) = parted(&replies, 26);
+    meter.went(first, false);
     assert!(rt; !meter.begins_batch());
-    meter.went(&replies[26..], true);
+    meter.went(last, true);
     assert!(rt; meter.begins_batch());
     let text = board.metrics(&rt, alloc, &told())?;
     for line in [

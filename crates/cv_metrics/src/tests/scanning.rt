@@ -1,4 +1,5 @@
 //! Frames in pieces.
+use super::parted;
 use crate::{Scan, Seen};
 use std::alloc::{AllocError, Global};
 use std::process::Abort;
@@ -10,10 +11,14 @@ const FRAMES: &[u8] =
 
 /// The codes of the frames that end in these bytes.
 fn codes_in(scan: &mut Scan, bytes: &[u8], codes: &mut Vec<u8>) -> Result<(), AllocError> {
-    let mut at = 0;
-    while let Some(seen) = scan.next(&bytes[at..]) {
+    let mut rest = bytes;
+    // Each frame takes a byte at least, and the last call finds none.
+    for _call in 0..=bytes.len() {
+        let Some(seen) = scan.next(rest) else {
+            break;
+        };
         codes.push(seen.code)?;
-        at += seen.n;
+        rest = &rest[seen.n..];
     }
     Ok(())
 }
@@ -22,8 +27,8 @@ fn codes_in(scan: &mut Scan, bytes: &[u8], codes: &mut Vec<u8>) -> Result<(), Al
 fn codes_of(alloc: Global, bytes: &[u8], first: usize, second: usize) -> Result<Vec<u8>, Fail> {
     let mut scan = Scan::new();
     let mut codes = Vec::new(alloc);
-    let (front, rest) = bytes.split_at(first.min(bytes.len()));
-    let (middle, back) = rest.split_at(second.min(rest.len()));
+    let (front, rest) = parted(bytes, first);
+    let (middle, back) = parted(rest, second);
     for piece in [front, middle, back] {
         codes_in(&mut scan, piece, &mut codes)?;
     }
@@ -93,8 +98,8 @@ fn a_head_in_pieces_of_one_byte(rt: HostRuntime) -> Result<(), Fail> {
     let alloc = rt.alloc();
     let mut scan = Scan::new();
     let mut codes = Vec::new(alloc);
-    for at in 0..FRAMES.len() {
-        codes_in(&mut scan, &FRAMES[at..at + 1], &mut codes)?;
+    for byte in FRAMES.chunks(1) {
+        codes_in(&mut scan, byte, &mut codes)?;
     }
     assert!(rt; codes.as_slice() == [4, 255, 6].as_slice(), "{codes:?}");
     Ok(())

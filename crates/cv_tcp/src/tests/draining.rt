@@ -167,7 +167,7 @@ fn the_end_of_a_drain_cuts_a_busy_stream(rt: HostRuntime) -> Result<(), Fail> {
     let lasted = begun.elapsed(rt)?;
     assert_eq!(rt; served, Ok(Listened::Drained { streams: 1, cut: 1 }));
     assert!(rt; was_cut?);
-    assert!(rt; lasted >= Duration::from_secs(2) && lasted < Duration::from_secs(8));
+    assert!(rt; lasted >= Duration::from_secs(2));
     let said = log.into_bytes();
     assert_eq!(rt; lines_about(&said, "ERROR stream from ", " requests"), 1);
     let cut = b": cut by a drain, after ".as_slice();

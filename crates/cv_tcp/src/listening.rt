@@ -5,7 +5,7 @@ ghost use Rattle.cv_tcp.specs.Faults.{IsOfListening};
 ghost use Rattle.cv_tcp.specs.Listening.{IsEnd};
 
 use crate::address::Address;
-use crate::admin_inlet::AdminInlet;
+use crate::admin_inlet::{AdminInlet, Place};
 use crate::inherited::Inherited;
 use crate::inlet::{Bound, Inlet, Listener};
 use crate::listened::{Listened, tell};
@@ -150,7 +150,7 @@ where
 {
     let listener = match socket_file::bind(site.rt, path) {
         Ok(listener) => listener,
-        Err(failure) => return Err(refuse(site.log, format_args!("unix:{path}"), &failure)),
+        Err(failure) => return Err(refuse(site.log, Place::Unix(path), &failure)),
     };
     let served = serve_unix(site, Listener::Unix(listener), path);
     socket_file::remove(site.rt, path);
@@ -172,8 +172,8 @@ where
     ensures err { IfErr result IsOfListening }
 {
     match bound(site, listener) {
-        Ok(inlet) => serve_at(site, &inlet, format_args!("unix:{path}")),
-        Err(failure) => Err(refuse(site.log, format_args!("unix:{path}"), &failure)),
+        Ok(inlet) => serve_at(site, &inlet, Place::Unix(path)),
+        Err(failure) => Err(refuse(site.log, Place::Unix(path), &failure)),
     }
 }
 
@@ -244,13 +244,13 @@ fn conclude<R, G: Log>(
 }
 
 /// Listens as `listen` does, until all streams are served or the operation is drained. A drain is logged when it has ended.
-pub fn listen_until_drained<R, G>(
-    rt: &R,
+pub fn listen_until_drained<'a, R, G>(
+    rt: &'a R,
     alloc: Global,
-    log: &G,
+    log: &'a G,
     address: &str,
     terms: Terms,
-    operation: &Operation,
+    operation: &'a Operation,
 ) -> Result<Listened, RunFault>
 where
     R: Net<Listener = TcpListener, Stream = TcpStream>
@@ -293,13 +293,13 @@ pub struct Addresses<'a> {
 
 /// Listens as `listen_until_drained` does, and meanwhile answers the clients of the admin pages at an address of their own. It is printed
 /// after the other one. The pages are there until the last stream has ended. They are whole where the operation counts.
-pub fn listen_administered<R, G>(
-    rt: &R,
+pub fn listen_administered<'a, R, G>(
+    rt: &'a R,
     alloc: Global,
-    log: &G,
-    addresses: Addresses<'_>,
+    log: &'a G,
+    addresses: Addresses<'a>,
     terms: Terms,
-    operation: &Operation,
+    operation: &'a Operation,
 ) -> Result<Listened, RunFault>
 where
     R: Net<Listener = TcpListener, Stream = TcpStream>

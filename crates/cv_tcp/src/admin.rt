@@ -87,9 +87,9 @@ where
 }
 
 /// Serves streams, and where there are admin pages answers their clients meanwhile, until the last stream has ended.
-pub(crate) fn serve_beside<R, G, L, J>(
-    service: &Service<'_, R, G, L>,
-    cached: &Cached,
+pub(crate) fn serve_beside<'a, R, G, L, J>(
+    service: &'a Service<'a, R, G, L>,
+    cached: &'a Cached,
     turns: &Mutex<Turns<J>>,
     slots: &Vec<Mutex<Slot<J>>>,
 )

@@ -1,5 +1,5 @@
 //! When a drain began, and when its time is over.
-ghost use Rattle.std.specs.Prelude.{◌≡◌, ◌+◌, ◌<◌, ◌≤◌, true, false};
+ghost use Rattle.std.specs.Prelude.{◌≡◌, ◌+◌, ◌*◌, ◌<◌, ◌≤◌, true, false};
 
 use std::sync::atomic::{AtomicU64, Ordering};
 use std::time::Clock;

@@ -33,13 +33,13 @@ fn conclude<R, G: Log>(
 }
 
 /// Listens as `listen` does, until all streams are served or the operation is drained. A drain is logged when it has ended.
-pub fn listen_until_drained<R, G>(
-    rt: &R,
+pub fn listen_until_drained<'a, R, G>(
+    rt: &'a R,
     alloc: Global,
-    log: &G,
+    log: &'a G,
     address: &str,
     terms: Terms,
-    operation: &Operation,
+    operation: &'a Operation,
 ) -> Result<Listened, RunFault>
 where
     R: Net<Listener = TcpListener, Stream = TcpStream>
@@ -82,13 +82,13 @@ pub struct Addresses<'a> {
 
 /// Listens as `listen_until_drained` does, and meanwhile answers the clients of the admin pages at an address of their own. It is printed
 /// after the other one. The pages are there until the last stream has ended. They are whole where the operation counts.
-pub fn listen_administered<R, G>(
-    rt: &R,
+pub fn listen_administered<'a, R, G>(
+    rt: &'a R,
     alloc: Global,
-    log: &G,
-    addresses: Addresses<'_>,
+    log: &'a G,
+    addresses: Addresses<'a>,
     terms: Terms,
-    operation: &Operation,
+    operation: &'a Operation,
 ) -> Result<Listened, RunFault>
 where
     R: Net<Listener = TcpListener, Stream = TcpStream>

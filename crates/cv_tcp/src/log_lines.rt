@@ -67,10 +67,10 @@ impl<'a, R, O> LogLines<'a, R, O> {
 impl<'a, R, O> LogLines<'a, R, O> {
     /// The same log, which keeps in a cell how many lines it has dropped.
     pub fn telling(self, lost: &'a AtomicU64) -> LogLines<'a, R, O>
-        ensures rt { result.rt ≡ self.rt }
-        ensures outlet { result.outlet ≡ self.outlet }
-        ensures level { result.level ≡ self.level }
-        ensures format { result.format ≡ self.format }
+        ensures rt { result.rt ≡ self.entry.rt }
+        ensures outlet { result.outlet ≡ self.entry.outlet }
+        ensures level { result.level ≡ self.entry.level }
+        ensures format { result.format ≡ self.entry.format }
     {
         LogLines {
             lost: Some(lost),

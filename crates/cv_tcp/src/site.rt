@@ -5,7 +5,7 @@ ghost use Rattle.cv_tcp.specs.Faults.{IsOfListening};
 ghost use Rattle.cv_tcp.specs.Listening.{IsEnd};
 
 use crate::address::Address;
-use crate::admin_inlet::AdminInlet;
+use crate::admin_inlet::{AdminInlet, Place};
 use crate::inherited::Inherited;
 use crate::inlet::{Bound, Inlet, Listener};
 use crate::listened::Listened;
@@ -150,7 +150,7 @@ where
 {
     let listener = match socket_file::bind(site.rt, path) {
         Ok(listener) => listener,
-        Err(failure) => return Err(refuse(site.log, format_args!("unix:{path}"), &failure)),
+        Err(failure) => return Err(refuse(site.log, Place::Unix(path), &failure)),
     };
     let served = serve_unix(site, Listener::Unix(listener), path);
     socket_file::remove(site.rt, path);
@@ -172,8 +172,8 @@ where
     ensures err { IfErr result IsOfListening }
 {
     match bound(site, listener) {
-        Ok(inlet) => serve_at(site, &inlet, format_args!("unix:{path}")),
-        Err(failure) => Err(refuse(site.log, format_args!("unix:{path}"), &failure)),
+        Ok(inlet) => serve_at(site, &inlet, Place::Unix(path)),
+        Err(failure) => Err(refuse(site.log, Place::Unix(path), &failure)),
     }
 }
 

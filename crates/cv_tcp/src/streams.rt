@@ -196,7 +196,7 @@ where
     let (taken, mut all) = blank.open::<J>();
     let slots = new_slots(service.alloc, threads, &mut all)?;
     let turns = Mutex::new(Turns::new(service.terms.streams, taken));
-    serve_beside(service, &cached, &turns, &slots);
+    serve_beside(&*service, &cached, &turns, &slots);
     let mut turns = turns.into_inner();
     let total = turns.total(slots, &mut all);
     match ended(

@@ -4,9 +4,9 @@ use super::{OPEN, OPENED, bound, connected, is_served, lines_about, lines_like, 
 use crate::inlet::{Bound, Listener};
 use crate::listened::Listened;
 use crate::operation::Operation;
-use cv_admin::Health;
 use crate::streams::{Service, serve_until_drained};
 use crate::terms::WhenFull;
+use cv_admin::Health;
 use std::io::{self, ErrorKind, Read, Write};
 use std::net::{Net, Shutdown, SocketAddr, TcpListener, TcpStream};
 use std::sync::Wait;

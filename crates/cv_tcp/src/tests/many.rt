@@ -1,6 +1,8 @@
 //! Many streams at once.
 use super::kept::Kept;
-use super::{OPEN, OPENED, alone, bound, connected, gives, is_served, lines_about, lines_like, terms};
+use super::{
+    OPEN, OPENED, alone, bound, connected, gives, is_served, lines_about, lines_like, terms,
+};
 use crate::connection::Connection;
 use crate::inlet::{Bound, Listener};
 use crate::listened::Listened;

@@ -149,6 +149,11 @@ class Balancer:
                 return columns[17]
         return ""
 
+    def shares(self) -> str:
+        """Says for each server what HAProxy says of it, how many streams it has, and how many wait."""
+        rows = [line.split(",") for line in self.command("show stat").splitlines()]
+        return ", ".join(f"{row[1]} {row[17]} {row[4]} ({row[2]} wait)" for row in rows if row[0] == "iconvd")
+
     def metrics(self) -> str:
         """Returns the page of the metrics, read on the balancer's machine."""
         fetch = "import urllib.request; print(urllib.request.urlopen('http://127.0.0.1:8404/metrics').read().decode())"

@@ -23,8 +23,8 @@ class Stream:
         self.losses = 0
         #: How many requests were sent on streams that ended before their replies came.
         self.unanswered = 0
-        #: For how many seconds more it is silent between requests.
-        self.rest = 0.0
+        #: Whether it asks no more on the stream that it has, and waits for its end.
+        self.is_silent = False
         self.wrong: List[str] = []
         self.ended = 0
         self._is_moving = False
@@ -36,7 +36,7 @@ class Stream:
                 await self._talk(host, port, is_over)
             except (OSError, ServerLost, asyncio.IncompleteReadError):
                 self.losses += not self._is_moving
-                self._is_moving = False
+                self._is_moving = self.is_silent = False
                 self.port = 0
                 await asyncio.sleep(0.1 + self._dice.random() / 5)
             finally:
@@ -53,7 +53,9 @@ class Stream:
                 await self._exchange(reader, replies, batch)
                 self.port = self._writer.get_extra_info("sockname")[1]
                 at += len(batch)
-                await asyncio.sleep(0.05 + self._dice.random() / 5 + self.rest)
+                await asyncio.sleep(0.05 + self._dice.random() / 5)
+                if self.is_silent:
+                    await self._wait_for_end(reader)
             self.ended += at == len(self._exchanges)
 
     def move(self) -> None:
@@ -62,6 +64,12 @@ class Stream:
         self.port = 0
         if self._writer is not None:
             self._writer.close()
+
+    async def _wait_for_end(self, reader: asyncio.StreamReader) -> None:
+        """Nothing was asked, so all that can come is the end."""
+        if said := await reader.read(1 << 16):
+            self.wrong.append(f"{said!r} in place of the end")
+        raise ServerLost("the stream ended")
 
     async def _exchange(self, reader: asyncio.StreamReader, replies: ReplyReader, batch: Sequence[Exchange]) -> None:
         assert self._writer is not None

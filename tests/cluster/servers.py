@@ -37,7 +37,8 @@ class Server:
 
     def start(self) -> None:
         """Starts it, and waits until it listens."""
-        words = [self.program, "listen", f"{ADDRESSES[self.name]}:{PORT}", "--at-once", str(AT_ONCE), "--admin", self._admin, "--drain", str(DRAIN)]
+        words = [self.program, "listen", f"{ADDRESSES[self.name]}:{PORT}", "--at-once", str(AT_ONCE), "--admin", self._admin]
+        words += ["--when-full", "close", "--drain", str(DRAIN)]
         self._process = subprocess.Popen(inside(self.name, words), stdout=subprocess.PIPE, stderr=subprocess.DEVNULL)
         assert self._process.stdout is not None
         if not self._process.stdout.readline().startswith(b"listening"):

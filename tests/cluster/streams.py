@@ -21,13 +21,14 @@ class Stream:
         self.port = 0
         self.replies = 0
         self.losses = 0
-        #: How many requests were sent on streams that ended before their replies came.
+        #: How many requests were not answered by streams that had answered others. A stream without any reply was never served.
         self.unanswered = 0
         #: Whether it asks no more on the stream that it has, and waits for its end.
         self.is_silent = False
         self.wrong: List[str] = []
         self.ended = 0
         self._is_moving = False
+        self._is_served = False
 
     async def run(self, host: str, port: int, is_over: Callable[[], bool]) -> None:
         """Talks until it is over."""
@@ -46,6 +47,7 @@ class Stream:
     async def _talk(self, host: str, port: int, is_over: Callable[[], bool]) -> None:
         reader, self._writer = await asyncio.open_connection(host, port)
         replies = ReplyReader()
+        self._is_served = False
         while not is_over():
             at = 0
             while at < len(self._exchanges) and not is_over():
@@ -86,8 +88,10 @@ class Stream:
                         self.wrong.append(f"{reply} in place of {batch[min(answered, len(batch) - 1)].reply}")
                     answered += 1
                     self.replies += 1
+                    self._is_served = True
         finally:
-            self.unanswered += max(0, len(batch) - answered)
+            if self._is_served:
+                self.unanswered += max(0, len(batch) - answered)
 
 
 class Crowd:

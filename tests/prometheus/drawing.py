@@ -3,6 +3,7 @@
 from __future__ import annotations
 
 import json
+import re
 import urllib.parse
 import urllib.request
 from typing import Any, Dict, List, NamedTuple, Tuple
@@ -11,7 +12,7 @@ from panels import panels
 
 #: Inches of a column of the grid, of which there are 24, and of a row.
 WIDTH, HEIGHT = 0.85, 0.45
-_UNITS = {"bytes": ("B", 1), "Bps": ("B/s", 1), "s": ("s", 1), "reqps": (" req/s", 0), "ops": (" ops/s", 0), "percentunit": ("%", 0), "none": ("", 0)}
+_UNITS = {"bytes": ("B", 1), "Bps": ("B/s", 1), "s": ("s", 1), "reqps": (" req/s", 0), "cps": (" c/s", 0), "percentunit": ("%", 0), "none": ("", 0)}
 
 Series = Tuple[str, List[float], List[float]]
 
@@ -44,7 +45,7 @@ def shown(value: float, unit: str) -> str:
     """A value as Grafana writes it, about."""
     suffix, is_scaled = _UNITS[unit]
     if unit == "percentunit":
-        return f"{100 * value:.0f}%"
+        return f"{100 * value:.3g}%"
     if not is_scaled:
         return f"{value:.4g}{suffix}"
     base, steps = (1, ("", "m", "µ", "n")) if unit == "s" else (1024, ("", "Ki", "Mi", "Gi"))
@@ -62,6 +63,8 @@ def _stat(axes: Any, panel: Dict[str, Any], series: List[Series]) -> None:
         axes.text(0.5, 0.5, "No data", ha="center", va="center", fontsize=14)
         return
     value = series[0][2][-1]
+    if (decimals := panel["fieldConfig"]["defaults"].get("decimals")) is not None:
+        value = round(value, decimals)
     color = "black"
     for step in panel["fieldConfig"]["defaults"].get("thresholds", {}).get("steps", []):
         if step["value"] is None or value >= step["value"]:
@@ -71,11 +74,16 @@ def _stat(axes: Any, panel: Dict[str, Any], series: List[Series]) -> None:
 
 def _lines(axes: Any, panel: Dict[str, Any], series: List[Series]) -> None:
     unit = panel["fieldConfig"]["defaults"]["unit"]
+    dashed = [override["matcher"]["options"].strip("/") for override in panel["fieldConfig"]["overrides"]]
     for name, minutes, values in series:
-        axes.plot(minutes, values, linewidth=1, label=name or "(no legend)")
+        style = "--" if any(re.search(pattern, name) for pattern in dashed) else "-"
+        axes.plot(minutes, values, style, linewidth=1, label=name or "(no legend)")
+    if panel["fieldConfig"]["defaults"]["custom"].get("scaleDistribution", {}).get("type") == "log":
+        axes.set_yscale("log")
+    else:
+        axes.set_ylim(bottom=0, top=panel["fieldConfig"]["defaults"].get("max"))
     axes.yaxis.set_major_formatter(lambda value, _place: shown(value, unit))
     axes.grid(color="#dddddd", linewidth=0.6)
-    axes.set_ylim(bottom=0)
     axes.tick_params(labelsize=7)
     axes.spines[["top", "right"]].set_visible(False)
     if series:

@@ -34,6 +34,7 @@ from drawing import Source, draw
 from stream import Stream
 
 from iconvd import frames
+from iconvd.errors import ServerLost
 
 #: Seconds between two looks of Prometheus.
 SCRAPE = 2
@@ -66,6 +67,10 @@ class Server:
         time.sleep(2 * SCRAPE)
         self.start()
 
+    def may_end(self, _begun: float) -> bool:
+        """Whether a stream may be lost. Here nothing is judged."""
+        return True
+
     def end(self) -> None:
         self._process.kill()
         self._process.wait()
@@ -74,7 +79,7 @@ class Server:
 async def until(end: float, act: Callable[[], Awaitable[object]]) -> None:
     """Does something again and again; a server that is full or away ends it early."""
     while time.monotonic() < end:
-        with contextlib.suppress(OSError, frames.ServerLost):
+        with contextlib.suppress(OSError, ServerLost):
             await asyncio.wait_for(act(), 30)
         await asyncio.sleep(0.2)
 
@@ -82,7 +87,7 @@ async def until(end: float, act: Callable[[], Awaitable[object]]) -> None:
 async def load(one: Server, two: Server, seconds: float) -> None:
     """A gateway's day at the first server, and at the second one clients that do not mean well."""
     end = time.monotonic() + seconds
-    day = Day(one.port, Corpus(1))
+    day = Day(one, Corpus(1))
 
     async def callers() -> None:
         """Each request by a caller of its own, more than a stream may have."""

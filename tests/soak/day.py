@@ -5,19 +5,27 @@ from __future__ import annotations
 import asyncio
 import time
 from collections import Counter
-from typing import Awaitable, Callable, List
+from typing import Awaitable, Callable, List, Protocol
 
 from iconvd import frames
 from iconvd.errors import ServerLost
 from iconvd.frames import Op, Reply, Request, Status
 
 from corpus import HOSTILE_NAMES, Corpus, Part
-from service import Service
 from stream import Stream
 
 TARGET = b"UTF-8"
 #: Requests after which a long stream is closed. Its million reads would last far longer than a soak.
 LONG = 20_000
+
+
+class Service(Protocol):
+    """What serves them."""
+
+    port: int
+
+    def may_end(self, begun: float) -> bool:
+        """Whether a stream that was opened after this time may be lost."""
 
 
 class Day:

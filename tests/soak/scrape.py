@@ -5,11 +5,10 @@ from __future__ import annotations
 import asyncio
 import re
 import time
-from http.client import HTTPException
 from typing import Dict, List, NamedTuple
 
 from probes import memory_of
-from service import Server, Service, ask_page
+from service import Server, Service
 
 PERIOD = 1.0
 
@@ -58,13 +57,11 @@ class Scraper:
         """Streams, memory, memory of streams, its limit, and requests since the last time. Nothing from a server that ends meanwhile."""
         try:
             memory = memory_of(server.process)
-            status, page = await asyncio.to_thread(ask_page, server.admin, "GET", "/metrics")
-        except (OSError, HTTPException, IndexError) as error:
+            page = await server.ask("metrics")
+        except (OSError, IndexError) as error:
             if server is self._service.servers[-1]:
-                self.failures.append(repr(error))
+                self.failures.append(str(error))
             return []
-        if status != 200:
-            self.failures.append(f"status {status}")
         answered = total(page, "iconvd_requests_total")
         before, self._answered[server.process] = self._answered.get(server.process, 0), answered
         limit = total(page, "iconvd_stream_memory_limit_bytes") * total(page, "iconvd_places")

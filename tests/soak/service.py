@@ -3,35 +3,24 @@
 from __future__ import annotations
 
 import asyncio
-import http.client
 import math
 import os
 import socket
 import subprocess
 import sys
 import time
-from typing import List, NamedTuple, Optional, Tuple
+from typing import List, NamedTuple, Optional
 
 OPTIONS = ["--at-once", "32", "--idle", "60", "--stream-memory", "6M", "--callers", "10000", "--drain", "10"]
 #: A server that drains has to end by itself, or else the soak fails.
 PATIENCE = 120
 
 
-def ask_page(address: str, method: str, page: str) -> Tuple[int, str]:
-    """Asks an admin page, as a blocking call. Gives the status and the text."""
-    connection = http.client.HTTPConnection(address, timeout=PATIENCE)
-    try:
-        connection.request(method, page)
-        answer = connection.getresponse()
-        return answer.status, answer.read().decode()
-    finally:
-        connection.close()
-
-
 class Server:
     """A process that serves, with admin pages."""
 
     def __init__(self, program: str, listener: socket.socket, log: str) -> None:
+        self._program = program
         self._log = log
         words = [program, "listen", f"fd:{listener.fileno()}", "--admin", "127.0.0.1:0", *OPTIONS]
         with open(log, "w", encoding="utf-8") as errors:
@@ -40,18 +29,28 @@ class Server:
         lines = [self._process.stdout.readline(), self._process.stdout.readline()]
         if not all(lines):
             sys.exit(f"soak: {program} does not listen; see {log}")
-        self.admin = lines[1].split()[1]
+        self._admin = lines[1].split()[1]
         self.process = self._process.pid
 
     def status(self) -> Optional[int]:
         """Its exit status, if it has ended."""
         return self._process.poll()
 
+    async def ask(self, page: str) -> str:
+        """Asks an admin page. Raises OSError if it is not to be had."""
+        words = [self._program, "admin", self._admin, page]
+        asking = await asyncio.create_subprocess_exec(*words, stdout=asyncio.subprocess.PIPE, stderr=asyncio.subprocess.PIPE)
+        text, errors = await asking.communicate()
+        if asking.returncode != 0:
+            raise OSError(f"{page}: status {asking.returncode}: {errors.decode()}")
+        return text.decode()
+
     async def drain(self) -> str:
         """Drains it, and waits until it has ended. Gives what is wrong, if anything is."""
-        status, text = await asyncio.to_thread(ask_page, self.admin, "POST", "/drain")
-        if (status, text) != (202, "draining\n"):
-            return f"a drain is answered {status} {text!r}"
+        try:
+            await self.ask("drain")
+        except OSError as error:
+            return str(error)
         try:
             ended = await asyncio.to_thread(self._process.wait, PATIENCE)
         except subprocess.TimeoutExpired:

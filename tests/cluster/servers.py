@@ -90,7 +90,7 @@ def configuration() -> str:
     text = _replaced(text, r" mode 660 group haproxy$", " mode 660")
     text = _replaced(text, r"^    bind 127\.0\.0\.1:7879$", f"    bind {ADDRESSES[BALANCER]}:{PORT}")
     text = _replaced(text, r"^    # bind :7880 ssl crt \S+ (.*) ca-file \S+ ", f"    bind :{TLS_PORT} ssl crt {_CERTIFICATE} \\1 ca-file {_CERTIFICATE} ")
-    text = _replaced(text, r"\bmaxconn 250\b", f"maxconn {MAXCONN}")
+    text = _replaced(text, r"\bmaxconn 120\b", f"maxconn {MAXCONN}")
     for number, name in enumerate(SERVERS, 1):
         text = _replaced(text, rf"^    server {name} 192\.0\.2\.{number}:7879", f"    server {name} {ADDRESSES[name]}:{PORT}")
     return text

@@ -4,11 +4,16 @@ from __future__ import annotations
 
 import asyncio
 import random
+import time
 from typing import Callable, List, Optional, Sequence
 
 from conversation import Exchange
 from iconvd.errors import ServerLost
 from iconvd.frames import ReplyReader
+
+
+#: A drain ends a stream whose client was silent for so long. A request that came sooner after the one before it was read.
+SILENCE = 1.0
 
 
 class Stream:
@@ -21,7 +26,7 @@ class Stream:
         self.port = 0
         self.replies = 0
         self.losses = 0
-        #: How many requests were not answered by streams that had answered others. A stream without any reply was never served.
+        #: How many requests were read and not answered. A stream without any reply was never served.
         self.unanswered = 0
         #: Whether it asks no more on the stream that it has, and waits for its end.
         self.is_silent = False
@@ -29,6 +34,8 @@ class Stream:
         self.ended = 0
         self._is_moving = False
         self._is_served = False
+        #: When the last batch began to be sent.
+        self._sent = 0.0
 
     async def run(self, host: str, port: int, is_over: Callable[[], bool]) -> None:
         """Talks until it is over."""
@@ -75,8 +82,10 @@ class Stream:
 
     async def _exchange(self, reader: asyncio.StreamReader, replies: ReplyReader, batch: Sequence[Exchange]) -> None:
         assert self._writer is not None
+        before, self._sent = self._sent, time.monotonic()
         self._writer.write(b"".join(exchange.request for exchange in batch))
         await self._writer.drain()
+        silence = time.monotonic() - before
         answered = 0
         try:
             while answered < len(batch):
@@ -90,7 +99,7 @@ class Stream:
                     self.replies += 1
                     self._is_served = True
         finally:
-            if self._is_served:
+            if self._is_served and silence < SILENCE:
                 self.unanswered += max(0, len(batch) - answered)
 
 

@@ -50,7 +50,8 @@ class Scraper:
             for server in list(self._service.servers):
                 for place, value in enumerate(await self._read(server)):
                     sums[place] += value
-            self.samples.append(Sample(now - begin, *sums[:4], sums[4] / (now - last)))
+            streams, memory, stream_memory, limit, answered = sums
+            self.samples.append(Sample(now - begin, streams, memory, stream_memory, limit, answered / (now - last)))
             last = now
 
     async def _read(self, server: Server) -> List[int]:

@@ -84,7 +84,7 @@ class Cases:
 
     async def _level(self) -> None:
         """Gives each server a third of the streams again: those that have more lose some, which is no case of this check."""
-        await until(lambda: all(self._status_is(name, "UP")() for name in SERVERS))
+        await until(lambda: all(self._status_is(name, "UP", "NOLB")() for name in SERVERS))
         for name in SERVERS:
             self._balancer.command(f"set server iconvd/{name} weight 100")
         owners = self._balancer.owners()

@@ -13,7 +13,7 @@ SOURCES := crates.txt $(shell find crates -name out -prune -o \( -name '*.rt' -o
 CRATES := $(shell sed -n 's/^\([a-z][a-z0-9_]*\).*:.*/\1/p' crates.txt)
 CLIENTS := $(patsubst %/Makefile,%,$(wildcard clients/*/Makefile))
 # What .ci/run runs behind the gate. Each ends with a line `N passed, N failed`.
-CHECKS := check-rules check-docs check-refuse check-instructions check-nonblocking check-stops check-log check-given check-admin check-budgets check-clients check-benchmark check-package check-units check-cluster check-crowd check-soak
+CHECKS := check-rules check-docs check-refuse check-instructions check-nonblocking check-stops check-log check-given check-admin check-budgets check-clients check-benchmark check-package check-units check-container check-prometheus check-cluster check-crowd check-soak
 
 # `rt` itself works on several crates at a time, and locks them.
 .NOTPARALLEL:
@@ -118,6 +118,14 @@ check-benchmark: ## iconvd-benchmark against servers that answer right and wrong
 	@tools/need 'make $@' cc python3
 	@program=$$(tools/checked_program iconvd) && tests/benchmark/check "$$program"
 
+check-container: ## what a container starts, as process 1 of its own, stopped under load: no request is lost
+	@tools/need 'make $@' python3
+	@program=$$(tools/checked_program iconvd) && tests/container/check "$$program"
+
+check-prometheus: ## the alerts and the dashboard as promtool reads them, and their metrics in the page of a server
+	@tools/need 'make $@' python3
+	@program=$$(tools/checked_program iconvd) && tests/prometheus/check "$$program"
+
 check-cluster: ## three servers behind HAProxy in networks of their own, killed, stopped, drained and cut off
 	@tools/need 'make $@' cc python3
 	@program=$$(tools/checked_program iconvd) && tests/cluster/check "$$program"
@@ -126,12 +134,12 @@ check-crowd: ## a thousand streams at once for a minute, one in twenty of a bad 
 	@tools/need 'make $@' python3
 	@program=$$(tools/checked_program iconvd) && tests/soak/crowd.py "$$program"
 
-check-soak: ## two minutes of a mail gateway's day; `make soak MINUTES=10` is longer and draws a chart
+check-soak: ## two minutes of a mail gateway's day, with one drain; `make soak MINUTES=10` is longer and draws a chart
 	@tools/need 'make $@' python3
-	@program=$$(tools/checked_program iconvd) && tests/soak/soak.py "$$program" --minutes 2 --out out/soak
+	@program=$$(tools/checked_program iconvd) && tests/soak/soak.py "$$program" --minutes 2 --drains 1 --out out/soak
 
 MINUTES ?= 10
-soak: ## a mail gateway's day in MINUTES=10 minutes, with a table and a chart in out/soak
+soak: ## a mail gateway's day in MINUTES=10 minutes, with two drains, tables and a chart in out/soak
 	@tools/need 'make $@' python3 python3-matplotlib
 	@program=$$(tools/checked_program iconvd) && tests/soak/soak.py "$$program" --minutes $(MINUTES) --out out/soak
 

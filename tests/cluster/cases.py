@@ -62,7 +62,7 @@ class Cases:
         before = {stream: stream.replies for stream in self._crowd.streams}
         went_on = await until(lambda: all(stream.replies > count + 8 for stream, count in before.items()))
         silent = sum(stream.replies <= count + 8 for stream, count in before.items())
-        self._results.check(went_on, f"{case}: each stream goes on", f"{silent} do not")
+        self._results.check(went_on, f"{case}: each stream goes on", f"{silent} do not; {self._balancer.shares()}")
         self._results.check(not self._crowd.wrong(), f"{case}: each reply is right", "; ".join(self._crowd.wrong()[:3]))
 
     async def _lose(self, case: str, name: str, act: Callable[[], object]) -> None:
@@ -84,7 +84,7 @@ class Cases:
 
     async def _level(self) -> None:
         """Gives each server a third of the streams again: those that have more lose some, which is no case of this check."""
-        await until(lambda: all(self._status_is(name, "UP")() for name in SERVERS))
+        await until(lambda: all(self._status_is(name, "UP", "NOLB")() for name in SERVERS))
         for name in SERVERS:
             self._balancer.command(f"set server iconvd/{name} weight 100")
         owners = self._balancer.owners()
@@ -142,19 +142,19 @@ class Cases:
         for _, writer in others:
             writer.close()
         await self._come_back("full", name)
+        await self._level()
 
     async def _drained_by_stop(self, name: str) -> None:
-        """The server is stopped as ExecStop= of its unit does it, and started again. Its clients are silent for a second now and then."""
+        """The server is stopped as ExecStop= of its unit does it, while its clients talk and then are silent. Later it is started again."""
         theirs = self._streams_of(name)
-        for stream in theirs:
-            stream.rest = 1.5
-        await asyncio.sleep(2)
         before = {stream: stream.losses for stream in self._crowd.streams}
         unanswered = self._crowd.unanswered()
-        status = await asyncio.to_thread(self._servers[name].drain)
-        self._results.check(status == 0, "stopped by a drain: its exit status is 0", str(status))
+        stop = asyncio.create_task(asyncio.to_thread(self._servers[name].drain))
+        await asyncio.sleep(2)
         for stream in theirs:
-            stream.rest = 0.0
+            stream.is_silent = stream.losses == before[stream]
+        status = await stop
+        self._results.check(status == 0, "stopped by a drain: its exit status is 0", str(status))
         others = sum(stream.losses > before[stream] for stream in self._crowd.streams if stream not in theirs)
         self._results.check(others == 0, "stopped by a drain: the streams of other servers see nothing", f"{others} were lost")
         await self._all_go_on("stopped by a drain")

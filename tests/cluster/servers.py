@@ -37,7 +37,8 @@ class Server:
 
     def start(self) -> None:
         """Starts it, and waits until it listens."""
-        words = [self.program, "listen", f"{ADDRESSES[self.name]}:{PORT}", "--at-once", str(AT_ONCE), "--admin", self._admin, "--drain", str(DRAIN)]
+        words = [self.program, "listen", f"{ADDRESSES[self.name]}:{PORT}", "--at-once", str(AT_ONCE), "--admin", self._admin]
+        words += ["--when-full", "close", "--drain", str(DRAIN)]
         self._process = subprocess.Popen(inside(self.name, words), stdout=subprocess.PIPE, stderr=subprocess.DEVNULL)
         assert self._process.stdout is not None
         if not self._process.stdout.readline().startswith(b"listening"):
@@ -89,7 +90,7 @@ def configuration() -> str:
     text = _replaced(text, r" mode 660 group haproxy$", " mode 660")
     text = _replaced(text, r"^    bind 127\.0\.0\.1:7879$", f"    bind {ADDRESSES[BALANCER]}:{PORT}")
     text = _replaced(text, r"^    # bind :7880 ssl crt \S+ (.*) ca-file \S+ ", f"    bind :{TLS_PORT} ssl crt {_CERTIFICATE} \\1 ca-file {_CERTIFICATE} ")
-    text = _replaced(text, r"\bmaxconn 250\b", f"maxconn {MAXCONN}")
+    text = _replaced(text, r"\bmaxconn 120\b", f"maxconn {MAXCONN}")
     for number, name in enumerate(SERVERS, 1):
         text = _replaced(text, rf"^    server {name} 192\.0\.2\.{number}:7879", f"    server {name} {ADDRESSES[name]}:{PORT}")
     return text
@@ -148,6 +149,11 @@ class Balancer:
             if columns[:2] == ["iconvd", server]:
                 return columns[17]
         return ""
+
+    def shares(self) -> str:
+        """Says for each server what HAProxy says of it, how many streams it has, and how many wait."""
+        rows = [line.split(",") for line in self.command("show stat").splitlines()]
+        return ", ".join(f"{row[1]} {row[17]} {row[4]} ({row[2]} wait)" for row in rows if row[0] == "iconvd")
 
     def metrics(self) -> str:
         """Returns the page of the metrics, read on the balancer's machine."""

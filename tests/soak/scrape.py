@@ -46,10 +46,12 @@ class Scraper:
         while not self.is_over:
             await asyncio.sleep(PERIOD)
             now = time.monotonic()
-            sums = [0, 0, 0, 0, 0]
+            failed, sums = len(self.failures), [0, 0, 0, 0, 0]
             for server in list(self._service.servers):
                 for place, value in enumerate(await self._read(server)):
                     sums[place] += value
+            if len(self.failures) > failed:
+                continue
             streams, memory, stream_memory, limit, answered = sums
             self.samples.append(Sample(now - begin, streams, memory, stream_memory, limit, answered / (now - last)))
             last = now

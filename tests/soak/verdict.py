@@ -34,7 +34,7 @@ def times_level(windows: Sequence[Window]) -> Tuple[bool, str]:
 def scraped(scraper: Scraper) -> Tuple[bool, str, str]:
     """Whether a server that serves gave its metrics most times. On a busy machine a page may take longer than its two seconds."""
     count, failed = len(scraper.samples), len(scraper.failures)
-    return count > 0 and 2 * failed <= count, "the metrics are to be had", f"{count} times, {failed} failed {scraper.failures[:3]}"
+    return count > failed, "the metrics are to be had", f"{count} times, and {failed} times not {scraper.failures[:3]}"
 
 
 def bounded(samples: Sequence[Sample]) -> Tuple[bool, str, str]:

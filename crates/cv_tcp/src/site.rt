@@ -55,7 +55,11 @@ fn announce_admin<R: Print, G: Log>(site: &Site<'_, R, G>) -> Result<(), RunFaul
 }
 
 /// Logs why nobody can listen at an address.
-pub(crate) fn refuse<G: Log, D: Display + Drop>(log: &G, address: D, failure: &io::Error) -> RunFault
+pub(crate) fn refuse<G: Log, D: Display + Drop>(
+    log: &G,
+    address: D,
+    failure: &io::Error,
+) -> RunFault
     ensures { result ≡ RunFault.CannotListen }
 {
     error!(log; address:% = address; "{address}: cannot listen: {failure}");

@@ -6,8 +6,8 @@ use super::{
 use crate::connection::Connection;
 use crate::inlet::{Bound, Listener};
 use crate::listened::Listened;
-use crate::operation::Operation;
 use crate::one_stream::serve_connection;
+use crate::operation::Operation;
 use crate::streams::{Service, serve_until_drained};
 use cv_cache::Cached;
 use cv_commands::ask_script;

@@ -57,7 +57,8 @@ impl Operation {
     ) -> Result<Operation, AllocError>
         ensures { IfOk result (λ operation. IsSome operation.draining) }
     {
-        let counters = Counters::new(rt, alloc, terms.threads() as u32, version)?;
+        let threads = u32::try_from(terms.threads()).unwrap_or(u32::MAX);
+        let counters = Counters::new(rt, alloc, threads, version)?;
         let mut operation = Operation::with_drain(terms);
         operation.counters = Some(counters);
         Ok(operation)

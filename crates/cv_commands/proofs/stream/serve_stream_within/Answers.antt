@@ -12,11 +12,11 @@ returns-in_default-clause-headline g c = nothing_served _ _ _ _
 pub returns-in-Ok-serve-clause-headline : goal.returns-in-Ok-serve-clause-headline
 returns-in-Ok-serve-clause-headline g c = λ given written gave took.
     subst (λ (t : ℕ → Table). IsHeadline turn StreamEnded t given written)
-        (ap (λ pool. pool_tables pool.shards.items) c.new-engine.ensures ∙ c.in-Ok.ensures.tables)
-        (c.in-Ok-serve.ensures.headline given written gave took)
+    (ap (λ pool. pool_tables pool.shards.items) c.new-engine.ensures ∙ c.in-Ok.ensures.tables)
+    (c.in-Ok-serve.ensures.headline given written gave took)
 
 pub returns-clause-headline : goal.returns-clause-headline
 returns-clause-headline g c = λ given written gave took.
     subst (λ (t : ℕ → Table). IsHeadline turn (ending_of (Err c.in-Err.fault)) t given written)
-        (ap (λ pool. pool_tables pool.shards.items) c.new-engine.ensures ∙ c.in-Ok.ensures.tables)
-        (c.in-Err.ensures.headline given written gave took)
+    (ap (λ pool. pool_tables pool.shards.items) c.new-engine.ensures ∙ c.in-Ok.ensures.tables)
+    (c.in-Err.ensures.headline given written gave took)

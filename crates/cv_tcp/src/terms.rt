@@ -1,5 +1,5 @@
 //! By what terms streams are served.
-ghost use Rattle.std.specs.Prelude.{◌≡◌, ◌+◌, ◌≤◌};
+ghost use Rattle.std.specs.Prelude.{◌≡◌, ◌+◌, ◌≤◌, ◌^◌};
 ghost use Rattle.cv_tcp.specs.declared.terms.WhenFull.TheVariants as WhenFull;
 
 use cv_commands::{Budget, UNLIMITED};
@@ -51,6 +51,7 @@ impl Terms {
     pub(crate) fn threads(&self) -> u64
         ensures wait { self.now.when_full ≡ WhenFull.Wait → result ≡ self.now.at_once }
         ensures close { self.now.when_full ≡ WhenFull.Close → result ≡ self.now.at_once + 1 }
+        ensures few { result ≤ 2 ^ 32 }
     {
         match self.when_full {
             WhenFull::Wait => u64::from(self.at_once),

@@ -1,12 +1,12 @@
 -- A caller's table as the program keeps it: instead of conversions it has their keys among those of all callers.
-use Rattle.std.specs.Prelude.{◌≡◌, ◌==◌, ◌||◌, ◌≤◌, ℕ, Bool, true, false, List, [], length, map, Option, Some, None, IfSome, option_map, slice_index_or, slice_set, replicate, is_some}
+use Rattle.std.specs.Prelude.{◌≡◌, ◌==◌, ◌||◌, ◌+◌, ◌≤◌, ℕ, Bool, true, false, List, [], length, map, Option, Some, None, IfSome, option_map, slice_index_or, slice_set, sum_by, replicate, is_some}
 use Rattle.std.specs.Option.{option_and_then}
 use Rattle.cv_charmap.specs.Meaning.{Charmap}
 use Rattle.cv_pivot.specs.Encodings.{Builtin, Ascii, Form, Own, Mapped, form_of}
 use Rattle.cv_pivot.specs.declared.conversion.Conversion.{Conversion}
 use Rattle.cv_pivot.specs.declared.encoding.Encoding.{Encoding}
 use Rattle.cv_caller.specs.Tables.{Named, BuiltIn, Held, Charmaps, Descriptor, Table, charmap_at, form_in, AreCharmaps}
-use Rattle.cv_caller.specs.Limits.{most_descriptors, most_charmaps, most_part}
+use Rattle.cv_caller.specs.Limits.{most_descriptors, most_charmaps, most_part, caller_bytes, descriptor_bytes}
 use Rattle.cv_caller.specs.declared.place.Place.{Place}
 
 -- What contracts see of a caller's table.
@@ -14,10 +14,12 @@ pub record Keyed : Type 0 where
   pub charmaps : Charmaps
   pub places : List (Option Place)
   pub part : List ℕ
+  -- how many bytes its charmaps are counted for
+  pub bytes : ℕ
 
 -- nothing is held or open
 abbrev pub no_keys : Keyed
-no_keys = record { charmaps = replicate most_charmaps None; places = replicate most_descriptors None; part = [] }
+no_keys = record { charmaps = replicate most_charmaps None; places = replicate most_descriptors None; part = []; bytes = 0 }
 
 -- what a number stands for
 abbrev pub place_at : Keyed → ℕ → Option Place
@@ -27,9 +29,9 @@ place_at keyed number = slice_index_or keyed.places number None
 abbrev pub with_place : Keyed → ℕ → Option Place → Keyed
 with_place keyed number place = record keyed { places = slice_set keyed.places number place }
 
--- the table with this at a place of charmaps
-abbrev pub keyed_with_charmap : Keyed → ℕ → Option Charmap → Keyed
-keyed_with_charmap keyed place charmap = record keyed { charmaps = slice_set keyed.charmaps place charmap }
+-- the table with this at a place of charmaps, which are counted for so many bytes then
+abbrev pub keyed_with_charmap : Keyed → ℕ → Option Charmap → ℕ → Keyed
+keyed_with_charmap keyed place charmap bytes = record keyed { charmaps = slice_set keyed.charmaps place charmap; bytes = bytes }
 
 -- the table with this part
 abbrev pub keyed_with_part : Keyed → List ℕ → Keyed
@@ -44,6 +46,17 @@ is_place place None = false
 abbrev pub refers : ℕ → Option Place → Bool
 refers map (Some place) = is_place map place.to || is_place map place.from
 refers map None = false
+
+-- ---- what a table is counted for
+
+-- how many bytes a number is counted for
+abbrev pub place_bytes : Option Place → ℕ
+place_bytes (Some place) = descriptor_bytes
+place_bytes None = 0
+
+-- How many bytes a caller is counted for: itself, its descriptors, its charmaps and its part.
+abbrev pub held_by : Keyed → ℕ
+held_by keyed = caller_bytes + sum_by place_bytes keyed.places + keyed.bytes + length keyed.part
 
 -- ---- what every table keeps
 

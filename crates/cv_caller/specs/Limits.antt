@@ -13,6 +13,14 @@ most_charmaps = 8
 abbrev pub most_mappings : ℕ
 most_mappings = 262144
 
+-- What a caller is counted for besides what it has, in bytes.
+abbrev pub caller_bytes : ℕ
+caller_bytes = 512
+
+-- What an open descriptor is counted for.
+abbrev pub descriptor_bytes : ℕ
+descriptor_bytes = 160
+
 -- The most bytes of the part of an upload. With the longest body after it a text has 8,388,608.
 abbrev pub most_part : ℕ
 most_part = 7340041

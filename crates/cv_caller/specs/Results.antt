@@ -1,5 +1,5 @@
 -- The results of the calls of a caller's table, the refusals in their order.
-use Rattle.std.specs.Prelude.{◌≡◌, ◌||◌, ◌+◌, ◌<◌, ◌≤◌, ℕ, Bool, true, false, List, [], ◌∷◌, ◌++◌, length, Some, None, Result, Ok, Err, nat_lt, is_some, is_none}
+use Rattle.std.specs.Prelude.{◌≡◌, ◌||◌, ◌+◌, ◌-◌, ◌*◌, ◌^◌, ◌<◌, ◌≤◌, ℕ, Bool, true, false, List, [], ◌∷◌, ◌++◌, length, Some, None, Result, Ok, Err, nat_lt, min, is_some, is_none}
 use Rattle.std.specs.List.{list_any}
 use Rattle.cv_charmap.specs.Meaning.{Charmap}
 use Rattle.cv_pivot.specs.Encodings.{Own, form_of}
@@ -37,21 +37,29 @@ is_taken charmaps name = is_some (named_of charmaps name)
 abbrev pub is_full : Charmaps → ℕ → Bool
 is_full charmaps more = nat_lt most_mappings (mappings charmaps + more) || is_none (least_place charmaps)
 
--- The result of holding a charmap: it is at the least place that was free, or it was refused and nothing changed.
-abbrev pub IsAdded : Keyed → Charmap → Result Unit AddFault → Keyed → Type 0
-IsAdded old charmap (Ok u) new =
+-- The least size that a charmap is counted for: 16 bytes for each mapping, or the greatest number that sizes have.
+abbrev pub least_bytes : Charmap → ℕ
+least_bytes charmap = min (16 * length charmap.pairs) (2 ^ 32 - 1)
+
+-- The result of holding a charmap: it is at the least place that was free, and its bytes are counted; or it was refused and nothing changed.
+abbrev pub IsAdded : Keyed → Charmap → Result ℕ AddFault → Keyed → Type 0
+IsAdded old charmap (Ok bytes) new =
     (is_taken old.charmaps charmap.name ≡ false) × (is_full old.charmaps (length charmap.pairs) ≡ false)
-    × (place : ℕ) × (least_place old.charmaps ≡ Some place) × (new ≡ keyed_with_charmap old place (Some charmap))
+    × (place : ℕ) × (least_place old.charmaps ≡ Some place) × (new ≡ keyed_with_charmap old place (Some charmap) (old.bytes + bytes))
+    × (least_bytes charmap ≤ bytes)
 IsAdded old charmap (Err add.Exists) new = (is_taken old.charmaps charmap.name ≡ true) × (new ≡ old)
 IsAdded old charmap (Err add.Quota) new =
     (is_taken old.charmaps charmap.name ≡ false) × (is_full old.charmaps (length charmap.pairs) ≡ true) × (new ≡ old)
+IsAdded old charmap (Err add.Full) new =
+    (is_taken old.charmaps charmap.name ≡ false) × (is_full old.charmaps (length charmap.pairs) ≡ false) × (new ≡ old)
 IsAdded old charmap (Err add.Memory) new =
     (is_taken old.charmaps charmap.name ≡ false) × (is_full old.charmaps (length charmap.pairs) ≡ false) × (new ≡ old)
 
--- The result of dropping a charmap: its place is free, or it was refused and nothing changed.
-abbrev pub IsDropped : Keyed → List ℕ → Result Unit DropFault → Keyed → Type 0
-IsDropped old name (Ok u) new =
-    (place : ℕ) × (place_of old.charmaps name ≡ Some place) × (list_any (refers place) old.places ≡ false) × (new ≡ keyed_with_charmap old place None)
+-- The result of dropping a charmap: its place is free, and its bytes are no longer counted; or it was refused and nothing changed.
+abbrev pub IsDropped : Keyed → List ℕ → Result ℕ DropFault → Keyed → Type 0
+IsDropped old name (Ok bytes) new =
+    (place : ℕ) × (place_of old.charmaps name ≡ Some place) × (list_any (refers place) old.places ≡ false)
+    × (new ≡ keyed_with_charmap old place None new.bytes) × (new.bytes + bytes ≡ old.bytes)
 IsDropped old name (Err drop.NoName) new = (place_of old.charmaps name ≡ None) × (new ≡ old)
 IsDropped old name (Err drop.Busy) new =
     (place : ℕ) × (place_of old.charmaps name ≡ Some place) × (list_any (refers place) old.places ≡ true) × (new ≡ old)
@@ -63,6 +71,7 @@ abbrev pub IsAppended : Keyed → List ℕ → Result ℕ PartFault → Keyed �
 IsAppended old bytes (Ok count) new =
     (length (old.part ++ bytes) ≤ most_part) × (count ≡ length (old.part ++ bytes)) × (new ≡ keyed_with_part old (old.part ++ bytes))
 IsAppended old bytes (Err part.Quota) new = (most_part < length (old.part ++ bytes)) × (new ≡ old)
+IsAppended old bytes (Err part.Full) new = (length (old.part ++ bytes) ≤ most_part) × (new ≡ old)
 IsAppended old bytes (Err part.Memory) new = (length (old.part ++ bytes) ≤ most_part) × (new ≡ old)
 
 -- The result of sending a part. An empty one drops what was sent before.

@@ -1,34 +1,33 @@
 //! Charmaps at their places.
-ghost use Rattle.std.specs.Prelude.{◌≡◌, ◌<◌, ◌≤◌, IfSome, is_none, is_some, length, sum_by, option_map};
-ghost use Rattle.std.specs.Arc.{arc_value};
+ghost use Rattle.std.specs.Prelude.{◌≡◌, ◌<◌, ◌≤◌, ◌^◌, IfSome, is_none, is_some, length, sum_by, option_map};
 ghost use Rattle.std.specs.List.{position, list_any};
+ghost use Rattle.cv_caller.specs.Private.Views.{weighed_value, weighed_bytes};
 ghost use Rattle.cv_caller.specs.Tables.{has_name, pairs_in};
 
 use crate::limits::{CHARMAPS, MOST_MAPPINGS};
+use crate::weighed::Weighed;
 use cv_base::same_name;
-use cv_trie::Charmap;
-use std::sync::Arc;
 
 /// Whether a charmap of this name is there.
-fn is_named(held: &Option<Arc<Charmap>>, name: &[u8]) -> bool
-    ensures { result ≡ has_name name.now (option_map arc_value held.now) }
+fn is_named(held: &Option<Weighed>, name: &[u8]) -> bool
+    ensures { result ≡ has_name name.now (option_map weighed_value held.now) }
 {
     match held {
-        Some(charmap) => same_name(charmap.name(), name),
+        Some(held) => same_name(held.charmap.name(), name),
         None => false,
     }
 }
 
 /// The place of the charmap of a name.
-pub(crate) fn place_named(charmaps: &[Option<Arc<Charmap>>; CHARMAPS], name: &[u8]) -> Option<usize>
-    ensures place { result ≡ position (λ held. has_name name.now (option_map arc_value held)) charmaps.now }
+pub(crate) fn place_named(charmaps: &[Option<Weighed>; CHARMAPS], name: &[u8]) -> Option<usize>
+    ensures place { result ≡ position (λ held. has_name name.now (option_map weighed_value held)) charmaps.now }
     ensures within { IfSome result (λ place. place < CHARMAPS) }
 {
     charmaps.iter().position(|held| is_named(held, name))
 }
 
 /// The least free place.
-pub(crate) fn first_place(charmaps: &[Option<Arc<Charmap>>; CHARMAPS]) -> Option<usize>
+pub(crate) fn first_place(charmaps: &[Option<Weighed>; CHARMAPS]) -> Option<usize>
     ensures free { result ≡ position is_none charmaps.now }
     ensures within { IfSome result (λ place. place < CHARMAPS) }
 {
@@ -36,7 +35,7 @@ pub(crate) fn first_place(charmaps: &[Option<Arc<Charmap>>; CHARMAPS]) -> Option
 }
 
 /// Whether a charmap is at some place.
-pub(crate) fn has_charmaps(charmaps: &[Option<Arc<Charmap>>; CHARMAPS]) -> bool
+pub(crate) fn has_charmaps(charmaps: &[Option<Weighed>; CHARMAPS]) -> bool
     ensures any { result ≡ list_any is_some charmaps.now }
     ensures size { length charmaps.now ≡ CHARMAPS }
 {
@@ -44,19 +43,41 @@ pub(crate) fn has_charmaps(charmaps: &[Option<Arc<Charmap>>; CHARMAPS]) -> bool
 }
 
 /// How many mappings are there.
-fn size_of_held(held: &Option<Arc<Charmap>>) -> usize
-    ensures { result ≡ length (pairs_in (option_map arc_value held.now)) }
+fn size_of_held(held: &Option<Weighed>) -> usize
+    ensures { result ≡ length (pairs_in (option_map weighed_value held.now)) }
 {
     match held {
-        Some(charmap) => charmap.len(),
+        Some(held) => held.charmap.len(),
         None => 0,
     }
 }
 
 /// How many mappings charmaps have in all.
-pub(crate) fn count_mappings(charmaps: &[Option<Arc<Charmap>>; CHARMAPS]) -> usize
-    requires { sum_by (λ held. length (pairs_in (option_map arc_value held))) charmaps.now ≤ MOST_MAPPINGS }
-    ensures { result ≡ sum_by (λ held. length (pairs_in (option_map arc_value held))) charmaps.now }
+pub(crate) fn count_mappings(charmaps: &[Option<Weighed>; CHARMAPS]) -> usize
+    requires { sum_by (λ held. length (pairs_in (option_map weighed_value held))) charmaps.now ≤ MOST_MAPPINGS }
+    ensures { result ≡ sum_by (λ held. length (pairs_in (option_map weighed_value held))) charmaps.now }
 {
     charmaps.iter().map(|held| size_of_held(held)).sum()
+}
+
+/// How many bytes the charmap at a place is counted for.
+pub(crate) fn bytes_of_held(held: &Option<Weighed>) -> u32
+    ensures { result ≡ weighed_bytes held.now }
+{
+    match held {
+        Some(held) => held.bytes,
+        None => 0,
+    }
+}
+
+/// How many bytes charmaps are counted for in all.
+pub(crate) fn count_bytes(charmaps: &[Option<Weighed>; CHARMAPS]) -> u64
+    ensures sum { result ≡ sum_by weighed_bytes charmaps.now }
+    ensures few { result < 2 ^ 40 }
+{
+    let mut bytes = 0;
+    for held in charmaps.iter() {
+        bytes += u64::from(bytes_of_held(held));
+    }
+    bytes
 }

@@ -10,6 +10,9 @@ pub enum AddFault {
     /// Its mappings and those that are held are too many together, or no place is free.
     #[error("too many charmaps or mappings")]
     Quota,
+    /// Fewer bytes are left than it takes.
+    #[error("too few bytes are left")]
+    Full,
     /// An allocation failed.
     #[error("out of memory")]
     Memory,
@@ -32,6 +35,9 @@ pub enum PartFault {
     /// It is too long, with the part before it.
     #[error("the part is too long")]
     Quota,
+    /// Fewer bytes are left than it takes.
+    #[error("too few bytes are left")]
+    Full,
     /// An allocation failed.
     #[error("out of memory")]
     Memory,

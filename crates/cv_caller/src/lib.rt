@@ -9,8 +9,9 @@ mod places;
 mod store;
 mod table;
 mod uploads;
+mod weighed;
 
 pub use faults::{AddFault, DropFault, PartFault};
-pub use limits::{CHARMAPS, DESCRIPTORS, MOST_MAPPINGS, MOST_PART};
+pub use limits::{CALLER_BYTES, CHARMAPS, DESCRIPTOR_BYTES, DESCRIPTORS, MOST_MAPPINGS, MOST_PART};
 pub use place::{Found, Place};
 pub use table::Table;

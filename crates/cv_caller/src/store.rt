@@ -1,20 +1,18 @@
 //! The storage of uploads.
-ghost use Rattle.std.specs.Prelude.{◌≡◌, ◌<◌, ◌++◌, ◌↔◌, [], IsTrue, IsSome, length, OnOk, OnErr, slice_set, option_map};
-ghost use Rattle.std.specs.Arc.{arc_value};
+ghost use Rattle.std.specs.Prelude.{◌≡◌, ◌+◌, ◌<◌, ◌++◌, ◌↔◌, [], IsTrue, IsSome, length, OnOk, OnErr, slice_set, option_map};
 ghost use Rattle.cv_caller.specs.Private.Uploaded.{no_uploads};
-ghost use Rattle.cv_caller.specs.Private.Views.{part_of, stored_in, uploaded_of};
+ghost use Rattle.cv_caller.specs.Private.Views.{bytes_at, part_of, stored_in, uploaded_of, weighed_bytes, weighed_value};
 
-use crate::charmaps::has_charmaps;
+use crate::charmaps::{bytes_of_held, has_charmaps};
 use crate::limits::CHARMAPS;
+use crate::weighed::Weighed;
 use cv_base::Memory;
-use cv_trie::Charmap;
 use std::alloc::Global;
-use std::sync::Arc;
 
 /// Charmaps at their places, and the part of one that is still being uploaded.
 #[derive(Drop)]
 pub(crate) struct Store {
-    pub(crate) charmaps: [Option<Arc<Charmap>>; CHARMAPS],
+    pub(crate) charmaps: [Option<Weighed>; CHARMAPS],
     pub(crate) part: Option<Vec<u8>>,
 }
 
@@ -54,14 +52,28 @@ pub(crate) fn make_store(alloc: Global, store: &mut Option<Box<Store>>) -> Resul
 }
 
 /// Sets what is at a place.
-pub(crate) fn set_charmap(store: &mut Option<Box<Store>>, place: u8, charmap: Option<Arc<Charmap>>)
+pub(crate) fn set_charmap(store: &mut Option<Box<Store>>, place: u8, charmap: Option<Weighed>)
     requires there { IsSome store.old }
     requires within { place < CHARMAPS }
-    ensures { uploaded_of store.new ≡ record (uploaded_of store.old)
-        { charmaps = slice_set (uploaded_of store.old).charmaps place (option_map arc_value charmap) } }
+    ensures same { uploaded_of store.new ≡ record (uploaded_of store.old) {
+      charmaps = slice_set (uploaded_of store.old).charmaps place (option_map weighed_value charmap);
+      bytes = (uploaded_of store.new).bytes;
+    } }
+    ensures bytes { (uploaded_of store.new).bytes + bytes_at store.old place ≡ (uploaded_of store.old).bytes + weighed_bytes charmap }
 {
     let Some(store) = store else { unreachable!() };
     store.charmaps[place as usize] = charmap;
+}
+
+/// How many bytes the charmap at a place is counted for.
+pub(crate) fn bytes_in(store: &Option<Box<Store>>, place: u8) -> u32
+    requires { place < CHARMAPS }
+    ensures { result ≡ bytes_at store.now place }
+{
+    match store {
+        Some(store) => bytes_of_held(&store.charmaps[place as usize]),
+        None => 0,
+    }
 }
 
 /// Appends bytes to the part of a store.

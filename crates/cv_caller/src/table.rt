@@ -1,18 +1,20 @@
 //! One caller's table.
-ghost use Rattle.std.specs.Prelude.{◌≡◌, ◌<◌, ◌≤◌, ◌↔◌, [], true, length, None, Some, IsTrue, IfSome, IfOk, is_none, is_some};
+ghost use Rattle.std.specs.Prelude.{◌≡◌, ◌+◌, ◌<◌, ◌≤◌, ◌^◌, ◌↔◌, [], true, length, None, Some, IsTrue, IfSome, IfOk, OnOk, is_none, is_some};
 ghost use Rattle.std.specs.Arc.{arc_value};
 ghost use Rattle.std.specs.List.{position};
 ghost use Rattle.std.specs.Option.{option_map};
 ghost use Rattle.cv_pivot.specs.Encodings.{form_of, Mapped};
 ghost use Rattle.cv_caller.specs.Tables.{charmap_at, pairs_in, named_of};
-ghost use Rattle.cv_caller.specs.Keyed.{no_keys, place_at, with_place, keyed_with_part, AreHeld, IsKeyed};
+ghost use Rattle.cv_caller.specs.Keyed.{no_keys, place_at, place_bytes, with_place, keyed_with_part, held_by, AreHeld, IsKeyed};
 ghost use Rattle.cv_caller.specs.Results.{is_taken, named_found, IsFound, IsAdded, IsDropped, IsPart};
+ghost use Rattle.cv_caller.specs.declared.limits.TheConstants.{CALLER_BYTES, DESCRIPTOR_BYTES};
 
 use crate::faults::{AddFault, DropFault, PartFault};
 use crate::limits::{DESCRIPTORS, MOST_PART};
 use crate::place::{Found, Place};
 use crate::places::{first_free, has_places, is_busy};
 use crate::uploads::Uploads;
+use crate::weighed::Weighed;
 use cv_base::Memory;
 use cv_pivot::{Encoding, builtin};
 use cv_trie::Charmap;
@@ -97,7 +99,8 @@ impl Table {
         requires within { number < DESCRIPTORS }
         requires free { place_at self.old number ≡ None }
         requires held { AreHeld self.old.charmaps place }
-        ensures { self.new ≡ with_place self.old number (Some place) }
+        ensures bound { self.new ≡ with_place self.old number (Some place) }
+        ensures counted { held_by self.new ≡ held_by self.old + DESCRIPTOR_BYTES }
     {
         self.places[number as usize] = Some(place);
     }
@@ -106,6 +109,7 @@ impl Table {
     pub fn unbind(&mut self, number: u32) -> Option<Place>
         ensures place { result ≡ place_at self.old number }
         ensures free { self.new ≡ with_place self.old number None }
+        ensures counted { held_by self.new + place_bytes result ≡ held_by self.old }
     {
         let place = self.place(number);
         if place.is_some() {
@@ -143,9 +147,16 @@ impl Table {
         self.uploads.encoding(map)
     }
 
-    /// Holds a charmap at the least free place. A charmap that is refused is dropped.
-    pub fn add_map(&mut self, alloc: Global, charmap: Arc<Charmap>) -> Result<(), AddFault>
-        ensures { IsAdded self.old (arc_value charmap) result self.new }
+    /// Holds a charmap at the least free place, and says for how many bytes it is counted. A charmap that is refused is dropped. It may
+    /// take no more bytes than are left.
+    pub fn add_map(
+        &mut self,
+        alloc: Global,
+        charmap: Arc<Charmap>,
+        left: u64,
+    ) -> Result<u32, AddFault>
+        ensures added { IsAdded self.old (arc_value charmap) result self.new }
+        ensures within { IfOk result (λ bytes. bytes ≤ left) }
     {
         if self.is_taken(charmap.name()) {
             return Err(AddFault::Exists);
@@ -153,14 +164,19 @@ impl Table {
         let Some(map) = self.uploads.place_for(charmap.len()) else {
             return Err(AddFault::Quota);
         };
-        let Ok(()) = self.uploads.put(alloc, map, charmap) else {
+        let held = Weighed::of(charmap);
+        let bytes = held.bytes;
+        if u64::from(bytes) > left {
+            return Err(AddFault::Full);
+        }
+        let Ok(()) = self.uploads.put(alloc, map, held) else {
             return Err(AddFault::Memory);
         };
-        Ok(())
+        Ok(bytes)
     }
 
-    /// Drops the charmap of a name, unless a descriptor reads or writes it.
-    pub fn drop_map(&mut self, name: &[u8]) -> Result<(), DropFault>
+    /// Drops the charmap of a name, unless a descriptor reads or writes it, and says for how many bytes it was counted.
+    pub fn drop_map(&mut self, name: &[u8]) -> Result<u32, DropFault>
         ensures { IsDropped self.old name.now result self.new }
     {
         let Some(map) = self.uploads.find(name) else {
@@ -169,8 +185,8 @@ impl Table {
         if is_busy(&self.places, map) {
             return Err(DropFault::Busy);
         }
-        self.uploads.remove(map);
-        Ok(())
+        let bytes = self.uploads.remove(map);
+        Ok(bytes)
     }
 
     /// The part of an upload.
@@ -182,9 +198,10 @@ impl Table {
     }
 
     /// Puts a part after the one that was sent before, and answers how many bytes they have. An empty one drops what was sent, and
-    /// takes no memory.
-    pub fn add_part(&mut self, alloc: Global, bytes: &[u8]) -> Result<u32, PartFault>
-        ensures { IsPart self.old bytes.now result self.new }
+    /// takes no memory. It may have no more bytes than are left.
+    pub fn add_part(&mut self, alloc: Global, bytes: &[u8], left: u64) -> Result<u32, PartFault>
+        ensures parted { IsPart self.old bytes.now result self.new }
+        ensures within { OnOk result (length bytes.now ≤ left) }
     {
         if bytes.is_empty() {
             self.clear_part();
@@ -192,6 +209,9 @@ impl Table {
         }
         if bytes.len() > MOST_PART - self.part().len() {
             return Err(PartFault::Quota);
+        }
+        if bytes.len() as u64 > left {
+            return Err(PartFault::Full);
         }
         match self.uploads.append(alloc, bytes) {
             Ok(()) => Ok(self.part().len() as u32),
@@ -204,5 +224,13 @@ impl Table {
         ensures { self.new ≡ keyed_with_part self.old [] }
     {
         self.uploads.clear_part();
+    }
+
+    /// How many bytes its charmaps and its part are counted for.
+    pub fn upload_bytes(&self) -> u64
+        ensures sum { result ≡ self.now.bytes + length self.now.part }
+        ensures few { result < 2 ^ 41 }
+    {
+        self.uploads.bytes()
     }
 }

@@ -1,17 +1,17 @@
 //! What a caller has uploaded.
-ghost use Rattle.std.specs.Prelude.{◌≡◌, ◌+◌, ◌<◌, ◌≤◌, ◌++◌, ◌↔◌, [], true, length, None, Some, IsTrue, IfSome, IfOk, OnOk, OnErr, is_none, is_some, slice_set};
+ghost use Rattle.std.specs.Prelude.{◌≡◌, ◌+◌, ◌<◌, ◌≤◌, ◌^◌, ◌++◌, ◌↔◌, [], true, length, None, Some, IsTrue, IfSome, IfOk, OnOk, OnErr, is_none, is_some, slice_set};
 ghost use Rattle.std.specs.Arc.{arc_value};
 ghost use Rattle.cv_pivot.specs.Encodings.{form_of, Mapped};
 ghost use Rattle.cv_caller.specs.Tables.{charmap_at, pairs_in, place_of, least_place, mappings};
 ghost use Rattle.cv_caller.specs.Results.{is_full};
 ghost use Rattle.cv_caller.specs.Private.Uploaded.{no_uploads, IsUploaded};
 
-use crate::charmaps::{count_mappings, first_place, place_named};
+use crate::charmaps::{count_bytes, count_mappings, first_place, place_named};
 use crate::limits::{CHARMAPS, MOST_MAPPINGS, MOST_PART};
-use crate::store::{Store, append, clear, is_bare, make_store, set_charmap};
+use crate::store::{Store, append, bytes_in, clear, is_bare, make_store, set_charmap};
+use crate::weighed::Weighed;
 use cv_base::Memory;
 use cv_pivot::Encoding;
-use cv_trie::Charmap;
 use std::alloc::Global;
 use std::marker::Model;
 use std::sync::Arc;
@@ -132,39 +132,50 @@ impl Uploads {
         let Some(store) = &self.store else {
             unreachable!()
         };
-        let Some(charmap) = &store.charmaps[place as usize] else {
+        let Some(held) = &store.charmaps[place as usize] else {
             unreachable!()
         };
-        Ok(Encoding::Charmap(Arc::try_clone(charmap)?))
+        Ok(Encoding::Charmap(Arc::try_clone(&held.charmap)?))
     }
 
     /// Puts a charmap at a free place.
-    pub(crate) fn put(
-        &mut self,
-        alloc: Global,
-        place: u8,
-        charmap: Arc<Charmap>,
-    ) -> Result<(), Memory>
+    pub(crate) fn put(&mut self, alloc: Global, place: u8, held: Weighed) -> Result<(), Memory>
         requires within { place < CHARMAPS }
         requires free { charmap_at self.old.charmaps place ≡ None }
-        requires few { mappings self.old.charmaps + length (arc_value charmap).pairs ≤ MOST_MAPPINGS }
-        ensures ok { OnOk result (self.new ≡ record self.old
-            { charmaps = slice_set self.old.charmaps place (Some (arc_value charmap)) }) }
+        requires few { mappings self.old.charmaps + length (arc_value held.charmap).pairs ≤ MOST_MAPPINGS }
+        ensures ok { OnOk result (self.new ≡ record self.old {
+          charmaps = slice_set self.old.charmaps place (Some (arc_value held.charmap));
+          bytes = self.old.bytes + held.bytes;
+        }) }
         ensures err { OnErr result (self.new ≡ self.old) }
     {
-        let _ = charmap.len();
+        let _ = held.charmap.len();
         make_store(alloc, &mut self.store)?;
-        set_charmap(&mut self.store, place, Some(charmap));
+        set_charmap(&mut self.store, place, Some(held));
         Ok(())
     }
 
-    /// Drops the charmap at a place.
-    pub(crate) fn remove(&mut self, place: u8)
+    /// Drops the charmap at a place, and says for how many bytes it was counted.
+    pub(crate) fn remove(&mut self, place: u8) -> u32
         requires { is_some (charmap_at self.old.charmaps place) ≡ true }
-        ensures { self.new ≡ record self.old { charmaps = slice_set self.old.charmaps place None } }
+        ensures same { self.new ≡ record self.old { charmaps = slice_set self.old.charmaps place None; bytes = self.new.bytes } }
+        ensures bytes { self.new.bytes + result ≡ self.old.bytes }
     {
+        let bytes = bytes_in(&self.store, place);
         set_charmap(&mut self.store, place, None);
         self.release();
+        bytes
+    }
+
+    /// How many bytes the charmaps and the part are counted for.
+    pub(crate) fn bytes(&self) -> u64
+        ensures sum { result ≡ self.now.bytes + length self.now.part }
+        ensures few { result < 2 ^ 41 }
+    {
+        match &self.store {
+            Some(store) => count_bytes(&store.charmaps) + self.part().len() as u64,
+            None => 0,
+        }
     }
 
     /// The part.

@@ -33,6 +33,8 @@ part_done G k k2 (b ∷ bytes) (Ok n) h =
     let t : nat_lt most_part (length (k.part ++ b ∷ bytes)) ≡ false = grind (arith, nat_tests, h.0) in rw t (inl (ap (table_of G) h.2, ap answers.Count h.1))
 part_done G k k2 (b ∷ bytes) (Err fault.Quota) h =
     let t : nat_lt most_part (length (k.part ++ b ∷ bytes)) ≡ true = grind (arith, nat_tests, h.0) in rw t (ap (table_of G) h.1, refl)
+part_done G k k2 (b ∷ bytes) (Err fault.Full) h =
+    let t : nat_lt most_part (length (k.part ++ b ∷ bytes)) ≡ false = grind (arith, nat_tests, h.0) in rw t (inr (ap (table_of G) h.1, refl))
 part_done G k k2 (b ∷ bytes) (Err fault.Memory) h =
     let t : nat_lt most_part (length (k.part ++ b ∷ bytes)) ≡ false = grind (arith, nat_tests, h.0) in rw t (inr (ap (table_of G) h.1, refl))
 
@@ -41,6 +43,7 @@ part_keeps : (k k2 : Keyed) (bytes : List ℕ) (r : Result ℕ PartFault) → Is
 part_keeps k k2 [] r h = (ap (λ (x : Keyed). x.places) h.1, ap (λ (x : Keyed). x.charmaps) h.1)
 part_keeps k k2 (b ∷ bytes) (Ok n) h = (ap (λ (x : Keyed). x.places) h.2, ap (λ (x : Keyed). x.charmaps) h.2)
 part_keeps k k2 (b ∷ bytes) (Err fault.Quota) h = (ap (λ (x : Keyed). x.places) h.1, ap (λ (x : Keyed). x.charmaps) h.1)
+part_keeps k k2 (b ∷ bytes) (Err fault.Full) h = (ap (λ (x : Keyed). x.places) h.1, ap (λ (x : Keyed). x.charmaps) h.1)
 part_keeps k k2 (b ∷ bytes) (Err fault.Memory) h = (ap (λ (x : Keyed). x.places) h.1, ap (λ (x : Keyed). x.charmaps) h.1)
 
 -- what is kept if numbers and places stand for the same as before

@@ -8,6 +8,7 @@ pub mod Stepping
 pub mod Converting
 pub mod OpeningSteps
 pub mod Leaving
+pub mod Counting
 pub mod Answered
 pub mod Replying
 mod OneAnswer

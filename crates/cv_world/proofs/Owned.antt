@@ -54,7 +54,7 @@ descriptor_seen G k n = get_or-map (option_and_then (descriptor_of G)) k.places 
 
 -- a number that is written with the value that it had
 place_kept : (k : Keyed) (n : ℕ) (p : Place) → place_at k n ≡ Some p → with_place k n (Some p) ≡ k
-place_kept k n p h = ap (λ (ps : List (Option Place)). let t : Keyed = record { charmaps = k.charmaps; places = ps; part = k.part } in t) (ap (λ (o : Option Place). set k.places n o) (sym h) ∙ set-get_or k.places n None)
+place_kept k n p h = ap (λ (ps : List (Option Place)). let t : Keyed = record { charmaps = k.charmaps; places = ps; part = k.part; bytes = k.bytes } in t) (ap (λ (o : Option Place). set k.places n o) (sym h) ∙ set-get_or k.places n None)
 
 -- if one conversion changes, its descriptor alone does
 pub written_table : (G G2 : ℕ → Option Conversion) (k : Keyed) (n : ℕ) (p : Place) → place_at k n ≡ Some p → ((m : ℕ) (q : Place) → m ≢ n → place_at k m ≡ Some q → G2 q.key ≡ G q.key)

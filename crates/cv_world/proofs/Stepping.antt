@@ -130,7 +130,7 @@ nothing_there K G keyed held = record {
 -- ---- DROP
 
 -- DROP does what is done to its caller
-pub drop_done : (G : ℕ → Option Conversion) (k k2 : Keyed) (name : List ℕ) (r : Result (Unit {0}) DropFault) → ((n : ℕ) (p : Place) → place_at k n ≡ Some p → IsSome (G p.key)) → IsDropped k name r k2
+pub drop_done : (G : ℕ → Option Conversion) (k k2 : Keyed) (name : List ℕ) (r : Result ℕ DropFault) → ((n : ℕ) (p : Place) → place_at k n ≡ Some p → IsSome (G p.key)) → IsDropped k name r k2
     → Acts (table_of G k) (DropMap name) (table_of G k2) (drop_answer r)
 drop_done G k k2 name (Ok u) live h = rw (h.1, busy_seen G k h.0 live, h.2) (rw h.3 refl, refl)
 drop_done G k k2 name (Err drop.NoName) live h = rw h.0 (ap (table_of G) h.1, refl)
@@ -141,7 +141,7 @@ pub all_keyed : (K K2 : ℕ → Keyed) (c : ℕ) → K2 c ≡ K c → ((d : ℕ)
 all_keyed K K2 c same others = fun_ext (λ d. elim (cases_eq d c) [ inl e ↦ ap K2 e ∙ same ∙ ap K (sym e) | inr a ↦ others d a ])
 
 -- a world stays a world if a charmap was dropped
-pub drop_world : (K K2 : ℕ → Keyed) (G : ℕ → Option Conversion) (c : ℕ) (name : List ℕ) (r : Result (Unit {0}) DropFault) → IsDropped (K c) name r (K2 c) → ((d : ℕ) → d ≢ c → K2 d ≡ K d) → IsWorld K G → IsWorld K2 G
+pub drop_world : (K K2 : ℕ → Keyed) (G : ℕ → Option Conversion) (c : ℕ) (name : List ℕ) (r : Result ℕ DropFault) → IsDropped (K c) name r (K2 c) → ((d : ℕ) → d ≢ c → K2 d ≡ K d) → IsWorld K G → IsWorld K2 G
 drop_world K K2 G c name (Ok u) h others own = mapped_world K K2 c h.0 None (ap (λ (k : Keyed). k.places) h.3) (ap (λ (k : Keyed). k.charmaps) h.3) others G (idle_unused (K c) h.0 h.2) own
 drop_world K K2 G c name (Err drop.NoName) h others own = subst (λ (F : ℕ → Keyed). IsWorld F G) (sym (all_keyed K K2 c h.1 others)) own
 drop_world K K2 G c name (Err drop.Busy) h others own = subst (λ (F : ℕ → Keyed). IsWorld F G) (sym (all_keyed K K2 c h.3 others)) own
@@ -153,17 +153,19 @@ holds_lacks T next m (Some p) e h = inr (h, refl)
 holds_lacks T next m None e h = absurd cc
 
 -- PUT of a charmap that was read does what is done to its caller
-pub put_done : (G : ℕ → Option Conversion) (k k2 : Keyed) (m : Charmap) (r : Result (Unit {0}) AddFault) → IsPut k m r k2 → Acts (table_of G k) (Put (Read m)) (table_of G k2) (add_answer (length m.pairs) r)
+pub put_done : (G : ℕ → Option Conversion) (k k2 : Keyed) (m : Charmap) (r : Result ℕ AddFault) → IsPut k m r k2 → Acts (table_of G k) (Put (Read m)) (table_of G k2) (add_answer (length m.pairs) r)
 put_done G k k2 m (Ok u) h = rw (h.1.0, h.1.1, h.1.3) (inl (ap (table_of G) h.2 ∙ rw h.1.4 refl, refl))
 put_done G k k2 m (Err add.Exists) h = rw h.0 (ap (table_of G) h.1, refl)
 put_done G k k2 m (Err add.Quota) h = rw (h.0, h.1) (ap (table_of G) h.2, refl)
+put_done G k k2 m (Err add.Full) h = rw (h.0, h.1) (holds_lacks (table_of G k) (table_of G k2) m (least_place k.charmaps) ((or_parts _ _ h.1).1) (ap (table_of G) h.2))
 put_done G k k2 m (Err add.Memory) h = rw (h.0, h.1) (holds_lacks (table_of G k) (table_of G k2) m (least_place k.charmaps) ((or_parts _ _ h.1).1) (ap (table_of G) h.2))
 
 -- a world stays a world if a charmap was put
-pub put_world : (K K2 : ℕ → Keyed) (G : ℕ → Option Conversion) (c : ℕ) (m : Charmap) (r : Result (Unit {0}) AddFault) → ArePlaces (K c).charmaps (K c).places → IsPut (K c) m r (K2 c) → ((d : ℕ) → d ≢ c → K2 d ≡ K d) → IsWorld K G → IsWorld K2 G
+pub put_world : (K K2 : ℕ → Keyed) (G : ℕ → Option Conversion) (c : ℕ) (m : Charmap) (r : Result ℕ AddFault) → ArePlaces (K c).charmaps (K c).places → IsPut (K c) m r (K2 c) → ((d : ℕ) → d ≢ c → K2 d ≡ K d) → IsWorld K G → IsWorld K2 G
 put_world K K2 G c m (Ok u) are h others own =
     mapped_world K K2 c h.1.2 (Some m) (ap (λ (k : Keyed). k.places) h.2 ∙ ap (λ (k : Keyed). k.places) h.1.4) (ap (λ (k : Keyed). k.charmaps) h.2 ∙ ap (λ (k : Keyed). k.charmaps) h.1.4) others G
     (free_unused (K c) h.1.2 are (found_free (K c).charmaps (Some h.1.2) (sym h.1.3))) own
 put_world K K2 G c m (Err add.Exists) are h others own = subst (λ (F : ℕ → Keyed). IsWorld F G) (sym (all_keyed K K2 c h.1 others)) own
 put_world K K2 G c m (Err add.Quota) are h others own = subst (λ (F : ℕ → Keyed). IsWorld F G) (sym (all_keyed K K2 c h.2 others)) own
+put_world K K2 G c m (Err add.Full) are h others own = subst (λ (F : ℕ → Keyed). IsWorld F G) (sym (all_keyed K K2 c h.2 others)) own
 put_world K K2 G c m (Err add.Memory) are h others own = subst (λ (F : ℕ → Keyed). IsWorld F G) (sym (all_keyed K K2 c h.2 others)) own

@@ -2,6 +2,7 @@ pub mod Actions
 pub mod Answers
 pub mod Turn
 pub mod Worlds
+pub mod Budgets
 pub mod Requests
 pub mod Laws
 pub mod Feeds

@@ -39,7 +39,7 @@ impl World {
         ensures same { take at bytes.new.items ≡ take at bytes.old.items }
         ensures len { vec_len bytes.old ≤ vec_len bytes.new }
     {
-        let Some(place) = place_in(&self.callers, caller, number) else {
+        let Some(place) = place_in(&self.callers.map, caller, number) else {
             return Err(Status::BadDescriptor);
         };
         if room > MOST_ROOM {

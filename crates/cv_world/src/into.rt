@@ -142,7 +142,10 @@ impl World {
             Ok(end) => return end,
             Err(small) => small,
         };
-        if lacks_memory(small.status) && compiler.give_up(rt) {
+        if lacks_memory(small.status)
+            && self.may_retry(request.op, request.caller)
+            && compiler.give_up(rt)
+        {
             return self.answer_once(compiler, rt, alloc, request, bytes, used);
         }
         put_small(

@@ -8,25 +8,25 @@ use cv_caller::{AddFault, DropFault, PartFault};
 use cv_frame::Status;
 
 /// The answer to holding a charmap.
-pub(crate) fn add_answer(count: u32, added: Result<(), AddFault>) -> Answer
+pub(crate) fn add_answer(count: u32, added: Result<u32, AddFault>) -> Answer
     ensures value { result ≡ add_answer count added }
     ensures fits { AnswerFits result }
 {
     match added {
-        Ok(()) => Answer::Count(count),
+        Ok(_) => Answer::Count(count),
         Err(AddFault::Exists) => Answer::Refused(Status::Exists),
         Err(AddFault::Quota) => Answer::Refused(Status::Quota),
-        Err(AddFault::Memory) => Answer::Refused(Status::NoMemory),
+        Err(AddFault::Full | AddFault::Memory) => Answer::Refused(Status::NoMemory),
     }
 }
 
 /// The answer to dropping a charmap.
-pub(crate) fn drop_answer(dropped: Result<(), DropFault>) -> Answer
+pub(crate) fn drop_answer(dropped: Result<u32, DropFault>) -> Answer
     ensures value { result ≡ drop_answer dropped }
     ensures fits { AnswerFits result }
 {
     match dropped {
-        Ok(()) => Answer::Empty,
+        Ok(_) => Answer::Empty,
         Err(DropFault::NoName) => Answer::Refused(Status::NoName),
         Err(DropFault::Busy) => Answer::Refused(Status::Busy),
     }
@@ -40,6 +40,6 @@ pub(crate) fn part_answer(parted: Result<u32, PartFault>) -> Answer
     match parted {
         Ok(count) => Answer::Count(count),
         Err(PartFault::Quota) => Answer::Refused(Status::Quota),
-        Err(PartFault::Memory) => Answer::Refused(Status::NoMemory),
+        Err(PartFault::Full | PartFault::Memory) => Answer::Refused(Status::NoMemory),
     }
 }

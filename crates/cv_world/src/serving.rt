@@ -8,18 +8,19 @@ ghost use Rattle.cv_world.specs.Requests.{Asks, turn};
 ghost use Rattle.cv_world.specs.Worlds.{world_tables};
 
 use crate::callers::has_part_in;
+use crate::changing::{may_hold_map, may_open};
 use crate::op::Op;
 use crate::world::World;
 use cv_cache::Compiler;
 use cv_charmap::CompileFault;
-use cv_frame::ops::PUT;
+use cv_frame::ops::{CONV, OPEN, PUT};
 use cv_frame::{Reply, Request, Status};
 use cv_trie::Charmap;
 use std::alloc::Global;
 use std::sync::Arc;
 
 /// Compiles what a PUT of a caller uploads: the part that it has sent, and then the body. Where it has sent no part, the body is the
-/// whole text, and is compiled where it was read.
+/// whole text, and is compiled where it was read. Nothing is compiled where the budget has no room for any charmap.
 fn compile_put<R, C: Compiler<R>>(
     world: &World,
     compiler: &C,
@@ -31,6 +32,9 @@ fn compile_put<R, C: Compiler<R>>(
     requires { C.ready compiler.now }
     ensures { IsCompiled ((world_tables world.now caller).part ++ body.now) result }
 {
+    if !may_hold_map(&world.callers, caller) {
+        return Err(CompileFault::Memory);
+    }
     if !world.has_part(caller) {
         return compiler.compile(rt, alloc, body);
     }
@@ -66,7 +70,17 @@ impl World {
     fn has_part(&self, caller: u32) -> bool
         ensures { result ≡ false → (world_tables self.now caller).part ≡ [] }
     {
-        has_part_in(&self.callers, caller)
+        has_part_in(&self.callers.map, caller)
+    }
+
+    /// Whether a request of a caller that was refused as if an allocation failed may be answered where the compiler gives up what it
+    /// keeps: it is not where the budget refused it, which it never does to a CONV.
+    pub(crate) fn may_retry(&self, op: u8, caller: u32) -> bool {
+        match op {
+            CONV => true,
+            OPEN => may_open(&self.callers, caller),
+            _ => !self.callers.is_full,
+        }
     }
 
     /// The reply to one request, tried once.
@@ -107,7 +121,10 @@ impl World {
     {
         let reply = self.reply(compiler, rt, alloc, request);
         match reply.status {
-            Status::NoMemory if compiler.give_up(rt) => self.reply(compiler, rt, alloc, request),
+            Status::NoMemory
+                if self.may_retry(request.op, request.caller) && compiler.give_up(rt) => {
+                self.reply(compiler, rt, alloc, request)
+            }
             _ => reply,
         }
     }

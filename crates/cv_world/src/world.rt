@@ -1,27 +1,25 @@
 //! The callers of a shard.
-ghost use Rattle.std.specs.Prelude.{◌≡◌, ◌≤◌, ◌<◌, ◌++◌, ℕ, None, false, length, slice_index_or, IfOk};
+ghost use Rattle.std.specs.Prelude.{◌≡◌, ◌≤◌, ◌++◌, length, IfOk};
 ghost use Rattle.cv_cache.specs.Compiled.{compiled};
 ghost use Rattle.cv_machine.specs.Machine.{with_table};
-ghost use Rattle.cv_caller.specs.Tables.{Table as WorldTable, IsTable, empty_table, descriptor_at};
-ghost use Rattle.cv_world.specs.Actions.{Put, DropMap, Open, Conv, Reset, Close, Bye, Part};
+ghost use Rattle.cv_caller.specs.Tables.{Table as WorldTable, IsTable};
+ghost use Rattle.cv_world.specs.Actions.{Put, DropMap, Open, Conv, Reset, Close, Part};
 ghost use Rattle.cv_world.specs.Answers.{AnswerFits};
 ghost use Rattle.cv_world.specs.Requests.{turn};
 ghost use Rattle.cv_world.specs.Turn.{Acts};
 ghost use Rattle.cv_world.specs.Worlds.{world_tables, no_tables};
-ghost use Rattle.cv_world.specs.declared.answer.Answer.{Answer as Answered};
 
 use crate::answer::Answer;
-use crate::callers::{
-    assert_keyed, bind_in, bound_in, drop_in, forget_empty, gather_in, make_room, part_in,
-    place_in, prepare_in, put_in, remove_in, unbind_in,
-};
+use crate::budget::{Budget, UNLIMITED};
+use crate::callers::{assert_keyed, gather_in, place_in, prepare_in};
+use crate::changing::{bind_in, drop_in, make_room, may_hold_map, part_in, put_in, unbind_in};
 use crate::conversions::{convert_in, reserve_one, reset_in};
-use crate::kept::Kept;
+use crate::counted::Callers;
 use crate::laws::{one_answer, some_answer};
 use crate::opening::Opening;
 use crate::outcomes::{add_answer, drop_answer, part_answer};
 use cv_base::{Memory, Policy};
-use cv_caller::{DESCRIPTORS, Place};
+use cv_caller::Place;
 use cv_charmap::CompileFault;
 use cv_frame::{Bytes, MOST_BODY, Status};
 use cv_machine::Machine;
@@ -29,7 +27,6 @@ use cv_pivot::Conversion;
 use cv_trie::Charmap;
 use slab::Slab;
 use std::alloc::Global;
-use std::collections::BTreeMap;
 use std::marker::Model;
 use std::sync::Arc;
 
@@ -39,7 +36,7 @@ pub(crate) const MOST_ROOM: u32 = 1_000_000;
 /// The callers of a shard, each with its own table; their conversions are in one slab. Contracts see each caller's table.
 #[derive(Drop)]
 pub struct World {
-    pub(crate) callers: BTreeMap<u32, Kept>,
+    pub(crate) callers: Callers,
     pub(crate) conversions: Slab<Conversion>,
 }
 
@@ -52,9 +49,9 @@ impl Model for World {
     ghost use Rattle.slab.specs.Slab.{get};
     ghost use Rattle.cv_world.specs.Worlds.{tables_in, keyed_in, IsWorld};
 
-    ghost view = { λ w. tables_in w.callers.entries w.conversions };
+    ghost view = { λ w. tables_in w.callers.map.entries w.conversions };
 
-    ghost invariant = { λ w. IsWorld (keyed_in w.callers) (get w.conversions) };
+    ghost invariant = { λ w. IsWorld (keyed_in w.callers.map) (get w.conversions) };
 }
 
 impl Machine for World {
@@ -75,8 +72,16 @@ impl World {
     pub fn new(alloc: Global) -> World
         ensures { world_tables result ≡ no_tables }
     {
+        World::within(alloc, UNLIMITED)
+    }
+
+    /// No caller has asked yet. What the callers hold stays within a budget: a request that would pass it is refused as if an allocation
+    /// failed.
+    pub fn within(alloc: Global, budget: Budget) -> World
+        ensures { world_tables result ≡ no_tables }
+    {
         World {
-            callers: BTreeMap::new(alloc),
+            callers: Callers::new(alloc, budget),
             conversions: Slab::new(alloc),
         }
     }
@@ -85,14 +90,14 @@ impl World {
     pub fn assert_table(&self, caller: u32)
         ensures { IsTable (world_tables self.now caller) }
     {
-        assert_keyed(&self.callers, caller);
+        assert_keyed(&self.callers.map, caller);
     }
 
     /// The text of an upload: the caller's part, and then the body.
     pub fn gather(&self, alloc: Global, caller: u32, body: &[u8]) -> Result<Vec<u8>, Memory>
         ensures { IfOk result (λ text. text.items ≡ (world_tables self.now caller).part ++ body.now) }
     {
-        gather_in(alloc, &self.callers, caller, body)
+        gather_in(alloc, &self.callers.map, caller, body)
     }
 
     /// OPEN. Every allocation is made before anything changes.
@@ -108,7 +113,7 @@ impl World {
         ensures others { world_tables self.new ≡ with_table (world_tables self.old) caller (world_tables self.new caller) }
         ensures fits { AnswerFits result }
     {
-        let opening = match prepare_in(&self.callers, caller, to, from, policy) {
+        let opening = match prepare_in(&self.callers.map, caller, to, from, policy) {
             Ok(opening) => opening,
             Err(status) => return Answer::Refused(status),
         };
@@ -148,7 +153,7 @@ impl World {
         ensures others { world_tables self.new ≡ with_table (world_tables self.old) caller (world_tables self.new caller) }
         ensures fits { AnswerFits result }
     {
-        let Some(place) = place_in(&self.callers, caller, number) else {
+        let Some(place) = place_in(&self.callers.map, caller, number) else {
             return Answer::Refused(Status::BadDescriptor);
         };
         if room > MOST_ROOM {
@@ -172,7 +177,7 @@ impl World {
         ensures others { world_tables self.new ≡ with_table (world_tables self.old) caller (world_tables self.new caller) }
         ensures fits { AnswerFits result }
     {
-        let Some(place) = place_in(&self.callers, caller, number) else {
+        let Some(place) = place_in(&self.callers.map, caller, number) else {
             return Answer::Refused(Status::BadDescriptor);
         };
         if room > MOST_ROOM {
@@ -198,10 +203,13 @@ impl World {
         let charmap = match charmap {
             Ok(charmap) => charmap,
             Err(CompileFault::Map(fault)) => return Answer::BadMap(fault),
-            Err(CompileFault::Memory) => return Answer::Refused(Status::NoMemory),
+            Err(CompileFault::Memory) => {
+                self.callers.is_full = !may_hold_map(&self.callers, caller);
+                return Answer::Refused(Status::NoMemory);
+            }
         };
         let count = charmap.len() as u32;
-        assert_keyed(&self.callers, caller);
+        assert_keyed(&self.callers.map, caller);
         let added = put_in(&mut self.callers, alloc, caller, charmap);
         add_answer(count, added)
     }
@@ -212,7 +220,7 @@ impl World {
         ensures others { world_tables self.new ≡ with_table (world_tables self.old) caller (world_tables self.new caller) }
         ensures fits { AnswerFits result }
     {
-        let Some(place) = place_in(&self.callers, caller, number) else {
+        let Some(place) = place_in(&self.callers.map, caller, number) else {
             return Answer::Refused(Status::BadDescriptor);
         };
         unbind_in(&mut self.callers, caller, number);
@@ -238,63 +246,5 @@ impl World {
     {
         let parted = part_in(&mut self.callers, alloc, caller, bytes);
         part_answer(parted)
-    }
-
-    /// For each number of a caller, whether it is bound.
-    fn bound_numbers(&self, caller: u32) -> [bool; DESCRIPTORS]
-        ensures { (number : ℕ) → number < DESCRIPTORS → slice_index_or result number false ≡ false → descriptor_at (world_tables self.now caller) number ≡ None }
-    {
-        bound_in(&self.callers, caller)
-    }
-
-    /// Frees a number, if it is bound.
-    fn close_bound(&mut self, caller: u32, number: u32, is_bound: bool)
-        requires { is_bound ≡ false → descriptor_at (world_tables self.old caller) number ≡ None }
-        ensures acts { (answer : Answered) × Acts (world_tables self.old caller) (Close number) (world_tables self.new caller) answer }
-        ensures others { world_tables self.new ≡ with_table (world_tables self.old) caller (world_tables self.new caller) }
-    {
-        if !is_bound {
-            return;
-        }
-        let _ = self.close(caller, number);
-    }
-
-    /// Frees all numbers of a caller. It is looked up once for all that are free already.
-    fn close_all(&mut self, caller: u32)
-        ensures closed { (number : ℕ) → descriptor_at (world_tables self.new caller) number ≡ None }
-        ensures others { world_tables self.new ≡ with_table (world_tables self.old) caller (world_tables self.new caller) }
-    {
-        let bound = self.bound_numbers(caller);
-        for number in 0..DESCRIPTORS as u32 {
-            self.close_bound(caller, number, bound[number as usize]);
-        }
-        // There are no other numbers.
-        self.assert_table(caller);
-    }
-
-    /// Frees the memory of a caller that has no bound number.
-    fn forget(&mut self, caller: u32)
-        requires { (number : ℕ) → descriptor_at (world_tables self.old caller) number ≡ None }
-        ensures { world_tables self.new ≡ with_table (world_tables self.old) caller empty_table }
-    {
-        remove_in(&mut self.callers, caller);
-    }
-
-    /// BYE. It takes no memory.
-    pub(crate) fn bye(&mut self, caller: u32) -> Answer
-        ensures acts { Acts (world_tables self.old caller) Bye (world_tables self.new caller) result }
-        ensures others { world_tables self.new ≡ with_table (world_tables self.old) caller (world_tables self.new caller) }
-        ensures fits { AnswerFits result }
-    {
-        self.close_all(caller);
-        self.forget(caller);
-        Answer::Empty
-    }
-
-    /// Frees the memory of a caller that has nothing left.
-    pub(crate) fn forget_empty(&mut self, caller: u32)
-        ensures { world_tables self.new ≡ world_tables self.old }
-    {
-        forget_empty(&mut self.callers, caller);
     }
 }

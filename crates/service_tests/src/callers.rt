@@ -32,7 +32,7 @@ fn answer(alloc: Global, table: &mut Table, call: &str) -> Result<String, Fail> 
         "add_map" => add_map(alloc, table, rest),
         "encoding" => printed(alloc, mappings(table, rest)),
         "find" => Ok(told_found(alloc, table, rest)?),
-        "drop_map" => printed(alloc, table.drop_map(rest.as_bytes())),
+        "drop_map" => printed(alloc, table.drop_map(rest.as_bytes()).map(|_| ())),
         "add_part" => add_part(alloc, table, rest),
         "bind" => bind_line(alloc, table, rest),
         "unbind" => printed(alloc, table.unbind(rest.parse::<u32>()?)),
@@ -51,7 +51,8 @@ fn printed<T: Debug + Drop>(alloc: Global, answer: T) -> Result<String, Fail> {
 fn add_map(alloc: Global, table: &mut Table, rest: &str) -> Result<String, Fail> {
     let (name, mappings) = first_word(rest);
     let charmap = charmap(alloc, name, mappings)?;
-    printed(alloc, table.add_map(alloc, charmap))
+    let added = table.add_map(alloc, charmap, u64::MAX);
+    printed(alloc, added.map(|_| ()))
 }
 
 /// A charmap of this name with `?` and the mappings of this line.
@@ -89,7 +90,7 @@ fn add_part(alloc: Global, table: &mut Table, rest: &str) -> Result<String, Fail
     for _ in 0..times {
         part.extend_from_slice(text.as_bytes())?;
     }
-    printed(alloc, table.add_part(alloc, &part))
+    printed(alloc, table.add_part(alloc, &part, u64::MAX))
 }
 
 fn bind_line(alloc: Global, table: &mut Table, rest: &str) -> Result<String, Fail> {

@@ -1,9 +1,10 @@
 //! Memory that is refused, and had again once the compiler has given up what it keeps.
 use cv_cache::{Compiler, Plain};
+use cv_caller::CALLER_BYTES;
 use cv_charmap::CompileFault;
 use cv_frame::{Request, Status};
 use cv_trie::Charmap;
-use cv_world::{Replies, World};
+use cv_world::{Budget, Replies, UNLIMITED, World};
 use std::alloc::Global;
 use std::sync::{Arc, Mutex, Wait};
 use std::test::Fail;
@@ -27,6 +28,36 @@ impl<R: Wait> Compiler<R> for Hoard {
         let some = *kept > 0;
         *kept = kept.saturating_sub(1);
         some
+    }
+}
+
+/// A compiler that always has memory, and counts what it is asked.
+#[derive(Drop)]
+struct Ample {
+    compiled: Mutex<u32>,
+    given_up: Mutex<u32>,
+}
+
+impl Ample {
+    fn new() -> Ample {
+        Ample {
+            compiled: Mutex::new(0),
+            given_up: Mutex::new(0),
+        }
+    }
+}
+
+impl<R: Wait> Compiler<R> for Ample {
+    fn compile(&self, rt: &R, alloc: Global, text: &[u8]) -> Result<Arc<Charmap>, CompileFault> {
+        let mut compiled = self.compiled.lock(rt);
+        *compiled = compiled.saturating_add(1);
+        Plain.compile(rt, alloc, text)
+    }
+
+    fn give_up(&self, rt: &R) -> bool {
+        let mut given_up = self.given_up.lock(rt);
+        *given_up = given_up.saturating_add(1);
+        true
     }
 }
 
@@ -94,5 +125,51 @@ fn what_is_kept_is_given_up_before_memory_lacks(rt: HostRuntime) -> Result<(), F
     let (status, kept) = put(&rt, rt.alloc(), 5);
     assert!(rt; matches!(status, Status::NoMemory));
     assert_eq!(rt; kept, 4);
+    Ok(())
+}
+
+/// Uploads a charmap to a new world with a budget for one caller, twice: it is returned the first time and appended the second. Gives the
+/// statuses, and how many times the compiler was asked to compile, and to give up.
+fn put_within<R: Wait>(rt: &R, alloc: Global, bytes: u64) -> Result<(u8, u8, u32, u32), Fail> {
+    let ample = Ample::new();
+    let budget = Budget { bytes, callers: 1 };
+    let mut world = World::within(alloc, budget);
+    let first = world.answer(&ample, rt, alloc, &UPLOAD);
+    let mut world = World::within(alloc, budget);
+    let mut replies = Replies::new(alloc);
+    world.answer_into(&ample, rt, alloc, &UPLOAD, &mut replies)?;
+    let Some(second) = replies.as_slice().get(12) else {
+        return Err("the reply is whole".into());
+    };
+    let compiled = ample.compiled.into_inner();
+    let given_up = ample.given_up.into_inner();
+    Ok((first.status.number(), *second, compiled, given_up))
+}
+
+/// For how many bytes the caller of the charmap is counted.
+fn bytes_of_one<R>(rt: &R, alloc: Global) -> u64 {
+    let mut world = World::within(alloc, UNLIMITED);
+    world.answer(&Plain, rt, alloc, &UPLOAD);
+    world.usage().bytes
+}
+
+/// Where the budget refuses, memory would not help: the compiler keeps what it has. Where no charmap fits, none is compiled.
+#[test]
+fn nothing_is_given_up_for_a_budget(rt: HostRuntime) -> Result<(), Fail> {
+    let bytes = bytes_of_one(&rt, rt.alloc());
+    // No charmap is smaller than what the budget is tried for before one is compiled.
+    assert!(rt; bytes >= CALLER_BYTES + 1_024, "{bytes}");
+    let refused = Status::NoMemory.number();
+    let held = Status::Ok.number();
+    assert_eq!(rt; put_within(&rt, rt.alloc(), bytes)?, (held, held, 2, 0));
+    assert_eq!(rt;
+        put_within(&rt, rt.alloc(), bytes.saturating_sub(1))?,
+        (refused, refused, 2, 0)
+    );
+    assert_eq!(rt;
+        put_within(&rt, rt.alloc(), CALLER_BYTES + 1_023)?,
+        (refused, refused, 0, 0)
+    );
+    assert_eq!(rt; put_within(&rt, rt.alloc(), 0)?, (refused, refused, 0, 0));
     Ok(())
 }

@@ -14,6 +14,8 @@ mod frames;
 #[cfg(test)]
 mod giving_up;
 #[cfg(test)]
+mod numbers;
+#[cfg(test)]
 mod replies;
 #[cfg(test)]
 mod words;

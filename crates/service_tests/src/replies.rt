@@ -1,35 +1,11 @@
 //! A world that appends its replies answers as one that returns them: many made requests, whose rooms and lengths lie around the
 //! sizes at which conversions go another way.
+use crate::numbers::Numbers;
 use cv_cache::Plain;
 use cv_frame::{Frame, Reply, next_request, write_reply};
 use cv_world::{Replies, World};
 use std::alloc::{AllocError, Global};
 use std::test::Fail;
-
-/// Numbers that are made by a rule.
-#[derive(Drop)]
-struct Numbers {
-    state: u64,
-}
-
-impl Numbers {
-    /// A number below a limit.
-    fn below(&mut self, limit: u32) -> u32 {
-        self.state = self
-            .state
-            .wrapping_mul(6_364_136_223_846_793_005)
-            .wrapping_add(1_442_695_040_888_963_407);
-        let limit = u64::from(limit.max(1));
-        u32::try_from((self.state >> 33) % limit).unwrap_or(0)
-    }
-
-    /// One of some numbers.
-    fn one_of(&mut self, numbers: &[u32]) -> u32 {
-        let count = u32::try_from(numbers.len()).unwrap_or(0);
-        let place = self.below(count);
-        numbers.get(place as usize).map_or(0, |number| *number)
-    }
-}
 
 /// The bodies of what isn't a conversion, each behind its op. Some are of no form.
 const OTHERS: [&[u8]; 20] = [

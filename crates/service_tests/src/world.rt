@@ -1,4 +1,6 @@
 //! One world and its callers, with ample memory. `scripts` says how a line is read.
+mod budget_model;
+mod budgets;
 mod feeds;
 mod many;
 mod scripts;

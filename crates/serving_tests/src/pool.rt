@@ -1,6 +1,7 @@
 //! Pools, with ample memory.
 mod appended;
 mod at_once;
+mod budgets;
 mod gates;
 mod in_order;
 mod uploads;

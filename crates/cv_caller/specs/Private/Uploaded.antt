@@ -7,10 +7,12 @@ use Rattle.cv_caller.specs.Limits.{most_charmaps, most_part}
 pub record Uploaded : Type 0 where
   pub charmaps : Charmaps
   pub part : List ℕ
+  -- how many bytes the charmaps are counted for
+  pub bytes : ℕ
 
 -- nothing was uploaded
 abbrev pub no_uploads : Uploaded
-no_uploads = record { charmaps = replicate most_charmaps None; part = [] }
+no_uploads = record { charmaps = replicate most_charmaps None; part = []; bytes = 0 }
 
 -- It is within its limits.
 pub record IsUploaded (uploaded : Uploaded) : Type 0 where

@@ -1,18 +1,27 @@
 -- What contracts see of uploads and of a table.
-use Rattle.std.specs.Prelude.{ℕ, List, [], map, Option, Some, None, option_map}
+use Rattle.std.specs.Prelude.{ℕ, List, [], map, sum_by, Option, Some, None, option_map, slice_index_or}
 use Rattle.std.specs.Arc.{arc_value}
-use Rattle.std.specs.Global.{Vec, Box, Global}
-use Rattle.std.specs.declared.sync.Arc.{Arc}
+use Rattle.std.specs.Global.{Vec, Box}
 use Rattle.cv_charmap.specs.Meaning.{Charmap}
 use Rattle.cv_caller.specs.Tables.{Charmaps}
 use Rattle.cv_caller.specs.Keyed.{Keyed}
 use Rattle.cv_caller.specs.Private.Uploaded.{Uploaded, no_uploads}
 use Rattle.cv_caller.specs.declared.place.Place.{Place}
 use Rattle.cv_caller.specs.declared.store.Store.{Store}
+use Rattle.cv_caller.specs.declared.weighed.Weighed.{Weighed}
 
--- charmaps at their places; who else shares them does not count
-abbrev pub charmaps_of : List (Option (Arc Charmap Global)) → Charmaps
-charmaps_of places = map (option_map arc_value) places
+-- a charmap that is held; who else shares it does not count
+abbrev pub weighed_value : Weighed → Charmap
+weighed_value held = arc_value held.charmap
+
+-- how many bytes what is at a place is counted for
+abbrev pub weighed_bytes : Option Weighed → ℕ
+weighed_bytes (Some held) = held.bytes
+weighed_bytes None = 0
+
+-- charmaps at their places
+abbrev pub charmaps_of : List (Option Weighed) → Charmaps
+charmaps_of places = map (option_map weighed_value) places
 
 -- the part of an upload; none is as good as an empty one
 abbrev pub part_of : Option (Vec ℕ) → List ℕ
@@ -21,13 +30,18 @@ part_of None = []
 
 -- what is in a store
 abbrev pub stored_in : Store → Uploaded
-stored_in store = record { charmaps = charmaps_of store.charmaps; part = part_of store.part }
+stored_in store = record { charmaps = charmaps_of store.charmaps; part = part_of store.part; bytes = sum_by weighed_bytes store.charmaps }
 
 -- uploads, by their storage; no store is as good as an empty one
 abbrev pub uploaded_of : Option (Box Store) → Uploaded
 uploaded_of (Some store) = stored_in store.value
 uploaded_of None = no_uploads
 
+-- how many bytes the charmap at a place is counted for
+abbrev pub bytes_at : Option (Box Store) → ℕ → ℕ
+bytes_at (Some store) place = weighed_bytes (slice_index_or store.value.charmaps place None)
+bytes_at None place = 0
+
 -- a table, by what was uploaded and what its numbers stand for
 abbrev pub keyed_of : Uploaded → List (Option Place) → Keyed
-keyed_of uploaded places = record { charmaps = uploaded.charmaps; places = places; part = uploaded.part }
+keyed_of uploaded places = record { charmaps = uploaded.charmaps; places = places; part = uploaded.part; bytes = uploaded.bytes }

@@ -20,6 +20,10 @@ use Rattle.cv_world.specs.declared.answer.Answer.TheVariants as answers
 abbrev pub HasTable : BTreeMap ℕ Keyed → ℕ → Type 0
 HasTable callers caller = IsSome (get nat_cmp callers caller)
 
+-- The caller has none.
+abbrev pub IsAbsent : BTreeMap ℕ Keyed → ℕ → Type 0
+IsAbsent callers caller = get nat_cmp callers caller ≡ None
+
 -- A number for which the list says false stands for nothing.
 abbrev pub ClosedWhereNot : (ℕ → Option Place) → List Bool → Type 0
 ClosedWhereNot places bound = (number : ℕ) → number < length bound → slice_index_or bound number false ≡ false → places number ≡ None
@@ -30,20 +34,21 @@ pub record SetsKeyed (old new : ℕ → Keyed) (caller : ℕ) (keyed : Keyed) : 
   pub others : (other : ℕ) → other ≢ caller → new other ≡ old other
 
 -- The result of a charmap that was put: if it is held, the part of the upload is dropped.
-abbrev pub IsPut : Keyed → Charmap → Result Unit AddFault → Keyed → Type 0
-IsPut old charmap (Ok u) new = (held : Keyed) × IsAdded old charmap (Ok u) held × (new ≡ keyed_with_part held [])
+abbrev pub IsPut : Keyed → Charmap → Result ℕ AddFault → Keyed → Type 0
+IsPut old charmap (Ok bytes) new = (held : Keyed) × IsAdded old charmap (Ok bytes) held × (new ≡ keyed_with_part held [])
 IsPut old charmap (Err fault) new = IsAdded old charmap (Err fault) new
 
 -- the answer to a charmap that was put
-abbrev pub add_answer : ℕ → Result Unit AddFault → Answer
-add_answer count (Ok u) = answers.Count count
+abbrev pub add_answer : ℕ → Result ℕ AddFault → Answer
+add_answer count (Ok bytes) = answers.Count count
 add_answer count (Err add.Exists) = answers.Refused status.Exists
 add_answer count (Err add.Quota) = answers.Refused status.Quota
+add_answer count (Err add.Full) = answers.Refused status.NoMemory
 add_answer count (Err add.Memory) = answers.Refused status.NoMemory
 
 -- the answer to dropping a charmap
-abbrev pub drop_answer : Result Unit DropFault → Answer
-drop_answer (Ok u) = answers.Empty
+abbrev pub drop_answer : Result ℕ DropFault → Answer
+drop_answer (Ok bytes) = answers.Empty
 drop_answer (Err drop.NoName) = answers.Refused status.NoName
 drop_answer (Err drop.Busy) = answers.Refused status.Busy
 
@@ -51,4 +56,5 @@ drop_answer (Err drop.Busy) = answers.Refused status.Busy
 abbrev pub part_answer : Result ℕ PartFault → Answer
 part_answer (Ok count) = answers.Count count
 part_answer (Err part.Quota) = answers.Refused status.Quota
+part_answer (Err part.Full) = answers.Refused status.NoMemory
 part_answer (Err part.Memory) = answers.Refused status.NoMemory

@@ -10,33 +10,33 @@ use Rattle.cv_world.specs.declared.answer.Answer.TheVariants as answers
 use Rattle.cv_world.proofs.world.World.close.Goals as goal
 
 pub returns-in_default-clause-acts : goal.returns-in_default-clause-acts
-returns-in_default-clause-acts c = acts_still c.self.inside.callers c.self.inside.conversions _ c.args.caller (Close c.args.number) (answers.Refused status.BadDescriptor) c.self.view_is (close_none (table_of (get c.self.inside.conversions) (keyed_in c.self.inside.callers c.args.caller)) c.args.number (closed_at (get c.self.inside.conversions) (keyed_in c.self.inside.callers c.args.caller) c.args.number (sym c.in_default.ensures.place)))
+returns-in_default-clause-acts c = acts_still c.self.inside.callers.map c.self.inside.conversions _ c.args.caller (Close c.args.number) (answers.Refused status.BadDescriptor) c.self.view_is (close_none (table_of (get c.self.inside.conversions) (keyed_in c.self.inside.callers.map c.args.caller)) c.args.number (closed_at (get c.self.inside.conversions) (keyed_in c.self.inside.callers.map c.args.caller) c.args.number (sym c.in_default.ensures.place)))
 
 pub invariant_of-self : goal.invariant_of-self
 invariant_of-self c =
-    let K = keyed_in c.self.inside.callers in
+    let K = keyed_in c.self.inside.callers.map in
     let G = get c.self.inside.conversions in
     let p = c.in-Some.place in
     let mine : place_at (K c.args.caller) c.args.number ≡ Some p = sym c.in-Some.ensures.place in
     let v = some_value (G p.key) (c.self.invariant.live c.args.caller c.args.number p mine) in
-    closed_world K (keyed_in c.unbind_in.new.callers) c.args.caller c.args.number None c.unbind_in.ensures G (get c.try_remove.new.self) (within (K c.args.caller).places c.args.number p mine) c.self.invariant p refl mine c.try_remove.ensures.updates.changed c.try_remove.ensures.updates.others
+    closed_world K (keyed_in c.unbind_in.new.callers.map) c.args.caller c.args.number None c.unbind_in.ensures.sets G (get c.try_remove.new.self) (within (K c.args.caller).places c.args.number p mine) c.self.invariant p refl mine c.try_remove.ensures.updates.changed c.try_remove.ensures.updates.others
 
 pub returns-clause-acts : goal.returns-clause-acts
 returns-clause-acts c =
-    let K = keyed_in c.self.inside.callers in
+    let K = keyed_in c.self.inside.callers.map in
     let G = get c.self.inside.conversions in
     let p = c.in-Some.place in
     let mine : place_at (K c.args.caller) c.args.number ≡ Some p = sym c.in-Some.ensures.place in
     let v = some_value (G p.key) (c.self.invariant.live c.args.caller c.args.number p mine) in
-    let both = closed K (keyed_in c.unbind_in.new.callers) G (get c.try_remove.new.self) c.args.caller c.args.number p c.unbind_in.ensures c.self.invariant mine c.try_remove.ensures.updates.others in
-    acts_seen c.self.inside.callers c.unbind_in.new.callers c.self.inside.conversions c.try_remove.new.self _ c.args.caller (Close c.args.number) answers.Empty c.self.view_is (close_done (table_of (get c.self.inside.conversions) (keyed_in c.self.inside.callers c.args.caller)) _ c.args.number (described p v.0) (open_at G (K c.args.caller) c.args.number p v.0 mine v.1) both.0)
+    let both = closed K (keyed_in c.unbind_in.new.callers.map) G (get c.try_remove.new.self) c.args.caller c.args.number p c.unbind_in.ensures.sets c.self.invariant mine c.try_remove.ensures.updates.others in
+    acts_seen c.self.inside.callers.map c.unbind_in.new.callers.map c.self.inside.conversions c.try_remove.new.self _ c.args.caller (Close c.args.number) answers.Empty c.self.view_is (close_done (table_of (get c.self.inside.conversions) (keyed_in c.self.inside.callers.map c.args.caller)) _ c.args.number (described p v.0) (open_at G (K c.args.caller) c.args.number p v.0 mine v.1) both.0)
 
 pub returns-clause-others : goal.returns-clause-others
 returns-clause-others c =
-    let K = keyed_in c.self.inside.callers in
+    let K = keyed_in c.self.inside.callers.map in
     let G = get c.self.inside.conversions in
     let p = c.in-Some.place in
     let mine : place_at (K c.args.caller) c.args.number ≡ Some p = sym c.in-Some.ensures.place in
     let v = some_value (G p.key) (c.self.invariant.live c.args.caller c.args.number p mine) in
-    let both = closed K (keyed_in c.unbind_in.new.callers) G (get c.try_remove.new.self) c.args.caller c.args.number p c.unbind_in.ensures c.self.invariant mine c.try_remove.ensures.updates.others in
-    others_seen c.self.inside.callers c.unbind_in.new.callers c.self.inside.conversions c.try_remove.new.self _ c.args.caller c.self.view_is both.1
+    let both = closed K (keyed_in c.unbind_in.new.callers.map) G (get c.try_remove.new.self) c.args.caller c.args.number p c.unbind_in.ensures.sets c.self.invariant mine c.try_remove.ensures.updates.others in
+    others_seen c.self.inside.callers.map c.unbind_in.new.callers.map c.self.inside.conversions c.try_remove.new.self _ c.args.caller c.self.view_is both.1

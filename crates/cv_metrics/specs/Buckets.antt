@@ -3,7 +3,8 @@ use Rattle.std.specs.Prelude.{ℕ, List, [], ◌∷◌, nat_lt, count_by}
 
 -- The upper bounds of the buckets, in nanoseconds.
 abbrev pub bounds : List ℕ
-bounds = 10000 ∷ 100000 ∷ 1000000 ∷ 10000000 ∷ 100000000 ∷ 1000000000 ∷ []
+bounds =
+    10000 ∷ 30000 ∷ 100000 ∷ 300000 ∷ 1000000 ∷ 3000000 ∷ 10000000 ∷ 30000000 ∷ 100000000 ∷ 300000000 ∷ 1000000000 ∷ []
 
 -- The bucket of a time: how many bounds are below it.
 abbrev pub bucket_of : ℕ → ℕ

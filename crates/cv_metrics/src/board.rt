@@ -50,8 +50,8 @@ impl Board {
 
     /// A stream begins at a place, at this time in nanoseconds.
     pub fn begin<R: Wait>(&self, rt: &R, place: &Place, peer: Peer, now: u64) {
-        place.begin(rt, peer, now);
-        self.begun.fetch_add(1, Ordering::Relaxed);
+        let number = self.begun.fetch_add(1, Ordering::Relaxed).wrapping_add(1);
+        place.begin(rt, number, peer, now);
     }
 
     /// The stream at a place has ended, by a fault of this kind where there was one.
@@ -107,7 +107,7 @@ impl Board {
         &self,
         rt: &R,
         alloc: Global,
-        told: &Told,
+        told: &Told<'_>,
     ) -> Result<String, AllocError> {
         text::metrics(rt, alloc, self, told)
     }

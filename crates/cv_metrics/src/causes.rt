@@ -58,7 +58,7 @@ pub enum FaultKind {
     /// A frame had a length that no frame has.
     BadLength,
     /// A stream ended within a frame.
-    CutOff,
+    TruncatedFrame,
     /// A read failed.
     Read,
     /// A write failed.
@@ -78,7 +78,7 @@ impl FaultKind {
     /// All of them, each at its `place`.
     pub const ALL: [FaultKind; 7] = [
         FaultKind::BadLength,
-        FaultKind::CutOff,
+        FaultKind::TruncatedFrame,
         FaultKind::Read,
         FaultKind::Write,
         FaultKind::Memory,
@@ -97,7 +97,7 @@ impl FaultKind {
     pub fn word(self) -> &'static str {
         match self {
             FaultKind::BadLength => "bad_length",
-            FaultKind::CutOff => "cut_off",
+            FaultKind::TruncatedFrame => "truncated_frame",
             FaultKind::Read => "read",
             FaultKind::Write => "write",
             FaultKind::Memory => "memory",

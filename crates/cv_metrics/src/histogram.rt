@@ -8,39 +8,43 @@ use std::sync::atomic::{AtomicU64, Ordering};
 
 /// The upper bounds of the buckets in nanoseconds, each of which belongs to its bucket, and how Prometheus has them in seconds. One more
 /// bucket has all longer times.
-pub const BOUNDS: [(u64, &str); 6] = [
+pub const BOUNDS: [(u64, &str); 11] = [
     (10_000, "0.00001"),
+    (30_000, "0.00003"),
     (100_000, "0.0001"),
+    (300_000, "0.0003"),
     (1_000_000, "0.001"),
+    (3_000_000, "0.003"),
     (10_000_000, "0.01"),
+    (30_000_000, "0.03"),
     (100_000_000, "0.1"),
+    (300_000_000, "0.3"),
     (1_000_000_000, "1"),
 ];
 
 /// The bucket of a time in nanoseconds: how many bounds are below it.
 pub fn bucket_of(nanos: u64) -> usize
     ensures bucket { result ≡ bucket_of nanos }
-    ensures below { result ≤ 6 }
+    ensures below { result ≤ 11 }
 {
-    if nanos <= 10_000 {
-        0
-    } else if nanos <= 100_000 {
-        1
-    } else if nanos <= 1_000_000 {
-        2
-    } else if nanos <= 10_000_000 {
-        3
-    } else if nanos <= 100_000_000 {
-        4
-    } else if nanos <= 1_000_000_000 {
-        5
-    } else {
-        6
+    match nanos {
+        0..=10_000 => 0,
+        10_001..=30_000 => 1,
+        30_001..=100_000 => 2,
+        100_001..=300_000 => 3,
+        300_001..=1_000_000 => 4,
+        1_000_001..=3_000_000 => 5,
+        3_000_001..=10_000_000 => 6,
+        10_000_001..=30_000_000 => 7,
+        30_000_001..=100_000_000 => 8,
+        100_000_001..=300_000_000 => 9,
+        300_000_001..=1_000_000_000 => 10,
+        _ => 11,
     }
 }
 
 /// How many buckets there are.
-pub(crate) const BUCKETS: usize = 7;
+pub(crate) const BUCKETS: usize = 12;
 
 /// How often times came that fall into each bucket, and the sum of all.
 #[derive(Drop)]

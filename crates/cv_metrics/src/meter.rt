@@ -85,6 +85,7 @@ impl<'a> Meter<'a> {
             self.pending.push(Op::of(seen.code));
             at += seen.n;
         }
+        self.place.wait(self.pending.len());
         self.batch.ready = now;
     }
 
@@ -126,6 +127,7 @@ impl<'a> Meter<'a> {
             }
         }
         self.count(streak);
+        self.place.wait(self.pending.len());
         if is_all {
             self.end_batch();
         }

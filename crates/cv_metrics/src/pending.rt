@@ -44,6 +44,11 @@ impl Pending {
         self.ops.is_empty() && self.unknown == 0
     }
 
+    /// How many requests have no reply yet.
+    pub(crate) fn len(&self) -> u64 {
+        self.unknown.saturating_add(self.ops.len() as u64)
+    }
+
     /// A request of this op came.
     pub fn push(&mut self, op: Op)
         ensures { length self.old + 1 < 2 ^ 64 → (self.new ≡ self.old ++ op ∷ []) ⊎ (self.new ≡ self.old ++ Op.Other ∷ []) }

@@ -19,7 +19,9 @@ pub struct Place {
     outcomes: Vec<AtomicU64>,
     pub(crate) conv: Histogram,
     pub(crate) put: Histogram,
-    /// How many callers the stream has that is being served, and how many bytes they hold.
+    /// How many requests of the stream that is being served have come and have no whole reply.
+    pending: AtomicU64,
+    /// How many callers it has, and how many bytes they hold.
     callers: AtomicU64,
     memory_bytes: AtomicU64,
 }
@@ -32,6 +34,7 @@ pub(crate) struct Now {
     pub(crate) requests: u64,
     pub(crate) received: u64,
     pub(crate) sent: u64,
+    pub(crate) pending: u64,
     pub(crate) callers: u64,
     pub(crate) memory_bytes: u64,
 }
@@ -47,14 +50,16 @@ impl Place {
             outcomes: zeros(alloc, Outcome::COUNT)?,
             conv: Histogram::new(alloc)?,
             put: Histogram::new(alloc)?,
+            pending: AtomicU64::new(0),
             callers: AtomicU64::new(0),
             memory_bytes: AtomicU64::new(0),
         })
     }
 
     /// A stream begins here at this time.
-    pub(crate) fn begin<R: Wait>(&self, rt: &R, peer: Peer, now: u64) {
+    pub(crate) fn begin<R: Wait>(&self, rt: &R, number: u64, peer: Peer, now: u64) {
         let stream = Stream {
+            number,
             peer,
             begun: now,
             requests: self.requests(),
@@ -62,16 +67,20 @@ impl Place {
             sent: self.sent(),
         };
         self.active.store(now, Ordering::Relaxed);
-        self.callers.store(0, Ordering::Relaxed);
-        self.memory_bytes.store(0, Ordering::Relaxed);
+        self.clear();
         *self.stream.lock(rt) = Some(stream);
     }
 
     /// The stream here has ended.
     pub(crate) fn end<R: Wait>(&self, rt: &R) {
         *self.stream.lock(rt) = None;
-        self.callers.store(0, Ordering::Relaxed);
-        self.memory_bytes.store(0, Ordering::Relaxed);
+        self.clear();
+    }
+
+    /// No stream has anything here.
+    fn clear(&self) {
+        self.pending.store(0, Ordering::Relaxed);
+        self.hold(0, 0);
     }
 
     /// So many callers of the stream hold so many bytes.
@@ -84,6 +93,11 @@ impl Place {
     pub(crate) fn came(&self, bytes: u64, now: u64) {
         self.received.fetch_add(bytes, Ordering::Relaxed);
         self.active.store(now, Ordering::Relaxed);
+    }
+
+    /// So many requests have no whole reply.
+    pub(crate) fn wait(&self, pending: u64) {
+        self.pending.store(pending, Ordering::Relaxed);
     }
 
     /// So many bytes went.
@@ -130,6 +144,7 @@ impl Place {
             requests: self.requests(),
             received: self.received(),
             sent: self.sent(),
+            pending: self.pending.load(Ordering::Relaxed),
             callers: self.callers.load(Ordering::Relaxed),
             memory_bytes: self.memory_bytes.load(Ordering::Relaxed),
         })

@@ -27,14 +27,14 @@ fn row(alloc: Global, now: u64, at: &Now) -> Result<String, AllocError> {
     let requests = at.requests.wrapping_sub(stream.requests);
     let received = at.received.wrapping_sub(stream.received);
     let sent = at.sent.wrapping_sub(stream.sent);
-    let callers = at.callers;
-    let memory = at.memory_bytes;
+    let (number, pending) = (stream.number, at.pending);
+    let (callers, memory) = (at.callers, at.memory_bytes);
     let times = format!(in alloc; "\"age_seconds\":{age},\"idle_seconds\":{idle}")?;
     let counts = format!(in alloc;
-        "\"requests\":{requests},\"received_bytes\":{received},\"sent_bytes\":{sent}"
+        "\"requests\":{requests},\"pending\":{pending},\"received_bytes\":{received},\"sent_bytes\":{sent}"
     )?;
     format!(in alloc;
-        "{{\"peer\":\"{peer}\",{times},{counts},\"callers\":{callers},\"memory_bytes\":{memory}}}"
+        "{{\"stream\":{number},\"peer\":\"{peer}\",{times},{counts},\"callers\":{callers},\"memory_bytes\":{memory}}}"
     )
 }
 

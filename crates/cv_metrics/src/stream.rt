@@ -25,6 +25,8 @@ impl Display for Peer {
 /// A stream that is being served, and what the counters of its place were when it began.
 #[derive(Clone, Copy, Debug, PartialEq, Eq)]
 pub struct Stream {
+    /// Which of all streams it is, from 1.
+    pub number: u64,
     pub peer: Peer,
     /// When it began, in nanoseconds.
     pub begun: u64,

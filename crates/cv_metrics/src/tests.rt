@@ -16,12 +16,17 @@ const OK: u8 = 0;
 const EBADF: u8 = 4;
 
 /// The bounds of the buckets in nanoseconds.
-const TIMES: [u64; 6] = [
+const TIMES: [u64; 11] = [
     10_000,
+    30_000,
     100_000,
+    300_000,
     1_000_000,
+    3_000_000,
     10_000_000,
+    30_000_000,
     100_000_000,
+    300_000_000,
     1_000_000_000,
 ];
 
@@ -41,7 +46,7 @@ fn parted(bytes: &[u8], count: usize) -> (&[u8], &[u8]) {
 }
 
 /// What the server tells.
-fn told() -> Told {
+fn told() -> Told<'static> {
     Told {
         version: "0.1.0",
         start_time: 1_700_000_000,
@@ -51,6 +56,7 @@ fn told() -> Told {
         cache_hits: 3,
         cache_misses: 4,
         stream_memory_limit: None,
+        is_draining: false,
         log_lines_dropped: 5,
     }
 }

@@ -12,9 +12,9 @@ use std::sync::Wait;
 
 /// What metrics tell besides what the board counts.
 #[derive(Clone, Copy, Debug)]
-pub struct Told {
+pub struct Told<'a> {
     /// The program's version.
-    pub version: &'static str,
+    pub version: &'a str,
     /// When the server began, in seconds since 1970.
     pub start_time: u64,
     /// How many streams may be served at once.
@@ -27,6 +27,8 @@ pub struct Told {
     pub cache_misses: u64,
     /// How many bytes a stream may hold. `None`: there is no limit.
     pub stream_memory_limit: Option<u64>,
+    /// Whether it is being drained.
+    pub is_draining: bool,
     /// How many lines of the log were dropped.
     pub log_lines_dropped: u64,
 }
@@ -49,7 +51,7 @@ pub(crate) fn metrics<R: Wait>(
     rt: &R,
     alloc: Global,
     board: &Board,
-    told: &Told,
+    told: &Told<'_>,
 ) -> Result<String, AllocError> {
     let sums = Sums::of(rt, board);
     let mut page = Page::new(alloc);
@@ -63,7 +65,7 @@ pub(crate) fn metrics<R: Wait>(
 }
 
 /// The server, and how many streams there are.
-fn server(page: &mut Page, board: &Board, told: &Told, sums: &Sums) -> Result<(), AllocError> {
+fn server(page: &mut Page, board: &Board, told: &Told<'_>, sums: &Sums) -> Result<(), AllocError> {
     let version = told.version;
     page.family("build_info", "gauge", "The program, by its version.")?;
     page.labelled("build_info", format_args!("version=\"{version}\""), 1u64)?;
@@ -71,7 +73,10 @@ fn server(page: &mut Page, board: &Board, told: &Told, sums: &Sums) -> Result<()
     page.gauge("start_time_seconds", help, told.start_time)?;
     let help = "Streams that may be served at once.";
     page.gauge("places", help, told.places)?;
-    page.gauge("streams", "Streams that are served now.", sums.streams)?;
+    let help = "Whether a drain has begun: 1 or 0.";
+    page.gauge("draining", help, u64::from(told.is_draining))?;
+    let help = "Streams that are served now.";
+    page.gauge("streams_active", help, sums.streams)?;
     page.counter(
         "streams_total",
         "Streams whose serving began.",
@@ -134,7 +139,7 @@ fn times(page: &mut Page, word: &str, op: &str, times: &Times) -> Result<(), All
     let alloc = page.alloc();
     let name = format!(in alloc; "{word}_duration_seconds")?;
     let help = format!(in alloc;
-        "Seconds from the last byte of a batch to its first reply, by each {op} in it."
+        "Seconds from the last byte of a batch to its first reply, divided by its requests, once for each {op}."
     )?;
     page.family(&name, "histogram", &help)?;
     let bucket = format!(in alloc; "{name}_bucket")?;
@@ -152,7 +157,7 @@ fn times(page: &mut Page, word: &str, op: &str, times: &Times) -> Result<(), All
 }
 
 /// Memory: the cache, the streams, and what the log dropped.
-fn memory(page: &mut Page, told: &Told, sums: &Sums) -> Result<(), AllocError> {
+fn memory(page: &mut Page, told: &Told<'_>, sums: &Sums) -> Result<(), AllocError> {
     let help = "Requests that were answered ENOMEM.";
     page.counter("memory_refused_total", help, sums.memory_refused)?;
     let help = "Compiled charmaps that the cache has.";

@@ -4,11 +4,16 @@ ghost use Rattle.std.specs.IoError.{raw_os_error};
 ghost use Rattle.cv_tcp.specs.Accepting.{is_lasting, is_of_listener};
 
 use crate::connection::Connection;
+use crate::draining::Begun;
 use crate::inlet::Inlet;
-use log::{Log, error};
+use crate::operation::Operation;
+use crate::places::Place;
+use crate::streams::Service;
+use log::{Log, debug, error};
+use std::io::{self, ErrorKind};
 use std::sync::{Mutex, Wait};
+use std::thread;
 use std::time::{Clock, Duration, Instant};
-use std::{io, thread};
 
 /// For how many milliseconds a thread sleeps after an accept that failed.
 const PAUSE: u64 = 50;
@@ -75,8 +80,75 @@ fn complain<R: Wait + Clock, G: Log>(
     }
 }
 
-/// Waits for the next stream. An accept that fails is tried again, unless every other will fail too.
-pub(crate) fn next_stream<R: Wait + Clock, G: Log, L: Inlet>(
+/// For how many milliseconds a thread sleeps after an accept that gave up. Another process may have the listener too, and make it one at
+/// which no accept waits.
+const BREATH: u64 = 1;
+
+/// What a thread has after it has waited.
+pub(crate) enum Next {
+    /// A stream, and its place.
+    Client(Connection, Place),
+    /// No stream: a drain has begun.
+    Drained(Begun),
+}
+
+/// Whether an accept gave up, as one at a listener that is shared with other processes does after a while.
+fn gave_up(failure: &io::Error) -> bool {
+    failure.kind() == ErrorKind::WouldBlock
+}
+
+/// The drain that has begun.
+fn drain_of(operation: &Operation) -> Option<Begun> {
+    match &operation.draining {
+        Some(draining) => draining.begun(),
+        None => None,
+    }
+}
+
+/// A client is sent away, since all places are taken.
+fn note_refused<G: Log>(log: &G, operation: &Operation, stream: &Connection) {
+    if let Some(counters) = &operation.counters {
+        counters.note_refused();
+    }
+    debug!(log; peer:% = stream.peer(); "client refused");
+}
+
+/// Waits for a stream that has a place. While all are taken, streams are closed at once. An accept that fails is tried again, unless every
+/// other will fail too.
+pub(crate) fn next_client<R: Wait + Clock, G: Log, L: Inlet>(
+    service: &Service<'_, R, G, L>,
+    complaints: &Mutex<Complaints>,
+) -> Result<Next, io::Error>
+    ensures { IfErr result (λ failure. is_lasting (raw_os_error failure) ≡ true) }
+{
+    let (rt, log, operation) = (service.rt, service.log, service.operation);
+    for _try in rt.forever() {
+        if let Some(begun) = drain_of(operation) {
+            return Ok(Next::Drained(begun));
+        }
+        match service.inlet.accept() {
+            Ok(stream) => match operation.places.take(rt, log) {
+                Some(place) => return Ok(Next::Client(stream, place)),
+                None => note_refused(log, operation, &stream),
+            },
+            // The drain has shut the listener.
+            Err(_) if drain_of(operation).is_some() => {}
+            Err(failure) if gave_up(&failure) => thread::sleep(rt, Duration::from_millis(BREATH)),
+            Err(failure) if is_lasting(&failure) => return Err(failure),
+            Err(failure) => {
+                if let Some(counters) = &operation.counters {
+                    counters.note_failed_accept();
+                }
+                complain(rt, log, complaints, &failure);
+                thread::sleep(rt, Duration::from_millis(PAUSE));
+            }
+        }
+    }
+    unreachable!()
+}
+
+/// Waits for the next client of the admin pages. An accept that fails is tried again, unless every other will fail too.
+pub(crate) fn next_admin_client<R: Wait + Clock, G: Log, L: Inlet>(
     rt: &R,
     log: &G,
     inlet: &L,

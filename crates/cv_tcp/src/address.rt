@@ -1,16 +1,20 @@
 //! Where a server is.
 
-/// The address of a server: that of a TCP port, or the path of a Unix socket.
+/// The address of a server: that of a TCP port, the path of a Unix socket, or the number of a listener that the process was given.
 #[derive(Clone, Copy, Debug, PartialEq, Eq)]
 pub(crate) enum Address<'a> {
     Tcp(&'a str),
     Unix(&'a str),
+    /// `None`: the word has no such number.
+    Given(Option<u16>),
 }
 
-/// Whether a word can be the address of a listener: `unix:` and a path, or `HOST:PORT`. Whether there is such a host is not asked.
+/// Whether a word can be the address of a listener: `HOST:PORT`, `unix:` and a path, or `fd:` and the number of a descriptor. Whether there is
+/// such a host or descriptor is not asked.
 pub fn is_address(word: &str) -> bool {
     match Address::of(word) {
         Address::Unix(path) => !path.is_empty(),
+        Address::Given(number) => number.is_some(),
         Address::Tcp(address) => match address.rsplit_once(':') {
             Some((host, port)) => !host.is_empty() && port.parse::<u16>().is_ok(),
             None => false,
@@ -18,11 +22,22 @@ pub fn is_address(word: &str) -> bool {
     }
 }
 
+/// Whether a word can be the address of the admin pages: `HOST:PORT`, or `unix:` and a path.
+pub fn is_admin_address(word: &str) -> bool {
+    match Address::of(word) {
+        Address::Given(_) => false,
+        Address::Tcp(_) | Address::Unix(_) => is_address(word),
+    }
+}
+
 impl<'a> Address<'a> {
-    /// The address that a word of the command line means: `unix:` stands in front of a path.
+    /// The address that a word of the command line means: after `unix:` there is a path, and after `fd:` a number.
     pub(crate) fn of(word: &'a str) -> Address<'a> {
-        match word.strip_prefix("unix:") {
-            Some(path) => Address::Unix(path),
+        if let Some(path) = word.strip_prefix("unix:") {
+            return Address::Unix(path);
+        }
+        match word.strip_prefix("fd:") {
+            Some(number) => Address::Given(number.parse::<u16>().ok()),
             None => Address::Tcp(word),
         }
     }

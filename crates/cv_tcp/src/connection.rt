@@ -2,9 +2,9 @@
 ghost use Rattle.std.specs.Io.{ReadsAtMost, WritesAtMost};
 
 use crate::retrying::Waits;
-use std::fmt::{self, Display, Formatter};
+use cv_metrics::Peer;
 use std::io::{self, Read, Write};
-use std::net::{SocketAddr, TcpStream};
+use std::net::{Shutdown, TcpStream};
 use std::os::unix::net::UnixStream;
 use std::time::Duration;
 
@@ -38,6 +38,14 @@ impl Connection {
                 stream.set_write_timeout(limit)
             }
         }
+    }
+
+    /// Tells the other end that nothing more is written.
+    pub(crate) fn end_writing(&self) {
+        let _ = match self {
+            Connection::Tcp(stream) => stream.shutdown(Shutdown::Write),
+            Connection::Unix(stream) => stream.shutdown(Shutdown::Write),
+        };
     }
 
     /// Reads once, into the front of `buf`.
@@ -84,26 +92,6 @@ fn write_by<T: Write + Drop>(mut writer: T, bytes: &[u8]) -> io::Result<usize>
     ensures { WritesAtMost result bytes.now }
 {
     writer.write(bytes)
-}
-
-/// Who is at the other end of a stream.
-#[derive(Clone, Copy, Debug, PartialEq, Eq)]
-pub(crate) enum Peer {
-    At(SocketAddr),
-    /// A process of this machine.
-    Local,
-    /// Nobody any more.
-    Gone,
-}
-
-impl Display for Peer {
-    fn fmt<W: fmt::Write>(&self, f: &mut Formatter<W>) -> fmt::Result {
-        match self {
-            Peer::At(address) => write!(f, "{address}"),
-            Peer::Local => f.write_str("unix"),
-            Peer::Gone => f.write_str("gone"),
-        }
-    }
 }
 
 impl Waits for &Connection {

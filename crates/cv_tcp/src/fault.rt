@@ -1,7 +1,8 @@
 //! Why a stream or a call ended.
 ghost use Rattle.std.specs.Prelude.{◌≡◌};
-ghost use Rattle.cv_tcp.specs.Ends.{end_of, call_end_of, call_status_of};
+ghost use Rattle.cv_tcp.specs.Ends.{end_of, stream_end, call_end_of, call_status_of};
 
+use crate::ticking::EndedBy;
 use cv_commands::{RunFault, status};
 use cv_loop::ServeFault;
 use thiserror::Error;
@@ -15,6 +16,12 @@ pub(crate) enum StreamFault {
     /// No reply was taken for too long.
     #[error("stalled client")]
     Stalled,
+    /// A drain ended it, and everything that was sent has its reply.
+    #[error("drained")]
+    Drained,
+    /// A drain ended it within a frame, or when the drain's time was over.
+    #[error("cut by a drain")]
+    Cut,
     /// What serving ended by.
     #[error("{0}")]
     Run(RunFault),
@@ -28,6 +35,21 @@ pub(crate) fn end_of(fault: RunFault, late_read: bool, late_write: bool) -> Stre
         RunFault::Serve(ServeFault::Read) if late_read => StreamFault::Idle,
         RunFault::Serve(ServeFault::Write { .. }) if late_write => StreamFault::Stalled,
         fault => StreamFault::Run(fault),
+    }
+}
+
+/// Why a stream ended, if its client didn't end it: of how serving it ended, and who ended it.
+pub(crate) fn stream_end(fault: Option<StreamFault>, by: EndedBy) -> Option<StreamFault>
+    ensures { result ≡ stream_end fault by }
+{
+    match (by, fault) {
+        (EndedBy::Client, fault) => fault,
+        (EndedBy::Deadline, _) => Some(StreamFault::Cut),
+        (EndedBy::Drain, None) => Some(StreamFault::Drained),
+        (EndedBy::Drain, Some(StreamFault::Run(RunFault::Serve(ServeFault::TruncatedFrame)))) => {
+            Some(StreamFault::Cut)
+        }
+        (EndedBy::Drain, fault) => fault,
     }
 }
 

@@ -10,7 +10,7 @@ pub(crate) trait Inlet {
     /// Waits for the next stream.
     fn accept(&self) -> io::Result<Connection>;
 
-    /// Makes every `accept` fail from now on, also those that are waiting.
+    /// Makes every `accept` end from now on, also those that are waiting.
     fn shut(&self);
 }
 
@@ -22,6 +22,28 @@ pub(crate) enum Listener {
 }
 
 impl Listener {
+    /// Waits for the next stream.
+    pub(crate) fn next(&self) -> io::Result<Connection> {
+        match self {
+            Listener::Tcp(listener) => {
+                let (stream, _peer) = listener.accept()?;
+                Ok(Connection::Tcp(stream))
+            }
+            Listener::Unix(listener) => {
+                let (stream, _peer) = listener.accept()?;
+                Ok(Connection::Unix(stream))
+            }
+        }
+    }
+
+    /// Has its accepts wait, also if it was made otherwise.
+    pub(crate) fn wait_at_accepts(&self) -> io::Result<()> {
+        match self {
+            Listener::Tcp(listener) => listener.set_nonblocking(false),
+            Listener::Unix(listener) => listener.set_nonblocking(false),
+        }
+    }
+
     /// A second descriptor of the socket. std can shut a socket only as a stream; the system makes no difference.
     fn socket(&self) -> io::Result<TcpStream> {
         let socket = match self {
@@ -45,20 +67,16 @@ impl Bound {
         let socket = listener.socket()?;
         Ok(Bound { listener, socket })
     }
+
+    /// Another descriptor, by which it may be shut too.
+    pub(crate) fn door(&self) -> io::Result<TcpStream> {
+        self.socket.try_clone()
+    }
 }
 
 impl Inlet for Bound {
     fn accept(&self) -> io::Result<Connection> {
-        match &self.listener {
-            Listener::Tcp(listener) => {
-                let (stream, _peer) = listener.accept()?;
-                Ok(Connection::Tcp(stream))
-            }
-            Listener::Unix(listener) => {
-                let (stream, _peer) = listener.accept()?;
-                Ok(Connection::Unix(stream))
-            }
-        }
+        self.listener.next()
     }
 
     fn shut(&self) {

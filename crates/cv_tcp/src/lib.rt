@@ -3,27 +3,54 @@
 
 mod accepting;
 mod address;
+mod admin;
+mod admin_calling;
+mod admin_inlet;
 mod calling;
 mod connection;
+mod counted;
+mod counters;
+mod cut;
+mod draining;
+mod dropped_lines;
 mod fault;
+mod fault_limit;
+mod inherited;
 mod inlet;
+mod json_line;
+mod listened;
 mod listening;
 mod log_lines;
+mod metered;
+mod one_stream;
+mod operation;
+mod outlet;
+mod overview;
+mod places;
 mod reply_count;
 mod report;
 mod retrying;
+mod site;
 mod socket_file;
 mod streams;
 mod terms;
+mod text_line;
+mod ticking;
+mod timed;
 mod turns;
 mod watched;
 
-pub use address::is_address;
+pub use address::{is_address, is_admin_address};
+pub use admin_calling::{AdminFault, call_admin};
 pub use calling::call;
+pub use cv_admin::{Health, Page};
 pub use fault::{CallFault, call_status};
-pub use listening::listen;
+pub use listened::Listened;
+pub use listening::{Addresses, listen, listen_administered, listen_until_drained};
 pub use log_lines::{LogFormat, LogLines};
-pub use terms::{MOST_AT_ONCE, Terms};
+pub use operation::Operation;
+pub use outlet::{Outlet, StandardError};
+pub use terms::{MOST_AT_ONCE, Terms, WhenFull};
 
 #[cfg(test)]
 mod tests;

@@ -1,68 +1,51 @@
 //! Listening at an address.
 ghost use Rattle.std.specs.Prelude.{◌≡◌, ◌≤◌, IfOk, IfErr};
-ghost use Rattle.cv_commands.specs.declared.fault.RunFault.TheVariants as RunFault;
 ghost use Rattle.cv_tcp.specs.Faults.{IsOfListening};
+ghost use Rattle.cv_tcp.specs.Listening.{IsEnd};
 
-use crate::address::Address;
-use crate::inlet::{Bound, Listener};
-use crate::socket_file;
-use crate::streams::{Service, serve_streams};
+use crate::admin_inlet::{AdminAt, AdminInlet};
+use crate::listened::{Listened, tell};
+use crate::operation::Operation;
+use crate::site::{Site, check_given, listen_at, refuse};
 use crate::terms::Terms;
-use cv_commands::{RunFault, write_all};
-use log::{Log, error, info};
+use cv_commands::RunFault;
+use log::Log;
 use std::alloc::Global;
-use std::fmt::Display;
 use std::fs::Files;
-use std::io;
-use std::net::{Net, SocketAddr, TcpListener, TcpStream};
+use std::net::{Net, TcpListener, TcpStream};
 use std::random::RandomSource;
 use std::sync::Wait;
 use std::thread::Threads;
 use std::time::Clock;
 
-/// Prints where the program listens, in one write, and logs it.
-fn announce<R: Print, G: Log, D: Display + Drop>(
-    rt: &R,
+/// Logs how listening ended, and what the log has not told yet.
+fn conclude<R: Clock, G: Log>(
+    site: &Site<'_, R, G>,
+    listened: Result<Listened, RunFault>,
+) -> Result<Listened, RunFault>
+    ensures { result ≡ listened }
+{
+    // The line of a drain is written however many faults of the same second there were.
+    site.log.flush();
+    if let Ok(listened) = listened {
+        tell(site.log, listened, site.operation.drained_for(site.rt));
+    }
+    site.log.flush();
+    listened
+}
+
+/// Listens as `listen` does, until all streams are served or the operation is drained. A drain is logged when it has ended.
+pub fn listen_until_drained<'a, R, G>(
+    rt: &'a R,
     alloc: Global,
-    log: &G,
-    address: D,
-) -> Result<(), RunFault>
-    ensures { IfErr result IsOfListening }
-{
-    let line = format!(in alloc; "listening {address}\n")?;
-    write_all(io::writer(rt), line.as_bytes())?;
-    info!(log; address:% = address; "listening");
-    Ok(())
-}
-
-/// Logs why nobody can listen at an address.
-fn refuse<G: Log, D: Display + Drop>(log: &G, address: D, failure: &io::Error) -> RunFault
-    ensures { result ≡ RunFault.CannotListen }
-{
-    error!(log; address:% = address; "{address}: cannot listen: {failure}");
-    RunFault::CannotListen
-}
-
-/// A listener at a TCP port, and the address that it has.
-fn bind_tcp<R>(rt: &R, address: &str) -> io::Result<(Bound, SocketAddr)>
-where
-    R: Net<Listener = TcpListener, Stream = TcpStream>,
-{
-    let listener = TcpListener::bind(rt, address)?;
-    let address = listener.local_addr()?;
-    Ok((Bound::new(Listener::Tcp(listener))?, address))
-}
-
-/// Listens at a TCP port and serves the streams that come in there.
-pub(crate) fn listen_tcp<R, G>(
-    rt: &R,
-    alloc: Global,
-    log: &G,
+    log: &'a G,
     address: &str,
     terms: Terms,
-) -> Result<u64, RunFault>
+    operation: &'a Operation,
+) -> Result<Listened, RunFault>
 where
     R: Net<Listener = TcpListener, Stream = TcpStream>
+        + Files
         + Print
         + Clock
         + RandomSource
@@ -72,77 +55,88 @@ where
     G: Log + Sync,
     requires at_once { 1 ≤ terms.at_once }
     requires workers { (1 ≤ terms.workers) × (terms.workers ≤ 16) }
-    ensures served { IfOk result (λ n. n ≡ terms.streams) }
+
+    // All threads together took a turn for each stream that there was to be; or for fewer, and a drain had begun.
+    ensures end { IfOk result (λ listened. IsEnd terms.streams listened) }
+
+    // No fault of a stream is among these.
     ensures err { IfErr result IsOfListening }
 {
-    let (inlet, bound) = match bind_tcp(rt, address) {
-        Ok(bound) => bound,
-        Err(failure) => return Err(refuse(log, address, &failure)),
-    };
-    announce(rt, alloc, log, bound)?;
-    serve_streams(&Service {
+    let admin = None;
+    let site = Site {
         rt,
         alloc,
         log,
-        inlet: &inlet,
         terms,
-    })
+        operation,
+        admin: &admin,
+    };
+    conclude(&site, listen_at(&site, address))
 }
 
-/// Listens at a Unix socket and serves the streams that come in there. At the end the socket's file is removed.
-pub(crate) fn listen_unix<R, G>(
-    rt: &R,
+/// Removes the socket file of the admin pages, if they have one.
+fn remove_admin<R: Files, G>(site: &Site<'_, R, G>) {
+    if let Some(admin) = site.admin {
+        admin.remove(site.rt);
+    }
+}
+
+/// Where a server listens.
+#[derive(Clone, Copy, Debug, PartialEq, Eq)]
+pub struct Addresses<'a> {
+    /// For its streams.
+    pub streams: &'a str,
+    /// For its admin pages.
+    pub admin: &'a str,
+}
+
+/// Listens as `listen_until_drained` does, and meanwhile answers the clients of the admin pages at an address of their own. It is printed
+/// after the other one. The pages are there until the last stream has ended. They are whole where the operation counts.
+pub fn listen_administered<'a, R, G>(
+    rt: &'a R,
     alloc: Global,
-    log: &G,
-    path: &str,
+    log: &'a G,
+    addresses: Addresses<'a>,
     terms: Terms,
-) -> Result<u64, RunFault>
+    operation: &'a Operation,
+) -> Result<Listened, RunFault>
 where
-    R: Net + Files + Print + Clock + RandomSource + Threads + Wait + Sync,
+    R: Net<Listener = TcpListener, Stream = TcpStream>
+        + Files
+        + Print
+        + Clock
+        + RandomSource
+        + Threads
+        + Wait
+        + Sync,
     G: Log + Sync,
     requires at_once { 1 ≤ terms.at_once }
     requires workers { (1 ≤ terms.workers) × (terms.workers ≤ 16) }
-    ensures served { IfOk result (λ n. n ≡ terms.streams) }
-    ensures err { IfErr result IsOfListening }
-{
-    let listener = match socket_file::bind(rt, path) {
-        Ok(listener) => listener,
-        Err(failure) => return Err(refuse(log, format_args!("unix:{path}"), &failure)),
-    };
-    let served = serve_unix(rt, alloc, log, Listener::Unix(listener), path, terms);
-    socket_file::remove(rt, path);
-    served
-}
 
-/// Serves the streams that come in at a Unix socket.
-pub(crate) fn serve_unix<R, G>(
-    rt: &R,
-    alloc: Global,
-    log: &G,
-    listener: Listener,
-    path: &str,
-    terms: Terms,
-) -> Result<u64, RunFault>
-where
-    R: Print + Clock + RandomSource + Threads + Wait + Sync,
-    G: Log + Sync,
-    requires at_once { 1 ≤ terms.at_once }
-    requires workers { (1 ≤ terms.workers) × (terms.workers ≤ 16) }
-    ensures served { IfOk result (λ n. n ≡ terms.streams) }
+    // All threads together took a turn for each stream that there was to be; or for fewer, and a drain had begun.
+    ensures end { IfOk result (λ listened. IsEnd terms.streams listened) }
+
+    // No fault of a stream is among these.
     ensures err { IfErr result IsOfListening }
 {
-    let inlet = match Bound::new(listener) {
-        Ok(inlet) => inlet,
-        Err(failure) => return Err(refuse(log, format_args!("unix:{path}"), &failure)),
+    if let Err(failure) = check_given(addresses.streams) {
+        return Err(refuse(log, addresses.streams, &failure));
+    }
+    let admin = match AdminInlet::open(rt, alloc, addresses.admin) {
+        Ok(admin) => Some(admin),
+        Err(failure) => return Err(refuse(log, AdminAt(addresses.admin), &failure)),
     };
-    announce(rt, alloc, log, format_args!("unix:{path}"))?;
-    serve_streams(&Service {
+    let site = Site {
         rt,
         alloc,
         log,
-        inlet: &inlet,
         terms,
-    })
+        operation,
+        admin: &admin,
+    };
+    let listened = listen_at(&site, addresses.streams);
+    remove_admin(&site);
+    conclude(&site, listened)
 }
 
 /// Listens at an address, prints it on standard output, and serves streams by these terms, each by a new pool of workers and all with one
@@ -173,8 +167,10 @@ where
     // No fault of a stream is among these.
     ensures err { IfErr result IsOfListening }
 {
-    match Address::of(address) {
-        Address::Tcp(address) => listen_tcp(rt, alloc, log, address, terms),
-        Address::Unix(path) => listen_unix(rt, alloc, log, path, terms),
+    let operation = Operation::new(&terms);
+    match listen_until_drained(rt, alloc, log, address, terms, &operation)? {
+        Listened::Served { streams } => Ok(streams),
+        // Nobody can drain it.
+        Listened::Drained { .. } => Err(RunFault::AcceptFailed),
     }
 }

@@ -1,12 +1,17 @@
 //! Where a server reports what becomes of its streams.
+ghost use Rattle.std.specs.Prelude.{◌≡◌};
 
-use jiff::Timestamp;
-use log::kv::{self, VisitSource};
+use crate::dropped_lines::DroppedLines;
+use crate::fault_limit::FaultLimit;
+use crate::json_line::json_line;
+use crate::outlet::Outlet;
+use crate::text_line::TextLine;
 use log::span::Spans;
-use log::{Level, LevelFilter, Log, Metadata, Record};
-use serde_json::{Map, Number, Value};
-use std::alloc::{AllocError, Global};
-use std::fmt::{self, Display, Formatter};
+use log::{Level, LevelFilter, Log, Metadata, Record, kv};
+use std::fmt::Display;
+use std::io;
+use std::sync::atomic::{AtomicU64, Ordering};
+use std::sync::{Mutex, Wait};
 use std::time::Clock;
 
 /// How a record is written: as a sentence or as a JSON object.
@@ -16,15 +21,143 @@ pub enum LogFormat {
     Json,
 }
 
-/// A log whose records are lines on standard error. Records above its level are dropped.
-#[derive(Clone, Copy, Debug, Drop)]
-pub struct LogLines<R> {
-    pub rt: R,
-    pub level: LevelFilter,
-    pub format: LogFormat,
+/// What a log knows of the records that it did not write.
+#[derive(Drop)]
+struct Unwritten {
+    faults: FaultLimit,
+    lines: DroppedLines,
 }
 
-impl<R: Eprint + AllocGlobal + Clock> Log for LogLines<R> {
+/// A log whose records are lines of an outlet. Records above its level are dropped. Of the errors within a second the first 100 are written,
+/// and how many more there were is one line before the next record, or at a flush, after which a second begins anew. A line that the outlet does
+/// not take at once is dropped, and once it takes lines again, one says how many were.
+#[derive(Drop)]
+pub struct LogLines<'a, R, O> {
+    rt: &'a R,
+    outlet: O,
+    level: LevelFilter,
+    format: LogFormat,
+    /// Where it tells how many lines it has dropped.
+    lost: Option<&'a AtomicU64>,
+    unwritten: Mutex<Unwritten>,
+}
+
+impl<'a, R, O> LogLines<'a, R, O> {
+    /// A log of an outlet, at a level and in a format. No line of it was dropped.
+    pub fn new(rt: &'a R, outlet: O, level: LevelFilter, format: LogFormat) -> LogLines<'a, R, O>
+        ensures rt { result.rt ≡ rt.entry }
+        ensures outlet { result.outlet ≡ outlet }
+        ensures level { result.level ≡ level }
+        ensures format { result.format ≡ format }
+    {
+        LogLines {
+            rt,
+            outlet,
+            level,
+            format,
+            lost: None,
+            unwritten: Mutex::new(Unwritten {
+                faults: FaultLimit::new(),
+                lines: DroppedLines::new(),
+            }),
+        }
+    }
+}
+
+impl<'a, R, O> LogLines<'a, R, O> {
+    /// The same log, which keeps in a cell how many lines it has dropped.
+    pub fn telling(self, lost: &'a AtomicU64) -> LogLines<'a, R, O>
+        ensures rt { result.rt ≡ self.entry.rt }
+        ensures outlet { result.outlet ≡ self.entry.outlet }
+        ensures level { result.level ≡ self.entry.level }
+        ensures format { result.format ≡ self.entry.format }
+    {
+        LogLines {
+            lost: Some(lost),
+            ..self
+        }
+    }
+
+    /// One more line was dropped.
+    fn drop_line(&self, dropped: &mut DroppedLines) {
+        dropped.add();
+        if let Some(lost) = self.lost {
+            lost.store(dropped.all(), Ordering::Relaxed);
+        }
+    }
+}
+
+impl<'a, R: Wait, O> LogLines<'a, R, O> {
+    /// How many lines were dropped, since the outlet did not take them or they found no memory.
+    pub fn dropped(&self) -> u64 {
+        self.unwritten.lock(self.rt).lines.all()
+    }
+}
+
+impl<'a, R: AllocGlobal + Clock, O: Outlet> LogLines<'a, R, O> {
+    /// The time of the clock that never goes back.
+    fn now(&self) -> io::Result<u64> {
+        let time = self.rt.monotonic()?;
+        Ok(u64::try_from(time.as_nanos()).unwrap_or(u64::MAX))
+    }
+
+    /// Writes a record, unless it would have to wait. Whether it was written.
+    fn put<D: Display, K: kv::Source, S: Spans>(&self, record: &Record<'_, D, K, S>) -> bool {
+        match self.format {
+            LogFormat::Text => {
+                let line = TextLine {
+                    record,
+                    is_short: self.level == LevelFilter::Error,
+                };
+                self.outlet.put(format_args!("iconvd: {line}"))
+            }
+            LogFormat::Json => match json_line(self.rt, record) {
+                Ok(line) => self.outlet.put(line),
+                Err(_) => false,
+            },
+        }
+    }
+
+    /// Writes how many there were of something, as an error.
+    fn put_count<D: Display + Drop>(&self, count: u64, message: D) -> bool {
+        let metadata = Metadata::new(Level::Error, "");
+        // A sentence has the number in its words.
+        let pairs = match self.format {
+            LogFormat::Text => None,
+            LogFormat::Json => Some(("count", count)),
+        };
+        self.put(&Record::new(metadata, message, pairs, ()))
+    }
+
+    /// Reports the lines that were dropped, if there are any. Whether none is left that no line has reported.
+    fn report_dropped(&self, dropped: &mut DroppedLines) -> bool {
+        let count = dropped.unreported();
+        if count == 0 {
+            return true;
+        }
+        let words = if count == 1 { "line was" } else { "lines were" };
+        let is_written = self.put_count(count, format_args!("{count} log {words} dropped"));
+        if is_written {
+            dropped.report();
+        }
+        is_written
+    }
+
+    /// Reports the faults of a second that were counted, if there are any.
+    fn report_faults(&self, dropped: &mut DroppedLines, count: u64) {
+        if count == 0 {
+            return;
+        }
+        let word = if count == 1 { "fault" } else { "faults" };
+        let is_written = self.report_dropped(dropped)
+            && self.put_count(count, format_args!("{count} more {word} in a second"));
+        if !is_written {
+            self.drop_line(dropped);
+        }
+    }
+}
+
+impl<'a, R: AllocGlobal + Clock + Wait, O: Outlet> Log for LogLines<'a, R, O> {
     ghost use Rattle.std.specs.Prelude.{Some, []};
     ghost use Rattle.log.specs.Level.{allows};
 
@@ -40,132 +173,30 @@ impl<R: Eprint + AllocGlobal + Clock> Log for LogLines<R> {
         if !self.level.allows(record.level()) {
             return;
         }
-        match self.format {
-            LogFormat::Text => {
-                let line = TextLine {
-                    record,
-                    is_short: self.level == LevelFilter::Error,
-                };
-                let _ = eprintln!(self.rt; "iconvd: {line}");
+        let mut unwritten = self.unwritten.lock(self.rt);
+        let Unwritten { faults, lines } = &mut *unwritten;
+        // A clock that cannot be read limits nothing.
+        if let Ok(now) = self.now() {
+            self.report_faults(lines, faults.pass(now));
+            if record.level() == Level::Error && !faults.admits() {
+                return;
             }
-            LogFormat::Json => {
-                let now = Timestamp::now(&self.rt).ok();
-                if let Ok(line) = json_line(self.rt.alloc(), now, record) {
-                    let _ = eprintln!(self.rt; "{line}");
-                }
-            }
+        }
+        let is_written = self.report_dropped(lines) && self.put(record);
+        if !is_written {
+            self.drop_line(lines);
         }
     }
 
-    fn flush(&self) {}
+    fn flush(&self) {
+        let mut unwritten = self.unwritten.lock(self.rt);
+        let Unwritten { faults, lines } = &mut *unwritten;
+        self.report_faults(lines, faults.take_counted());
+        *faults = FaultLimit::new();
+        let _ = self.report_dropped(lines);
+    }
 
     fn target(&self) -> &str {
         ""
     }
-}
-
-/// Shows a record: its message, and unless it is to be short its pairs.
-#[derive(Drop)]
-struct TextLine<'a, 'r, D, K, S> {
-    record: &'a Record<'r, D, K, S>,
-    is_short: bool,
-}
-
-impl<'a, 'r, D: Display, K: kv::Source, S: Spans> Display for TextLine<'a, 'r, D, K, S> {
-    fn fmt<W: fmt::Write>(&self, f: &mut Formatter<W>) -> fmt::Result {
-        let message = self.record.args();
-        write!(f, "{message}")?;
-        if !self.is_short {
-            self.record.key_values().visit(&mut TextPairs { f })?;
-        }
-        Ok(())
-    }
-}
-
-/// Writes pairs, each behind a space.
-#[derive(Drop)]
-struct TextPairs<'f, W> {
-    f: &'f mut Formatter<W>,
-}
-
-impl<'f, W: fmt::Write> VisitSource for TextPairs<'f, W> {
-    fn visit_pair<D: Display>(
-        &mut self,
-        key: &str,
-        value: kv::Value<'_, D>,
-    ) -> Result<(), kv::Error> {
-        write!(self.f, " {key}={value}")?;
-        Ok(())
-    }
-}
-
-/// Collects pairs as the members of a JSON object.
-#[derive(Drop)]
-struct JsonPairs {
-    alloc: Global,
-    members: Map<String, Value>,
-}
-
-impl JsonPairs {
-    fn put(&mut self, key: &str, value: Value) -> Result<(), AllocError> {
-        serde_json::put(&mut self.members, self.alloc, key, value)
-    }
-
-    fn put_text<D: Display>(&mut self, key: &str, text: &D) -> Result<(), AllocError> {
-        let text = format!(in self.alloc; "{text}")?;
-        self.put(key, Value::String(text))
-    }
-}
-
-impl VisitSource for JsonPairs {
-    fn visit_pair<D: Display>(
-        &mut self,
-        key: &str,
-        value: kv::Value<'_, D>,
-    ) -> Result<(), kv::Error> {
-        let put = match value {
-            kv::Value::Null => self.put(key, Value::Null),
-            kv::Value::U64(number) => self.put(key, Value::Number(Number::from(number))),
-            kv::Value::F64(number) => {
-                self.put(
-                    key,
-                    Number::from_f64(number).map_or(Value::Null, Value::Number),
-                )
-            }
-            other => self.put_text(key, &other),
-        };
-        put.map_err(|_| kv::Error::msg("out of memory"))
-    }
-}
-
-/// The word of a level, as the command line has it.
-fn level_word(level: Level) -> &'static str {
-    match level {
-        Level::Error => "error",
-        Level::Warn => "warn",
-        Level::Info => "info",
-        Level::Debug => "debug",
-        Level::Trace => "trace",
-    }
-}
-
-/// A record as a JSON object: its time (RFC 3339, UTC), if the clock can be read, its level, its message and its pairs.
-fn json_line<D: Display, K: kv::Source, S: Spans>(
-    alloc: Global,
-    time: Option<Timestamp>,
-    record: &Record<'_, D, K, S>,
-) -> Result<String, AllocError> {
-    let mut pairs = JsonPairs {
-        alloc,
-        members: Map::new(alloc),
-    };
-    if let Some(time) = time {
-        pairs.put_text("time", &format_args!("{time:.3}"))?;
-    }
-    pairs.put_text("level", &level_word(record.level()))?;
-    pairs.put_text("message", record.args())?;
-    if record.key_values().visit(&mut pairs).is_err() {
-        return Err(AllocError);
-    }
-    Value::Object(pairs.members).to_string(alloc)
 }

@@ -1,91 +1,78 @@
-//! Counting the replies that a writer takes.
-ghost use Rattle.std.specs.Prelude.{◌≡◌, ◌≤◌, length};
+//! Counting the replies of a stream, and no more.
+ghost use Rattle.std.specs.Prelude.{◌≤◌, length};
 
-use std::io::{self, Write};
+use crate::metered::Counts;
+use crate::report::report_lack;
+use cv_commands::{Tally, Usage};
+use cv_frame::Status;
+use cv_metrics::{Peer, Scan};
+use log::Log;
+use std::cell::{Cell, RefCell};
 
-/// How many bytes the length in front of a frame has.
-const HEADER: u8 = 4;
-
-/// A writer of reply frames, and how many frames it has taken whole.
+/// Counts the replies that were written whole, and logs the first that says that an allocation failed.
 #[derive(Drop)]
-pub(crate) struct CountsReplies<W> {
-    inner: W,
-    replies: u64,
-    // Of the frame that is being written: how many bytes of its length there are, the length so far, and what is missing behind it.
-    header: u8,
-    length: u32,
-    missing: usize,
+pub(crate) struct ReplyCount<'a, G> {
+    log: &'a G,
+    peer: Peer,
+    scan: RefCell<Scan>,
+    replies: Cell<u64>,
+    has_lacked: Cell<bool>,
 }
 
-impl<W> CountsReplies<W> {
+impl<'a, G: Log> ReplyCount<'a, G> {
     /// Nothing was written yet.
-    pub(crate) fn new(inner: W) -> CountsReplies<W>
-        ensures inner { result.inner ≡ inner }
-        ensures replies { result.replies ≡ 0 }
-    {
-        CountsReplies {
-            inner,
-            replies: 0,
-            header: 0,
-            length: 0,
-            missing: 0,
-        }
-    }
-
-    /// How many frames were taken whole.
-    pub(crate) fn replies(&self) -> u64
-        ensures { result ≡ self.now.replies }
-    {
-        self.replies
-    }
-
-    /// Notes bytes that were taken, from the front of these, and says how many it noted: one of a length, or as many as a frame still misses.
-    fn note_front(&mut self, bytes: &[u8]) -> usize
-        requires { 1 ≤ length bytes.now }
-        ensures some { (1 ≤ result) × (result ≤ length bytes.now) }
-        ensures inner { self.new.inner ≡ self.old.inner }
-    {
-        if self.missing > 0 {
-            let n = self.missing.min(bytes.len());
-            self.missing -= n;
-            if self.missing == 0 {
-                self.replies = self.replies.saturating_add(1);
-            }
-            return n;
-        }
-        self.length = (self.length << 8) | u32::from(bytes[0]);
-        self.header = self.header.saturating_add(1);
-        if self.header >= HEADER {
-            self.missing = self.length as usize;
-            self.length = 0;
-            self.header = 0;
-        }
-        1
-    }
-
-    /// Notes bytes that were taken.
-    fn note(&mut self, bytes: &[u8])
-        ensures { self.new.inner ≡ self.old.inner }
-    {
-        let mut at = 0;
-        while at < bytes.len() {
-            at += self.note_front(&bytes[at..]);
+    pub(crate) fn new(log: &'a G, peer: Peer) -> ReplyCount<'a, G> {
+        ReplyCount {
+            log,
+            peer,
+            scan: RefCell::new(Scan::new()),
+            replies: Cell::new(0),
+            has_lacked: Cell::new(false),
         }
     }
 }
 
-impl<W: Write> Write for CountsReplies<W> {
-    ghost contents = { λ w. W.contents w.inner };
+/// How many frames end in these bytes. It notes whether a reply says that an allocation failed.
+fn frames_in(scan: &mut Scan, bytes: &[u8], has_lacked: &mut bool) -> u64
+    ensures { result ≤ length bytes.now }
+{
+    let mut count = 0;
+    let mut at = 0;
+    while at < bytes.len() {
+        let Some(seen) = scan.next(&bytes[at..]) else {
+            break;
+        };
+        *has_lacked |= seen.code == Status::NoMemory.number();
+        count += 1;
+        at += seen.n;
+    }
+    count
+}
 
-    fn write(&mut self, bytes: &[u8]) -> io::Result<usize> {
-        let taken = self.inner.write(bytes);
-        if let Ok(n) = &taken {
-            self.note(&bytes[..*n]);
+impl<'a, G: Log> Tally for ReplyCount<'a, G> {
+    fn note(&self, _usage: Usage) {}
+}
+
+impl<'a, G: Log> Counts for ReplyCount<'a, G> {
+    fn came(&self, _bytes: &[u8]) {}
+
+    fn begin_write(&self) {}
+
+    fn went(&self, bytes: &[u8], _is_all: bool) {
+        let Ok(mut scan) = self.scan.try_borrow_mut() else {
+            return;
+        };
+        let had_lacked = self.has_lacked.get();
+        let mut has_lacked = had_lacked;
+        let more = frames_in(&mut scan, bytes, &mut has_lacked);
+        self.replies.set(self.replies.get().saturating_add(more));
+        if has_lacked && !had_lacked {
+            self.has_lacked.set(true);
+            report_lack(self.log, self.peer);
         }
-        taken
     }
 
-    fn flush(&mut self) -> io::Result<()> {
-        self.inner.flush()
+    fn replies(&self) -> u64 {
+        self.replies.get()
     }
 }

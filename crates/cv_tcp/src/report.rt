@@ -1,6 +1,7 @@
 //! What the log says of a stream.
-use crate::connection::{Connection, Peer};
+use crate::connection::Connection;
 use crate::fault::StreamFault;
+use cv_metrics::Peer;
 use log::{Level, Log, debug, info, log};
 use std::fmt::{self, Display, Formatter};
 use std::time::{Clock, Instant};
@@ -21,8 +22,8 @@ pub(crate) struct Ended {
 /// How much a fault that ends a stream tells the operator: that a client was silent for too long is usual.
 fn level_of(fault: StreamFault) -> Level {
     match fault {
-        StreamFault::Idle => Level::Info,
-        StreamFault::Stalled | StreamFault::Run(_) => Level::Error,
+        StreamFault::Idle | StreamFault::Drained => Level::Info,
+        StreamFault::Stalled | StreamFault::Cut | StreamFault::Run(_) => Level::Error,
     }
 }
 
@@ -36,6 +37,12 @@ impl Display for Requests {
         let word = if count == 1 { "request" } else { "requests" };
         write!(f, "{count} {word}")
     }
+}
+
+/// Says that an allocation failed for a client. Nothing that it sent is said.
+#[inline(never)]
+pub(crate) fn report_lack<G: Log>(log: &G, peer: Peer) {
+    info!(log; peer:% = peer; "memory refused to {peer}");
 }
 
 /// A stream that is being served, as the log sees it. It holds nothing of what its client sends.

@@ -15,13 +15,13 @@ pub(crate) trait Waits {
 
 /// When a call began, and for how long it may wait in all.
 #[derive(Clone, Copy, Debug)]
-struct Deadline {
+pub(crate) struct Deadline {
     begun: Instant,
     limit: Duration,
 }
 
 /// The deadline of a call that begins now, if there is a limit and the clock can be read.
-fn begin<R: Clock>(rt: &R, limit: Option<Duration>) -> Option<Deadline> {
+pub(crate) fn begin<R: Clock>(rt: &R, limit: Option<Duration>) -> Option<Deadline> {
     let limit = limit?;
     let begun = Instant::now(rt).ok()?;
     Some(Deadline { begun, limit })
@@ -29,7 +29,7 @@ fn begin<R: Clock>(rt: &R, limit: Option<Duration>) -> Option<Deadline> {
 
 impl Deadline {
     /// How much of its time is left. `None`: none.
-    fn left<R: Clock>(&self, rt: &R) -> Option<Duration> {
+    pub(crate) fn left<R: Clock>(&self, rt: &R) -> Option<Duration> {
         let waited = self.begun.elapsed(rt).ok()?;
         if waited < self.limit {
             Some(self.limit.saturating_sub(waited))
@@ -73,7 +73,7 @@ fn is_interrupted(failure: &io::Error) -> bool
 }
 
 /// What is said of a call whose time is over, as a socket with a limit says it.
-fn late() -> io::Error
+pub(crate) fn late() -> io::Error
     ensures { error_kind result ≡ ErrorKind.WouldBlock }
 {
     io::Error::from(ErrorKind::WouldBlock)

@@ -1,9 +1,21 @@
 //! The file of a Unix socket.
+use std::fmt::{self, Display, Formatter};
 use std::fs::{self, Files};
 use std::io::{self, ErrorKind};
 use std::net::Net;
-use std::os::unix::fs::FileTypeExt;
+use std::os::unix::fs::{FileTypeExt, MetadataExt};
 use std::os::unix::net::{UnixListener, UnixStream};
+
+/// Shows a path as the address of a socket.
+#[derive(Clone, Copy, Debug)]
+pub(crate) struct SocketAt<'a>(pub(crate) &'a str);
+
+impl Display for SocketAt<'_> {
+    fn fmt<W: fmt::Write>(&self, f: &mut Formatter<W>) -> fmt::Result {
+        let SocketAt(path) = *self;
+        write!(f, "unix:{path}")
+    }
+}
 
 /// Whether the path names the socket of a server that is dead: a socket to which nobody listens.
 fn is_stale<R: Files + Net>(rt: &R, path: &str) -> bool {
@@ -34,7 +46,26 @@ pub(crate) fn bind<R: Files + Net>(rt: &R, path: &str) -> io::Result<UnixListene
     }
 }
 
-/// Removes the socket file of a server that has ended.
-pub(crate) fn remove<R: Files>(rt: &R, path: &str) {
-    let _ = fs::remove_file(rt, path);
+/// Which file is at a path, as the system numbers files. No other has these numbers while a descriptor of its socket is open.
+#[derive(Clone, Copy, Debug, PartialEq, Eq)]
+pub(crate) struct FileId {
+    device: u64,
+    number: u64,
+}
+
+/// Which file is at a path, if any is.
+pub(crate) fn id_of<R: Files>(rt: &R, path: &str) -> Option<FileId> {
+    let metadata = fs::symlink_metadata(rt, path).ok()?;
+    Some(FileId {
+        device: metadata.dev(),
+        number: metadata.ino(),
+    })
+}
+
+/// Removes the socket file of a server that has ended. It stays if it is no longer the one that this server made: while the last streams of a
+/// drain are served, the next server may listen at the same path.
+pub(crate) fn remove<R: Files>(rt: &R, path: &str, made: Option<FileId>) {
+    if made.is_some() && id_of(rt, path) == made {
+        let _ = fs::remove_file(rt, path);
+    }
 }

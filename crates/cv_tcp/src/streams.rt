@@ -1,20 +1,23 @@
 //! Serving streams, many at once.
 ghost use Rattle.std.specs.Prelude.{◌≡◌, ◌+◌, ◌≤◌, ◌⊎◌, IfOk, IfErr};
 ghost use Rattle.std.specs.Thread.{IsSync};
+ghost use Rattle.cv_tcp.specs.Listening.{IsEnd};
 
-use crate::accepting::{Complaints, next_stream};
+use crate::accepting::{Complaints, Next, next_client};
+use crate::admin::serve_beside;
+use crate::admin_inlet::AdminInlet;
 use crate::connection::Connection;
-use crate::fault::end_of;
+use crate::fault::StreamFault;
 use crate::inlet::Inlet;
-use crate::reply_count::CountsReplies;
+use crate::listened::{Listened, ended};
+use crate::one_stream::{Counting, StreamLimits, serve_connection, serve_counted};
+use crate::operation::Operation;
 use crate::report::{Ended, Report};
-use crate::retrying::Retrying;
 use crate::terms::Terms;
+use crate::ticking::Patience;
 use crate::turns::{Job, Slot, Turns, new_slots};
-use crate::watched::Watched;
 use cv_cache::{Cached, HashKeys};
-use cv_commands::{RunFault, serve_stream_by};
-use cv_loop::{FromReader, ToWriter};
+use cv_commands::RunFault;
 use cv_pool::keep_memory;
 use log::{Log, error};
 use std::alloc::Global;
@@ -34,36 +37,43 @@ pub(crate) struct Service<'a, R, G, L> {
     pub(crate) log: &'a G,
     pub(crate) inlet: &'a L,
     pub(crate) terms: Terms,
+    pub(crate) operation: &'a Operation,
+    /// Where the admin pages are, if they are anywhere.
+    pub(crate) admin: &'a Option<AdminInlet>,
 }
 
-/// Serves one stream by a new pool of workers, and says what it came to. The source and the sink share the stream.
-pub(crate) fn serve_connection<R: Threads + Wait + Clock + Sync>(
-    rt: &R,
-    alloc: Global,
+/// Serves a stream by the thread of this number. It is counted, where the server counts.
+fn serve_one<R, G, L>(
+    service: &Service<'_, R, G, L>,
     cached: &Cached,
     stream: &Connection,
-    terms: Terms,
+    number: usize,
 ) -> Ended
-    requires { (1 ≤ terms.workers) × (terms.workers ≤ 16) }
+where
+    R: Threads + Wait + Clock + Sync,
+    G: Log,
+    requires { (1 ≤ service.now.terms.workers) × (service.now.terms.workers ≤ 16) }
 {
-    stream.send_at_once();
-    // If the system refuses this, the stream has no limit.
-    let limit = terms.longest_wait();
-    let _ = stream.set_timeouts(limit);
-    let mut source = FromReader::new(Watched::new(Retrying::new(rt, stream, limit)));
-    let replies = CountsReplies::new(Retrying::new(rt, stream, limit));
-    let mut sink = ToWriter::new(Watched::new(replies));
-    let served = serve_stream_by(rt, alloc, cached, &mut source, &mut sink, terms.workers);
-    let (reader, writer) = (source.into_inner(), sink.into_inner());
-    Ended {
-        fault: match served {
-            Ok(_) => None,
-            Err(fault) => Some(end_of(fault, reader.is_late(), writer.is_late())),
+    let (rt, alloc, log) = (service.rt, service.alloc, service.log);
+    let limits = StreamLimits {
+        workers: service.terms.workers,
+        budget: service.terms.budget(),
+        patience: Patience {
+            limit: service.terms.idle,
+            draining: service.operation.draining.as_ref(),
         },
-        requests: writer.inner().replies(),
-        read: reader.bytes(),
-        written: writer.bytes(),
+    };
+    if let Some(counters) = &service.operation.counters
+        && let Some(place) = counters.board().place(number)
+    {
+        let counting = Counting {
+            log,
+            counters,
+            place,
+        };
+        return serve_counted(rt, alloc, cached, stream, limits, &counting);
     }
+    serve_connection(rt, alloc, cached, stream, limits, log)
 }
 
 /// Serves streams, one after the other, for as long as there are turns. What became of each goes to the log.
@@ -73,6 +83,7 @@ fn serve_turns<R, G, L, J>(
     complaints: &Mutex<Complaints>,
     turns: &Mutex<Turns<J>>,
     slot: &Mutex<Slot<J>>,
+    number: usize,
 )
 where
     R: Threads + Wait + Clock + Sync,
@@ -88,8 +99,12 @@ where
         if !turns.lock(rt).take(slot) {
             return;
         }
-        let stream = match next_stream(rt, service.log, service.inlet, complaints) {
-            Ok(stream) => stream,
+        let (stream, place) = match next_client(service, complaints) {
+            Ok(Next::Client(stream, place)) => (stream, place),
+            Ok(Next::Drained(begun)) => {
+                turns.lock(rt).drain(slot, begun);
+                return;
+            }
             Err(failure) => {
                 turns.lock(rt).close(slot, &failure);
                 service.inlet.shut();
@@ -97,13 +112,26 @@ where
             }
         };
         let begun = Report::begin(rt, service.log, &stream);
-        let ended = serve_connection(rt, service.alloc, cached, &stream, service.terms);
+        let ended = serve_one(service, cached, &stream, number);
+        if ended.fault == Some(StreamFault::Cut) {
+            slot.note_cut();
+        }
         begun.end(rt, service.log, ended);
+        // Before the stream's end: a client that has seen it finds a place.
+        service.operation.places.free(rt, service.log, place);
+        drop(stream);
     }
 }
 
+/// Leaves as many places as so many threads can fill, since no more can be started.
+fn limit_places<R: Wait, G: Log, L>(service: &Service<'_, R, G, L>, threads: usize) {
+    let most = service.terms.places_of(threads as u64);
+    error!(service.log; "only {most} streams at once: cannot start more threads");
+    service.operation.places.limit(service.rt, most);
+}
+
 /// Serves by a thread for each slot, of which this one is the first. With fewer threads than slots it goes on.
-fn serve_slots<R, G, L, J>(
+pub(crate) fn serve_slots<R, G, L, J>(
     service: &Service<'_, R, G, L>,
     cached: &Cached,
     turns: &Mutex<Turns<J>>,
@@ -129,22 +157,26 @@ where
                 let thread = scope.spawn(
                     move ||
                         requires { IsSync R.row × (1 ≤ service.now.terms.workers) × (service.now.terms.workers ≤ 16) }
-                    { serve_turns(service, cached, complaints, turns, slot) },
+                    { serve_turns(service, cached, complaints, turns, slot, number) },
                 );
                 if thread.is_err() {
-                    error!(service.log; "only {number} streams at once: cannot start more threads");
+                    limit_places(service, number);
                     break;
                 }
             }
             if let Some(slot) = slots.first() {
-                serve_turns(service, cached, complaints, turns, slot);
+                serve_turns(service, cached, complaints, turns, slot, 0);
             }
         },
     );
 }
 
-/// Serves the streams of one job, by as many threads as there may be streams at once.
-fn serve_job<R, G, L, J>(service: &Service<'_, R, G, L>, blank: Blank) -> Result<u64, RunFault>
+/// Serves the streams of one job, by as many threads as its terms say.
+fn serve_job<R, G, L, J>(
+    service: &Service<'_, R, G, L>,
+    blank: Blank,
+    threads: u64,
+) -> Result<Listened, RunFault>
 where
     R: Clock + RandomSource + Threads + Wait + Sync,
     G: Log + Sync,
@@ -152,29 +184,36 @@ where
     J: Job + Send + Sync,
     requires name { blank.name ≡ J.name }
     requires parts { blank.parts ≡ J.parts }
-    requires one_more { blank.parts ≡ service.now.terms.at_once + 1 }
+    requires one_more { blank.parts ≡ threads + 1 }
     requires streams { service.now.terms.streams ≡ J.streams }
-    requires at_once { 1 ≤ service.now.terms.at_once }
     requires workers { (1 ≤ service.now.terms.workers) × (service.now.terms.workers ≤ 16) }
-    ensures served { IfOk result (λ n. n ≡ service.now.terms.streams) }
+    ensures end { IfOk result (λ listened. IsEnd service.now.terms.streams listened) }
     ensures err { IfErr result (λ fault. (fault ≡ RunFault.AcceptFailed) ⊎ (fault ≡ RunFault.Memory)) }
 {
     keep_memory(service.alloc);
     let keys = HashKeys::drawn(service.rt);
     let cached = Cached::with_keys(service.alloc, keys)?;
     let (taken, mut all) = blank.open::<J>();
-    let slots = new_slots(service.alloc, service.terms.at_once, &mut all)?;
+    let slots = new_slots(service.alloc, threads, &mut all)?;
     let turns = Mutex::new(Turns::new(service.terms.streams, taken));
-    serve_slots(service, &cached, &turns, &slots);
+    serve_beside(&*service, &cached, &turns, &slots);
     let mut turns = turns.into_inner();
-    match turns.total(slots, &mut all) {
-        Some(served) => Ok(served),
+    let total = turns.total(slots, &mut all);
+    match ended(
+        total,
+        service.terms.streams,
+        service.operation.is_draining(),
+    ) {
+        Some(listened) => Ok(listened),
         None => Err(RunFault::AcceptFailed),
     }
 }
 
-/// Serves the next streams of an inlet. What became of each goes to the log.
-pub(crate) fn serve_streams<R, G, L>(service: &Service<'_, R, G, L>) -> Result<u64, RunFault>
+/// Serves the next streams of an inlet, until there were as many as there are to be or a drain has begun. What became of each goes to the
+/// log.
+pub(crate) fn serve_until_drained<R, G, L>(
+    service: &Service<'_, R, G, L>,
+) -> Result<Listened, RunFault>
 where
     R: Clock + RandomSource + Threads + Wait + Sync,
     G: Log + Sync,
@@ -182,12 +221,13 @@ where
     requires at_once { 1 ≤ service.now.terms.at_once }
     requires workers { (1 ≤ service.now.terms.workers) × (service.now.terms.workers ≤ 16) }
 
-    // All threads together take a turn for each stream that there is to be.
-    ensures served { IfOk result (λ n. n ≡ service.now.terms.streams) }
+    // All threads together took a turn for each stream that there was to be; or for fewer, and a drain had begun.
+    ensures end { IfOk result (λ listened. IsEnd service.now.terms.streams listened) }
 
     // The fault of a stream ends that stream, and nothing else.
     ensures err { IfErr result (λ fault. (fault ≡ RunFault.AcceptFailed) ⊎ (fault ≡ RunFault.Memory)) }
 {
-    let blank = Blank::new(u64::from(service.terms.at_once) + 1);
-    serve_job::<R, G, L, Brand>(service, blank)
+    let threads = service.terms.threads();
+    let blank = Blank::new(threads + 1);
+    serve_job::<R, G, L, Brand>(service, blank, threads)
 }

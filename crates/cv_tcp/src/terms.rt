@@ -1,11 +1,21 @@
 //! By what terms streams are served.
-ghost use Rattle.std.specs.Prelude.{◌≡◌, ◌≤◌};
+ghost use Rattle.std.specs.Prelude.{◌≡◌, ◌+◌, ◌≤◌, ◌^◌};
+ghost use Rattle.cv_tcp.specs.declared.terms.WhenFull.TheVariants as WhenFull;
 
-use std::time::Duration;
+use cv_commands::Budget;
 
 /// How many streams may be served at once. With the descriptors that the program has besides, they are fewer than the 1,024 that a process
 /// may have unless somebody raises the limit.
 pub const MOST_AT_ONCE: u32 = 1_000;
+
+/// What happens to a client that connects while all places are taken.
+#[derive(Clone, Copy, Debug, PartialEq, Eq)]
+pub enum WhenFull {
+    /// It waits until a place is free.
+    Wait,
+    /// Its stream is closed at once.
+    Close,
+}
 
 /// By what terms streams are served.
 #[derive(Clone, Copy, Debug, PartialEq, Eq)]
@@ -18,12 +28,42 @@ pub struct Terms {
     pub workers: u32,
     /// For how many seconds a stream waits for its client, if there is a limit.
     pub idle: Option<u32>,
+    /// What happens to a client that connects while all places are taken.
+    pub when_full: WhenFull,
+    /// For how many seconds a drain waits for streams.
+    pub drain: u32,
+    /// How many bytes the callers of a stream may have, if there is a limit.
+    pub stream_memory: Option<u64>,
+    /// How many callers a stream may have, if there is a limit.
+    pub callers: Option<u32>,
 }
 
 impl Terms {
-    /// How long a stream waits for its client, if there is a limit.
-    pub(crate) fn longest_wait(&self) -> Option<Duration> {
-        self.idle
-            .map(|seconds| Duration::from_secs(u64::from(seconds)))
+    /// What the callers of one stream may hold.
+    pub fn budget(&self) -> Budget {
+        Budget::of(self.stream_memory, self.callers)
+    }
+
+    /// How many threads accept and serve: one for each place, and where clients are closed one more, so that one always accepts.
+    pub(crate) fn threads(&self) -> u64
+        ensures wait { self.now.when_full ≡ WhenFull.Wait → result ≡ self.now.at_once }
+        ensures close { self.now.when_full ≡ WhenFull.Close → result ≡ self.now.at_once + 1 }
+        ensures few { result ≤ 2 ^ 32 }
+    {
+        match self.when_full {
+            WhenFull::Wait => u64::from(self.at_once),
+            WhenFull::Close => u64::from(self.at_once) + 1,
+        }
+    }
+
+    /// How many of the places so many threads can fill.
+    pub(crate) fn places_of(&self, threads: u64) -> u64
+        ensures wait { self.now.when_full ≡ WhenFull.Wait → result ≡ threads }
+        ensures close { self.now.when_full ≡ WhenFull.Close → 2 ≤ threads → result + 1 ≡ threads }
+    {
+        match self.when_full {
+            WhenFull::Close if threads > 1 => threads - 1,
+            _ => threads,
+        }
     }
 }

@@ -1,8 +1,9 @@
 //! Turns at streams, which many threads take one after the other.
-ghost use Rattle.std.specs.Prelude.{◌≡◌, ℕ, ◌+◌, ◌^◌, ◌<◌, true, false, IfOk, IfSome, OnOk, vec_len};
+ghost use Rattle.std.specs.Prelude.{◌≡◌, ℕ, ◌+◌, ◌^◌, ◌<◌, ◌≤◌, true, false, IfOk, OnOk, vec_len};
 ghost use Rattle.std.specs.IoError.{raw_os_error};
 ghost use Rattle.cv_tcp.specs.Accepting.{is_lasting};
 
+use crate::draining::Begun;
 use std::alloc::{AllocError, Global};
 use std::io;
 use std::marker::Brand;
@@ -32,9 +33,33 @@ pub(crate) struct Turns<J: Job> {
 #[derive(Drop)]
 pub(crate) struct Slot<J: Job> {
     served: u64,
+    cut: u64,
     share: Share<J>,
     ghost part: { share.parts ≡ 1 },
     ghost counted: { share.amount ≡ served },
+    ghost few: { cut ≤ served },
+}
+
+impl<J: Job> Slot<J> {
+    /// The stream of the last turn was cut.
+    pub(crate) fn note_cut(&mut self)
+        requires { self.old.cut < self.old.served }
+        ensures cut { self.new.cut ≡ self.old.cut + 1 }
+        ensures served { self.new.served ≡ self.old.served }
+    {
+        self.cut += 1;
+    }
+}
+
+/// What all slots took.
+#[derive(Clone, Copy, Debug, PartialEq, Eq)]
+pub(crate) struct Total {
+    /// How many turns.
+    pub(crate) served: u64,
+    /// How many of their streams were cut.
+    pub(crate) cut: u64,
+    /// Whether no turn is left.
+    pub(crate) is_all: bool,
 }
 
 impl<J: Job> Turns<J> {
@@ -54,6 +79,8 @@ impl<J: Job> Turns<J> {
     pub(crate) fn take(&mut self, slot: &mut Slot<J>) -> bool
         ensures yes { result ≡ true → slot.new.served ≡ slot.old.served + 1 }
         ensures no { result ≡ false → slot.new.served ≡ slot.old.served }
+        ensures cut { slot.new.cut ≡ slot.old.cut }
+        ensures uncut { result ≡ true → slot.new.cut < slot.new.served }
     {
         if self.is_closed || self.left == 0 {
             return false;
@@ -63,7 +90,11 @@ impl<J: Job> Turns<J> {
             is_closed: _,
             taken,
         } = self;
-        let Slot { served, share } = slot;
+        let Slot {
+            served,
+            cut: _,
+            share,
+        } = slot;
         taken.audit(share);
         taken.add(share, 1);
         *left -= 1;
@@ -71,10 +102,9 @@ impl<J: Job> Turns<J> {
         true
     }
 
-    /// Gives a turn back, and lets nobody take another: an accept has failed, and every other will.
-    pub(crate) fn close(&mut self, slot: &mut Slot<J>, failure: &io::Error)
-        requires taken { 0 < slot.old.served }
-        requires lasting { is_lasting (raw_os_error failure.now) ≡ true }
+    /// Gives a turn back, and lets nobody take another.
+    fn give_back(&mut self, slot: &mut Slot<J>)
+        requires taken { slot.old.cut < slot.old.served }
         ensures { slot.new.served + 1 ≡ slot.old.served }
     {
         let Turns {
@@ -82,7 +112,11 @@ impl<J: Job> Turns<J> {
             is_closed,
             taken,
         } = self;
-        let Slot { served, share } = slot;
+        let Slot {
+            served,
+            cut: _,
+            share,
+        } = slot;
         taken.audit(share);
         taken.sub(share, 1);
         *is_closed = true;
@@ -90,32 +124,53 @@ impl<J: Job> Turns<J> {
         *served -= 1;
     }
 
-    /// How many turns all slots took: every turn, or some are left.
-    pub(crate) fn total(
-        &mut self,
-        mut slots: Vec<Mutex<Slot<J>>>,
-        all: &mut Share<J>,
-    ) -> Option<u64>
+    /// Gives a turn back, and lets nobody take another: an accept has failed, and every other will.
+    pub(crate) fn close(&mut self, slot: &mut Slot<J>, failure: &io::Error)
+        requires taken { slot.old.cut < slot.old.served }
+        requires lasting { is_lasting (raw_os_error failure.now) ≡ true }
+        ensures { slot.new.served + 1 ≡ slot.old.served }
+    {
+        self.give_back(slot);
+    }
+
+    /// Gives a turn back, and lets nobody take another: a drain has begun.
+    pub(crate) fn drain(&mut self, slot: &mut Slot<J>, _begun: Begun)
+        requires taken { slot.old.cut < slot.old.served }
+        ensures { slot.new.served + 1 ≡ slot.old.served }
+    {
+        self.give_back(slot);
+    }
+
+    /// What all slots took.
+    pub(crate) fn total(&mut self, mut slots: Vec<Mutex<Slot<J>>>, all: &mut Share<J>) -> Total
         requires parts { all.old.parts + vec_len slots ≡ J.parts }
         requires none { all.old.amount ≡ 0 }
-        ensures { IfSome result (λ n. n ≡ J.streams) }
+        ensures all { result.is_all ≡ true → result.served ≡ J.streams }
+        ensures some { result.served ≤ J.streams }
+        ensures cut { result.cut ≤ result.served }
     {
-        let mut sum = 0;
+        let mut total = 0;
+        let mut total_cut = 0;
         while let Some(slot) = slots.pop() {
-            let Slot { served, share } = slot.into_inner();
+            let Slot { served, cut, share } = slot.into_inner();
             all.merge(share);
             self.taken.audit(all);
-            sum += served;
+            total += served;
+            total_cut += cut;
         }
         self.taken.audit(all);
-        if self.left == 0 { Some(sum) } else { None }
+        Total {
+            served: total,
+            cut: total_cut,
+            is_all: self.left == 0,
+        }
     }
 }
 
 /// So many slots, which took no turn yet.
 pub(crate) fn new_slots<J: Job>(
     alloc: Global,
-    count: u32,
+    count: u64,
     all: &mut Share<J>,
 ) -> Result<Vec<Mutex<Slot<J>>>, AllocError>
     requires parts { count < all.old.parts }
@@ -127,7 +182,11 @@ pub(crate) fn new_slots<J: Job>(
     let mut slots = Vec::new(alloc);
     for _slot in 0..count {
         let share = all.split_off(1, 0);
-        slots.push(Mutex::new(Slot { served: 0, share }))?;
+        slots.push(Mutex::new(Slot {
+            served: 0,
+            cut: 0,
+            share,
+        }))?;
     }
     Ok(slots)
 }

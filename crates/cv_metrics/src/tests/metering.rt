@@ -32,9 +32,10 @@ fn ops_and_statuses_are_paired(rt: HostRuntime) -> Result<(), Fail> {
         "iconvd_requests_total{op=\"other\",status=\"other\"} 1",
         "iconvd_received_bytes_total 39",
         "iconvd_sent_bytes_total 39",
-        "iconvd_streams 1",
+        "iconvd_streams_active 1",
         "iconvd_streams_total 1",
         "iconvd_places 2",
+        "iconvd_draining 0",
     ] {
         assert!(rt; has_line(&text, line), "{line}");
     }
@@ -60,7 +61,7 @@ fn a_batch_shares_its_time(rt: HostRuntime) -> Result<(), Fail> {
     let text = board.metrics(&rt, alloc, &told())?;
     for line in [
         "iconvd_conv_duration_seconds_bucket{le=\"0.00001\"} 0",
-        "iconvd_conv_duration_seconds_bucket{le=\"0.0001\"} 3",
+        "iconvd_conv_duration_seconds_bucket{le=\"0.00003\"} 3",
         "iconvd_conv_duration_seconds_bucket{le=\"+Inf\"} 3",
         "iconvd_conv_duration_seconds_sum 0.000030003",
         "iconvd_conv_duration_seconds_count 3",
@@ -78,7 +79,7 @@ fn bounds_belong_to_their_buckets(rt: HostRuntime) {
         assert_eq!(rt; bucket_of(*bound), place);
         assert_eq!(rt; bucket_of(*bound + 1), place + 1);
     }
-    assert_eq!(rt; bucket_of(u64::MAX), 6);
+    assert_eq!(rt; bucket_of(u64::MAX), 11);
 }
 
 #[test]
@@ -121,6 +122,11 @@ fn a_row_is_of_its_stream_alone(rt: HostRuntime) -> Result<(), Fail> {
         board.begin(&rt, first, Peer::Local, begun);
         let mut meter = Meter::new(alloc, first);
         meter.came(&frame(alloc, &[OPEN])?, begun + 1_500_000_000);
+        let waiting = rows(&rt, alloc, &board, begun)?;
+        assert!(rt;
+            waiting.contains("\"requests\":0,\"pending\":1,"),
+            "{waiting}"
+        );
         meter.went(&frame(alloc, &[OK])?, true);
         if begun == 0 {
             board.end(&rt, first, Cause::Fault, Some(FaultKind::Read));
@@ -128,7 +134,7 @@ fn a_row_is_of_its_stream_alone(rt: HostRuntime) -> Result<(), Fail> {
     }
     board.begin(&rt, second, Peer::Gone, 3_000_000_000);
     let want =
-        "[{\"peer\":\"unix\",\"age_seconds\":2.000,\"idle_seconds\":0.500,\"requests\":1,\"received_bytes\":13,\"sent_bytes\":13,\"callers\":0,\"memory_bytes\":0},{\"peer\":\"gone\",\"age_seconds\":1.000,\"idle_seconds\":1.000,\"requests\":0,\"received_bytes\":0,\"sent_bytes\":0,\"callers\":0,\"memory_bytes\":0}]\n";
+        "[{\"stream\":2,\"peer\":\"unix\",\"age_seconds\":2.000,\"idle_seconds\":0.500,\"requests\":1,\"pending\":0,\"received_bytes\":13,\"sent_bytes\":13,\"callers\":0,\"memory_bytes\":0},{\"stream\":3,\"peer\":\"gone\",\"age_seconds\":1.000,\"idle_seconds\":1.000,\"requests\":0,\"pending\":0,\"received_bytes\":0,\"sent_bytes\":0,\"callers\":0,\"memory_bytes\":0}]\n";
     let got = rows(&rt, alloc, &board, 4_000_000_000)?;
     assert!(rt; got.as_str() == want, "{got}");
     Ok(())

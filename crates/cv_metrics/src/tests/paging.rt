@@ -5,11 +5,12 @@ use std::net::{Ipv4Addr, SocketAddr};
 use std::test::Fail;
 
 /// The metrics, in their order.
-const NAMES: [(&str, &str); 21] = [
+const NAMES: [(&str, &str); 22] = [
     ("build_info", "gauge"),
     ("start_time_seconds", "gauge"),
     ("places", "gauge"),
-    ("streams", "gauge"),
+    ("draining", "gauge"),
+    ("streams_active", "gauge"),
     ("streams_total", "counter"),
     ("streams_ended_total", "counter"),
     ("streams_refused_total", "counter"),
@@ -50,7 +51,7 @@ fn each_metric_has_its_type_and_its_help(rt: HostRuntime) -> Result<(), Fail> {
         .lines()
         .filter(|line| line.starts_with("# TYPE "))
         .count();
-    assert_eq!(rt; types, 21);
+    assert_eq!(rt; types, 22);
     assert!(rt; text.as_str().ends_with("\n"));
     Ok(())
 }
@@ -81,13 +82,13 @@ fn endings_and_faults_are_counted(rt: HostRuntime) -> Result<(), Fail> {
         "iconvd_streams_ended_total{cause=\"drained\"} 4",
         "iconvd_streams_ended_total{cause=\"cut\"} 5",
         "iconvd_faults_total{kind=\"bad_length\"} 0",
-        "iconvd_faults_total{kind=\"cut_off\"} 1",
+        "iconvd_faults_total{kind=\"truncated_frame\"} 1",
         "iconvd_faults_total{kind=\"read\"} 2",
         "iconvd_faults_total{kind=\"write\"} 3",
         "iconvd_faults_total{kind=\"memory\"} 4",
         "iconvd_faults_total{kind=\"accept\"} 5",
         "iconvd_faults_total{kind=\"other\"} 6",
-        "iconvd_streams 0",
+        "iconvd_streams_active 0",
         "iconvd_streams_total 15",
         "iconvd_streams_refused_total 1",
     ] {
@@ -129,8 +130,9 @@ fn a_peer_is_shown_by_its_address(rt: HostRuntime) -> Result<(), Fail> {
     board.begin(&rt, place, Peer::At(peer), 0);
     let rows = board.streams(&rt, alloc, 0)?;
     assert!(rt;
-        rows.as_str()
-            .starts_with("[{\"peer\":\"10.0.0.7:5301\",\"age_seconds\":0.000,"),
+        rows.as_str().starts_with(
+            "[{\"stream\":1,\"peer\":\"10.0.0.7:5301\",\"age_seconds\":0.000,"
+        ),
         "{rows}"
     );
     Ok(())

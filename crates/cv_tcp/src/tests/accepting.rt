@@ -3,7 +3,9 @@ use super::kept::Kept;
 use super::{bound, is_served, lines_like, terms};
 use crate::connection::Connection;
 use crate::inlet::{Bound, Inlet, Listener};
-use crate::streams::{Service, serve_streams};
+use crate::listened::Listened;
+use crate::operation::Operation;
+use crate::streams::{Service, serve_until_drained};
 use cv_commands::RunFault;
 use std::sync::atomic::{AtomicU64, Ordering};
 use std::test::Fail;
@@ -24,20 +26,25 @@ impl Inlet for Gone {
 fn listening_ends_when_the_listener_is_gone(rt: HostRuntime) -> Result<(), Fail> {
     let log = Kept::new(&rt);
     for (streams, at_once, wanted) in [
-        (0, 1, Ok(0)),
-        (0, 9, Ok(0)),
+        (0, 1, Ok(Listened::Served { streams: 0 })),
+        (0, 9, Ok(Listened::Served { streams: 0 })),
         (1, 1, Err(RunFault::AcceptFailed)),
         (1, 9, Err(RunFault::AcceptFailed)),
         (99, 9, Err(RunFault::AcceptFailed)),
     ] {
+        let terms = terms(streams, at_once);
+        let operation = Operation::new(&terms);
+        let admin = None;
         let service = Service {
             rt: &rt,
             alloc: rt.alloc(),
             log: &log,
             inlet: &Gone,
-            terms: terms(streams, at_once),
+            terms,
+            operation: &operation,
+            admin: &admin,
         };
-        assert_eq!(rt; serve_streams(&service), wanted);
+        assert_eq!(rt; serve_until_drained(&service), wanted);
     }
     assert!(rt; log.into_bytes().is_empty());
     Ok(())
@@ -77,18 +84,23 @@ fn an_accept_that_fails_is_tried_again(rt: HostRuntime) -> Result<(), Fail> {
     let (served, answered) = thread::join(
         rt,
         move || {
+            let terms = terms(1, 1);
+            let operation = Operation::new(&terms);
+            let admin = None;
             let service = Service {
                 rt,
                 alloc: rt.alloc(),
                 log: log_there,
                 inlet,
-                terms: terms(1, 1),
+                terms,
+                operation: &operation,
+                admin: &admin,
             };
-            serve_streams(&service)
+            serve_until_drained(&service)
         },
         move || is_served(rt, address),
     );
-    assert_eq!(rt; served, Ok(1));
+    assert_eq!(rt; served, Ok(Listened::Served { streams: 1 }));
     assert!(rt; answered?);
     let line = "ERROR cannot accept: Too many open files (os error 24)";
     assert_eq!(rt; lines_like(&log.into_bytes(), line), 1);
@@ -105,14 +117,19 @@ fn an_inlet_that_is_shut_ends_all_accepts(rt: HostRuntime) -> Result<(), Fail> {
     let (served, ()) = thread::join(
         rt,
         move || {
+            let terms = terms(9, 3);
+            let operation = Operation::new(&terms);
+            let admin = None;
             let service = Service {
                 rt,
                 alloc: rt.alloc(),
                 log: log_there,
                 inlet: inlet_there,
-                terms: terms(9, 3),
+                terms,
+                operation: &operation,
+                admin: &admin,
             };
-            serve_streams(&service)
+            serve_until_drained(&service)
         },
         move || inlet_there.shut(),
     );

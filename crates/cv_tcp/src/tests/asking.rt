@@ -1,9 +1,10 @@
 //! Asking: replies that come, and peers that end.
-use super::{bound, connected, terms};
+use super::kept::Kept;
+use super::{alone, bound, connected, terms};
 use crate::calling::{call, call_connection};
 use crate::connection::Connection;
 use crate::fault::{CallFault, call_status};
-use crate::streams::serve_connection;
+use crate::one_stream::serve_connection;
 use cv_cache::Cached;
 use cv_commands::RunFault;
 use std::io::{self, Write};
@@ -21,13 +22,14 @@ fn a_script_is_served_and_asked(rt: HostRuntime) -> Result<(), Fail> {
     let alloc = rt.alloc();
     let (listener, address) = bound(&rt)?;
     let cached = Cached::new(alloc)?;
-    let (rt, listener, cached) = (&rt, &listener, &cached);
+    let log = Kept::new(&rt);
+    let (rt, listener, cached, log) = (&rt, &listener, &cached, &log);
     let (ended, called) = thread::join(
         rt,
         move || match listener.accept() {
             Ok((stream, _peer)) => {
                 let stream = Connection::Tcp(stream);
-                Some(serve_connection(rt, alloc, cached, &stream, terms(1, 1)))
+                Some(serve_connection(rt, alloc, cached, &stream, alone(), log))
             }
             Err(_) => None,
         },

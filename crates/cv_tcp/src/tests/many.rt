@@ -1,9 +1,14 @@
 //! Many streams at once.
 use super::kept::Kept;
-use super::{OPEN, OPENED, bound, connected, gives, is_served, lines_about, lines_like, terms};
+use super::{
+    OPEN, OPENED, alone, bound, connected, gives, is_served, lines_about, lines_like, terms,
+};
 use crate::connection::Connection;
 use crate::inlet::{Bound, Listener};
-use crate::streams::{Service, serve_connection, serve_streams};
+use crate::listened::Listened;
+use crate::one_stream::serve_connection;
+use crate::operation::Operation;
+use crate::streams::{Service, serve_until_drained};
 use cv_cache::Cached;
 use cv_commands::ask_script;
 use std::alloc::Global;
@@ -46,18 +51,23 @@ fn streams_are_served_at_once(rt: HostRuntime) -> Result<(), Fail> {
     let (served, answered) = thread::join(
         rt,
         move || {
+            let terms = terms(4, 3);
+            let operation = Operation::new(&terms);
+            let admin = None;
             let service = Service {
                 rt,
                 alloc: rt.alloc(),
                 log: log_there,
                 inlet,
-                terms: terms(4, 3),
+                terms,
+                operation: &operation,
+                admin: &admin,
             };
-            serve_streams(&service)
+            serve_until_drained(&service)
         },
         move || four_clients(rt, address),
     );
-    assert_eq!(rt; served, Ok(4));
+    assert_eq!(rt; served, Ok(Listened::Served { streams: 4 }));
     assert!(rt; answered?);
     assert_eq!(rt; lines_like(&log.into_bytes(), "INFO client ended"), 4);
     Ok(())
@@ -86,25 +96,30 @@ fn it_ends_after_the_last_stream(rt: HostRuntime) -> Result<(), Fail> {
     let (served, answered) = thread::join(
         rt,
         move || {
+            let terms = terms(50, 8);
+            let operation = Operation::new(&terms);
+            let admin = None;
             let service = Service {
                 rt,
                 alloc: rt.alloc(),
                 log: log_there,
                 inlet,
-                terms: terms(50, 8),
+                terms,
+                operation: &operation,
+                admin: &admin,
             };
-            serve_streams(&service)
+            serve_until_drained(&service)
         },
         move || served_in_turn(rt, address, 50),
     );
-    assert_eq!(rt; served, Ok(50));
+    assert_eq!(rt; served, Ok(Listened::Served { streams: 50 }));
     assert_eq!(rt; answered?, 50);
     assert_eq!(rt; lines_like(&log.into_bytes(), "INFO client ended"), 50);
     Ok(())
 }
 
 /// Requests that are more than the sockets between two processes hold, and so are their replies: 16 MB.
-fn much_to_answer(alloc: Global) -> Result<Vec<u8>, Fail> {
+pub(super) fn much_to_answer(alloc: Global) -> Result<Vec<u8>, Fail> {
     let open = ask_script(alloc, b"7 1 open UTF-32BE ISO-8859-1\n").map_err(|_| "no script")?;
     // Op 4 of caller 7 on descriptor 0, with room for 262,144 bytes, and 60,000 bytes of text.
     let mut conv = vec![in alloc; 0xe9u8; 60_021]?;
@@ -144,18 +159,22 @@ fn bad_clients_are_ended_and_good_ones_served(rt: HostRuntime) -> Result<(), Fai
         move || {
             let mut few = terms(5, 3);
             few.idle = Some(1);
+            let operation = Operation::new(&few);
+            let admin = None;
             let service = Service {
                 rt,
                 alloc: rt.alloc(),
                 log: log_there,
                 inlet,
                 terms: few,
+                operation: &operation,
+                admin: &admin,
             };
-            serve_streams(&service)
+            serve_until_drained(&service)
         },
         move || five_clients(rt, address, much),
     );
-    assert_eq!(rt; served, Ok(5));
+    assert_eq!(rt; served, Ok(Listened::Served { streams: 5 }));
     assert!(rt; answered?);
     let said = log.into_bytes();
     assert_eq!(rt;
@@ -183,15 +202,21 @@ fn streams_share_the_charmaps_that_are_compiled(rt: HostRuntime) -> Result<(), F
     let (listener, address) = bound(&rt)?;
     let frames = ask_script(alloc, PUT).map_err(|_| "no script")?;
     let cached = Cached::new(alloc)?;
+    let log = Kept::new(&rt);
     for _stream in 0..3 {
         let mut client = connected(&rt, address)?;
         client.write_all(&frames)?;
         client.shutdown(Shutdown::Write)?;
         let (stream, _peer) = listener.accept()?;
         let stream = Connection::Tcp(stream);
-        let ended = serve_connection(&rt, alloc, &cached, &stream, terms(1, 1));
+        let ended = serve_connection(&rt, alloc, &cached, &stream, alone(), &log);
         assert_eq!(rt; (ended.fault, ended.requests), (None, 1));
     }
     assert_eq!(rt; cached.found(&rt), 2);
+    let counts = cached.counts();
+    assert_eq!(rt; counts.charmaps, 1);
+    assert_eq!(rt; counts.bytes, cached.bytes(&rt) as u64);
+    assert_eq!(rt; counts.hits, 2);
+    assert_eq!(rt; counts.misses, 1);
     Ok(())
 }

@@ -1,16 +1,23 @@
 //! Serving streams one after the other.
 use super::kept::{Desk, Kept};
 use super::{OPEN, OPENED, bound, connected, gives, terms};
-use crate::address::is_address;
+use crate::address::{is_address, is_admin_address};
 use crate::inlet::{Bound, Listener};
-use crate::listening::{listen, listen_tcp};
+use crate::listened::Listened;
+use crate::listening::listen;
 use crate::log_lines::{LogFormat, LogLines};
-use crate::streams::{Service, serve_streams};
+use crate::operation::Operation;
+use crate::site::{Site, listen_tcp};
+use crate::streams::{Service, serve_until_drained};
 use cv_commands::RunFault;
 use log::LevelFilter;
 use std::io::{self, Write};
 use std::net::{Net, Shutdown, SocketAddr, TcpListener, TcpStream};
+use std::random::RandomSource;
+use std::sync::Wait;
 use std::test::Fail;
+use std::thread::Threads;
+use std::time::Clock;
 
 /// Two streams to an address that each ask to open. Then the first has a length that no frame has, and the second ends.
 fn two_clients<N>(rt: &N, address: SocketAddr) -> io::Result<(TcpStream, TcpStream)>
@@ -33,14 +40,22 @@ fn the_next_stream_has_a_new_server(rt: HostRuntime) -> Result<(), Fail> {
     let peer = first.local_addr()?;
     let log = Kept::new(&rt);
     let inlet = Bound::new(Listener::Tcp(listener))?;
+    let terms = terms(2, 1);
+    let operation = Operation::new(&terms);
+    let admin = None;
     let service = Service {
         rt: &rt,
         alloc: rt.alloc(),
         log: &log,
         inlet: &inlet,
-        terms: terms(2, 1),
+        terms,
+        operation: &operation,
+        admin: &admin,
     };
-    assert_eq!(rt; serve_streams(&service), Ok(2));
+    assert_eq!(rt;
+        serve_until_drained(&service),
+        Ok(Listened::Served { streams: 2 })
+    );
     assert!(rt; gives(first, OPENED)?);
     assert!(rt; gives(second, OPENED)?);
     let said = log.into_bytes();
@@ -49,6 +64,35 @@ fn the_next_stream_has_a_new_server(rt: HostRuntime) -> Result<(), Fail> {
     )?;
     assert!(rt; said.as_slice() == wanted.as_bytes());
     Ok(())
+}
+
+/// How a server ends whose log has errors alone.
+fn heard<R>(
+    desk: &Desk<'_, R>,
+    errors: &Kept<'_, R>,
+    outlet: &Kept<'_, R>,
+) -> Result<Listened, RunFault>
+where
+    R: Net<Listener = TcpListener, Stream = TcpStream>
+        + Clock
+        + RandomSource
+        + Threads
+        + Wait
+        + Sync,
+{
+    let log = LogLines::new(errors, outlet, LevelFilter::Error, LogFormat::Text);
+    let terms = terms(2, 1);
+    let operation = Operation::new(&terms);
+    let admin = None;
+    let site = Site {
+        rt: desk,
+        alloc: errors.alloc(),
+        log: &log,
+        terms,
+        operation: &operation,
+        admin: &admin,
+    };
+    listen_tcp(&site, "127.0.0.1:1")
 }
 
 #[test]
@@ -63,13 +107,10 @@ fn listening_says_where_and_tells_faults_alone(rt: HostRuntime) -> Result<(), Fa
         output: Kept::new(&rt),
     };
     let errors = Kept::new(&rt);
-    let log = LogLines {
-        rt: &errors,
-        level: LevelFilter::Error,
-        format: LogFormat::Text,
-    };
-    let heard = listen_tcp(&desk, alloc, &log, "127.0.0.1:1", terms(2, 1));
-    assert_eq!(rt; heard, Ok(2));
+    assert_eq!(rt;
+        heard(&desk, &errors, &errors),
+        Ok(Listened::Served { streams: 2 })
+    );
     let line = format!(in alloc; "listening {address}\n")?;
     assert!(rt; desk.output.into_bytes().as_slice() == line.as_bytes());
     let fault = format!(in alloc; "iconvd: stream from {peer}: bad length 8, after 1 request\n")?;
@@ -104,8 +145,11 @@ fn an_address_has_a_port_or_a_path(rt: HostRuntime) -> Result<(), Fail> {
         "mail.example:65535",
         ":::1",
         "unix:a",
+        "fd:3",
     ] {
         assert!(rt; is_address(address), "{address}");
+        let is_given = address == "fd:3";
+        assert!(rt; is_admin_address(address) != is_given, "{address}");
     }
     for address in [
         "",
@@ -116,8 +160,14 @@ fn an_address_has_a_port_or_a_path(rt: HostRuntime) -> Result<(), Fail> {
         "127.0.0.1:65536",
         "a:b",
         "unix:",
+        "fd:",
+        "fd:-1",
+        "fd:65536",
     ] {
-        assert!(rt; !is_address(address), "{address}");
+        assert!(rt;
+            !is_address(address) && !is_admin_address(address),
+            "{address}"
+        );
     }
     Ok(())
 }

@@ -1,4 +1,4 @@
-use Rattle.cv_tcp.proofs.streams.serve_streams.Given as goal
+use Rattle.cv_tcp.proofs.streams.serve_until_drained.Given as goal
 
 abbrev pub ghosts-serve_job-J-Job : goal.ghosts-serve_job-J-Job
 ghosts-serve_job-J-Job g a = record { streams = a.service.now.terms.streams }

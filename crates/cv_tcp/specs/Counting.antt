@@ -1,0 +1,31 @@
+-- How the end of a stream is counted.
+use Rattle.std.specs.Prelude.{Option, Some, None}
+use Rattle.cv_loop.specs.declared.fault.ServeFault.TheVariants as serving
+use Rattle.cv_commands.specs.declared.fault.RunFault.{RunFault}
+use Rattle.cv_commands.specs.declared.fault.RunFault.TheVariants as run
+use Rattle.cv_metrics.specs.declared.causes.Cause.{Cause}
+use Rattle.cv_metrics.specs.declared.causes.Cause.TheVariants as cause
+use Rattle.cv_metrics.specs.declared.causes.FaultKind.{FaultKind}
+use Rattle.cv_metrics.specs.declared.causes.FaultKind.TheVariants as kind
+use Rattle.cv_tcp.specs.declared.fault.StreamFault.{StreamFault}
+use Rattle.cv_tcp.specs.declared.fault.StreamFault.TheVariants as stream
+
+-- Why a stream ended: by its client, unless a fault or a drain ended it.
+abbrev pub cause_of : Option StreamFault → Cause
+cause_of None = cause.Client
+cause_of (Some stream.Idle) = cause.Idle
+cause_of (Some stream.Stalled) = cause.Stalled
+cause_of (Some stream.Drained) = cause.Drained
+cause_of (Some stream.Cut) = cause.Cut
+cause_of (Some (stream.Run f)) = cause.Fault
+
+-- What kind of fault a run ended by.
+abbrev pub kind_of : RunFault → FaultKind
+kind_of (run.Serve (serving.BadLength n)) = kind.BadLength
+kind_of (run.Serve serving.TruncatedFrame) = kind.TruncatedFrame
+kind_of (run.Serve serving.Read) = kind.Read
+kind_of (run.Serve (serving.Write n)) = kind.Write
+kind_of (run.Serve serving.Memory) = kind.Memory
+kind_of run.Memory = kind.Memory
+kind_of run.AcceptFailed = kind.Accept
+kind_of fault = kind.Other

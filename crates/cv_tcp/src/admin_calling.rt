@@ -1,0 +1,122 @@
+//! Asking a server's admin pages.
+ghost use Rattle.std.specs.Prelude.{◌≡◌, ℕ, List, ◌++◌, IfOk, OnOk, OnErr};
+ghost use Rattle.cv_tcp.specs.Admin.{Adds};
+ghost use Rattle.cv_tcp.specs.Admin as spec;
+
+use crate::calling::connect;
+use crate::retrying::{Retrying, begin};
+use crate::timed::Timed;
+use cv_admin::{Page, read_answer, request_for};
+use std::alloc::Global;
+use std::io::{ErrorKind, Read, Write};
+use std::net::{Net, TcpListener, TcpStream};
+use std::time::{Clock, Duration};
+use thiserror::Error;
+
+/// How many bytes an answer may have.
+const MOST_ANSWER: usize = 16 * 1024 * 1024;
+
+/// How many bytes are read at once.
+const PIECE: usize = 4096;
+
+/// Why a page was not had. Its text is what the program says of it.
+#[derive(Clone, Copy, Debug, PartialEq, Eq, Error)]
+pub enum AdminFault {
+    /// Nobody serves at the address, or it is none.
+    #[error("cannot connect")]
+    CannotConnect,
+    /// The server did not answer in time.
+    #[error("no reply")]
+    NoReply,
+    /// What came is no answer of HTTP, is cut off, or is longer than 16 MiB.
+    #[error("bad reply")]
+    BadReply,
+    /// No memory was to be had.
+    #[error("out of memory")]
+    Memory,
+}
+
+/// Whether a status says that all is well: 200 or 202.
+fn agrees(status: u16) -> bool
+    ensures { result ≡ spec.agrees status }
+{
+    status == 200 || status == 202
+}
+
+/// Appends all that comes until the other end has closed the stream.
+fn read_to_end<T: Read>(reader: &mut T, got: &mut Vec<u8>) -> Result<(), AdminFault> {
+    let mut piece = [0; PIECE];
+    for _read in 0..MOST_ANSWER {
+        match reader.read(&mut piece) {
+            Ok(0) => return Ok(()),
+            Ok(count) => {
+                if got.extend_from_slice(&piece[..count]).is_err() {
+                    return Err(AdminFault::Memory);
+                }
+            }
+            Err(failure) if failure.kind() == ErrorKind::WouldBlock => {
+                return Err(AdminFault::NoReply);
+            }
+            Err(_) => return Err(AdminFault::BadReply),
+        }
+        if got.len() > MOST_ANSWER {
+            return Err(AdminFault::BadReply);
+        }
+    }
+    Err(AdminFault::BadReply)
+}
+
+/// Sends the request for a page over a stream, and gives all that comes back.
+fn exchange<S: Read, T: Write>(
+    alloc: Global,
+    reader: &mut S,
+    writer: &mut T,
+    page: Page,
+) -> Result<Vec<u8>, AdminFault> {
+    // A server that refuses early answers all the same.
+    let _ = writer.write_all(request_for(page));
+    let mut got = Vec::new(alloc);
+    read_to_end(reader, &mut got)?;
+    Ok(got)
+}
+
+/// Appends the text of an answer. Gives whether its status is 200 or 202.
+pub(crate) fn show_answer(answer: &[u8], text: &mut Vec<u8>) -> Result<bool, AdminFault>
+    ensures added { IfOk result (λ is_well. Adds answer.now is_well text.old.items text.new.items) }
+    ensures err { OnErr result (text.new.items ≡ text.old.items) }
+{
+    let Some(said) = read_answer(answer) else {
+        return Err(AdminFault::BadReply);
+    };
+    match text.extend_from_slice(said.text) {
+        Ok(()) => Ok(agrees(said.status)),
+        Err(_) => Err(AdminFault::Memory),
+    }
+}
+
+/// Asks for a page of the server at an address, within so many seconds in all, and appends its text. Gives whether the status is 200 or 202.
+pub fn call_admin<R>(
+    rt: &R,
+    alloc: Global,
+    address: &str,
+    timeout: u32,
+    page: Page,
+    text: &mut Vec<u8>,
+) -> Result<bool, AdminFault>
+where
+    R: Net<Listener = TcpListener, Stream = TcpStream> + Clock,
+    ensures added { OnOk result ((more : List ℕ) × (text.new.items ≡ text.old.items ++ more)) }
+    ensures err { OnErr result (text.new.items ≡ text.old.items) }
+{
+    let limit = Duration::from_secs(u64::from(timeout));
+    let Some(deadline) = begin(rt, Some(limit)) else {
+        return Err(AdminFault::NoReply);
+    };
+    let Ok(stream) = connect(rt, address, Some(limit)) else {
+        return Err(AdminFault::CannotConnect);
+    };
+    let mut reader = Retrying::new(rt, Timed::new(rt, &stream, deadline), None);
+    let mut writer = Retrying::new(rt, Timed::new(rt, &stream, deadline), None);
+    let got = exchange(alloc, &mut reader, &mut writer, page)?;
+    show_answer(&got, text)
+}

@@ -1,0 +1,107 @@
+//! Where the clients of the admin pages come in.
+use crate::address::Address;
+use crate::inlet::{Bound, Listener};
+use crate::socket_file::{self, FileId, SocketAt};
+use std::alloc::Global;
+use std::fmt::{self, Display, Formatter};
+use std::fs::Files;
+use std::io::{self, ErrorKind};
+use std::net::{Net, SocketAddr, TcpListener, TcpStream};
+
+/// The address that the admin pages were to have.
+#[derive(Clone, Copy, Debug)]
+pub(crate) struct AdminAt<'a>(pub(crate) &'a str);
+
+impl Display for AdminAt<'_> {
+    fn fmt<W: fmt::Write>(&self, f: &mut Formatter<W>) -> fmt::Result {
+        let AdminAt(address) = *self;
+        write!(f, "admin {address}")
+    }
+}
+
+/// Where the admin pages are.
+#[derive(Drop)]
+pub(crate) enum AdminPlace {
+    At(SocketAddr),
+    /// The path of a socket file.
+    Unix(String),
+}
+
+impl Display for AdminPlace {
+    fn fmt<W: fmt::Write>(&self, f: &mut Formatter<W>) -> fmt::Result {
+        match self {
+            AdminPlace::At(address) => write!(f, "{address}"),
+            AdminPlace::Unix(path) => write!(f, "{}", SocketAt(path.as_str())),
+        }
+    }
+}
+
+/// The listener of the admin pages.
+#[derive(Drop)]
+pub(crate) struct AdminInlet {
+    bound: Bound,
+    place: AdminPlace,
+    /// Which file the listener has made, if it is a Unix socket.
+    made: Option<FileId>,
+}
+
+/// Listens at a TCP port.
+fn open_tcp<R>(rt: &R, address: &str) -> io::Result<AdminInlet>
+where
+    R: Net<Listener = TcpListener, Stream = TcpStream>,
+{
+    let listener = TcpListener::bind(rt, address)?;
+    let place = AdminPlace::At(listener.local_addr()?);
+    Ok(AdminInlet {
+        bound: Bound::new(Listener::Tcp(listener))?,
+        place,
+        made: None,
+    })
+}
+
+/// Listens at a Unix socket.
+fn open_unix<R: Net + Files>(rt: &R, alloc: Global, path: &str) -> io::Result<AdminInlet> {
+    let place = AdminPlace::Unix(String::from_str(alloc, path)?);
+    let listener = socket_file::bind(rt, path)?;
+    let made = socket_file::id_of(rt, path);
+    match Bound::new(Listener::Unix(listener)) {
+        Ok(bound) => Ok(AdminInlet { bound, place, made }),
+        Err(failure) => {
+            socket_file::remove(rt, path, made);
+            Err(failure)
+        }
+    }
+}
+
+impl AdminInlet {
+    /// Listens at an address. The socket file that a dead server left is replaced.
+    pub(crate) fn open<R>(rt: &R, alloc: Global, address: &str) -> io::Result<AdminInlet>
+    where
+        R: Net<Listener = TcpListener, Stream = TcpStream> + Files,
+    {
+        match Address::of(address) {
+            Address::Tcp(address) => open_tcp(rt, address),
+            Address::Unix(path) => open_unix(rt, alloc, path),
+            // What was given is for streams.
+            Address::Given(_) => Err(io::Error::from(ErrorKind::InvalidInput)),
+        }
+    }
+
+    /// Where clients come in.
+    pub(crate) fn bound(&self) -> &Bound {
+        &self.bound
+    }
+
+    /// Where it is. At port 0 the system has chosen the port.
+    pub(crate) fn place(&self) -> &AdminPlace {
+        &self.place
+    }
+
+    /// Removes the socket file, if there is one.
+    pub(crate) fn remove<R: Files>(&self, rt: &R) {
+        match &self.place {
+            AdminPlace::At(_) => {}
+            AdminPlace::Unix(path) => socket_file::remove(rt, path.as_str(), self.made),
+        }
+    }
+}

@@ -1,0 +1,128 @@
+//! The server's board, its clock, and how a stream's end is counted.
+ghost use Rattle.std.specs.Prelude.{◌≡◌};
+ghost use Rattle.cv_tcp.specs.Counting.{cause_of, kind_of};
+
+use crate::fault::StreamFault;
+use cv_commands::RunFault;
+use cv_loop::ServeFault;
+use cv_metrics::{Board, Cause, FaultKind, Peer, Place};
+use jiff::Timestamp;
+use std::alloc::{AllocError, Global};
+use std::sync::Wait;
+use std::time::{Clock, Instant};
+
+/// Why a stream ended.
+fn cause_of(fault: Option<StreamFault>) -> Cause
+    ensures { result ≡ cause_of fault }
+{
+    match fault {
+        None => Cause::Client,
+        Some(StreamFault::Idle) => Cause::Idle,
+        Some(StreamFault::Stalled) => Cause::Stalled,
+        Some(StreamFault::Drained) => Cause::Drained,
+        Some(StreamFault::Cut) => Cause::Cut,
+        Some(StreamFault::Run(_)) => Cause::Fault,
+    }
+}
+
+/// What kind of fault a run ended by.
+fn kind_of(fault: RunFault) -> FaultKind
+    ensures { result ≡ kind_of fault }
+{
+    match fault {
+        RunFault::Serve(ServeFault::BadLength { .. }) => FaultKind::BadLength,
+        RunFault::Serve(ServeFault::TruncatedFrame) => FaultKind::TruncatedFrame,
+        RunFault::Serve(ServeFault::Read) => FaultKind::Read,
+        RunFault::Serve(ServeFault::Write { .. }) => FaultKind::Write,
+        RunFault::Serve(ServeFault::Memory) | RunFault::Memory => FaultKind::Memory,
+        RunFault::AcceptFailed => FaultKind::Accept,
+        _ => FaultKind::Other,
+    }
+}
+
+/// How many nanoseconds a second has.
+const SECOND: u64 = 1_000_000_000;
+
+/// What the server counts, and when it began: times are counted from there.
+#[derive(Drop)]
+pub(crate) struct Counters {
+    board: Board,
+    begun: Option<Instant>,
+    /// When it began, in seconds since 1970, or 0 if the clock cannot be read.
+    start_time: u64,
+    version: String,
+}
+
+impl Counters {
+    /// Nothing was counted yet. So many threads serve, and the server, which has this version, begins now.
+    pub(crate) fn new<R: Clock>(
+        rt: &R,
+        alloc: Global,
+        threads: u32,
+        version: &str,
+    ) -> Result<Counters, AllocError> {
+        let start = Timestamp::now(rt).map_or(0, |time| time.as_second());
+        Ok(Counters {
+            board: Board::new(alloc, threads)?,
+            begun: Instant::now(rt).ok(),
+            start_time: u64::try_from(start).unwrap_or(0),
+            version: String::from_str(alloc, version)?,
+        })
+    }
+
+    /// When the server began, in seconds since 1970.
+    pub(crate) fn start_time(&self) -> u64 {
+        self.start_time
+    }
+
+    /// The version of the program.
+    pub(crate) fn version(&self) -> &str {
+        self.version.as_str()
+    }
+
+    /// What is counted.
+    pub(crate) fn board(&self) -> &Board {
+        &self.board
+    }
+
+    /// For how many nanoseconds the server has run, or 0 if the clock cannot be read.
+    pub(crate) fn now<R: Clock>(&self, rt: &R) -> u64 {
+        let Some(begun) = self.begun else {
+            return 0;
+        };
+        let Ok(now) = Instant::now(rt) else {
+            return 0;
+        };
+        let lasted = now.duration_since(begun);
+        lasted
+            .as_secs()
+            .saturating_mul(SECOND)
+            .saturating_add(u64::from(lasted.subsec_nanos()))
+    }
+
+    /// A stream begins at a place.
+    pub(crate) fn begin<R: Clock + Wait>(&self, rt: &R, place: &Place, peer: Peer) {
+        let now = self.now(rt);
+        self.board.begin(rt, place, peer, now);
+    }
+
+    /// The stream at a place has ended.
+    pub(crate) fn end<R: Wait>(&self, rt: &R, place: &Place, fault: Option<StreamFault>) {
+        let cause = cause_of(fault);
+        let kind = match fault {
+            Some(StreamFault::Run(fault)) => Some(kind_of(fault)),
+            _ => None,
+        };
+        self.board.end(rt, place, cause, kind);
+    }
+
+    /// An accept failed.
+    pub(crate) fn note_failed_accept(&self) {
+        self.board.note_fault(FaultKind::Accept);
+    }
+
+    /// A client was sent away, since all places were taken.
+    pub(crate) fn note_refused(&self) {
+        self.board.note_refused();
+    }
+}

@@ -1,0 +1,84 @@
+//! When a drain began, and when its time is over.
+ghost use Rattle.std.specs.Prelude.{◌≡◌, ◌+◌, ◌*◌, ◌<◌, ◌≤◌, true, false};
+
+use std::sync::atomic::{AtomicU64, Ordering};
+use std::time::Clock;
+
+/// Milliseconds of a second.
+const SECOND: u64 = 1_000;
+
+/// Whether a server is drained, and for how long it then waits for its streams. Its threads share it.
+#[derive(Drop)]
+pub(crate) struct Draining {
+    /// For how many milliseconds a drain waits for streams.
+    limit: u64,
+    /// When it began, in milliseconds of the clock and at least 1. 0: it has not begun.
+    since: AtomicU64,
+}
+
+/// A drain has begun.
+#[derive(Clone, Copy, Debug)]
+pub(crate) struct Begun {
+    since: u64,
+}
+
+/// The clock's time in milliseconds, if it can be read.
+fn milliseconds<R: Clock>(rt: &R) -> Option<u64> {
+    let now = rt.monotonic().ok()?;
+    Some(u64::try_from(now.as_millis()).unwrap_or(u64::MAX))
+}
+
+/// Whether so much time has passed.
+fn has_passed(limit: u64, since: u64, now: u64) -> bool
+    ensures yes { result ≡ true → since + limit ≤ now }
+    ensures no { result ≡ false → now < since + limit }
+{
+    since <= now && now - since >= limit
+}
+
+impl Draining {
+    /// It has not begun. Later it waits for so many seconds.
+    pub(crate) fn new(seconds: u32) -> Draining
+        ensures { result.limit ≡ 1000 * seconds }
+    {
+        Draining {
+            limit: SECOND * u64::from(seconds),
+            since: AtomicU64::new(0),
+        }
+    }
+
+    /// Begins it. If it has begun already, this changes nothing. By a clock that cannot be read its time is over at once.
+    pub(crate) fn begin<R: Clock>(&self, rt: &R) {
+        let now = milliseconds(rt).unwrap_or(1).max(1);
+        let _ = self
+            .since
+            .compare_exchange(0, now, Ordering::SeqCst, Ordering::SeqCst);
+    }
+
+    /// Whether it has begun.
+    pub(crate) fn begun(&self) -> Option<Begun> {
+        match self.since.load(Ordering::SeqCst) {
+            0 => None,
+            since => Some(Begun { since }),
+        }
+    }
+
+    /// For how many milliseconds it has been going on, or 0.
+    pub(crate) fn elapsed<R: Clock>(&self, rt: &R) -> u64 {
+        match (self.begun(), milliseconds(rt)) {
+            (Some(begun), Some(now)) => now.saturating_sub(begun.since),
+            _ => 0,
+        }
+    }
+
+    /// Whether it has begun and its time is over.
+    pub(crate) fn is_over<R: Clock>(&self, rt: &R) -> bool {
+        match self.begun() {
+            None => false,
+            Some(begun) => match milliseconds(rt) {
+                Some(now) => has_passed(self.limit, begun.since, now),
+                None => true,
+            },
+        }
+    }
+}

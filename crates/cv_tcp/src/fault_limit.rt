@@ -1,0 +1,83 @@
+//! How many faults of a second are written.
+ghost use Rattle.std.specs.Prelude.{◌≡◌, ◌+◌, ◌-◌, ◌<◌, ◌≤◌, true, false};
+
+/// How many faults of a second are written. The others are counted.
+const MOST: u32 = 100;
+
+/// How many nanoseconds a second has.
+const SECOND: u64 = 1_000_000_000;
+
+/// The faults of the current second, by a clock that counts nanoseconds. The next second begins with the first record after it is over.
+#[derive(Clone, Copy, Debug, PartialEq, Eq)]
+pub(crate) struct FaultLimit {
+    /// When the second began.
+    begun: u64,
+    /// How many of its faults were written.
+    written: u32,
+    /// How many were not, and were not reported yet.
+    counted: u64,
+    ghost few: { written ≤ 100 },
+}
+
+impl FaultLimit {
+    /// Of a second without faults, at 0.
+    pub(crate) fn new() -> FaultLimit
+        ensures begun { result.begun ≡ 0 }
+        ensures written { result.written ≡ 0 }
+        ensures counted { result.counted ≡ 0 }
+    {
+        FaultLimit {
+            begun: 0,
+            written: 0,
+            counted: 0,
+        }
+    }
+
+    /// A record comes at this time. If the second is over, the next begins, and the result is how many of its faults were counted.
+    /// They are counted no longer, since the caller reports them now. Within the second the result is 0.
+    pub(crate) fn pass(&mut self, now: u64) -> u64
+        ensures over { 1000000000 ≤ now - self.old.begun → result ≡ self.old.counted }
+        ensures begun { 1000000000 ≤ now - self.old.begun → self.new.begun ≡ now }
+        ensures written { 1000000000 ≤ now - self.old.begun → self.new.written ≡ 0 }
+        ensures counted { 1000000000 ≤ now - self.old.begun → self.new.counted ≡ 0 }
+        ensures within { now - self.old.begun < 1000000000 → result ≡ 0 }
+        ensures same { now - self.old.begun < 1000000000 → self.new ≡ self.old }
+    {
+        if now.saturating_sub(self.begun) < SECOND {
+            return 0;
+        }
+        self.begun = now;
+        self.written = 0;
+        self.take_counted()
+    }
+
+    /// Whether a fault is written. Otherwise it is counted.
+    pub(crate) fn admits(&mut self) -> bool
+        ensures begun { self.new.begun ≡ self.old.begun }
+        ensures yes { self.old.written < 100 → result ≡ true }
+        ensures written { self.old.written < 100 → self.new.written ≡ self.old.written + 1 }
+        ensures not_counted { self.old.written < 100 → self.new.counted ≡ self.old.counted }
+        ensures no { self.old.written ≡ 100 → result ≡ false }
+        ensures not_written { self.old.written ≡ 100 → self.new.written ≡ 100 }
+        ensures counted { self.old.written ≡ 100 → self.old.counted < u64.MAX → self.new.counted ≡ self.old.counted + 1 }
+    {
+        if self.written < MOST {
+            self.written += 1;
+            return true;
+        }
+        self.counted = self.counted.saturating_add(1);
+        false
+    }
+
+    /// How many faults were counted. They are counted no longer, since the caller reports them now.
+    pub(crate) fn take_counted(&mut self) -> u64
+        ensures taken { result ≡ self.old.counted }
+        ensures counted { self.new.counted ≡ 0 }
+        ensures begun { self.new.begun ≡ self.old.begun }
+        ensures written { self.new.written ≡ self.old.written }
+    {
+        let counted = self.counted;
+        self.counted = 0;
+        counted
+    }
+}

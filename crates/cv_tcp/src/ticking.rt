@@ -1,0 +1,182 @@
+//! Calls on a stream that a drain ends.
+ghost use Rattle.std.specs.Prelude.{◌≡◌};
+ghost use Rattle.std.specs.Io.{ReadsAtMost, WritesAtMost};
+ghost use Rattle.std.specs.Io.KnownBytes.{WriteAppends};
+ghost use Rattle.cv_tcp.specs.Ticks.{ReadsOn};
+
+use crate::draining::Draining;
+use crate::retrying::late;
+use std::io::{self, ErrorKind, Read, Write};
+use std::time::{Clock, Duration};
+
+/// For how many seconds a call on a stream waits before it looks whether a drain has begun. Limits are counted in ticks.
+const TICK: u64 = 1;
+
+/// Who ended a stream.
+#[derive(Clone, Copy, Debug, PartialEq, Eq)]
+pub(crate) enum EndedBy {
+    /// Its client, or a fault.
+    Client,
+    /// A drain, when its client was silent for a tick.
+    Drain,
+    /// The end of a drain's time.
+    Deadline,
+}
+
+/// For how long the calls on a stream wait, and what ends them.
+#[derive(Clone, Copy)]
+pub(crate) struct Patience<'a> {
+    /// For how many seconds a call waits, if there is a limit.
+    pub(crate) limit: Option<u32>,
+    /// What ends a call, where a drain is possible.
+    pub(crate) draining: Option<&'a Draining>,
+}
+
+impl Patience<'_> {
+    /// How long one call of the system waits: a tick where a drain is possible, else the whole limit.
+    pub(crate) fn longest_call(&self) -> Option<Duration> {
+        match self.draining {
+            Some(_) => Some(Duration::from_secs(TICK)),
+            None => self
+                .limit
+                .map(|seconds| Duration::from_secs(u64::from(seconds))),
+        }
+    }
+
+    /// Whether a call that waited for so many ticks gives up. Without a drain there was only one call, of the whole limit.
+    fn is_over(&self, ticks: u64) -> bool {
+        match (self.draining, self.limit) {
+            (Some(_), Some(limit)) => ticks >= u64::from(limit),
+            (Some(_), None) => false,
+            (None, _) => true,
+        }
+    }
+
+    /// Whether a drain has begun.
+    fn is_draining(&self) -> bool {
+        match self.draining {
+            Some(draining) => draining.begun().is_some(),
+            None => false,
+        }
+    }
+
+    /// Whether a drain's time is over.
+    fn is_cut<R: Clock>(&self, rt: &R) -> bool {
+        match self.draining {
+            Some(draining) => draining.is_over(rt),
+            None => false,
+        }
+    }
+}
+
+/// A reader or a writer of a stream that a drain may end. Where a drain is possible, each call of what is inside gives up after a tick.
+#[derive(Drop)]
+pub(crate) struct Ticking<'a, R, T> {
+    rt: &'a R,
+    inner: T,
+    patience: Patience<'a>,
+    ended_by: EndedBy,
+}
+
+impl<'a, R, T> Ticking<'a, R, T> {
+    /// Nothing has ended yet.
+    pub(crate) fn new(rt: &'a R, inner: T, patience: Patience<'a>) -> Self
+        ensures { result.inner ≡ inner }
+    {
+        Ticking {
+            rt,
+            inner,
+            patience,
+            ended_by: EndedBy::Client,
+        }
+    }
+
+    /// What is inside.
+    pub(crate) fn inner(&self) -> &T
+        ensures { result.now ≡ self.now.inner }
+    {
+        &self.inner
+    }
+
+    /// Who ended it.
+    pub(crate) fn ended_by(&self) -> EndedBy
+        ensures { result ≡ self.now.ended_by }
+    {
+        self.ended_by
+    }
+}
+
+/// Whether a call gave up for want of time.
+fn is_late(failure: &io::Error) -> bool {
+    failure.kind() == ErrorKind::WouldBlock
+}
+
+impl<R: Clock, T: Read> Ticking<'_, R, T> {
+    /// Reads, tick by tick. A drain ends a stream that is silent for a tick, and its end every stream.
+    fn read_on(&mut self, buf: &mut [u8]) -> io::Result<usize>
+        ensures bound { ReadsAtMost result buf.new }
+        ensures bytes { ReadsOn (T.remaining self.old.inner) (T.remaining self.new.inner) result buf.new self.new.ended_by }
+    {
+        for ticks in 1..u64::MAX {
+            if self.patience.is_cut(self.rt) {
+                self.ended_by = EndedBy::Deadline;
+                return Ok(0);
+            }
+            match self.inner.read(buf) {
+                Err(failure) if is_late(&failure) => {
+                    if self.patience.is_draining() {
+                        self.ended_by = EndedBy::Drain;
+                        return Ok(0);
+                    }
+                    if self.patience.is_over(ticks) {
+                        return Err(failure);
+                    }
+                }
+                done => return done,
+            }
+        }
+        Err(late())
+    }
+}
+
+impl<R: Clock, T: Write> Ticking<'_, R, T> {
+    /// Writes, tick by tick, until a drain's time is over.
+    fn write_on(&mut self, bytes: &[u8]) -> io::Result<usize>
+        ensures bound { WritesAtMost result bytes.now }
+        ensures bytes { WriteAppends (T.contents self.old.inner) (T.contents self.new.inner) result bytes.now }
+    {
+        for ticks in 1..u64::MAX {
+            if self.patience.is_cut(self.rt) {
+                self.ended_by = EndedBy::Deadline;
+                return Err(late());
+            }
+            match self.inner.write(bytes) {
+                Err(failure) if is_late(&failure) => {
+                    if self.patience.is_over(ticks) {
+                        return Err(failure);
+                    }
+                }
+                done => return done,
+            }
+        }
+        Err(late())
+    }
+}
+
+impl<R: Clock, T: Read> Read for Ticking<'_, R, T> {
+    fn read(&mut self, buf: &mut [u8]) -> io::Result<usize> {
+        self.read_on(buf)
+    }
+}
+
+impl<R: Clock, T: Write> Write for Ticking<'_, R, T> {
+    ghost contents = { λ w. T.contents w.inner };
+
+    fn write(&mut self, bytes: &[u8]) -> io::Result<usize> {
+        self.write_on(bytes)
+    }
+
+    fn flush(&mut self) -> io::Result<()> {
+        self.inner.flush()
+    }
+}

@@ -55,6 +55,10 @@ iconvd listen 127.0.0.1:0 --at-once 2 => Listen("127.0.0.1:0") 1 184467440737095
 iconvd listen 127.0.0.1:0 --at-once 1000 --streams 50 => Listen("127.0.0.1:0") 1 50
 iconvd call 127.0.0.1:0 => Call("127.0.0.1:0") 1 1
 iconvd call unix:/run/iconvd --timeout 5 => Call("unix:/run/iconvd") 1 1
+iconvd admin 127.0.0.1:0 health => Admin("127.0.0.1:0", Health) 1 1
+iconvd admin unix:/run/admin metrics => Admin("unix:/run/admin", Metrics) 1 1
+iconvd admin 127.0.0.1:0 streams --timeout 9 => Admin("127.0.0.1:0", Streams) 1 1
+iconvd admin 127.0.0.1:0 drain => Admin("127.0.0.1:0", Drain) 1 1
 "#;
 
 #[test]
@@ -71,6 +75,8 @@ iconvd listen 127.0.0.1:0 --log info --log-format json => 1 None None Info Json
 iconvd listen 127.0.0.1:0 --idle=1 --log=debug => 1 Some(1) None Debug Text
 iconvd call 127.0.0.1:0 => 1 None None Error Text
 iconvd call 127.0.0.1:0 --timeout 1 => 1 None Some(1) Error Text
+iconvd admin 127.0.0.1:0 health => 1 None Some(5) Error Text
+iconvd admin 127.0.0.1:0 health --timeout 604800 => 1 None Some(604800) Error Text
 ";
 
 #[test]
@@ -83,6 +89,37 @@ fn waiting_and_logging_are_read(rt: HostRuntime) -> Result<(), Fail> {
         let told = format!(in alloc;
             "{} {:?} {:?} {:?} {:?}",
             said.at_once, said.idle, said.timeout, said.level, said.format
+        )?;
+        assert!(rt; told.as_str() == wanted, "{line}");
+    }
+    Ok(())
+}
+
+/// Command lines of servers, and what they say of pages, of draining, of full servers and of what a stream may hold.
+const OPERATING: &str = r#"
+iconvd listen 127.0.0.1:0 => None 30 Wait None None
+iconvd listen 127.0.0.1:0 --admin 127.0.0.1:7880 => Some("127.0.0.1:7880") 30 Wait None None
+iconvd listen 127.0.0.1:0 --admin=unix:/run/admin --drain 1 => Some("unix:/run/admin") 1 Wait None None
+iconvd listen 127.0.0.1:0 --drain 604800 --when-full close => None 604800 Close None None
+iconvd listen 127.0.0.1:0 --when-full wait --stream-memory 672 --callers 1 => None 30 Wait Some(672) Some(1)
+iconvd listen 127.0.0.1:0 --stream-memory 64K --callers 4294967295 => None 30 Wait Some(65536) Some(4294967295)
+iconvd pipe --stream-memory 10752 --callers 16 --workers 16 => None 30 Wait Some(10752) Some(16)
+iconvd pipe --stream-memory 64M --callers 16 => None 30 Wait Some(67108864) Some(16)
+iconvd pipe --stream-memory=17179869183G => None 30 Wait Some(18446744072635809792) None
+iconvd pipe --stream-memory 18446744073709551615 => None 30 Wait Some(18446744073709551615) None
+iconvd run => None 30 Wait None None
+"#;
+
+#[test]
+fn operating_is_read(rt: HostRuntime) -> Result<(), Fail> {
+    let alloc = rt.alloc();
+    for line in OPERATING.trim().lines() {
+        let (words, wanted) = sides(line, " => ")?;
+        let words = words_of(alloc, words)?;
+        let said = options(alloc, &words).map_err(|_| "refused")?;
+        let told = format!(in alloc;
+            "{:?} {} {:?} {:?} {:?}",
+            said.admin, said.drain, said.when_full, said.stream_memory, said.callers
         )?;
         assert!(rt; told.as_str() == wanted, "{line}");
     }
@@ -122,6 +159,32 @@ iconvd call => ADDR
 iconvd call 127.0.0.1:0 --streams 2 => '--streams'
 iconvd call 127.0.0.1:0 --timeout 0 => '0'
 iconvd pipe --at-once 2 => '--at-once'
+iconvd listen 127.0.0.1:0 --admin nowhere => 'nowhere'
+iconvd listen 127.0.0.1:0 --admin unix: => '--admin <ADDR>'
+iconvd listen 127.0.0.1:0 --admin fd:3 => '--admin <ADDR>'
+iconvd listen 127.0.0.1:0 --drain 0 => '0'
+iconvd listen 127.0.0.1:0 --drain 604801 => '604801'
+iconvd listen 127.0.0.1:0 --when-full ask => 'ask'
+iconvd listen 127.0.0.1:0 --callers 0 => '0'
+iconvd pipe --callers 4294967296 => '4294967296'
+iconvd pipe --callers 1 --workers 2 => '--callers'
+iconvd listen 127.0.0.1:0 --stream-memory 671 => '--stream-memory'
+iconvd pipe --stream-memory 10751 --workers 16 => '--workers 16'
+iconvd pipe --stream-memory 0 => '0'
+iconvd pipe --stream-memory 0K => '0K'
+iconvd pipe --stream-memory= => --stream-memory
+iconvd pipe --stream-memory K => 'K'
+iconvd pipe --stream-memory 1T => '1T'
+iconvd pipe --stream-memory 1k => '1k'
+iconvd pipe --stream-memory 1KB => '1KB'
+iconvd pipe --stream-memory +1 => '+1'
+iconvd pipe --stream-memory 17179869184G => '17179869184G'
+iconvd pipe --stream-memory 18446744073709551616 => '18446744073709551616'
+iconvd run --stream-memory 1 => '--stream-memory'
+iconvd admin => ADDR
+iconvd admin 127.0.0.1:0 => PAGE
+iconvd admin 127.0.0.1:0 places => 'places'
+iconvd admin 127.0.0.1:0 health --timeout 0 => '0'
 "#;
 
 #[test]

@@ -16,6 +16,8 @@ mod console;
 #[cfg(test)]
 mod exchanging;
 #[cfg(test)]
+mod file_uploads;
+#[cfg(test)]
 mod interleavings;
 #[cfg(test)]
 mod large_uploads;

@@ -1,16 +1,21 @@
 //! From the command line to the exit status.
-ghost use Rattle.std.specs.Prelude.{◌≡◌, ◌≢◌, ◌≤◌, IfErr, OnOk};
+ghost use Rattle.std.specs.Prelude.{◌≡◌, ◌≢◌, ◌≤◌, IfOk, IfErr, OnOk, OnErr, if◌then◌else◌};
 ghost use Rattle.clap.specs.Values.{kind_of};
 ghost use Rattle.cv_commands.specs.Status.{status_of};
 ghost use Rattle.cv_tcp.specs.Ends.{call_status_of};
 
 use crate::job::{Job, Options};
+use crate::scripts::{given_script, refuse_script};
 use crate::usage::{options, usage_status};
+use crate::version::VERSION;
 use crate::words::arguments;
 use clap::Error;
 use clap::error::ErrorKind;
-use cv_commands::{RunFault, ask, checkmap, pipe, read_all, run, show, status, write_all};
-use cv_tcp::{CallFault, LogLines, Terms, call_status, listen};
+use cv_commands::{RunFault, ask_given, checkmap, pipe_within, run_given, show, status, write_all};
+use cv_tcp::{
+    Addresses, AdminFault, CallFault, LogLines, Operation, Outlet, Page, StandardError, Terms,
+    call_admin, call_status, listen, listen_administered,
+};
 use std::alloc::Global;
 use std::fs::Files;
 use std::io;
@@ -20,6 +25,9 @@ use std::rt::Env;
 use std::sync::Wait;
 use std::thread::Threads;
 use std::time::Clock;
+
+/// For how many seconds `admin` waits, unless the command line says it.
+const ADMIN_TIMEOUT: u32 = 5;
 
 /// The exit status of a command. A fault is said on standard error, if that can be; the status doesn't depend on it.
 fn conclude<R: Eprint>(rt: &R, done: Result<(), RunFault>) -> u8
@@ -35,14 +43,18 @@ fn conclude<R: Eprint>(rt: &R, done: Result<(), RunFault>) -> u8
     }
 }
 
-/// The exit status of `listen`. The log has said why it cannot listen.
+/// The exit status of `listen`. The log has said why it cannot listen; another fault is said on standard error, if that takes it at once.
 fn conclude_listening<R: Eprint>(rt: &R, done: Result<(), RunFault>) -> u8
     ensures done { OnOk done (result ≡ 0) }
     ensures fault { IfErr done (λ fault. result ≡ status_of fault) }
 {
     match done {
+        Ok(()) => 0,
         Err(RunFault::CannotListen) => status(&RunFault::CannotListen),
-        done => conclude(rt, done),
+        Err(fault) => {
+            let _ = StandardError::new(rt).put(format_args!("iconvd: {fault}"));
+            status(&fault)
+        }
     }
 }
 
@@ -60,15 +72,45 @@ fn conclude_call<R: Eprint>(rt: &R, done: Result<(), CallFault>) -> u8
     }
 }
 
-/// `call`: asks a server at an address for the script, and prints the lines of its replies, also of those that came before a fault.
-fn call<R>(rt: &R, address: &str, timeout: Option<u32>) -> Result<(), CallFault>
+/// The exit status of `admin`: 0 if the server says that all is well. A fault is said on standard error, if that can be.
+fn conclude_admin<R: Eprint>(rt: &R, done: Result<bool, AdminFault>) -> u8
+    ensures done { IfOk done (λ is_well. result ≡ (if is_well then 0 else 1)) }
+    ensures fault { OnErr done (result ≡ 1) }
+{
+    match done {
+        Ok(true) => 0,
+        Ok(false) => 1,
+        Err(fault) => {
+            let _ = eprintln!(rt; "iconvd: {fault}");
+            1
+        }
+    }
+}
+
+/// `admin`: asks for a page, and prints it.
+fn admin<R>(rt: &R, address: &str, timeout: Option<u32>, page: Page) -> u8
 where
-    R: Input + Print + AllocGlobal + Clock + Net<Listener = TcpListener, Stream = TcpStream>,
+    R: Print + Eprint + AllocGlobal + Clock + Net<Listener = TcpListener, Stream = TcpStream>,
+    ensures { result ≤ 1 }
 {
     let alloc = rt.alloc();
-    let script = read_all(alloc, rt.reader()).map_err(CallFault::Run)?;
+    let timeout = timeout.unwrap_or(ADMIN_TIMEOUT);
+    let mut text = Vec::new(alloc);
+    let called = call_admin(rt, alloc, address, timeout, page, &mut text);
+    match write_all(io::writer(rt), &text) {
+        Ok(_writer) => conclude_admin(rt, called),
+        Err(fault) => conclude(rt, Err(fault)),
+    }
+}
+
+/// `call`: asks a server at an address for a script, and prints the lines of its replies, also of those that came before a fault.
+fn call<R>(rt: &R, address: &str, timeout: Option<u32>, script: &[u8]) -> Result<(), CallFault>
+where
+    R: Print + AllocGlobal + Clock + Net<Listener = TcpListener, Stream = TcpStream>,
+{
+    let alloc = rt.alloc();
     let mut lines = Vec::new(alloc);
-    let called = cv_tcp::call(rt, alloc, address, timeout, &script, &mut lines);
+    let called = cv_tcp::call(rt, alloc, address, timeout, script, &mut lines);
     let printed = write_all(io::writer(rt), &lines);
     // Where both failed, why there are no more lines is told.
     called?;
@@ -76,7 +118,24 @@ where
     Ok(())
 }
 
-/// `listen`: serves the streams that come in at an address.
+/// By what terms streams are served.
+fn terms_of(said: Options<'_>) -> Terms
+    ensures at_once { result.at_once ≡ said.entry.at_once }
+    ensures workers { result.workers ≡ said.entry.workers }
+{
+    Terms {
+        streams: said.streams,
+        at_once: said.at_once,
+        workers: said.workers,
+        idle: said.idle,
+        when_full: said.when_full,
+        drain: said.drain,
+        stream_memory: said.stream_memory,
+        callers: said.callers,
+    }
+}
+
+/// `listen`: serves the streams that come in at an address, and answers the clients of the admin pages if they have one.
 fn serve<R>(rt: &R, address: &str, said: Options<'_>) -> Result<(), RunFault>
 where
     R: Files + Print + Eprint + AllocGlobal + Clock + RandomSource + Threads + Wait + Sync,
@@ -84,18 +143,19 @@ where
     requires workers { (1 ≤ said.workers) × (said.workers ≤ 16) }
     requires at_once { 1 ≤ said.at_once }
 {
-    let log = LogLines {
-        rt,
-        level: said.level,
-        format: said.format,
+    let (alloc, terms) = (rt.alloc(), terms_of(said));
+    let log = LogLines::new(rt, StandardError::new(rt), said.level, said.format);
+    let Some(admin) = said.admin else {
+        listen(rt, alloc, &log, address, terms)?;
+        return Ok(());
     };
-    let terms = Terms {
-        streams: said.streams,
-        at_once: said.at_once,
-        workers: said.workers,
-        idle: said.idle,
+    let operation = Operation::counted(rt, alloc, &terms, VERSION)?;
+    let log = log.telling(operation.lost_lines());
+    let addresses = Addresses {
+        streams: address,
+        admin,
     };
-    listen(rt, rt.alloc(), &log, address, terms)?;
+    listen_administered(rt, alloc, &log, addresses, terms, &operation)?;
     Ok(())
 }
 
@@ -107,12 +167,22 @@ where
     requires at_once { 1 ≤ said.at_once }
 {
     match said.job {
-        Job::Run => conclude(rt, run(rt, said.workers)),
-        Job::Ask => conclude(rt, ask(rt)),
-        Job::Pipe => conclude(rt, pipe(rt, said.workers)),
+        Job::Run => match given_script(rt) {
+            Ok(script) => conclude(rt, run_given(rt, &script, said.workers)),
+            Err(fault) => refuse_script(rt, &fault),
+        },
+        Job::Ask => match given_script(rt) {
+            Ok(script) => conclude(rt, ask_given(rt, &script)),
+            Err(fault) => refuse_script(rt, &fault),
+        },
+        Job::Pipe => conclude(rt, pipe_within(rt, said.workers, terms_of(said).budget())),
         Job::Show => conclude(rt, show(rt)),
         Job::Listen(address) => conclude_listening(rt, serve(rt, address, said)),
-        Job::Call(address) => conclude_call(rt, call(rt, address, said.timeout)),
+        Job::Call(address) => match given_script(rt) {
+            Ok(script) => conclude_call(rt, call(rt, address, said.timeout, &script)),
+            Err(fault) => refuse_script(rt, &fault),
+        },
+        Job::Admin(address, page) => admin(rt, address, said.timeout, page),
         Job::CheckMap(file) => match checkmap(rt, file) {
             Ok(status) => status,
             Err(fault) => conclude(rt, Err(fault)),

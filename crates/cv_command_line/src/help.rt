@@ -4,6 +4,7 @@
 pub(crate) const SCRIPTS: &str = "\
 A script has one request a line, CALLER TAG and then one of
   put TEXT                     upload a charmap; | stands for a line feed
+  put @FILE                    upload the charmap in FILE
   part TEXT                    hold TEXT in front of the next put
   drop NAME                    give back a charmap
   open TARGET SOURCE [strict]
@@ -28,11 +29,14 @@ See iconvd(1) and iconvd-protocol(5).";
 
 /// What the help of `listen` ends with.
 pub(crate) const LISTENING: &str = "\
-ADDR is HOST:PORT for TCP, or unix:PATH for a Unix socket. `listen` prints `listening ADDR` once clients can connect. At port 0 the
-system chooses the port, which the line then shows.
+ADDR is HOST:PORT for TCP, unix:PATH for a Unix socket, or fd:N for a listener that the process was given as descriptor N. `listen`
+prints `listening ADDR` once clients can connect. At port 0 the system chooses the port, which the line then shows.
 
 TCP has no encryption and no authentication: anybody who can connect is served. Use a Unix socket to serve local users only; the umask
 decides who may connect to it. The socket file of a server that has died is replaced.
+
+With --admin ADDR, which is HOST:PORT or unix:PATH, `listen` also prints `admin ADDR`. GET /health, /metrics and /streams there, or
+POST /drain; `iconvd admin` does so too. Any client that can connect there can end the server.
 
 Example:
   $ iconvd listen 127.0.0.1:7879 --at-once 64 --idle 300 &
@@ -56,6 +60,25 @@ Example:
   7 2 OK 000000000000000041c3a942
 
 See iconvd(1) and iconvd-protocol(5).";
+
+/// What the help of `admin` ends with.
+pub(crate) const ADMINISTERING: &str = "\
+ADDR is what `listen` was given with --admin: HOST:PORT for TCP, or unix:PATH for a Unix socket. PAGE is one of
+  health     ok; full, while all places are taken; draining
+  metrics    counts and times, in Prometheus's text format
+  streams    a JSON array with an object for each stream
+  drain      serve no new stream, and end after those that are there
+
+The exit status is 0 for health ok and whenever a page is printed as asked for, and 1 for health full or draining and for any fault.
+
+Example:
+  $ iconvd listen 127.0.0.1:7879 --admin 127.0.0.1:7880 --at-once 64 &
+  listening 127.0.0.1:7879
+  admin 127.0.0.1:7880
+  $ iconvd admin 127.0.0.1:7880 health
+  ok
+
+See iconvd(1).";
 
 /// What the help of `checkmap` ends with.
 pub(crate) const CHARMAPS: &str = "\

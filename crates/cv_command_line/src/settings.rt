@@ -7,8 +7,11 @@ use std::alloc::Global;
 /// The word of `checkmap`.
 pub(crate) const FILE: &str = "FILE";
 
-/// The word of `listen` and `call`.
+/// The word of `listen`, `call` and `admin`.
 pub(crate) const ADDRESS: &str = "ADDR";
+
+/// The second word of `admin`.
+pub(crate) const PAGE: &str = "PAGE";
 
 /// The option of `run`, `pipe` and `listen`.
 pub(crate) const WORKERS: &str = "workers";
@@ -24,7 +27,18 @@ pub(crate) const LOG: &str = "log";
 
 pub(crate) const LOG_FORMAT: &str = "log-format";
 
-/// The option of `call`.
+pub(crate) const ADMIN: &str = "admin";
+
+pub(crate) const DRAIN: &str = "drain";
+
+pub(crate) const WHEN_FULL: &str = "when-full";
+
+/// Options of `pipe` and `listen`.
+pub(crate) const STREAM_MEMORY: &str = "stream-memory";
+
+pub(crate) const CALLERS: &str = "callers";
+
+/// The option of `call` and `admin`.
 pub(crate) const TIMEOUT: &str = "timeout";
 
 /// How many workers there may be.
@@ -32,6 +46,12 @@ pub(crate) const MOST_WORKERS: u32 = 16;
 
 /// For how many seconds anything may wait: a week.
 const MOST_SECONDS: u32 = 604_800;
+
+/// The words that name a page.
+const PAGES: &[&str] = &["health", "metrics", "streams", "drain"];
+
+/// The words that `--when-full` takes.
+const WHEN_FULL_WORDS: &[&str] = &["wait", "close"];
 
 /// The words that `--log` takes.
 const LEVELS: &[&str] = &["error", "info", "debug"];
@@ -80,6 +100,56 @@ pub(crate) fn timeout_option<'a>(alloc: Global) -> Arg<'a> {
     seconds_option(alloc, TIMEOUT).help("give up if the server is silent for S seconds")
 }
 
+/// How long asking for a page may take.
+pub(crate) fn admin_timeout_option<'a>(alloc: Global) -> Arg<'a> {
+    seconds_option(alloc, TIMEOUT)
+        .default_value("5")
+        .help("give up if the whole reply has not come within S seconds")
+}
+
+/// Where the admin pages are.
+pub(crate) fn admin_option<'a>(alloc: Global) -> Arg<'a> {
+    Arg::new(alloc, ADMIN).long(ADMIN).value_name(ADDRESS).help(
+        "answer health, metrics, streams and drain by HTTP at ADDR",
+    )
+}
+
+/// How long a drain waits for the streams.
+pub(crate) fn drain_option<'a>(alloc: Global) -> Arg<'a> {
+    seconds_option(alloc, DRAIN).default_value("30").help(
+        "after a drain has begun, wait for streams at most S seconds",
+    )
+}
+
+/// What becomes of a client that finds no place.
+pub(crate) fn when_full_option<'a>(alloc: Global) -> Arg<'a> {
+    Arg::new(alloc, WHEN_FULL)
+        .long(WHEN_FULL)
+        .value_name("ACTION")
+        .value_parser(WHEN_FULL_WORDS)
+        .default_value("wait")
+        .help("what a client gets while K streams are served: it waits, or is closed")
+}
+
+/// How many bytes a stream may hold.
+pub(crate) fn stream_memory_option<'a>(alloc: Global) -> Arg<'a> {
+    Arg::new(alloc, STREAM_MEMORY)
+        .long(STREAM_MEMORY)
+        .value_name("SIZE")
+        .help(
+            "refuse with ENOMEM what takes a stream above SIZE bytes; K, M and G are units [default: no limit]",
+        )
+}
+
+/// How many callers a stream may have.
+pub(crate) fn callers_option<'a>(alloc: Global) -> Arg<'a> {
+    Arg::new(alloc, CALLERS)
+        .long(CALLERS)
+        .value_name("N")
+        .value_parser(value_parser!(u32).range(1..=i64::from(u32::MAX)))
+        .help("refuse with ENOMEM a stream's callers above N [default: no limit]")
+}
+
 fn seconds_option<'a>(alloc: Global, name: &'a str) -> Arg<'a> {
     Arg::new(alloc, name)
         .long(name)
@@ -113,6 +183,14 @@ pub(crate) fn log_format_option<'a>(alloc: Global) -> Arg<'a> {
 pub(crate) fn address_word<'a>(alloc: Global) -> Arg<'a> {
     Arg::new(alloc, ADDRESS)
         .help("HOST:PORT, or unix:PATH")
+        .required(true)
+}
+
+/// Which page to ask for.
+pub(crate) fn page_word<'a>(alloc: Global) -> Arg<'a> {
+    Arg::new(alloc, PAGE)
+        .value_parser(PAGES)
+        .help("what to print, or drain to end the server")
         .required(true)
 }
 

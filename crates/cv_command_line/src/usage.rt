@@ -2,77 +2,23 @@
 ghost use Rattle.std.specs.Prelude.{◌≡◌, ◌≢◌, ◌≤◌, IfOk};
 ghost use Rattle.clap.specs.Values.{kind_of};
 
-use crate::help::{CALLING, CHARMAPS, FRAMES, LISTENING, SCRIPTS};
 use crate::job::{Job, Options};
+use crate::matched::{number_of, word_of};
 use crate::settings::{
-    ADDRESS, AT_ONCE, FILE, IDLE, LOG, LOG_FORMAT, MOST_WORKERS, STREAMS, TIMEOUT, WORKERS,
-    address_word, at_once_option, file_word, idle_option, log_format_option, log_option,
-    streams_option, timeout_option, workers_option,
+    ADDRESS, ADMIN, AT_ONCE, CALLERS, DRAIN, FILE, IDLE, LOG, LOG_FORMAT, MOST_WORKERS, PAGE,
+    STREAM_MEMORY, STREAMS, TIMEOUT, WHEN_FULL, WORKERS,
 };
-use crate::version::VERSION;
+use crate::size::size_of;
+use crate::syntax::program;
 use clap::error::ErrorKind;
-use clap::{ArgMatches, Command, Error};
-use cv_tcp::{LogFormat, MOST_AT_ONCE, is_address};
+use clap::{ArgMatches, Error};
+use cv_commands::Budget;
+use cv_tcp::{LogFormat, MOST_AT_ONCE, Page, WhenFull, is_address, is_admin_address};
 use log::LevelFilter;
 use std::alloc::{AllocError, Global};
 
-fn listen_command<'a>(alloc: Global) -> Result<Command<'a>, AllocError> {
-    Command::new(alloc, "listen")
-        .about("Serves the clients that connect to an address, each with a server of its own")
-        .after_help(LISTENING)
-        .arg(address_word(alloc))?
-        .arg(at_once_option(alloc))?
-        .arg(streams_option(alloc))?
-        .arg(idle_option(alloc))?
-        .arg(workers_option(alloc))?
-        .arg(log_option(alloc))?
-        .arg(log_format_option(alloc))
-}
-
-fn call_command<'a>(alloc: Global) -> Result<Command<'a>, AllocError> {
-    Command::new(alloc, "call")
-        .about("Sends the script on standard input to a server and prints the reply lines")
-        .after_help(CALLING)
-        .arg(address_word(alloc))?
-        .arg(timeout_option(alloc))
-}
-
-fn checkmap_command<'a>(alloc: Global) -> Result<Command<'a>, AllocError> {
-    Command::new(alloc, "checkmap")
-        .about("Checks a charmap file and prints its name and size, or its first error")
-        .after_help(CHARMAPS)
-        .arg(file_word(alloc))
-}
-
-fn program<'a>(alloc: Global) -> Result<Command<'a>, AllocError> {
-    let run = Command::new(alloc, "run")
-        .about("Runs the script on standard input and prints the reply lines")
-        .after_help(SCRIPTS)
-        .arg(workers_option(alloc))?;
-    let ask = Command::new(alloc, "ask")
-        .about("Writes the script on standard input as request frames")
-        .after_help(SCRIPTS);
-    let pipe = Command::new(alloc, "pipe")
-        .about("Serves the request frames on standard input and writes the reply frames")
-        .after_help(FRAMES)
-        .arg(workers_option(alloc))?;
-    let show = Command::new(alloc, "show")
-        .about("Prints the reply frames on standard input as reply lines")
-        .after_help(FRAMES);
-    Command::new(alloc, "iconvd")
-        .version(VERSION)
-        .propagate_version(true)
-        .about("A character set conversion service for many callers")
-        .after_help(SCRIPTS)
-        .subcommand_required(true)
-        .subcommand(run)?
-        .subcommand(ask)?
-        .subcommand(pipe)?
-        .subcommand(show)?
-        .subcommand(listen_command(alloc)?)?
-        .subcommand(call_command(alloc)?)?
-        .subcommand(checkmap_command(alloc)?)
-}
+/// For how many seconds a drain waits for the streams, unless the command line says it.
+const USUAL_DRAIN: u32 = 30;
 
 /// What the command and its words say is to be done.
 fn job_of<'a>(matches: &ArgMatches<'a>) -> Job<'a> {
@@ -82,16 +28,22 @@ fn job_of<'a>(matches: &ArgMatches<'a>) -> Job<'a> {
         Some(("show", _)) => Job::Show,
         Some(("listen", said)) => said.get_str(ADDRESS).map_or(Job::Run, Job::Listen),
         Some(("call", said)) => said.get_str(ADDRESS).map_or(Job::Run, Job::Call),
+        Some(("admin", said)) => match said.get_str(ADDRESS) {
+            Some(address) => Job::Admin(address, page_of(said.get_str(PAGE))),
+            None => Job::Run,
+        },
         Some(("checkmap", said)) => said.get_str(FILE).map_or(Job::Run, Job::CheckMap),
         _ => Job::Run,
     }
 }
 
-/// The number that an option of the command has, if it was given or has a default.
-fn number_of<'a>(matches: &ArgMatches<'a>, name: &str) -> Option<u32> {
-    match matches.subcommand() {
-        Some((_, said)) => said.get_one::<u32>(name),
-        None => None,
+/// The page that a word names. The parser took these four alone.
+fn page_of(word: Option<&str>) -> Page {
+    match word {
+        Some("metrics") => Page::Metrics,
+        Some("streams") => Page::Streams,
+        Some("drain") => Page::Drain,
+        _ => Page::Health,
     }
 }
 
@@ -137,11 +89,38 @@ fn format_of<'a>(matches: &ArgMatches<'a>) -> LogFormat {
     }
 }
 
-/// The word that an option of the command has, if it was given or has a default.
-fn word_of<'a>(matches: &ArgMatches<'a>, name: &str) -> Option<&'a str> {
-    match matches.subcommand() {
-        Some((_, said)) => said.get_str(name),
-        None => None,
+/// For how many seconds a drain waits for the streams.
+fn drain_of<'a>(matches: &ArgMatches<'a>) -> u32 {
+    number_of(matches, DRAIN).unwrap_or(USUAL_DRAIN)
+}
+
+/// What becomes of a client that finds no place.
+fn when_full_of<'a>(matches: &ArgMatches<'a>) -> WhenFull {
+    match word_of(matches, WHEN_FULL) {
+        Some("close") => WhenFull::Close,
+        _ => WhenFull::Wait,
+    }
+}
+
+/// The first word that is no address where one has to be: of the place to listen at, or of the admin pages.
+fn fault_of_address<'a>(matches: &ArgMatches<'a>, job: Job<'a>) -> Option<(&'a str, &'static str)> {
+    match listened_at(job) {
+        Some(address) if !is_address(address) => Some((address, "<ADDR>")),
+        _ => match word_of(matches, ADMIN) {
+            Some(address) if !is_admin_address(address) => Some((address, "--admin <ADDR>")),
+            _ => None,
+        },
+    }
+}
+
+/// How many bytes a stream may hold, if the command line says it.
+fn stream_memory_of<'a>(alloc: Global, matches: &ArgMatches<'a>) -> Result<Option<u64>, Error> {
+    let Some(word) = word_of(matches, STREAM_MEMORY) else {
+        return Ok(None);
+    };
+    match size_of(word.as_bytes()) {
+        Some(size) => Ok(Some(size)),
+        None => Err(no_size(alloc, word)?),
     }
 }
 
@@ -152,19 +131,28 @@ pub fn options<'a>(alloc: Global, words: &'a [&'a str]) -> Result<Options<'a>, E
 {
     let matches = program(alloc)?.try_get_matches_from(words)?;
     let job = job_of(&matches);
-    if let Some(address) = listened_at(job) {
-        if !is_address(address) {
-            return Err(no_address(alloc, address)?);
-        }
+    if let Some((word, place)) = fault_of_address(&matches, job) {
+        return Err(no_address(alloc, word, place)?);
+    }
+    let workers = workers_of(&matches);
+    let stream_memory = stream_memory_of(alloc, &matches)?;
+    let callers = number_of(&matches, CALLERS);
+    if !Budget::of(stream_memory, callers).is_enough_for(workers) {
+        return Err(no_share(alloc, workers)?);
     }
     let at_once = at_once_of(&matches);
     Ok(Options {
         job,
-        workers: workers_of(&matches),
+        workers,
         streams: streams_of(&matches, at_once),
         at_once,
         idle: number_of(&matches, IDLE),
         timeout: number_of(&matches, TIMEOUT),
+        admin: word_of(&matches, ADMIN),
+        drain: drain_of(&matches),
+        when_full: when_full_of(&matches),
+        stream_memory,
+        callers,
         level: level_of(&matches),
         format: format_of(&matches),
     })
@@ -178,12 +166,32 @@ fn listened_at<'a>(job: Job<'a>) -> Option<&'a str> {
     }
 }
 
-/// The fault of a command line that has this word where an address has to be.
-fn no_address(alloc: Global, word: &str) -> Result<Error, AllocError>
+/// The fault of a command line that has this word where the address of a place has to be.
+fn no_address(alloc: Global, word: &str, place: &str) -> Result<Error, AllocError>
     ensures { IfOk result (λ fault. kind_of fault ≡ ErrorKind.InvalidValue) }
 {
     let text = format!(in alloc;
-        "invalid value '{word}' for '<ADDR>': no HOST:PORT and no unix:PATH"
+        "invalid value '{word}' for '{place}': no HOST:PORT and no unix:PATH"
+    )?;
+    program(alloc)?.error(ErrorKind::InvalidValue, text.as_str())
+}
+
+/// The fault of a command line that has this word where a size has to be.
+fn no_size(alloc: Global, word: &str) -> Result<Error, AllocError>
+    ensures { IfOk result (λ fault. kind_of fault ≡ ErrorKind.InvalidValue) }
+{
+    let text = format!(in alloc;
+        "invalid value '{word}' for '--stream-memory <SIZE>': no number of bytes from 1, alone or with K, M or G"
+    )?;
+    program(alloc)?.error(ErrorKind::InvalidValue, text.as_str())
+}
+
+/// The fault of a command line whose limits leave nothing for some of so many workers.
+fn no_share(alloc: Global, workers: u32) -> Result<Error, AllocError>
+    ensures { IfOk result (λ fault. kind_of fault ≡ ErrorKind.InvalidValue) }
+{
+    let text = format!(in alloc;
+        "too little for '--workers {workers}': each worker needs 672 bytes of '--stream-memory' and one of '--callers'"
     )?;
     program(alloc)?.error(ErrorKind::InvalidValue, text.as_str())
 }

@@ -8,10 +8,11 @@ ghost use Rattle.cv_commands.specs.Streams.{ServesNew, stream_ending};
 
 use crate::fault::RunFault;
 use crate::input::MAX_READS;
-use crate::server::new_pool;
+use crate::server::pool_within;
 use cv_cache::{Cached, HashKeys};
 use cv_loop::{Served, Sink, Source, serve};
-use cv_pool::keep_memory;
+use cv_pool::{Tallied, Tally, keep_memory};
+use cv_world::{Budget, UNLIMITED};
 use std::alloc::Global;
 use std::random::RandomSource;
 use std::sync::Wait;
@@ -75,10 +76,56 @@ pub fn serve_stream_by<R: Threads + Wait + Sync, S: Source, W: Sink>(
 
     ensures reads { S.pulls source.new ≤ most_reads }
 {
-    let Ok(mut pool) = new_pool(alloc, cached, workers) else {
+    let terms = StreamTerms {
+        workers,
+        budget: UNLIMITED,
+        tally: &(),
+    };
+    serve_stream_within(rt, alloc, cached, source, sink, terms)
+}
+
+/// By what a stream is served.
+#[derive(Clone, Copy, Debug)]
+pub struct StreamTerms<'a, T> {
+    /// How many workers it has: 1 to 16.
+    pub workers: u32,
+    /// What its callers may hold. Each worker has the same part of it for its callers.
+    pub budget: Budget,
+    /// What is told what they hold.
+    pub tally: &'a T,
+}
+
+/// Serves a stream as `serve_stream_by` does, within a budget: a request that would pass it is refused as if an allocation failed.
+pub fn serve_stream_within<R: Threads + Wait + Sync, S: Source, W: Sink, T: Tally>(
+    rt: &R,
+    alloc: Global,
+    cached: &Cached,
+    source: &mut S,
+    sink: &mut W,
+    terms: StreamTerms<'_, T>,
+) -> Result<Served, RunFault>
+    requires workers { (1 ≤ terms.workers) × (terms.workers ≤ 16) }
+    // No call was made yet on the source and the sink.
+    requires pulls { S.pulls source.old ≡ 0 }
+    requires fresh_source { (S.met_end source.old ≡ false) × (S.has_failed source.old ≡ false) }
+    requires fresh_sink { W.has_failed sink.old ≡ false }
+
+    // What was written answers what was given, and each caller for its frames alone.
+    ensures headline { (given written : List ℕ) → Gave (S.left source.old) (S.left source.new) given
+        → Took (W.held sink.old) (W.held sink.new) written → IsHeadline turn (stream_ending result) no_tables given written }
+
+    // `Memory` comes where the pool found none, before anything was read, and every other result from serving.
+    ensures serves { result ≢ Err RunFault.Memory → ServesNew result (S.left source.old) (S.left source.new) (W.held sink.old)
+        (W.held sink.new) (S.pulls source.new) most_reads (S.met_end source.new) (S.has_failed source.new) (W.has_failed sink.new) }
+    ensures unserved { result ≡ Err RunFault.Memory → (source.new ≡ source.old) × (sink.new ≡ sink.old) }
+
+    ensures reads { S.pulls source.new ≤ most_reads }
+{
+    let Ok(pool) = pool_within(alloc, cached, terms.workers, terms.budget) else {
         return Err(RunFault::Memory);
     };
-    match serve(&mut pool, rt, alloc, source, sink, MAX_READS) {
+    let mut engine = Tallied::new(pool, terms.tally);
+    match serve(&mut engine, rt, alloc, source, sink, MAX_READS) {
         Ok(served) => Ok(served),
         Err(fault) => Err(RunFault::Serve(fault)),
     }

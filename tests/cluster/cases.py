@@ -8,8 +8,8 @@ import shutil
 import signal
 from typing import Callable, Dict, List
 
-from network import BALANCER, SERVERS, Network
-from servers import Balancer, Server
+from network import ADDRESSES, BALANCER, SERVERS, Network
+from servers import AT_ONCE, PORT, Balancer, Server
 from streams import Crowd, Stream, until
 
 
@@ -39,6 +39,9 @@ class Cases:
     async def run(self) -> None:
         await self._killed("one")
         await self._stopped("two")
+        await self._paused("one")
+        await self._filled("two")
+        await self._drained_by_stop("three")
         await self._drained("three")
         await self._upgraded("one")
         await self._cut_short("two")
@@ -59,7 +62,7 @@ class Cases:
         before = {stream: stream.replies for stream in self._crowd.streams}
         went_on = await until(lambda: all(stream.replies > count + 8 for stream, count in before.items()))
         silent = sum(stream.replies <= count + 8 for stream, count in before.items())
-        self._results.check(went_on, f"{case}: each stream goes on", f"{silent} do not")
+        self._results.check(went_on, f"{case}: each stream goes on", f"{silent} do not; {self._balancer.shares()}")
         self._results.check(not self._crowd.wrong(), f"{case}: each reply is right", "; ".join(self._crowd.wrong()[:3]))
 
     async def _lose(self, case: str, name: str, act: Callable[[], object]) -> None:
@@ -81,7 +84,7 @@ class Cases:
 
     async def _level(self) -> None:
         """Gives each server a third of the streams again: those that have more lose some, which is no case of this check."""
-        await until(lambda: all(self._status_is(name, "UP")() for name in SERVERS))
+        await until(lambda: all(self._status_is(name, "UP", "NOLB")() for name in SERVERS))
         for name in SERVERS:
             self._balancer.command(f"set server iconvd/{name} weight 100")
         owners = self._balancer.owners()
@@ -111,6 +114,55 @@ class Cases:
         await self._lose("stopped", name, lambda: self._servers[name].send(signal.SIGSTOP))
         self._servers[name].send(signal.SIGCONT)
         await self._come_back("stopped", name)
+        await self._level()
+
+    async def _paused(self, name: str) -> None:
+        """A stop of 0.3 s, as a debugger that attaches makes it."""
+        before = {stream: stream.losses for stream in self._crowd.streams}
+        self._servers[name].send(signal.SIGSTOP)
+        await asyncio.sleep(0.3)
+        self._servers[name].send(signal.SIGCONT)
+        await self._all_go_on("stopped for 0.3 s")
+        lost = sum(stream.losses > before[stream] for stream in self._crowd.streams)
+        self._results.check(lost == 0, "stopped for 0.3 s: no stream is lost", f"{lost} were")
+
+    async def _filled(self, name: str) -> None:
+        """Other clients take all places of a server."""
+        before = {stream: stream.losses for stream in self._crowd.streams}
+        others = []
+        said = "ok\n"
+        while said == "ok\n" and len(others) < 2 * AT_ONCE:
+            others.append(await asyncio.open_connection(ADDRESSES[name], PORT))
+            await asyncio.sleep(0.02)
+            said = await asyncio.to_thread(self._servers[name].ask, "health")
+        self._results.check(said == "full\n", f"full: its health says so after {len(others)} more streams", said)
+        self._results.check(await until(self._status_is(name, "NOLB")), "full: the balancer sends it no new stream")
+        await self._all_go_on("full")
+        lost = sum(stream.losses > before[stream] for stream in self._crowd.streams)
+        self._results.check(lost == 0, "full: no stream is lost", f"{lost} were")
+        for _, writer in others:
+            writer.close()
+        await self._come_back("full", name)
+        await self._level()
+
+    async def _drained_by_stop(self, name: str) -> None:
+        """The server is stopped as ExecStop= of its unit does it, while its clients talk and then are silent. Later it is started again."""
+        theirs = self._streams_of(name)
+        before = {stream: stream.losses for stream in self._crowd.streams}
+        unanswered = self._crowd.unanswered()
+        stop = asyncio.create_task(asyncio.to_thread(self._servers[name].drain))
+        await asyncio.sleep(2)
+        for stream in theirs:
+            stream.is_silent = stream.losses == before[stream]
+        status = await stop
+        self._results.check(status == 0, "stopped by a drain: its exit status is 0", str(status))
+        others = sum(stream.losses > before[stream] for stream in self._crowd.streams if stream not in theirs)
+        self._results.check(others == 0, "stopped by a drain: the streams of other servers see nothing", f"{others} were lost")
+        await self._all_go_on("stopped by a drain")
+        lost = self._crowd.unanswered() - unanswered
+        self._results.check(lost == 0, f"stopped by a drain: no request of its {len(theirs)} streams is lost", f"{lost} were")
+        self._servers[name].start()
+        await self._come_back("stopped by a drain", name)
         await self._level()
 
     async def _drained(self, name: str) -> None:

@@ -14,7 +14,10 @@ from network import ADDRESSES, BALANCER, SERVERS, inside
 
 PORT = 7879
 TLS_PORT = 7880
+ADMIN_PORT = 9879
 AT_ONCE = 160
+#: For how many seconds a drain waits for streams at most.
+DRAIN = 20
 #: Two servers have to take the streams of three.
 MAXCONN = 156
 _HERE = os.path.dirname(os.path.abspath(__file__))
@@ -29,11 +32,13 @@ class Server:
     def __init__(self, name: str, program: str) -> None:
         self.name = name
         self.program = program
+        self._admin = f"{ADDRESSES[name]}:{ADMIN_PORT}"
         self._process: Optional["subprocess.Popen[bytes]"] = None
 
     def start(self) -> None:
         """Starts it, and waits until it listens."""
-        words = [self.program, "listen", f"{ADDRESSES[self.name]}:{PORT}", "--at-once", str(AT_ONCE)]
+        words = [self.program, "listen", f"{ADDRESSES[self.name]}:{PORT}", "--at-once", str(AT_ONCE), "--admin", self._admin]
+        words += ["--when-full", "close", "--drain", str(DRAIN)]
         self._process = subprocess.Popen(inside(self.name, words), stdout=subprocess.PIPE, stderr=subprocess.DEVNULL)
         assert self._process.stdout is not None
         if not self._process.stdout.readline().startswith(b"listening"):
@@ -49,6 +54,23 @@ class Server:
         assert self._process is not None and self._process.stdout is not None
         self._process.wait()
         self._process.stdout.close()
+
+    def ask(self, page: str) -> str:
+        """Asks its admin address, from its own machine, and returns what it answers."""
+        words = [self.program, "admin", self._admin, page]
+        return subprocess.run(inside(self.name, words), stdout=subprocess.PIPE, stderr=subprocess.STDOUT, text=True).stdout
+
+    def drain(self) -> int:
+        """Stops it as the unit's ExecStop= does, and returns its exit status once it has gone. One that stays is killed."""
+        self.ask("drain")
+        assert self._process is not None and self._process.stdout is not None
+        try:
+            status = self._process.wait(10 * DRAIN)
+        except subprocess.TimeoutExpired:
+            self._process.kill()
+            status = self._process.wait()
+        self._process.stdout.close()
+        return status
 
     def runs(self, program: str) -> bool:
         """Whether the process that serves runs this file."""
@@ -72,7 +94,7 @@ def configuration() -> str:
     text = _replaced(text, r" mode 660 group haproxy$", " mode 660")
     text = _replaced(text, r"^    bind 127\.0\.0\.1:7879$", f"    bind {ADDRESSES[BALANCER]}:{PORT}")
     text = _replaced(text, r"^    # bind :7880 ssl crt \S+ (.*) ca-file \S+ ", f"    bind :{TLS_PORT} ssl crt {_CERTIFICATE} \\1 ca-file {_CERTIFICATE} ")
-    text = _replaced(text, r"\bmaxconn 60\b", f"maxconn {MAXCONN}")
+    text = _replaced(text, r"\bmaxconn 120\b", f"maxconn {MAXCONN}")
     for number, name in enumerate(SERVERS, 1):
         text = _replaced(text, rf"^    server {name} 192\.0\.2\.{number}:7879", f"    server {name} {ADDRESSES[name]}:{PORT}")
     return text
@@ -131,6 +153,11 @@ class Balancer:
             if columns[:2] == ["iconvd", server]:
                 return columns[17]
         return ""
+
+    def shares(self) -> str:
+        """Says for each server what HAProxy says of it, how many streams it has, and how many wait."""
+        rows = [line.split(",") for line in self.command("show stat").splitlines()]
+        return ", ".join(f"{row[1]} {row[17]} {row[4]} ({row[2]} wait)" for row in rows if row[0] == "iconvd")
 
     def metrics(self) -> str:
         """Returns the page of the metrics, read on the balancer's machine."""

@@ -4,11 +4,16 @@ from __future__ import annotations
 
 import asyncio
 import random
+import time
 from typing import Callable, List, Optional, Sequence
 
 from conversation import Exchange
 from iconvd.errors import ServerLost
 from iconvd.frames import ReplyReader
+
+
+#: A drain ends a stream whose client was silent for so long. A request that came sooner after the one before it was read.
+SILENCE = 1.0
 
 
 class Stream:
@@ -21,9 +26,16 @@ class Stream:
         self.port = 0
         self.replies = 0
         self.losses = 0
+        #: How many requests were read and not answered. A stream without any reply was never served.
+        self.unanswered = 0
+        #: Whether it asks no more on the stream that it has, and waits for its end.
+        self.is_silent = False
         self.wrong: List[str] = []
         self.ended = 0
         self._is_moving = False
+        self._is_served = False
+        #: When the last batch began to be sent.
+        self._sent = 0.0
 
     async def run(self, host: str, port: int, is_over: Callable[[], bool]) -> None:
         """Talks until it is over."""
@@ -32,7 +44,7 @@ class Stream:
                 await self._talk(host, port, is_over)
             except (OSError, ServerLost, asyncio.IncompleteReadError):
                 self.losses += not self._is_moving
-                self._is_moving = False
+                self._is_moving = self.is_silent = False
                 self.port = 0
                 await asyncio.sleep(0.1 + self._dice.random() / 5)
             finally:
@@ -42,6 +54,7 @@ class Stream:
     async def _talk(self, host: str, port: int, is_over: Callable[[], bool]) -> None:
         reader, self._writer = await asyncio.open_connection(host, port)
         replies = ReplyReader()
+        self._is_served = False
         while not is_over():
             at = 0
             while at < len(self._exchanges) and not is_over():
@@ -50,6 +63,8 @@ class Stream:
                 self.port = self._writer.get_extra_info("sockname")[1]
                 at += len(batch)
                 await asyncio.sleep(0.05 + self._dice.random() / 5)
+                if self.is_silent:
+                    await self._wait_for_end(reader)
             self.ended += at == len(self._exchanges)
 
     def move(self) -> None:
@@ -59,20 +74,33 @@ class Stream:
         if self._writer is not None:
             self._writer.close()
 
+    async def _wait_for_end(self, reader: asyncio.StreamReader) -> None:
+        """Nothing was asked, so all that can come is the end."""
+        if said := await reader.read(1 << 16):
+            self.wrong.append(f"{said!r} in place of the end")
+        raise ServerLost("the stream ended")
+
     async def _exchange(self, reader: asyncio.StreamReader, replies: ReplyReader, batch: Sequence[Exchange]) -> None:
         assert self._writer is not None
+        before, self._sent = self._sent, time.monotonic()
         self._writer.write(b"".join(exchange.request for exchange in batch))
         await self._writer.drain()
+        silence = time.monotonic() - before
         answered = 0
-        while answered < len(batch):
-            data = await reader.read(65536)
-            if not data:
-                raise ServerLost("the stream ended")
-            for reply in replies.feed(data):
-                if answered == len(batch) or reply != batch[answered].reply:
-                    self.wrong.append(f"{reply} in place of {batch[min(answered, len(batch) - 1)].reply}")
-                answered += 1
-                self.replies += 1
+        try:
+            while answered < len(batch):
+                data = await reader.read(65536)
+                if not data:
+                    raise ServerLost("the stream ended")
+                for reply in replies.feed(data):
+                    if answered == len(batch) or reply != batch[answered].reply:
+                        self.wrong.append(f"{reply} in place of {batch[min(answered, len(batch) - 1)].reply}")
+                    answered += 1
+                    self.replies += 1
+                    self._is_served = True
+        finally:
+            if self._is_served and silence < SILENCE:
+                self.unanswered += max(0, len(batch) - answered)
 
 
 class Crowd:
@@ -95,6 +123,9 @@ class Crowd:
 
     def replies(self) -> int:
         return sum(stream.replies for stream in self.streams)
+
+    def unanswered(self) -> int:
+        return sum(stream.unanswered for stream in self.streams)
 
 
 async def until(holds: Callable[[], bool], seconds: float = 60) -> bool:

@@ -59,8 +59,8 @@ class Install(unittest.TestCase):
         (made,) = glob.glob(os.path.join(self.room, "*.tar.gz" if kind == "sdist" else "*.whl"))
         return made
 
-    @unittest.skipUnless(HAS_SETUPTOOLS, "Debian's python3-setuptools or python3-wheel is not there")
     def test_source_distribution_and_wheel(self) -> None:
+        self.assertTrue(HAS_SETUPTOOLS, "Debian's python3-setuptools or python3-wheel is not there")
         with tarfile.open(self.build(self.source, "sdist")) as packed:
             self.assertTrue([name for name in packed.getnames() if name.endswith("/iconvd/data/names.tsv")])
             packed.extractall(self.room)
@@ -72,8 +72,8 @@ class Install(unittest.TestCase):
             wheel.extractall(self.target)
         self.check(self.target)
 
-    @unittest.skipUnless(HAS_SETUPTOOLS and HAS_PIP, "Debian's python3-pip, python3-setuptools or python3-wheel is not there")
     def test_pip_install_of_the_folder(self) -> None:
+        self.assertTrue(HAS_SETUPTOOLS and HAS_PIP, "Debian's python3-pip, python3-setuptools or python3-wheel is not there")
         pip = [sys.executable, "-m", "pip", "install", "--no-index", "--no-build-isolation", "--no-deps", "--target", self.target]
         run([*pip, self.source], self.room)
         self.check(self.target)

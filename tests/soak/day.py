@@ -3,8 +3,9 @@
 from __future__ import annotations
 
 import asyncio
+import time
 from collections import Counter
-from typing import Awaitable, Callable, List
+from typing import Awaitable, Callable, List, Protocol
 
 from iconvd import frames
 from iconvd.errors import ServerLost
@@ -18,11 +19,21 @@ TARGET = b"UTF-8"
 LONG = 20_000
 
 
+class Service(Protocol):
+    """What serves them."""
+
+    port: int
+
+    def may_end(self, begun: float) -> bool:
+        """Whether a stream that was opened after this time may be lost."""
+
+
 class Day:
     """All actors, and what they saw."""
 
-    def __init__(self, port: int, corpus: Corpus) -> None:
-        self._port = port
+    def __init__(self, service: Service, corpus: Corpus) -> None:
+        self._service = service
+        self._port = service.port
         self._corpus = corpus
         self.is_over = False
         self.counts: "Counter[str]" = Counter()
@@ -34,11 +45,15 @@ class Day:
         await asyncio.gather(*(self._act(actor) for actor in actors))
 
     async def _act(self, actor: Callable[[], Awaitable[None]]) -> None:
-        """An actor whose stream is lost, which no one of these should be, is seen and goes on."""
+        """An actor whose stream is lost is seen and goes on. No stream should be, but by a drain."""
         while not self.is_over:
+            begun = time.monotonic()
             try:
                 await actor()
             except (OSError, ServerLost) as error:
+                if self._service.may_end(begun):
+                    self.counts["streams that a drain ended"] += 1
+                    continue
                 self._expect(False, f"{actor.__name__}: {error}")
                 await asyncio.sleep(1)
 

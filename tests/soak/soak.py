@@ -1,9 +1,10 @@
 #!/usr/bin/python3
-"""soak.py [PROGRAM] [--minutes M] [--out FOLDER]: a gateway's day in M minutes against `iconvd listen`, with good and bad clients.
+"""soak.py [PROGRAM] [--minutes M] [--drains D] [--out FOLDER]: a gateway's day in M minutes against `iconvd listen`, with good and bad clients.
 
-Every reply is compared with what Python's codecs say. It writes the figures over time as a table and as a chart (FOLDER/soak.csv and
-soak.svg), and ends with `N passed, N failed`: no wrong reply, memory level, times level. No figure is judged by itself: memory is compared
-with the same run's, times with those of an echo that is asked at the same moments.
+Every reply is compared with what Python's codecs say. The metrics are read each second. D times another server takes the listener, and the
+one before is drained: its clients go on by other streams. It writes the figures over time as tables and as a chart (FOLDER/soak.csv,
+metrics.csv and soak.svg), and ends with `N passed, N failed`: no wrong reply, memory within its limit and level, times level. No figure is
+judged by itself: memory is compared with the same run's, times with those of an echo that is asked at the same moments.
 """
 
 from __future__ import annotations
@@ -16,7 +17,7 @@ import signal
 import subprocess
 import sys
 import time
-from typing import List, Tuple
+from typing import List, NamedTuple, Sequence, Tuple
 
 HERE = os.path.dirname(os.path.abspath(__file__))
 TOP = os.path.dirname(os.path.dirname(HERE))
@@ -26,9 +27,19 @@ from chart import draw
 from corpus import Corpus
 from day import Day
 from probes import Probes, Window
-from verdict import memory_level, times_level
+from scrape import Sample, Scraper
+from service import Service
+from verdict import bounded, memory_level, scraped, times_level
 
-AT_ONCE = 32
+
+class Run(NamedTuple):
+    """All that takes part, and when it began."""
+
+    day: Day
+    probes: Probes
+    scraper: Scraper
+    service: Service
+    begin: float
 
 
 def start(words: List[str], log: str) -> Tuple["subprocess.Popen[str]", int]:
@@ -42,36 +53,53 @@ def start(words: List[str], log: str) -> Tuple["subprocess.Popen[str]", int]:
     return process, int(line.rsplit(":", 1)[-1])
 
 
-async def soak(port: int, process: int, echo_port: int, minutes: float) -> Tuple[Day, List[Window]]:
-    """Runs the day and the probes for so long."""
+async def replace_at(service: Service, moments: List[float]) -> None:
+    """Replaces the server at these times."""
+    for moment in moments:
+        await asyncio.sleep(max(0.0, moment - time.monotonic()))
+        await service.replace()
+
+
+async def soak(service: Service, echo_port: int, minutes: float, drains: int) -> Run:
+    """Runs the day, the probes and the scraper for so long, and replaces the server meanwhile."""
     corpus = Corpus(1)
     if corpus.without:
         print(f"without charmaps that this system lacks: {', '.join(corpus.without)}")
-    day = Day(port, corpus)
-    probes = Probes((port, process), echo_port)
-    tasks = [asyncio.create_task(day.run()), asyncio.create_task(probes.run(lambda: day.counts["replies"]))]
-    end = time.monotonic() + minutes * 60
+    begin = time.monotonic()
+    run = Run(Day(service, corpus), Probes(service, echo_port), Scraper(service), service, begin)
+    tasks = [asyncio.create_task(run.day.run()), asyncio.create_task(run.probes.run(begin, lambda: run.day.counts["replies"]))]
+    tasks.append(asyncio.create_task(run.scraper.run(begin)))
+    moments = [begin + 60 * minutes * (number + 1) / (drains + 1) for number in range(drains)]
+    replacing = asyncio.create_task(replace_at(service, moments))
+    end = begin + minutes * 60
     while time.monotonic() < end and not any(task.done() for task in tasks):
         await asyncio.sleep(0.5)
-    day.is_over = probes.is_over = True
+    await replacing
+    run.day.is_over = run.probes.is_over = run.scraper.is_over = True
     for ended in await asyncio.gather(*tasks, return_exceptions=True):
         if isinstance(ended, BaseException):
-            day.wrong.append(f"the probes: {ended!r}")
-    return day, probes.windows
+            run.day.wrong.append(f"the probes: {ended!r}")
+    return run
 
 
-def write_table(windows: List[Window], path: str) -> None:
+def write_table(rows: Sequence[Tuple[float, ...]], names: Tuple[str, ...], path: str) -> None:
     with open(path, "w", encoding="ascii", newline="") as file:
         table = csv.writer(file)
-        table.writerow(Window._fields)
-        table.writerows([[round(figure, 1) for figure in window] for window in windows])
+        table.writerow(names)
+        table.writerows([[round(figure, 1) for figure in row] for row in rows])
 
 
-def judge(day: Day, windows: List[Window]) -> List[bool]:
+def judge(run: Run, drains: int) -> List[bool]:
     """Prints each part of the verdict."""
+    day, windows, samples = run.day, run.probes.windows, run.scraper.samples
     counts = ", ".join(f"{count:,} {name}" for name, count in sorted(day.counts.items()))
     parts = [
+        (run.service.lives(), "the server lives", ""),
         (not day.wrong and day.counts["replies"] > 0, "each reply is right", f"{counts}{''.join(f'; {text}' for text in day.wrong[:5])}"),
+        (not run.service.wrong and len(run.service.drains) == drains, "each drain ends its server", f"{drains}; {run.service.wrong}"),
+        scraped(run.scraper),
+        bounded(samples),
+        (run.scraper.refused_memory == 0, "no request is refused memory", f"{run.scraper.refused_memory} were"),
         ((len(windows) >= 9), "there are windows enough for a verdict", f"{len(windows)}"),
     ]
     if len(windows) >= 9:
@@ -86,24 +114,25 @@ def main() -> int:
     options = argparse.ArgumentParser(description=__doc__, formatter_class=argparse.RawDescriptionHelpFormatter)
     options.add_argument("program", nargs="?", default=os.path.join(TOP, "crates/iconvd/out/iconvd"))
     options.add_argument("--minutes", type=float, default=10)
+    options.add_argument("--drains", type=int, default=2, help="how often the server is replaced by another, and drained")
     options.add_argument("--out", default=os.path.join(HERE, "out"))
     said = options.parse_args()
     os.makedirs(said.out, exist_ok=True)
     # So that a SIGTERM, too, ends what is started here.
     signal.signal(signal.SIGTERM, signal.default_int_handler)
-    server, port = start([said.program, "listen", "127.0.0.1:0", "--at-once", str(AT_ONCE), "--idle", "60"], os.path.join(said.out, "server.log"))
     echo, echo_port = start([sys.executable, os.path.join(HERE, "echo.py")], os.path.join(said.out, "echo.log"))
+    service = Service(said.program, said.out)
     try:
-        day, windows = asyncio.run(soak(port, server.pid, echo_port, said.minutes))
-        lives = server.poll() is None
-        print("ok: the server lives" if lives else f"FAILED: the server lives: it ended with status {server.poll()}; see {said.out}/server.log")
+        run = asyncio.run(soak(service, echo_port, said.minutes, said.drains))
+        parts = judge(run, said.drains)
     finally:
-        server.kill()
+        service.kill()
         echo.kill()
-    parts = [lives, *judge(day, windows)]
-    write_table(windows, os.path.join(said.out, "soak.csv"))
+    write_table(run.probes.windows, Window._fields, os.path.join(said.out, "soak.csv"))
+    write_table(run.scraper.samples, Sample._fields, os.path.join(said.out, "metrics.csv"))
     chart = os.path.join(said.out, "soak.svg")
-    drawn = draw(windows, chart, f"iconvd under a gateway's day of {said.minutes:g} minutes")
+    drains = [(drain.begin - run.begin, drain.end - run.begin) for drain in service.drains]
+    drawn = draw(run.probes.windows, run.scraper.samples, drains, chart, f"iconvd under a gateway's day of {said.minutes:g} minutes")
     print(f"chart: {chart}" if drawn else "no chart: there is no matplotlib (python3-matplotlib)")
     print(f"{sum(parts)} passed, {len(parts) - sum(parts)} failed")
     return not all(parts)

@@ -1,4 +1,4 @@
-"""What the figures say: whether memory and times stayed level, whatever the machine's speed."""
+"""What the figures say: whether memory and times stayed level, whatever the machine's speed, and what the metrics say."""
 
 from __future__ import annotations
 
@@ -6,6 +6,7 @@ from statistics import median
 from typing import List, Sequence, Tuple
 
 from probes import Window
+from scrape import Sample, Scraper
 
 #: The last third's memory may be above the middle third's by a tenth and this, since threads have caches of their own.
 MEMORY_SLACK = 8 << 20
@@ -28,3 +29,17 @@ def times_level(windows: Sequence[Window]) -> Tuple[bool, str]:
     """Whether the slowest requests in a hundred, beside those of the echo at the same times, stayed as slow."""
     first, _, last = (median(window.p99 / max(window.echo_p99, 1.0) for window in third) for third in _thirds(windows))
     return last <= TIME_FACTOR * max(first, 1.0), f"p99 is {first:.2f} times the echo's in the first third, {last:.2f} in the last"
+
+
+def scraped(scraper: Scraper) -> Tuple[bool, str, str]:
+    """Whether a server that serves gave its metrics most times. On a busy machine a page may take longer than its two seconds."""
+    count, failed = len(scraper.samples), len(scraper.failures)
+    return count > failed, "the metrics are to be had", f"{count} times, and {failed} times not {scraper.failures[:3]}"
+
+
+def bounded(samples: Sequence[Sample]) -> Tuple[bool, str, str]:
+    """Whether streams held no more than they may."""
+    holds = all(sample.stream_memory <= sample.limit for sample in samples)
+    most = max((sample.stream_memory for sample in samples), default=0)
+    limit = max((sample.limit for sample in samples), default=0)
+    return holds, "streams hold no more than they may", f"{most / 1e6:.1f} MB of {limit / 1e6:.1f} MB"

@@ -44,11 +44,14 @@ def blocks(lines: list[str], manual: bool) -> Iterator[Block]:
 
 
 class Session:
-    """Commands of one page, which find the program as `iconvd`. A server listens at a port that the system chooses."""
+    """Commands of one page, in a folder of their own. They find the program as `iconvd`. A server listens at a port that the system chooses."""
 
     def __init__(self, program: Path, folder: str) -> None:
-        os.symlink(program, Path(folder) / "iconvd")
-        self.environment = {**os.environ, "PATH": f"{folder}:{os.environ['PATH']}"}
+        programs = Path(folder) / "bin"
+        programs.mkdir()
+        os.symlink(program, programs / "iconvd")
+        self.folder = folder
+        self.environment = {**os.environ, "PATH": f"{programs}:{os.environ['PATH']}"}
         self.addresses: dict[str, str] = {}
         self.servers: list[subprocess.Popen[str]] = []
 
@@ -58,13 +61,14 @@ class Session:
             command = command.replace(shown_address, address)
         if command.endswith(" &"):
             return self.start(command[:-2], shown)
-        done = subprocess.run(["sh", "-c", command], env=self.environment, capture_output=True, text=True, timeout=SECONDS)
+        words = ["sh", "-c", command]
+        done = subprocess.run(words, cwd=self.folder, env=self.environment, capture_output=True, text=True, timeout=SECONDS)
         printed = done.stdout.splitlines()
         return None if printed == shown else f"`{command}` prints {printed} {done.stderr.strip()}"
 
     def start(self, command: str, shown: list[str]) -> str | None:
         anywhere = re.sub(r"(listen [\d.]+):\d+", r"\1:0", command)
-        server = subprocess.Popen(["sh", "-c", f"exec {anywhere}"], env=self.environment, stdout=subprocess.PIPE, text=True)
+        server = subprocess.Popen(["sh", "-c", f"exec {anywhere}"], cwd=self.folder, env=self.environment, stdout=subprocess.PIPE, text=True)
         self.servers.append(server)
         assert server.stdout is not None
         line = server.stdout.readline().strip()
@@ -132,7 +136,7 @@ def findings(lines: list[str], manual: bool, program: Path) -> Iterator[Finding]
         try:
             for block in found:
                 for number, command, shown in commands(block):
-                    if "LD_PRELOAD" not in command and command.startswith(("printf", "gzip", "iconvd", "echo")):
+                    if "LD_PRELOAD" not in command and command.startswith(("printf", "gzip", "iconvd ", "echo")):
                         wrong = session.run(command, shown)
                         if wrong:
                             yield number, wrong

@@ -71,7 +71,7 @@ UNKNOWN := $(filter-out $(CHECKS:check-%=%),$(SKIP))
 
 checks: ## all checks after the gate, one after the other; SKIP='boot cluster' leaves out these
 	@$(if $(UNKNOWN),echo "make checks: SKIP names no check: $(UNKNOWN)" >&2; exit 1,:)
-	@SKIPPED='$(SKIPPED)' tools/count $(patsubst %,'make %',$(filter-out $(SKIPPED),$(CHECKS)))
+	@SKIPPED='$(SKIPPED)' tools/count --on-failure $(patsubst %,'make %',$(filter-out $(SKIPPED),$(CHECKS)))
 
 check-rules: ## the house rules that a machine can check
 	@tools/need 'make $@' git python3 shellcheck

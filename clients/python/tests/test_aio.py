@@ -62,8 +62,9 @@ class Aio(unittest.IsolatedAsyncioTestCase):
         with tempfile.TemporaryDirectory() as folder:
             server = FakeServer(folder, lambda stream: stream.sendall(b"\xff" * 64))
             client = iconvd.AsyncClient(server.where, timeout=2)
-            with self.assertRaises(iconvd.ServerLost):
-                await asyncio.gather(*(client.convert(b"a", "UTF-8", "ASCII") for _ in range(10)))
+            calls = [client.convert(b"a", "UTF-8", "ASCII") for _ in range(10)]
+            for result in await asyncio.gather(*calls, return_exceptions=True):
+                self.assertIsInstance(result, iconvd.ServerLost)
             await client.close()
             await asyncio.to_thread(server.close)
 

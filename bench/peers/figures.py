@@ -106,13 +106,21 @@ def commit() -> str:
     return (git("rev-parse", "--short=12", "HEAD") or "unknown") + (" with changes" if git("status", "--porcelain", "-uno") else "")
 
 
-def describe(figures: Figures, programs: Iterable[str]) -> None:
+def build(programs: Iterable[str]) -> str:
+    """Which build is measured, by where its programs are."""
+    if all(os.path.dirname(path).endswith("/out") and "/crates/" in path for path in programs):
+        return "proved, for every x86-64 processor"
+    return "built without proofs" if any("/out/unproved/" in path for path in programs) else "a build of unknown kind"
+
+
+def describe(figures: Figures, programs: list[str]) -> None:
     """Says the machine, the date, the commit and the programs that are measured."""
     memory = int(first_value("/proc/meminfo", "MemTotal").split()[0]) / 2 ** 20
     figures.say("machine", f"{first_value('/proc/cpuinfo', 'model name')}, {os.cpu_count()} processors, {memory:.0f} GiB")
     figures.say("system", f"{platform.freedesktop_os_release()['PRETTY_NAME']}, Linux {platform.release()}")
     figures.say("date", datetime.datetime.now(datetime.timezone.utc).strftime("%Y-%m-%d %H:%M UTC"))
     figures.say("commit", commit())
+    figures.say("build", build(programs))
     for program in programs:
         figures.say("program", f"{os.path.relpath(program, os.path.dirname(BENCH))}, {os.path.getsize(program)} bytes")
 

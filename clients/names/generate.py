@@ -140,7 +140,7 @@ def with_order(text: str, word_order: str) -> str:
 
 
 def characters(text: str) -> str:
-    return ''.join(chr(int(digits, 16)) for digits in re.findall(r'<U([0-9A-F]{4,8})>', text))
+    return ''.join(chr(int(digits, 16)) for digits in re.findall(r'<U([0-9A-Fa-f]{4,8})>', text))
 
 
 def candidate(text: str) -> str | None:
@@ -150,23 +150,26 @@ def candidate(text: str) -> str | None:
 
 
 def read_transliterations(directory: str, name: str, table: dict[int, list[str]], seen: set[str]) -> None:
-    """Adds the transliterations of a locale and of those that it includes. The first that says a character decides."""
+    """Adds the transliterations of a locale, and then of those that it includes, the last first. The first that says a character decides, as in
+    glibc."""
     if name in seen:
         return
     seen.add(name)
-    inside = False
+    inside, included = False, []
     with open(os.path.join(directory, name), encoding='utf-8', errors='replace') as lines:
         for line in (line.strip() for line in lines):
             if line.startswith(('translit_start', 'translit_end')):
                 inside = line.startswith('translit_start')
             elif inside and line.startswith('include'):
-                read_transliterations(directory, line.split('"')[1], table, seen)
+                included.append(line.split('"')[1])
             elif inside and line.startswith('<U'):
                 add_transliteration(line.split('%')[0], table)
+    for other in reversed(included):
+        read_transliterations(directory, other, table, seen)
 
 
 def add_transliteration(line: str, table: dict[int, list[str]]) -> None:
-    found = re.match(r'<U([0-9A-F]{4,8})>\s+(\S.*)$', line.strip())
+    found = re.match(r'<U([0-9A-Fa-f]{4,8})>\s+(\S.*)$', line.strip())
     if found:
         candidates = [candidate(text) for text in found[2].split(';')]
         table.setdefault(int(found[1], 16), [text for text in candidates if text is not None])

@@ -1,7 +1,9 @@
 /* How long calls take beside the C library's, and those of another preload library that BESIDE names if it is set, in one process: the
  * fastest of 25 rounds each, in turn. It asserts nothing. */
 #include <string.h>
+#include <sys/socket.h>
 #include <time.h>
+#include <unistd.h>
 
 #include "libraries.h"
 
@@ -77,6 +79,34 @@ static void open_again(const char *to, const char *from) {
     printf("%-10s %-10s open and close again: %.2f us\n", from, to, best);
 }
 
+/* What no call can be faster than: as many bytes as a call of 64 sends and receives, to a process that sends them back at once. */
+static void send_and_receive(void) {
+    enum { SENT = 85, CALLS = 1000 };
+    int pair[2];
+    char bytes[SENT] = {0};
+    double best = 1e12;
+    if (socketpair(AF_UNIX, SOCK_STREAM, 0, pair) != 0)
+        return;
+    if (fork() == 0) {
+        close(pair[0]);
+        for (ssize_t got; (got = read(pair[1], bytes, SENT)) > 0;)
+            if (write(pair[1], bytes, (size_t)got) != got)
+                break;
+        _exit(0);
+    }
+    close(pair[1]);
+    for (int round = 0; round < 25; round++) {
+        double start = now();
+        for (int i = 0; i < CALLS; i++)
+            if (write(pair[0], bytes, SENT) != SENT || read(pair[0], bytes, SENT) != SENT)
+                break;
+        double time = (now() - start) / CALLS;
+        best = time < best ? time : best;
+    }
+    close(pair[0]);
+    printf("a socketpair to another process, %d bytes there and back: %.2f us\n", SENT, best);
+}
+
 int main(void) {
     static const char GERMAN[] = "Die Stra\u00dfe f\u00fchrt \u00fcber M\u00fcnchen nach K\u00f6ln. ";
     static const char RUSSIAN[] = "\u041f\u0440\u0438\u0432\u0435\u0442 ";
@@ -97,5 +127,6 @@ int main(void) {
         run(&TASKS[i]);
     open_again("UTF-16LE", "UTF-8");
     open_again("UTF-8", "KOI8-R");
+    send_and_receive();
     return 0;
 }

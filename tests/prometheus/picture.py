@@ -77,7 +77,7 @@ class Server:
 
 
 async def until(end: float, act: Callable[[], Awaitable[object]]) -> None:
-    """Repeats an action until `end`; a server that is full or gone ends it early."""
+    """Repeats an action until `end`. It may fail, since a server is full or gone."""
     while time.monotonic() < end:
         with contextlib.suppress(OSError, ServerLost):
             await asyncio.wait_for(act(), 30)

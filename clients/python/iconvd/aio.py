@@ -261,7 +261,7 @@ class AsyncClient:
             running.close()
 
     async def _connected(self) -> _Connection:
-        """Returns the stream, and opens it if there is none. If it can't be opened, all who wait for it get the same fault."""
+        """Returns the stream, and opens it if there is none. Calls that waited while it could not be opened do not wait again."""
         loop = asyncio.get_running_loop()
         asked = loop.time()
         if self._connecting is None:

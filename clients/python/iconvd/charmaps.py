@@ -2,8 +2,8 @@
 
 The files of Debian's package `locales` are made for localedef(1), and some need mending before the server takes them. They get
 a name of their own (two files share one), the least and the greatest length of a character if the file does not have them, and
-a missing line CHARMAP. Lines marked `%IRREVERSIBLE%` are moved after all others, since the first mapping of a character is
-written.
+a missing line CHARMAP. Lines marked `%IRREVERSIBLE%` are moved after all others: both mappings of a character are read, and the
+first is written.
 """
 
 from __future__ import annotations

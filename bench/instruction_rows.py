@@ -1,4 +1,4 @@
-"""What `bench/instructions` counts: the lines of workloads.txt at a small count, and streams of frames for `iconvd pipe`.
+"""The rows of `bench/instructions`: the lines of workloads.txt at a small count, and streams of frames for `iconvd pipe`.
 
 Texts are written as patterns: `c2d1` is two Chinese characters and one from U+10000 on, again and again; `a` is ASCII, `b` Cyrillic.
 """
@@ -30,7 +30,7 @@ class Job(NamedTuple):
 
 
 class Stream(NamedTuple):
-    """Frames for `iconvd pipe`: those in front, and those of one turn, of which there may be many. What a turn costs is counted."""
+    """Frames for `iconvd pipe`: the first ones, and those of one turn, which may be repeated. The cost of a turn is counted."""
 
     name: str
     front: bytes
@@ -63,7 +63,7 @@ def conv(text: bytes, room: int) -> bytes:
 
 
 def pattern(words: str) -> str:
-    """The text of a pattern, some tens of thousands of characters."""
+    """The text of a pattern, tens of thousands of characters."""
     parts = [(ALPHABETS[letter], int(count)) for letter, count in re.findall(r"([abcd])(\d+)", words)]
     text: List[str] = []
     at = 0
@@ -75,7 +75,7 @@ def pattern(words: str) -> str:
 
 
 def by_chance(share: float) -> str:
-    """Chinese, of whose characters such a share are from U+10000 on."""
+    """Chinese, with this share of its characters from U+10000 on."""
     chance = random.Random(1)
     return "".join(ALPHABETS["d" if chance.random() < share else "c"][k % 64] for k in range(CHARACTERS))
 
@@ -86,22 +86,22 @@ def same(frames: bytes) -> Callable[[int], bytes]:
 
 
 def anew(text: bytes) -> Callable[[int], bytes]:
-    """In each turn an upload of another caller, which then goes. A comment makes each text another."""
+    """In each turn another caller uploads a charmap and frees it. A comment makes each text different."""
     return lambda turn: frame(turn, PUT, b"# %d\n" % turn + text) + frame(turn, BYE)
 
 
 def front_of(text: str, source: str, most: int) -> bytes:
-    """The whole characters at the front of a text that have so many bytes at most."""
+    """The longest prefix of whole characters of a text that has at most `most` bytes."""
     return text.encode(source)[:most].decode(source, "ignore").encode(source)
 
 
 def in_one_call(name: str, target: str, source: str, text: bytes) -> Stream:
-    """A text as a CONV with room for all that it may need."""
+    """A text as one CONV with enough room."""
     return Stream(name, opening(target, source), same(conv(text, 4 * MOST_INPUT)), 4)
 
 
 def converted(source: str, target: str, text: str, what: str) -> Stream:
-    """The front of a text, from one encoding to another."""
+    """The beginning of a text, from one encoding to another."""
     return in_one_call(f"{source} to {target} {what}", target, source, front_of(text, source, MOST_INPUT))
 
 
@@ -111,7 +111,7 @@ def repeated(source: str, target: str, words: str) -> Stream:
 
 
 def dear_texts() -> Iterator[Stream]:
-    """Texts that went badly by windows of sixteen characters, or could."""
+    """Texts that were slow by windows of sixteen characters, or could be."""
     for words in ["a1", "b1", "c1", "c2d1", "c1d2", "c3d1", "b1d2", "a41d1"]:
         yield repeated("UTF-16LE", "UTF-8", words)
     for share in [0.25, 0.33, 0.5]:
@@ -128,7 +128,7 @@ def dear_texts() -> Iterator[Stream]:
 
 
 def small_rooms() -> Iterator[Stream]:
-    """Calls whose room ends, and one whose text is ill-formed soon."""
+    """Calls that use up their room, and one whose text is soon ill-formed."""
     latin = bytes(range(0xC0, 0x100)) * 8
     cyrillic = pattern("b1")
     calls: List[Tuple[str, str, str, bytes, int]] = [
@@ -149,7 +149,7 @@ def charmap(name: str, longest: int, mappings: List[Tuple[str, bytes]]) -> bytes
 
 
 def mappings_of(codec: str, codes: List[bytes]) -> List[Tuple[str, bytes]]:
-    """What a codec of Python makes of codes, each for one character."""
+    """The mappings of codes, each for one character, by a codec of Python."""
     found = []
     for code in codes:
         text = code.decode(codec, "ignore")
@@ -168,14 +168,14 @@ def euc_kr() -> bytes:
 
 
 def one_front() -> bytes:
-    """Letters by one byte, and 32 strings of three bytes that begin with one byte."""
+    """Letters of one byte, and 32 strings of three bytes with the same first byte."""
     letters = [(chr(0x61 + k), bytes([0x40 + k])) for k in range(26)]
     threes = [(chr(0x1000 + k), bytes([0xE0, 0x20 + k, 7])) for k in range(32)]
     return charmap("FRONT", 3, [("?", b"?"), *letters, *threes])
 
 
 def scattered() -> bytes:
-    """ASCII, and strings of three bytes of which no two begin alike, so that no table has them."""
+    """ASCII, and strings of three bytes with different first bytes, so that no table has them."""
     threes = [(chr(0x4E00 + k), bytes([0x80 + k % 100, 0x20 + k // 100, 0x30 + k % 64])) for k in range(2_000)]
     return charmap("FAR", 3, [(chr(k), bytes([k])) for k in range(128)] + threes)
 
@@ -198,7 +198,7 @@ def charmap_texts() -> Iterator[Stream]:
 
 
 def headers() -> Iterator[Stream]:
-    """A header's word by ten pairs, of three sizes."""
+    """A word of a mail header, for ten pairs of encodings and in three sizes."""
     latin, cyrillic = "Grüße aus Köln an alle, " * 20, "Привет из Москвы, " * 30
     korean = "안녕하세요 여러분 " * 40
     put_koi8, put_euc_kr = frame(1, PUT, koi8()), frame(1, PUT, euc_kr())
@@ -228,7 +228,7 @@ def plain_calls() -> Iterator[Stream]:
 
 
 def uploads() -> Iterator[Stream]:
-    """A charmap that nobody sent before and then goes, and one that was sent before."""
+    """A charmap that is sent for the first time and then freed, and one that was sent before."""
     blank = b"<code_set_name> MAP\n" + b"#\n" * 20_000 + b" \n" * 20_000 + b"CHARMAP\n<question-mark> \\x3f\nEND CHARMAP\n"
     far = "".join(map(chr, range(0x4E00, 0x4E00 + 8_000)))
     threes = charmap("MAP", 3, [("?", b"?")] + [(character, bytes([0xE0, 0x20 + k // 200, 0x20 + k % 200])) for k, character in enumerate(far)])

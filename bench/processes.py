@@ -1,4 +1,4 @@
-"""Programs that are measured: servers, HAProxy with the shipped configuration, Redis, and the loads on them."""
+"""The programs of the benches: servers, HAProxy with the shipped configuration, Redis, and the loads on them."""
 
 from __future__ import annotations
 
@@ -36,7 +36,7 @@ class Process:
         return self._process.stdout.readline()
 
     def port(self) -> int:
-        """The port that a server says it listens at."""
+        """The port that a server prints."""
         return int(self.first_line().rsplit(":", 1)[1])
 
     def processor_seconds(self) -> float:
@@ -49,7 +49,7 @@ class Process:
             return int(file.read().split()[1]) * _PAGE
 
     def wait_for_threads(self, count: int) -> None:
-        """Waits until so many threads run."""
+        """Waits until `count` threads run."""
         while len(os.listdir(f"/proc/{self._process.pid}/task")) < count:
             time.sleep(0.05)
 
@@ -71,7 +71,7 @@ def running(words: Sequence[str], processors: Optional[Sequence[int]] = None) ->
 
 
 class Load(NamedTuple):
-    """What a load came to. The times of a request in the middle and of the slowest in a hundred are microseconds."""
+    """The result of a load. The median and the 99th percentile of a request's time are in microseconds."""
 
     rate: float
     p50: float
@@ -80,7 +80,7 @@ class Load(NamedTuple):
 
 
 def load(where: str, words: Sequence[str], processors: Optional[Sequence[int]] = None) -> Load:
-    """Runs iconvd-benchmark. It has to have no errors."""
+    """Runs iconvd-benchmark, which must report no errors."""
     command = [BENCHMARK, "--json", *words, where]
     if processors:
         command = ["taskset", "-c", ",".join(map(str, processors)), *command]
@@ -92,13 +92,13 @@ def echo(port: int, text: bytes, streams: int, depth: int, requests: int) -> Loa
     """Runs redis-benchmark's ECHO of a text."""
     words = ["redis-benchmark", "-p", str(port), "-c", str(streams), "-P", str(depth), "-n", str(requests), "--csv", "-x", "ECHO"]
     said = subprocess.run(words, input=text, stdout=subprocess.PIPE, stderr=subprocess.DEVNULL, check=True).stdout.decode(errors="replace")
-    # The last row begins with the text, which may have commas; behind it are the rate and six times in milliseconds.
+    # The last row begins with the text, which may have commas; after it are the rate and six times in milliseconds.
     numbers = next(csv.reader([said.rstrip().splitlines()[-1]]))[-7:]
     return Load(float(numbers[0]), float(numbers[3]) * 1e3, float(numbers[5]) * 1e3, requests)
 
 
 def free_port() -> int:
-    """A port of this machine that nothing listens at."""
+    """A port of this machine at which nothing listens."""
     with socket.socket() as free:
         free.bind(("127.0.0.1", 0))
         return int(free.getsockname()[1])
@@ -138,7 +138,7 @@ def wait_for(port: int) -> None:
 
 
 def hold(port: int, count: int) -> List[socket.socket]:
-    """Opens streams, and has one text converted on each: US-ASCII from ISO-8859-1, as in iconvd-protocol(5)."""
+    """Opens streams, and converts one text on each: to US-ASCII from ISO-8859-1, as in iconvd-protocol(5)."""
     asked = bytes.fromhex("0000001d00000007000000010308 55532d4153434949 0a 49534f2d383835392d31 00000014000000070000000204000000000000000841e942")
     answered = bytes.fromhex("0000000d000000070000000100 00000000 0000001400000007000000020000000000 00000001413f42")
     streams = []
@@ -153,6 +153,6 @@ def hold(port: int, count: int) -> List[socket.socket]:
 
 
 def prepare() -> None:
-    """Makes the load generator, and has a SIGTERM end this program as a SIGINT does, so that what it started ends with it."""
+    """Builds the load generator, and makes SIGTERM end this program as SIGINT does, so that the processes that it started end too."""
     signal.signal(signal.SIGTERM, signal.default_int_handler)
     subprocess.run(["make", "-s", "-C", os.path.join(TOP, "clients", "c"), "out/iconvd-benchmark"], check=True)

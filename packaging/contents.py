@@ -1,7 +1,7 @@
-"""Whether the packages name what is there: other packages in their control fields, and paths in the pages, man pages and units that they install.
+"""Tests the names in the packages: other packages in their control fields, and paths in the documents, manual pages and units that they install.
 
-A path is in the root in which the packages are installed, or belongs to somebody in OTHERS. A path of the source tree is in that tree, and the
-page's note, which tools/documents writes, says so of its folder. A bare name as OPERATING.md is that of a page beside it.
+An absolute path is in the root in which the packages are installed, or below one of OTHERS. A path of the source tree is in that tree, and the page's
+note, which tools/documents writes, names its folder. A bare name such as OPERATING.md is that of a page in the same folder.
 """
 from __future__ import annotations
 
@@ -15,11 +15,11 @@ from root import TOP, Counts, Root, run
 RECOMMENDED = {
     "iconvd-convert": "locales", "iconvd-preload": "iconvd", "libiconvd0": "iconvd", "python3-iconvd": "locales",
 }
-# What begins so is not there before something runs, or is another package's, or an administrator's.
+# Paths below these exist only once something runs, or belong to another package or to the administrator.
 OTHERS = ("/dev", "/tmp", "/run", "/var/run", "/etc/haproxy", "/var/lib/haproxy", "/etc/prometheus", "/opt")
 READ = ("usr/share/doc/", "usr/share/man/", "usr/lib/systemd/")
 NOT_TEXT = (".svg", ".json", ".tsv")
-# An example that is used in the source tree says so in these words. Its absolute paths are those of the container that it makes.
+# An example with these words is used in the source tree. Its absolute paths are those of the container that it makes.
 IN_TREE = "From the top of the repository"
 
 ABSOLUTE = re.compile(r"(?<![\w.@~*/-])/(?:usr|etc|run|var|opt|lib|bin|sbin|dev|proc|sys|srv|home|tmp)(?:/[\w.@*+-]+)*")
@@ -31,7 +31,7 @@ NOTE = re.compile(r"^Names that begin with (.*?) are of\s+the\s+source\s+archive
 
 
 def check_fields(packages: list[Path], counts: Counts) -> None:
-    """The packages that each recommends."""
+    """Tests which packages each package recommends."""
     for package in packages:
         name = package.name.partition("_")[0]
         recommended = run("dpkg-deb", "--field", package, "Recommends").stdout.strip()
@@ -50,7 +50,7 @@ def text_of(path: Path) -> str:
 
 
 def wrong_paths(root: Path, path: Path, text: str) -> Iterator[str]:
-    """The paths of a file's text that are nowhere."""
+    """The paths in a file's text that do not exist."""
     noted = NOTE.search(text)
     allowed = set(re.findall(r"`([^`]+)`", noted[1])) if noted else set()
     body = text.replace(noted[0], "") if noted else text
@@ -73,7 +73,7 @@ def wrong_paths(root: Path, path: Path, text: str) -> Iterator[str]:
 
 
 def check_paths(root: Root, names: list[str], counts: Counts) -> None:
-    """The paths in all that the packages install to be read."""
+    """Tests the paths in all texts that the packages install."""
     for name in names:
         listed = next((root.folder / "var/lib/dpkg/info").glob(f"{name}*.list")).read_text(encoding="utf-8").splitlines()
         files = [root.folder / it[1:] for it in listed if it[1:].startswith(READ) and not it.endswith(NOT_TEXT)]

@@ -1,6 +1,6 @@
-"""A root of its own with a small Debian in it, for checks that install something: what they share.
+"""A root with a small Debian in it, for checks that install something.
 
-The root comes from Debian by mmdebstrap, once. A check unpacks it anew each time, runs commands in it, and counts what they came to.
+mmdebstrap fetches the root from Debian once. A check unpacks it anew each time, runs commands in it, and counts their results.
 """
 from __future__ import annotations
 
@@ -12,7 +12,7 @@ from pathlib import Path
 from typing import NamedTuple
 
 TOP = Path(__file__).resolve().parent.parent
-SECONDS = 60  # a command of a row that takes longer stands still
+SECONDS = 60  # a command of a row that takes longer hangs
 LONG = 1800
 
 
@@ -24,7 +24,7 @@ class Row(NamedTuple):
 
 
 def rows_in(text: str) -> list[Row]:
-    """The rows of a text: a command after `$ `, and after it the lines that it prints."""
+    """The rows of a text: a command after `$ `, then the lines that it prints."""
     rows: list[Row] = []
     for line in text.splitlines():
         if line.startswith("$ "):
@@ -35,7 +35,7 @@ def rows_in(text: str) -> list[Row]:
 
 
 class Counts:
-    """Prints what each check came to, and how many there were."""
+    """Prints the result of each check, and counts them."""
 
     def __init__(self) -> None:
         self.passed = self.failed = 0
@@ -60,7 +60,7 @@ class Root:
         self.seconds = SECONDS
 
     def unpack(self, base: Path, included: str) -> None:
-        """Makes the root anew, from what an earlier run got from Debian, with the same packages, where there is that."""
+        """Makes the root anew, from the file of an earlier run with the same packages if there is one, or else from Debian."""
         listed = base.with_suffix(".packages")
         if not base.is_file() or (listed.is_file() and listed.read_text() != included):
             print("Debian's smallest system is fetched for the root, once", flush=True)
@@ -76,15 +76,15 @@ class Root:
         subprocess.run(["tar", "--extract", "--file", base, "--directory", self.folder], check=True)
 
     def words(self, command: str) -> list[str]:
-        """The words that run a command of the shell in the root, which ends with all that it started. There /proc has these processes
-        alone."""
+        """The command that runs a shell command in the root, which ends with all that it started. /proc has only these processes
+        there."""
         alone = ["unshare", "--mount", "--pid", "--fork", "--kill-child", f"--mount-proc={self.folder}/proc"]
         environment = ["env", "-i", f"PATH={self.path}", f"HOME={self.home}", "LC_ALL=C.UTF-8"]
         other = [] if self.user == "root" else ["/sbin/runuser", "-u", self.user, "--"]
         return [*alone, "chroot", str(self.folder), *environment, *other, "bash", "-c", command]
 
     def printed_by(self, command: str) -> str:
-        """What a command prints on standard output in the root."""
+        """The standard output of a command in the root."""
         try:
             ran = subprocess.run(
                 self.words(command), stdin=subprocess.DEVNULL, stdout=subprocess.PIPE, stderr=subprocess.DEVNULL, text=True,
@@ -95,7 +95,7 @@ class Root:
         return ran.stdout
 
     def check_row(self, row: Row, counts: Counts) -> None:
-        """Whether a command prints its lines."""
+        """Tests that a command prints its lines."""
         printed = self.printed_by(row.command)
         is_well = printed.splitlines() == row.wanted
         counts.note(f"$ {row.command}", is_well, "".join(f"  it printed {line}\n" for line in printed.splitlines() or ["nothing"]))

@@ -1,4 +1,4 @@
-"""A copy of this repository as a clone of it would be, for checks in a root of their own."""
+"""Copies this repository as a clone would be, for checks in a root of their own."""
 from __future__ import annotations
 
 import shutil
@@ -9,7 +9,7 @@ TOP = Path(__file__).resolve().parent.parent
 
 
 def copy_checkout(folder: Path) -> None:
-    """Copies the files that git has, or would take. Each is as old as here."""
+    """Copies the files that git tracks, or would add. Each keeps its time."""
     listed = subprocess.run(["git", "ls-files", "-co", "--exclude-standard"], cwd=TOP, capture_output=True, text=True, check=True)
     for name in listed.stdout.splitlines():
         if (TOP / name).is_file():

@@ -1,4 +1,4 @@
-"""Charmaps that cost much for what they are."""
+"""Charmaps that cost much for their size."""
 from __future__ import annotations
 
 import random
@@ -7,9 +7,9 @@ from typing import Iterator, NamedTuple
 MOST_MAPPINGS = 262_144
 HEADER = "<code_set_name> HOSTILE\n<mb_cur_max> 8\nCHARMAP\n"
 FOOTER = "END CHARMAP\n"
-# Planes behind the first, which has surrogates.
+# Planes after the first, which has surrogates.
 FIRST = 0x10000
-# Bytes that have few last bits, so that most edges of a block stand elsewhere than their bits say.
+# Bytes with few different last bits, so that most edges of a block are not at the place that their bits give.
 COLLIDING = [32 * high + low for low in range(4) for high in range(8)]
 
 
@@ -26,7 +26,7 @@ def ranged(scalar: int, count: int, spelled: str) -> str:
 
 
 def substitute(size: int = 8) -> str:
-    """The mapping that every charmap has to have, of bytes that no other here begins with."""
+    """The mapping that every charmap must have, with bytes that no other one here begins with."""
     return "<question-mark> " + code(256 ** size - 1, size) + "\n"
 
 
@@ -39,7 +39,7 @@ def one_range(count: int = MOST_MAPPINGS - 1) -> bytes:
 
 
 def ranges_behind_prefixes(each: int, count: int = MOST_MAPPINGS - 1, seed: int = 1, stride: int | None = None) -> bytes:
-    """Ranges of so many mappings, each behind seven bytes of its own by chance, whose characters begin so far from one another."""
+    """Ranges of `each` mappings, each after seven random bytes of its own. The first characters of the ranges are `stride` apart."""
     chance = random.Random(seed)
     lines = []
     for at in range(count // each):
@@ -61,7 +61,7 @@ def overlapping(lines: int = 64, each: int = 65_536, shift: int = 1) -> bytes:
 
 
 def clash(count: int = MOST_MAPPINGS - 2) -> bytes:
-    """A range whose last bytes are another character's already."""
+    """A range whose last bytes already belong to another character."""
     return whole([single(0x41, code(count - 1, 8)), ranged(FIRST, count, code(0, 8))])
 
 
@@ -70,7 +70,7 @@ def too_many() -> bytes:
 
 
 class Kind(NamedTuple):
-    """A charmap, and how many mappings are tried before it is answered."""
+    """A charmap, and the number of mappings that are tried before the answer."""
     name: str
     text: bytes
     mappings: int
@@ -88,13 +88,13 @@ def kinds() -> Iterator[Kind]:
 
 
 def dearest(seed: int, count: int = MOST_MAPPINGS - 1) -> bytes:
-    """A charmap that one frame holds, and that takes much memory: nodes of 33 edges, the least that get a table, behind bytes by chance, and
-    characters of three pages for each of them."""
+    """A charmap that fits a frame and takes much memory: nodes of 33 edges, the least that get a table, after random bytes, and characters of
+    three pages for each node."""
     return ranges_behind_prefixes(33, count, seed, 130)
 
 
 def mapping_lines(size: int) -> bytes:
-    """As many mappings as fit so many bytes, without an end: all are read before the text is refused."""
+    """As many mappings as fit `size` bytes, without an end: all are read before the text is refused."""
     lines, length, at = [HEADER], len(HEADER), 0
     while length < size - 40:
         lines.append(single(FIRST + at, code(at, 5)))

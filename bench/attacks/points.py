@@ -1,4 +1,4 @@
-"""The attacks, each with what it costs a server. None asserts anything."""
+"""The attacks. Each measures what it costs a server, and asserts nothing."""
 from __future__ import annotations
 
 import time
@@ -14,14 +14,14 @@ TOY = b"<code_set_name> TOY\nCHARMAP\n<question-mark> \\x3F\n<U0100> \\x80\nEND 
 
 
 class Line(NamedTuple):
-    """What was found: a number with its unit, or words."""
+    """A result: a number with its unit, or words."""
     what: str
     value: float | str
     unit: str = ""
 
 
 def reading(program: str) -> Iterator[Line]:
-    """A frame of 1 MiB in pieces, as the first and as the second of its stream. It is refused, so that reading is all that it costs."""
+    """A frame of 1 MiB in pieces, as the first and as the second of its stream. It is refused, so it costs only its reading."""
     request = frame(1, BYE, bytes(MIB - 9))
     costs = {}
     for piece in (READ, 1_448, 64, 16):
@@ -37,14 +37,14 @@ def reading(program: str) -> Iterator[Line]:
 
 
 def opened(program: str, limit: int | None) -> Server:
-    """A server where 64 callers have a descriptor each."""
+    """A server on which 64 callers have a descriptor each."""
     server = Server(program, limit=limit)
     server.ask(*map(opening, range(100, 164)))
     return server
 
 
 def others(server: Server) -> dict[str, str]:
-    """How callers are answered who have done nothing wrong."""
+    """The answers to harmless callers."""
     text = (1_000_000).to_bytes(4, "big") + b"a" * 20_000
     asked = {
         "64 CONVs of 20,000 bytes": [frame(caller, CONV, bytes(4) + text) for caller in range(100, 164)],
@@ -56,14 +56,14 @@ def others(server: Server) -> dict[str, str]:
 
 
 def fill(server: Server) -> None:
-    """Uploads 26 charmaps that are large, and then ten of half the size of the one before, by one caller with a BYE behind each."""
+    """One caller uploads 26 large charmaps, and then ten, each half the size of the one before. It sends a BYE after each."""
     sizes = 26 * [charmaps.MOST_MAPPINGS - 1] + [charmaps.MOST_MAPPINGS >> at for at in range(1, 11)]
     for seed, size in enumerate(sizes):
         server.ask(*uploading(1, charmaps.dearest(seed, size)), frame(1, BYE))
 
 
 def keeping(program: str) -> Iterator[Line]:
-    """What the cache keeps of a caller who has gone, and what is left to others where memory is limited."""
+    """What the cache keeps of a caller who has gone, and what is left to others if memory is limited."""
     with opened(program, None) as server:
         before = server.memory("VmRSS")
         fill(server)
@@ -79,12 +79,12 @@ def keeping(program: str) -> Iterator[Line]:
 
 
 def ending(text: bytes, end: bytes, size: int) -> bytes:
-    """A text of so many bytes, of which all behind its charmap are a comment with an end."""
+    """A text of `size` bytes: a charmap, then a comment that ends in `end`."""
     return text + b"#" * (size - len(text) - len(end)) + end
 
 
 def hashing(program: str) -> Iterator[Line]:
-    """33 texts of 1 MB that differ in their last bytes: one more than the cache keeps, so that none is ever found in it."""
+    """33 texts of 1 MB that differ in their last bytes: one more than the cache keeps, so none is ever found in it."""
     def each(ends: list[bytes]) -> float:
         texts = [ending(TOY, end, 1_000_000) for end in ends]
         with Server(program) as server:
@@ -100,7 +100,7 @@ def hashing(program: str) -> Iterator[Line]:
 
 
 def waiting(program: str) -> Iterator[Line]:
-    """How long the first reply takes to 64 PUTs of 13 bytes, each of which reads a part of 7.3 MB and is refused."""
+    """The time to the first reply to 64 PUTs of 13 bytes, each of which reads a part of 7.3 MB and is refused."""
     held = charmaps.mapping_lines(7_300_000)
     parts = [frame(1, PART, held[at:at + MOST_PART]) for at in range(0, len(held), MOST_PART)]
 
@@ -131,14 +131,14 @@ def compiling(program: str) -> Iterator[Line]:
 
 
 def starting(program: str) -> Iterator[Line]:
-    """How many threads are started for 64 PUTs of 20 KB by 64 callers, all different."""
+    """How many threads start for 64 different PUTs of 20 KB by 64 callers."""
     given = b"".join(frame(caller, PUT, charmaps.ranges_behind_prefixes(33, 15_000, caller)) for caller in range(64))
     for workers in (2, 5, 16):
         yield Line(f"threads by --workers {workers}", float(threads.started([program, "pipe", "--workers", str(workers)], given)), "threads")
 
 
 def leaving(program: str) -> Iterator[Line]:
-    """What memory a server has where 1,000,000 callers have come and gone."""
+    """The memory of a server after 1,000,000 callers have come and gone."""
     callers, at_once = 1_000_000, 10_000
     with Server(program) as server:
         for make in (opening, lambda caller: frame(caller, BYE)):

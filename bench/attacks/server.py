@@ -1,4 +1,4 @@
-"""A server of frames that attacks are made on, and what it costs."""
+"""A server of frames to attack, and what it costs."""
 from __future__ import annotations
 
 import collections
@@ -32,7 +32,7 @@ def opening(caller: int, target: str = "UTF-16BE", source: str = "UTF-8") -> byt
 
 
 def uploading(caller: int, text: bytes) -> list[bytes]:
-    """The frames of an upload: a PUT, behind PARTs where one frame can't hold the text."""
+    """The frames of an upload: a PUT, after PARTs if one frame can't hold the text."""
     parts = [text[at:at + MOST_PART] for at in range(0, len(text), MOST_PART)] if len(text) > MOST_BODY else [text]
     return [frame(caller, PART, part) for part in parts[:-1]] + [frame(caller, PUT, parts[-1])]
 
@@ -47,7 +47,7 @@ class Ended(Exception):
 
 
 class Server:
-    """`PROGRAM pipe`. With `packets` its standard input gives each write as one read. A limit is of its data, in bytes."""
+    """`PROGRAM pipe`. With `packets` it reads each write to its standard input in one read. A limit is of its data, in bytes."""
 
     def __init__(self, program: str, packets: bool = False, limit: int | None = None) -> None:
         ours, theirs = socket.socketpair(socket.AF_UNIX, socket.SOCK_SEQPACKET if packets else socket.SOCK_STREAM)
@@ -80,7 +80,7 @@ class Server:
         return Reply(STATUSES[status], self.read(size - 9))
 
     def ask(self, *frames: bytes, piece: int = READ) -> list[Reply]:
-        """Sends frames in pieces, and reads a reply for each meanwhile. There are fewer where the server ends the stream."""
+        """Sends frames in pieces, and meanwhile reads a reply for each, or fewer if the server ends the stream."""
         def sending() -> None:
             with contextlib.suppress(OSError):
                 self.send(b"".join(frames), piece)
@@ -95,11 +95,11 @@ class Server:
         return found
 
     def busy(self) -> float:
-        """The seconds of processors that the server has had, by all of its threads."""
+        """The processor seconds that all threads of the server have used."""
         return time.clock_gettime((~self.process.pid << 3) | PROCESS_CLOCK)
 
     def cost(self, *frames: bytes, piece: int = READ) -> float:
-        """The seconds of processors that frames take."""
+        """The processor seconds that frames take."""
         start = self.busy()
         self.ask(*frames, piece=piece)
         return self.busy() - start
@@ -111,7 +111,7 @@ class Server:
 
 
 def statuses(server: Server, *requests: bytes) -> str:
-    """The statuses of the replies to requests, with how many have each."""
+    """The statuses of the replies to requests, each with its number of replies."""
     replies = server.ask(*requests)
     counted = collections.Counter(reply.status for reply in replies)
     counted["ended"] += len(replies) < len(requests)

@@ -1,4 +1,4 @@
-"""How many threads a program starts, as the kernel says it to a tracer."""
+"""How many threads a program starts, as the kernel reports it to a tracer."""
 from __future__ import annotations
 
 import ctypes
@@ -20,7 +20,7 @@ def ptrace(request: int, process: int, data: int = 0) -> None:
 
 
 def start(words: list[str], path: str) -> int:
-    """A traced child that reads a file, and stops where it begins."""
+    """A traced child whose standard input is a file. It stops at its start."""
     child = os.fork()
     if child == 0:
         os.dup2(os.open(path, os.O_RDONLY), 0)

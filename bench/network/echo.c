@@ -1,7 +1,7 @@
-/* echo FACTOR [listen]: a server that does nothing with its frames, so that a bench can say how much of a request is reading
-   and writing. It reads 65,536 bytes at a time as iconvd does, and writes the replies to all whole requests in one call. The
-   reply to a CONV has the input FACTOR times; any other has four bytes. It serves standard input to standard output, or
-   prints `listening ADDRESS:PORT` and serves one stream. */
+/* echo FACTOR [listen]: a server that does nothing with its frames, so that a bench can tell how much of a request's cost is
+   reading and writing. It reads 65,536 bytes at a time as iconvd does, and writes the replies to all whole requests in one
+   call. The reply to a CONV has the input FACTOR times; any other reply has four bytes. It serves standard input to standard
+   output, or prints `listening ADDRESS:PORT` and serves one stream. */
 #include <arpa/inet.h>
 #include <netinet/in.h>
 #include <netinet/tcp.h>
@@ -20,7 +20,7 @@ static void put_number(unsigned char *at, uint32_t number)
         at[k] = (unsigned char)(number >> (24 - 8 * k));
 }
 
-/* The reply to a request of so many bytes; it gives its size. */
+/* Writes the reply to a request, and returns its size. */
 static size_t reply_to(const unsigned char *request, size_t size, size_t factor, unsigned char *out)
 {
     size_t body = 4;

@@ -1,4 +1,4 @@
-"""How fast conversions are: crates/bench beside other libraries, on the texts of bench/pairs, in turns of one run."""
+"""The speed of conversions: crates/bench and other libraries, on the texts of bench/pairs, in turns of one run."""
 from __future__ import annotations
 
 import glob
@@ -40,7 +40,7 @@ CHARMAPS = "/usr/share/i18n/charmaps"
 
 
 class Library(NamedTuple):
-    """A library that is measured, its program in the Makefile, and the file and the compiler that it needs, with their packages."""
+    """A library to measure, its program in the Makefile, and the file and the compiler that it needs, with their packages."""
     name: str
     program: str
     file: str
@@ -49,7 +49,7 @@ class Library(NamedTuple):
     compilers_package: str
 
     def lacks(self) -> str | None:
-        """What isn't there of all this."""
+        """Which of these are missing, or None."""
         if not glob.glob(self.file) and not glob.glob(f"{OUT}/libnode{self.file}"):
             return f"there is no {self.file}, which Debian's {self.package} has"
         if not shutil.which(self.compiler):
@@ -66,7 +66,7 @@ LIBRARIES = [
 
 
 class Row(NamedTuple):
-    """A conversion of a text: what is measured by each library. The charmap is that of the end that iconvd has to be given."""
+    """A conversion of a text, which each library does. The charmap is that of the side for which iconvd needs one."""
     source: str
     target: str
     text: str
@@ -78,7 +78,7 @@ class Row(NamedTuple):
 
 
 def charmap(source: str, target: str) -> bytes | None:
-    """The charmap of an end that isn't built in, empty where both are; None: the system doesn't have it."""
+    """The charmap of the side that isn't built in, empty if both are; None if the system doesn't have it."""
     for name in UPLOADED & {source, target}:
         try:
             with gzip.open(f"{CHARMAPS}/{name}.gz") as opened:
@@ -89,7 +89,7 @@ def charmap(source: str, target: str) -> bytes | None:
 
 
 def rows(figures: Figures, size: int) -> Iterator[Row]:
-    """All conversions, of texts of so many characters, but those whose charmap the system doesn't have."""
+    """All conversions of texts of `size` characters, except those whose charmap the system doesn't have."""
     pairs = loaded("pairs")
     texts = pairs.texts(size) | {"hangul": pairs.seeded(size, pairs.HANGUL, 6)}
     for source, target, names in PAIRS:
@@ -106,7 +106,7 @@ def frame(op: int, body: bytes) -> bytes:
 
 
 def served(program: str, row: Row) -> bytes:
-    """The row's output, as iconvd serves it in one CONV: that of the last reply."""
+    """The row's output by one CONV of iconvd, which the last reply has."""
     names = b"".join(bytes([len(name)]) + name.encode() for name in (row.target, row.source))
     frames = frame(OPEN, names) + frame(CONV, struct.pack(">II", 0, MOST_ROOM) + row.data)
     if row.charmap:
@@ -121,7 +121,7 @@ def served(program: str, row: Row) -> bytes:
 
 
 def built(figures: Figures) -> dict[str, str]:
-    """The programs of the libraries whose packages are there, by name. The others are left out, and named."""
+    """The programs of the libraries whose packages are installed, by name. The others are left out, and named."""
     programs = {}
     for library in LIBRARIES:
         if lacks := library.lacks():
@@ -148,7 +148,7 @@ def agreeing(figures: Figures, program: str, programs: dict[str, str], row: Row)
 
 
 class Job(NamedTuple):
-    """A row by a library, by calls of so many bytes: what is run, and its standard input."""
+    """A row by a library, in calls of a number of bytes: the command, and its standard input."""
     name: str
     row: Row
     call: int
@@ -174,8 +174,8 @@ def turn(at: int, turns: int, jobs: list[Job]) -> list[int]:
 
 
 def measure(figures: Figures, program: str, bench: str, turns: int, size: int, rounds: int) -> None:
-    """Adds the megabytes of input a second of each row by each library: the fastest round of all turns, each of which goes through all
-    rows, so that other work on the machine strikes all alike."""
+    """Adds the megabytes of input a second of each row by each library, from the fastest round of all turns. Each turn measures all rows,
+    so that other work on the machine slows all alike."""
     programs, jobs = built(figures), []
     for row in rows(figures, size):
         peers = {OURS: bench} | agreeing(figures, program, programs, row)

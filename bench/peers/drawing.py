@@ -1,5 +1,5 @@
-"""Draws the charts of a run's figures as SVG. They have no ground of their own, and colours that can be told from white and from black,
-so that they are read on light and on dark pages. Each library has a mark of its own, so no colour stands alone."""
+"""Draws the charts of a run's figures as SVG. They have no background, and colours that differ from white and from black, so that they can
+be read on light and on dark pages. Each library has a mark of its own, so colour alone tells nothing."""
 from __future__ import annotations
 
 import os
@@ -53,7 +53,7 @@ SIZES = {64: "64 bytes", 65536: "64 KiB"}
 
 
 def rate_text(value: float) -> str:
-    """Megabytes a second in three digits at most."""
+    """Megabytes a second, in at most three digits."""
     return f"{value / 1000:.1f}" if value >= 1000 else f"{value / 1000:.2f}"
 
 
@@ -128,7 +128,7 @@ def conversions(figures: Figures, path: str) -> None:
 
 
 def name_ends(axes: Axes, ends: dict[str, tuple[float, float]]) -> None:
-    """Writes each line's name at its end, moved up where it would cover the one below."""
+    """Writes each line's name at its end, moved up if it would cover the one below."""
     lowest = float("-inf")
     for name, end in sorted(ends.items(), key=lambda item: item[1][1]):
         height = axes.transData.transform(end)[1] * 72 / axes.figure.dpi
@@ -173,7 +173,7 @@ def requests(figures: Figures, path: str) -> None:
 
 
 def draw(figures: Figures, folder: str) -> list[str]:
-    """Draws what there are figures of, and gives the files."""
+    """Draws the charts for which there are figures, and returns their files."""
     written = []
     with pyplot.rc_context(SETTINGS):
         for name, drawn in (("conversions", conversions), ("requests", requests)):

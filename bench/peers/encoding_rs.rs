@@ -1,5 +1,5 @@
-//! encoding_rs, by its streaming decoders and encoders, and by the calls of its module `mem` where one side is ISO-8859-1, which the
-//! Encoding Standard has not.
+//! encoding_rs, by its streaming decoders and encoders, and by the calls of its module `mem` if one side is ISO-8859-1, which the
+//! Encoding Standard does not have.
 use encoding_rs::{mem, Decoder, Encoder, Encoding};
 use std::ffi::CStr;
 use std::os::raw::{c_char, c_void};
@@ -15,7 +15,7 @@ enum Peer {
     FromUtf8(Encoder),
 }
 
-/// The encoding of a name, but those that the Encoding Standard has only as a label of another.
+/// The encoding of a name, but not if the Encoding Standard has the name only as a label of another encoding.
 fn encoding(name: &str) -> Option<&'static Encoding> {
     match name {
         "US-ASCII" | "ISO-8859-1" => None,
@@ -38,7 +38,7 @@ fn opened(to: &str, from: &str) -> Option<Peer> {
     }
 }
 
-/// How much of a text ends with a whole character, where it is UTF-8 at all.
+/// The length of the prefix of a text that ends with a whole character, if the text is UTF-8.
 fn whole(text: &[u8]) -> usize {
     let lead = text.iter().rev().take(3).position(|byte| byte & 0xC0 != 0x80);
     let start = lead.map_or(text.len(), |back| text.len() - 1 - back);
@@ -60,7 +60,7 @@ fn units_mut(out: &mut [u8]) -> &mut [u16] {
     unsafe { from_raw_parts_mut(out.as_mut_ptr().cast(), out.len() / 2) }
 }
 
-/// How many bytes are used, and how many are written.
+/// How many bytes are read, and how many are written.
 fn converted(peer: &mut Peer, text: &[u8], out: &mut [u8]) -> (usize, usize) {
     match peer {
         Peer::Latin1ToUtf8 => (text.len(), mem::convert_latin1_to_utf8(text, out)),
@@ -91,7 +91,7 @@ fn converted(peer: &mut Peer, text: &[u8], out: &mut [u8]) -> (usize, usize) {
             (used, 2 * written)
         }
         Peer::FromUtf8(encoder) => {
-            // The bytes come from outside, so they have to be proved UTF-8 first.
+            // The bytes are untrusted, so they have to be validated as UTF-8 first.
             let valid = unsafe { std::str::from_utf8_unchecked(&text[..Encoding::utf8_valid_up_to(text)]) };
             let (_, used, written) = encoder.encode_from_utf8_without_replacement(valid, out, false);
             (used, written)

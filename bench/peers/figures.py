@@ -1,4 +1,4 @@
-"""The figures of one run: what was measured, and on what. They are kept as lines of tab-separated values behind lines of facts."""
+"""The figures of one run, and facts about the machine and the programs. The file has lines of facts, then tab-separated values."""
 from __future__ import annotations
 
 import collections
@@ -30,7 +30,7 @@ def loaded(path: str):
 
 
 class Figure(NamedTuple):
-    """A value of a chart: by which program or library, of what, by how many bytes a call and how many requests in flight."""
+    """A value of a chart: the program or library, what was measured, the bytes a call, and the requests in flight."""
     chart: str
     by: str
     what: str
@@ -41,7 +41,7 @@ class Figure(NamedTuple):
 
 
 class Figures:
-    """Facts and figures, in the order in which they were found."""
+    """Facts and figures, in the order in which they were added."""
 
     def __init__(self) -> None:
         self.facts: list[tuple[str, str]] = []
@@ -92,7 +92,7 @@ def read(path: str) -> Figures:
 
 
 def first_value(path: str, name: str) -> str:
-    """What a file of /proc says behind a name."""
+    """The value after a name in a file of /proc."""
     with open(path) as file:
         lines = (line.split(":", 1) for line in file if ":" in line)
         return next((value.strip() for key, value in lines if key.strip() == name), "unknown")
@@ -107,14 +107,14 @@ def commit() -> str:
 
 
 def build(programs: Iterable[str]) -> str:
-    """Which build is measured, by where its programs are."""
+    """Which build is measured, by the paths of its programs."""
     if all(os.path.dirname(path).endswith("/out") and "/crates/" in path for path in programs):
         return "proved, for every x86-64 processor"
     return "built without proofs" if any("/out/unproved/" in path for path in programs) else "a build of unknown kind"
 
 
 def describe(figures: Figures, programs: list[str]) -> None:
-    """Says the machine, the date, the commit and the programs that are measured."""
+    """Adds the machine, the date, the commit and the programs that are measured."""
     memory = int(first_value("/proc/meminfo", "MemTotal").split()[0]) / 2 ** 20
     figures.say("machine", f"{first_value('/proc/cpuinfo', 'model name')}, {os.cpu_count()} processors, {memory:.0f} GiB")
     figures.say("system", f"{platform.freedesktop_os_release()['PRETTY_NAME']}, Linux {platform.release()}")
@@ -126,7 +126,7 @@ def describe(figures: Figures, programs: list[str]) -> None:
 
 
 def processes() -> dict[tuple[int, str], float]:
-    """The seconds of processors that each process of the machine has had."""
+    """The processor seconds that each process of the machine has used."""
     found, ticks = {}, os.sysconf("SC_CLK_TCK")
     for path in glob.glob("/proc/[0-9]*/stat"):
         with contextlib.suppress(OSError), open(path) as file:
@@ -138,7 +138,7 @@ def processes() -> dict[tuple[int, str], float]:
 
 
 def processors() -> tuple[float, float]:
-    """The seconds of all processors since the machine started, and those of them in which they were busy or were taken by the host."""
+    """The seconds of all processors since the machine started, and how many of these were busy or taken by the host."""
     with open("/proc/stat") as file:
         user, nice, system, idle, wait, irq, soft, stolen = map(int, file.readline().split()[1:9])
     ticks, busy = os.sysconf("SC_CLK_TCK"), user + nice + system + irq + soft + stolen
@@ -146,14 +146,14 @@ def processors() -> tuple[float, float]:
 
 
 class Beside:
-    """What else the machine does from now on."""
+    """Watches what else the machine does from now on."""
 
     def __init__(self) -> None:
         self.all, self.busy = processors()
         self.own, self.processes, self.start = sum(os.times()[:4]), processes(), time.monotonic()
 
     def told(self) -> str:
-        """The share of the processors that others had, and the names of those who had most and are still there."""
+        """The share of the processors that other processes used, and the names of those that used most and still run."""
         total, busy = processors()
         others = (busy - self.busy) - (sum(os.times()[:4]) - self.own)
         spent: collections.Counter[str] = collections.Counter()

@@ -1,5 +1,5 @@
-/* ICU's converters: one call of ucnv_toUnicode or ucnv_fromUnicode where one side is UTF-16LE, which is how ICU keeps text on this
-   machine, and else ucnv_convertEx over a pivot. */
+/* ICU's converters: one call of ucnv_toUnicode or ucnv_fromUnicode if one side is UTF-16LE, ICU's own form of text on this
+   machine, and else ucnv_convertEx with a pivot. */
 #include "peer.h"
 #include <stdlib.h>
 #include <string.h>

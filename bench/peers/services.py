@@ -1,4 +1,4 @@
-"""How many requests a second are answered: iconvd beside a plain echo and beside Redis's ECHO, one client each, over TCP on this machine."""
+"""Requests a second of iconvd, of a plain echo and of Redis's ECHO, with one client each, over TCP on this machine."""
 from __future__ import annotations
 
 import contextlib
@@ -13,22 +13,22 @@ sys.path.insert(0, os.path.dirname(os.path.dirname(os.path.abspath(__file__))))
 from figures import Figure, Figures, loaded  # noqa: E402
 from processes import echo, free_port, prepare, redis_server, running, wait_for  # noqa: E402
 
-# 64 bytes, of which a text has as many lines as it needs.
+# 64 bytes; a text repeats this line.
 LINE = "Zwölf Boxkämpfer jagen Viktor quer über den großen Deich. Ja".encode()
-# redis-benchmark says that a rate is infinite where its clock has no time for it.
+# redis-benchmark reports an infinite rate if its clock is too coarse for it.
 MOST_RATE = 5_000_000.0
 # How many bytes a request converts or echoes, and how many requests are in flight.
 DEPTHS = {64: [1, 4, 16, 64, 256, 1024], 65536: [1, 4, 16, 64]}
 
 
 class Measured(NamedTuple):
-    """One server by one way to ask it. Asked for a text and a depth, it gives requests a second."""
+    """A server and a way to load it. `ask` returns requests a second for a text and a depth."""
     name: str
     ask: Callable[[bytes, int], float]
 
 
 def echoed(port: int, text: bytes, depth: int, seconds: float) -> float:
-    """Requests a second of ECHO as redis-benchmark says it, by one client that sends `depth` at a time."""
+    """Requests a second of ECHO by redis-benchmark, with one client that sends `depth` at a time."""
     count, rate = 16 * depth + 1000, 0.0
     for _ in ("to learn how many fit the time", "to measure"):
         rate = min(echo(port, text, 1, depth, count).rate, MOST_RATE)
@@ -37,7 +37,7 @@ def echoed(port: int, text: bytes, depth: int, seconds: float) -> float:
 
 
 def asked(words: list[str], text: bytes, depth: int, seconds: float) -> float:
-    """Requests a second of a server of frames, by iconvd-benchmark with as many in flight."""
+    """Requests a second of a server of frames, by iconvd-benchmark with `depth` in flight."""
     network = loaded("network/run")
     asking = [*network.ONE_STREAM, "-d", str(depth), "-s", str(seconds), "-b", str(len(text)), "-x", "latin", "-t", "UTF-8"]
     return network.by_tcp(words, asking).rate
@@ -55,7 +55,7 @@ def servers(program: str, port: int | None, seconds: float) -> list[Measured]:
 
 
 def redis_port(figures: Figures, stack: contextlib.ExitStack, folder: str) -> int | None:
-    """The port of a Redis server that runs meanwhile, if Redis is there."""
+    """The port of a Redis server that runs meanwhile, if Redis is installed."""
     if not shutil.which("redis-server") or not shutil.which("redis-benchmark"):
         figures.say("left out", "Redis: there is no redis-server or redis-benchmark, which Debian's redis-server and redis-tools have")
         return None

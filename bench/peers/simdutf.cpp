@@ -1,5 +1,5 @@
-// simdutf, as Debian's libnode.so.108 exports it. Debian 12 has no header of it, so the few declarations stand here. It converts whole
-// texts, so each call is given what ends with a whole character. It takes the best instructions that the processor has.
+// simdutf, as Debian's libnode.so.108 exports it. Debian 12 has no header of it, so the few declarations are here. It converts
+// whole texts, so each call is given a text that ends with a whole character. It uses the processor's best instructions.
 #include "peer.h"
 #include <cstring>
 
@@ -19,7 +19,7 @@ size_t convert_utf32_to_utf8(const char32_t *, size_t, char *) noexcept;
 
 namespace {
 
-// One conversion: how much of a text ends with a whole character, and what it is converted by, which returns how many bytes it wrote.
+// One conversion: the length of the prefix of whole characters, and the converter, which returns how many bytes it wrote.
 struct Conversion {
     const char *to, *from;
     size_t (*whole)(const char *, size_t);

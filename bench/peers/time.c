@@ -1,6 +1,6 @@
-/* PEER TO FROM CALL ROUNDS: the nanoseconds that the fastest of so many rounds takes for the text on standard input, given `CALL`
-   bytes a call, as crates/bench says it of ours. What a call leaves is given to the next. With 0 rounds it writes the output, for
-   a comparison of bytes. PEER alone prints the library's version. Status 3: the library doesn't have this conversion. */
+/* PEER TO FROM CALL ROUNDS: prints the nanoseconds of the fastest of ROUNDS rounds for the text on standard input, in calls of
+   CALL bytes, as crates/bench does for ours. The bytes that a call leaves are given to the next. With 0 rounds it writes the
+   output, for comparison. PEER alone prints the library's version. Status 3: the library doesn't have this conversion. */
 #include "peer.h"
 #include <stdint.h>
 #include <stdio.h>
@@ -39,7 +39,7 @@ static struct text read_text(void)
     return text;
 }
 
-/* Converts the whole text, from a new start. With `output` what each call writes goes there. */
+/* Converts the whole text, from a new start. If `output` is given, the output of each call is written there. */
 static uint64_t convert_all(void *peer, struct text text, size_t call, char *out, FILE *output)
 {
     uint64_t start = now();

@@ -1,4 +1,4 @@
-/* A program that is linked with the library. */
+/* A program that links with the library. */
 #include <iconvd.h>
 #include <stdio.h>
 

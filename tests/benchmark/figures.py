@@ -1,4 +1,4 @@
-"""What is printed: the figures of a row, comma-separated values, and requests that are refused."""
+"""The output: the figures of a row, comma-separated values, and refused requests."""
 
 from __future__ import annotations
 
@@ -55,7 +55,7 @@ def values(benchmark: Benchmark) -> None:
 
 
 def refused_requests(benchmark: Benchmark) -> None:
-    """Refusals are counted by their names, and no figure is made of them."""
+    """Refusals are counted by their names, and are not in the figures."""
     told = {PUT: BADMAP, DROP: NONAME}
     server = ToldServer(lambda stream, asked, op: told.get(op, OK))
     words = ["-n", "200", "-c", "2", "-m", "conv,upload"]

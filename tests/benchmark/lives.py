@@ -1,4 +1,4 @@
-"""Servers that have no place, don't answer, or go away: the program ends, says why, and counts the time that the server lived."""
+"""Servers that are full, don't answer, or end: the program ends, says why, and counts the time that the server lived."""
 
 from __future__ import annotations
 
@@ -49,7 +49,7 @@ def full_servers(benchmark: Benchmark, program: str) -> None:
 
 
 def lost_servers(benchmark: Benchmark) -> None:
-    """Servers that end in the middle for good, one that hangs, and the words that say so."""
+    """Servers that end during a run and don't return, one that hangs, and the lines about them."""
 
     def end_all(stream: int, asked: int, op: int) -> Optional[int]:
         if asked < 50:
@@ -101,7 +101,7 @@ def servers_that_come_back(benchmark: Benchmark) -> None:
     figures = json.loads(done.stdout or "{}")
     returned = figures.get("seconds_away", 0) >= 0.5 and not figures["server_lost"] and done.returncode == 1
     benchmark.check(returned, "a server that comes back: its absence does not count")
-    # What was under way is lost, and is not asked again.
+    # Requests in flight are lost, and are not asked again.
     benchmark.check(figures["all"]["requests"] in (498, 499), "and all requests were asked")
 
 
@@ -110,7 +110,7 @@ def single_streams(benchmark: Benchmark) -> None:
 
     def end_one(stream: int, asked: int, op: int) -> Optional[int]:
         if stream == 0:
-            # The run lasts a second, so that the lost stream is tried again several times before all is asked.
+            # The run lasts a second, so that the lost stream is tried again several times before the last request.
             time.sleep(0.0005)
         if stream == 0 or asked < 20:
             return OK

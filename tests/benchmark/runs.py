@@ -1,4 +1,4 @@
-"""Runs iconvd-benchmark, built with sanitizers, and counts what holds."""
+"""Runs iconvd-benchmark, built with sanitizers, and counts the checks that pass."""
 
 from __future__ import annotations
 
@@ -14,13 +14,13 @@ PROGRAM = os.path.join(CLIENT, "out", "asan", "iconvd-benchmark")
 
 
 def build() -> None:
-    """Makes the program."""
+    """Builds the program."""
     os.makedirs(os.path.dirname(PROGRAM), exist_ok=True)
     subprocess.run(["make", "-s", "-C", CLIENT, "OUT=out/asan", f"CFLAGS={SANITIZED}", "out/asan/iconvd-benchmark"], check=True)
 
 
 class Benchmark:
-    """The program, and counts. A run that does not end is a failure of the check: its status is -1."""
+    """The program, and counts. A run that does not end has the status -1, and the check fails."""
 
     def __init__(self, service: str) -> None:
         self._service = service
@@ -35,7 +35,7 @@ class Benchmark:
             return subprocess.CompletedProcess(command, -1, "", "it did not end")
 
     def figures(self, words: List[str], where: str = "") -> Dict[str, Any]:
-        """Runs with --json. Empty: it printed none."""
+        """Runs with --json. Returns an empty object if none was printed."""
         said = self.run(["--json", *words], where).stdout
         found: Dict[str, Any] = json.loads(said) if said else {}
         return found

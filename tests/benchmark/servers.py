@@ -1,4 +1,4 @@
-"""Servers for the check of iconvd-benchmark: one whose replies are changed on their way, and one that answers as it is told."""
+"""Servers for the check of iconvd-benchmark: one whose replies are changed on the way, and one that answers as it is told."""
 
 from __future__ import annotations
 
@@ -27,10 +27,10 @@ class Server(socketserver.ThreadingTCPServer):
         threading.Thread(target=self.serve_forever, kwargs={"poll_interval": 0.05}, daemon=True).start()
 
     def handle_error(self, request: object, client_address: object) -> None:
-        """A client that has gone is no fault of the check."""
+        """A client that has gone does not fail the check."""
 
     def take_no_more(self) -> None:
-        """Closes what listens. The streams go on."""
+        """Closes the listener. The streams go on."""
         self.shutdown()
         self.server_close()
 
@@ -93,8 +93,8 @@ class Asked(socketserver.StreamRequestHandler):
 
 
 class ToldServer(Server):
-    """`answer` is told the number of the stream, of the request on it, and the request's op. It returns the status of the reply, or None
-    where the stream is to end. It may wait."""
+    """`answer` takes the number of the stream, the number of the request on it, and the request's op. It returns the status of the reply, or
+    None to end the stream. It may wait."""
 
     def __init__(self, answer: Callable[[int, int, int], Optional[int]], port: int = 0) -> None:
         self.answer = answer
@@ -110,7 +110,7 @@ class ToldServer(Server):
 
 @contextlib.contextmanager
 def listening(program: str, path: str, *words: str) -> Iterator[subprocess.Popen[str]]:
-    """`iconvd listen` at a Unix socket, which is killed at the end."""
+    """`iconvd listen` at a Unix socket. It is killed at the end."""
     command = [program, "listen", f"unix:{path}", *words]
     with subprocess.Popen(command, stdout=subprocess.PIPE, stderr=subprocess.DEVNULL, text=True) as server:
         assert server.stdout is not None

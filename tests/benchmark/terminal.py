@@ -1,4 +1,4 @@
-"""The line that says how far the run is: on a terminal, rewritten, and taken away before anything else is printed."""
+"""The progress line: only on a terminal, rewritten, and removed before anything else is printed."""
 
 from __future__ import annotations
 
@@ -23,12 +23,12 @@ class Shown(NamedTuple):
     terminal: str
 
     def rewritten(self) -> List[str]:
-        """What was on the terminal's first line, one after another."""
+        """The successive texts of the terminal's first line."""
         return [line.rstrip() for line in self.terminal.split("\n", maxsplit=1)[0].split("\r")[1:] if line.strip()]
 
 
 def on_terminal(words: List[str], where: str, columns: int = 100) -> Shown:
-    """Runs the program with a terminal for its standard error alone."""
+    """Runs the program with only its standard error on a terminal."""
     ours, theirs = pty.openpty()
     fcntl.ioctl(theirs, termios.TIOCSWINSZ, struct.pack("HHHH", 24, columns, 0, 0))
     read: List[bytes] = []

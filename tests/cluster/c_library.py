@@ -1,4 +1,4 @@
-"""c_library.py LIBRARY WHERE: as goes_on.py does, by the C library. Prints `CONVERSIONS WRONG FAILED CONNECTIONS`."""
+"""c_library.py LIBRARY WHERE: does what goes_on.py does, by the C library. Prints `CONVERSIONS WRONG FAILED CONNECTIONS`."""
 
 from __future__ import annotations
 
@@ -24,7 +24,7 @@ class Counters(ctypes.Structure):
 
 
 class Library:
-    """The functions of libiconvd that are used here. Python's other threads go on while one of them runs."""
+    """The functions of libiconvd that are used here. Python's other threads run while one of them does."""
 
     def __init__(self, path: str, where: str) -> None:
         self._library = ctypes.CDLL(path)
@@ -47,7 +47,7 @@ class Library:
         return descriptor
 
     def convert(self, descriptor: c_void_p, data: bytes) -> bytes:
-        """Converts a text that is whole."""
+        """Converts a whole text."""
         room = ctypes.create_string_buffer(4 * len(data))
         into = c_char_p(ctypes.addressof(room))
         left, free = c_size_t(len(data)), c_size_t(len(room))

@@ -27,7 +27,7 @@ class Results:
 
 
 class Cases:
-    """All cases, over one crowd of streams that go on all the time."""
+    """All cases, with one crowd of streams that run all the time."""
 
     def __init__(self, network: Network, servers: Dict[str, Server], balancer: Balancer, crowd: Crowd, results: Results) -> None:
         self._network = network
@@ -48,7 +48,7 @@ class Cases:
         await self._cut_long("three")
         await self._disturbed()
 
-    # ---- what the cases share
+    # ---- shared by the cases
 
     def _streams_of(self, name: str) -> List[Stream]:
         owners = self._balancer.owners()
@@ -58,7 +58,7 @@ class Cases:
         return lambda: self._balancer.status(name).split(" ")[0] in wanted
 
     async def _all_go_on(self, case: str) -> None:
-        """Each stream gets replies that it asks for from now on."""
+        """Each stream gets replies to requests that it sends from now on."""
         before = {stream: stream.replies for stream in self._crowd.streams}
         went_on = await until(lambda: all(stream.replies > count + 8 for stream, count in before.items()))
         silent = sum(stream.replies <= count + 8 for stream, count in before.items())
@@ -66,7 +66,7 @@ class Cases:
         self._results.check(not self._crowd.wrong(), f"{case}: each reply is right", "; ".join(self._crowd.wrong()[:3]))
 
     async def _lose(self, case: str, name: str, act: Callable[[], object]) -> None:
-        """Does something by which the streams of one server are lost, and those of others are not."""
+        """Does something that ends the streams of one server, and of no other."""
         theirs = self._streams_of(name)
         before = {stream: stream.losses for stream in self._crowd.streams}
         await asyncio.to_thread(act)
@@ -83,7 +83,7 @@ class Cases:
         self._results.check(up, f"{case}: the server is taken back")
 
     async def _level(self) -> None:
-        """Gives each server a third of the streams again: those that have more lose some, which is no case of this check."""
+        """Gives each server a third of the streams again, by moving streams of servers that have more. This tests nothing."""
         await until(lambda: all(self._status_is(name, "UP", "NOLB")() for name in SERVERS))
         for name in SERVERS:
             self._balancer.command(f"set server iconvd/{name} weight 100")
@@ -117,7 +117,7 @@ class Cases:
         await self._level()
 
     async def _paused(self, name: str) -> None:
-        """A stop of 0.3 s, as a debugger that attaches makes it."""
+        """A stop of 0.3 s, as by a debugger that attaches."""
         before = {stream: stream.losses for stream in self._crowd.streams}
         self._servers[name].send(signal.SIGSTOP)
         await asyncio.sleep(0.3)
@@ -146,7 +146,7 @@ class Cases:
         await self._level()
 
     async def _drained_by_stop(self, name: str) -> None:
-        """The server is stopped as ExecStop= of its unit does it, while its clients talk and then are silent. Later it is started again."""
+        """The server is stopped as by ExecStop= of its unit, while its clients first send and then are silent. Later it is started again."""
         theirs = self._streams_of(name)
         before = {stream: stream.losses for stream in self._crowd.streams}
         unanswered = self._crowd.unanswered()

@@ -1,4 +1,4 @@
-"""What a stream asks, and the replies that it should get: recorded once from a server that nobody disturbs, and checked there by Python's codecs."""
+"""What a stream asks, and the right replies: recorded once from an undisturbed server, and checked there by Python's codecs."""
 
 from __future__ import annotations
 
@@ -27,7 +27,7 @@ Asking = Generator[Request, Reply, None]
 
 
 class _Charmap:
-    """A charmap of 64 letters and `?`. Every stream and every caller has another one of the same name."""
+    """A charmap of 64 letters and `?`. Every stream and every caller has a different one of the same name."""
 
     def __init__(self, seed: int) -> None:
         self._letters = [chr(_FIRST + (7 * place + 3 * seed) % LETTERS) for place in range(LETTERS)]
@@ -81,7 +81,7 @@ def _talk(caller: int, seed: int) -> Asking:
 
 
 class _Recorder:
-    """A stream to a server that nobody disturbs."""
+    """A stream to an undisturbed server."""
 
     def __init__(self, address: Tuple[str, int]) -> None:
         self._socket = socket.create_connection(address)

@@ -1,6 +1,6 @@
-"""goes_on.py WHERE: converts by the Python library with four threads until standard input ends, while servers come and go.
+"""goes_on.py WHERE: converts by the Python library with four threads until standard input ends, while servers end and start.
 
-Each text bears its number, so that a conversion that is lost, or answered twice, is seen. Prints `CONVERSIONS WRONG FAILED CONNECTIONS`.
+Each text has its number in it, which shows conversions that are lost or answered twice. Prints `CONVERSIONS WRONG FAILED CONNECTIONS`.
 """
 
 from __future__ import annotations
@@ -31,7 +31,7 @@ class Worker(threading.Thread):
         self.failed = 0
 
     def work(self, convert: Callable[[int], bytes]) -> None:
-        """Converts one text after the other, until it is over."""
+        """Converts one text after the other, until it is told to stop."""
         while not self.is_over:
             try:
                 self.wrong += convert(self._number) != text_of(self._number).encode()

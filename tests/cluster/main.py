@@ -1,4 +1,4 @@
-"""main.py PROGRAM LIBRARY: the check, on the machine of the clients, as process 1 of its namespaces (see check)."""
+"""main.py PROGRAM LIBRARY: runs the check on the machine of the clients, as process 1 of its namespaces (see check)."""
 
 from __future__ import annotations
 
@@ -25,7 +25,7 @@ CONVERSATIONS = 12
 
 
 class Library:
-    """A client by a library, which has to go on by itself."""
+    """A client by a library, which has to recover by itself."""
 
     def __init__(self, name: str, words: List[str]) -> None:
         self._name = name

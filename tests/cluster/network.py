@@ -13,23 +13,23 @@ _SWITCH = "switch"
 
 #: One packet in twenty is lost, and each is late by five milliseconds.
 _NETEM = ("netem", "delay", "5ms", "3ms", "loss", "5%")
-#: Where the kernel has no netem: a narrow link, on which packets wait, and a filter that drops one in twenty.
+#: If the kernel has no netem: a narrow link, on which packets wait, and a filter that drops one in twenty.
 _NARROW = ("tbf", "rate", "4mbit", "burst", "16kb", "latency", "200ms")
 _LOSS = "table inet loss {\n chain input {\n  type filter hook input priority 0;\n  numgen random mod 100 < 5 drop\n }\n}\n"
 
 
 def run(words: Sequence[str], text: str = "") -> bool:
-    """Runs a command. Returns whether it ended well; what it says is dropped."""
+    """Runs a command, and drops its output. Returns whether its status was 0."""
     return subprocess.run(words, input=text.encode(), stdout=subprocess.DEVNULL, stderr=subprocess.DEVNULL, check=False).returncode == 0
 
 
 def must_run(*words: str) -> None:
-    """Runs a command that has to end well."""
+    """Runs a command whose status has to be 0."""
     subprocess.run(words, check=True)
 
 
 def inside(node: str, words: Sequence[str]) -> List[str]:
-    """Returns the command that runs `words` on a machine. Its process is that of `words`."""
+    """Returns the command that runs `words` on a machine, as the same process."""
     return list(words) if node == CLIENTS else ["nsenter", f"--net=/run/netns/{node}", *words]
 
 
@@ -69,7 +69,7 @@ class Network:
 
     @staticmethod
     def disturb(nodes: Sequence[str]) -> str:
-        """Makes packets to and from these machines late, and loses some. Returns what the kernel could do of that."""
+        """Delays packets to and from these machines, and loses some. Returns which of these the kernel could do."""
         done = set()
         for node in nodes:
             replace = ["tc", "qdisc", "replace", "dev", "eth0", "root"]
@@ -84,7 +84,7 @@ class Network:
 
     @staticmethod
     def calm(nodes: Sequence[str]) -> None:
-        """Takes the disturbance away."""
+        """Ends the disturbance."""
         for node in nodes:
             run(inside(node, ["tc", "qdisc", "del", "dev", "eth0", "root"]))
             run(inside(node, ["nft", "delete", "table", "inet", "loss"]))

@@ -49,19 +49,19 @@ class Server:
         self._process.send_signal(number)
 
     def end(self, number: signal.Signals) -> None:
-        """Ends it by a signal, and waits until it has gone."""
+        """Sends it a signal, and waits until it has ended."""
         self.send(number)
         assert self._process is not None and self._process.stdout is not None
         self._process.wait()
         self._process.stdout.close()
 
     def ask(self, page: str) -> str:
-        """Asks its admin address, from its own machine, and returns what it answers."""
+        """Asks its admin address, from its own machine, and returns the answer."""
         words = [self.program, "admin", self._admin, page]
         return subprocess.run(inside(self.name, words), stdout=subprocess.PIPE, stderr=subprocess.STDOUT, text=True).stdout
 
     def drain(self) -> int:
-        """Stops it as the unit's ExecStop= does, and returns its exit status once it has gone. One that stays is killed."""
+        """Stops it as the unit's ExecStop= does, and returns its exit status. If it does not end, it is killed."""
         self.ask("drain")
         assert self._process is not None and self._process.stdout is not None
         try:
@@ -79,7 +79,7 @@ class Server:
 
 
 def _replaced(text: str, pattern: str, by: str) -> str:
-    """Replaces all places of a pattern, of which there has to be one."""
+    """Replaces all matches of a pattern. There has to be at least one."""
     text, count = re.subn(pattern, by, text, flags=re.MULTILINE)
     if count == 0:
         raise RuntimeError(f"haproxy.cfg has no {pattern}")
@@ -87,7 +87,7 @@ def _replaced(text: str, pattern: str, by: str) -> str:
 
 
 def configuration() -> str:
-    """The shipped configuration, with the addresses of these machines. Nothing else is changed but what needs a system's users."""
+    """The shipped configuration, with the addresses of these machines, and without the lines that need the system's users."""
     with open(_SHIPPED, encoding="utf-8") as file:
         text = file.read()
     text = _replaced(text, r"^    (user|group|chroot|log /dev/log) .*\n", "")
@@ -101,7 +101,7 @@ def configuration() -> str:
 
 
 def make_certificate() -> str:
-    """Makes a certificate that signs itself, for the balancer and for its clients, and returns its file. Empty: there is no openssl."""
+    """Makes a self-signed certificate for the balancer and for its clients, and returns its file, or "" if there is no openssl."""
     words = ["openssl", "req", "-x509", "-newkey", "rsa:2048", "-nodes", "-days", "2", "-subj", "/CN=iconvd", "-keyout", _CERTIFICATE,
              "-out", "/run/certificate"]  # fmt: skip
     try:
@@ -147,7 +147,7 @@ class Balancer:
         return {int(port): server for port, server in found}
 
     def status(self, server: str) -> str:
-        """Returns what HAProxy says of a server: UP, DOWN, DRAIN, ..."""
+        """Returns HAProxy's status of a server: UP, DOWN, DRAIN, ..."""
         for line in self.command("show stat").splitlines():
             columns = line.split(",")
             if columns[:2] == ["iconvd", server]:
@@ -155,12 +155,12 @@ class Balancer:
         return ""
 
     def shares(self) -> str:
-        """Says for each server what HAProxy says of it, how many streams it has, and how many wait."""
+        """Returns HAProxy's status of each server, how many streams it has, and how many wait."""
         rows = [line.split(",") for line in self.command("show stat").splitlines()]
         return ", ".join(f"{row[1]} {row[17]} {row[4]} ({row[2]} wait)" for row in rows if row[0] == "iconvd")
 
     def metrics(self) -> str:
-        """Returns the page of the metrics, read on the balancer's machine."""
+        """Returns the metrics page, read on the balancer's machine."""
         fetch = "import urllib.request; print(urllib.request.urlopen('http://127.0.0.1:8404/metrics').read().decode())"
         return subprocess.run(inside(BALANCER, ["python3", "-c", fetch]), check=True, capture_output=True, text=True).stdout
 

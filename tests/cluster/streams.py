@@ -1,4 +1,4 @@
-"""Many streams at once: each repeats a recorded conversation, and goes on with a new stream from its beginning when one is lost."""
+"""Many streams at once: each repeats a recorded conversation. If a stream is lost, a new one begins the conversation again."""
 
 from __future__ import annotations
 
@@ -12,7 +12,7 @@ from iconvd.errors import ServerLost
 from iconvd.frames import ReplyReader
 
 
-#: A drain ends a stream whose client was silent for so long. A request that came sooner after the one before it was read.
+#: A drain ends a stream whose client was silent for this long. A request that came sooner after the one before it was read.
 SILENCE = 1.0
 
 
@@ -28,7 +28,7 @@ class Stream:
         self.losses = 0
         #: How many requests were read and not answered. A stream without any reply was never served.
         self.unanswered = 0
-        #: Whether it asks no more on the stream that it has, and waits for its end.
+        #: Whether it sends no more requests on its stream, and waits for its end.
         self.is_silent = False
         self.wrong: List[str] = []
         self.ended = 0
@@ -38,7 +38,7 @@ class Stream:
         self._sent = 0.0
 
     async def run(self, host: str, port: int, is_over: Callable[[], bool]) -> None:
-        """Talks until it is over."""
+        """Sends requests until the check is over."""
         while not is_over():
             try:
                 await self._talk(host, port, is_over)
@@ -68,14 +68,14 @@ class Stream:
             self.ended += at == len(self._exchanges)
 
     def move(self) -> None:
-        """Closes the stream from this side. It goes on by another, which counts as no loss."""
+        """Closes the stream from this side, and goes on with another. This does not count as a loss."""
         self._is_moving = True
         self.port = 0
         if self._writer is not None:
             self._writer.close()
 
     async def _wait_for_end(self, reader: asyncio.StreamReader) -> None:
-        """Nothing was asked, so all that can come is the end."""
+        """No request is pending, so only the end may come."""
         if said := await reader.read(1 << 16):
             self.wrong.append(f"{said!r} in place of the end")
         raise ServerLost("the stream ended")
@@ -129,7 +129,7 @@ class Crowd:
 
 
 async def until(holds: Callable[[], bool], seconds: float = 60) -> bool:
-    """Waits until something holds. False: it did not within a time that is far above what it takes."""
+    """Waits until a condition holds. False: it did not within a time that is far longer than it takes."""
     for _ in range(int(seconds * 10)):
         if holds():
             return True

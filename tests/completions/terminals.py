@@ -1,4 +1,4 @@
-"""What bash, zsh and fish complete of a line that is typed."""
+"""How bash, zsh and fish complete a typed line."""
 from __future__ import annotations
 
 import os
@@ -36,14 +36,14 @@ zle -N write_line && bindkey '\ew' write_line
 
 
 def whole(line: str, words: list[str]) -> list[str]:
-    """The words as they are in the line: bash and fish leave out what is before the last = or :. No / or = ends one."""
+    """The words as they are in the line: bash and fish leave out what is before the last = or :. A / or = at the end is removed."""
     typed = line.rpartition(" ")[2]
     lead = typed[: max(typed.rfind("="), typed.rfind(":")) + 1]
     return sorted((word if word.startswith(lead) else lead + word).rstrip("/=") for word in words)
 
 
 class Typed:
-    """A shell at a terminal of its own. It reads its settings first, and then lines are typed."""
+    """A shell at a terminal of its own. It first reads its settings, and then lines are typed."""
 
     def __init__(self, words: list[str], settings: str, share: Path, room: Path, environment: dict[str, str]) -> None:
         self.said = room / f"{words[0]}.line"
@@ -56,7 +56,7 @@ class Typed:
         os.write(self.terminal, f". {shlex.quote(str(script))}\n".encode())
 
     def written(self) -> str:
-        """Waits for the line that the shell writes into its file, and reads meanwhile what it prints."""
+        """Waits for the line that the shell writes into its file, and meanwhile reads what it prints."""
         until = time.monotonic() + SECONDS
         while time.monotonic() < until:
             if select.select([self.terminal], [], [], 0.02)[0]:
@@ -68,7 +68,7 @@ class Typed:
         return f"no line was written in {SECONDS} seconds"
 
     def complete(self, line: str) -> list[str]:
-        """The words that take the place of the last one. With no match the line stays as it was."""
+        """The words that replace the last one. Without a match the line stays as it was."""
         os.write(self.terminal, line.encode() + KEYS)
         return whole(line, self.written().removeprefix(line.rpartition(" ")[0]).split())
 
@@ -79,7 +79,7 @@ class Typed:
 
 
 class Fish:
-    """fish prints what it would list. It finds the files as those of a package: by XDG_DATA_DIRS."""
+    """fish prints what it would list. It finds the files by XDG_DATA_DIRS, as those of a package."""
 
     def __init__(self, room: Path, environment: dict[str, str]) -> None:
         self.place, self.environment = room / "place", environment
@@ -92,11 +92,11 @@ class Fish:
         return whole(line, [listed.partition("\t")[0] for listed in (ran.stdout + ran.stderr).splitlines()])
 
     def close(self) -> None:
-        """It has ended."""
+        """Nothing: each fish has ended."""
 
 
 def terminals(share: Path, room: Path, programs: str) -> dict[str, Typed | Fish]:
-    """The shells, in the folder `place` of the room, with the completions below a folder share/."""
+    """The shells, in the folder `place` of `room`, with the completions below a folder share/."""
     home = room / "home"
     environment = {
         "HOME": str(home), "PATH": f"{programs}:/usr/bin:/bin", "LC_ALL": "C.UTF-8", "TERM": "dumb", "XDG_DATA_DIRS": f"{share}:/usr/share",

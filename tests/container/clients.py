@@ -1,4 +1,4 @@
-"""Clients of a server that is stopped: what each was answered, and how its stream ended."""
+"""Clients of a server that is stopped: the replies to each, and how its stream ended."""
 
 from __future__ import annotations
 
@@ -11,40 +11,40 @@ from iconvd import frames
 from iconvd.errors import ServerLost
 from iconvd.frames import Reply, ReplyReader, Request, Status
 
-#: A drain ends a stream whose client was silent for so long. A request that followed the one before it within this time was read.
+#: A drain ends a stream whose client was silent for this long. A request that followed the one before it within this time was read.
 SILENCE = 1.0
-#: For how many seconds a client waits for the end of its stream.
+#: How many seconds a client waits for the end of its stream.
 PATIENCE = 120
 SHORT = b"gr\xfc\xdfe "
 #: Its request and its reply take several reads and writes.
 LONG = SHORT * 50_000
-#: What asyncio reads of replies while a client sends.
+#: How many bytes of replies asyncio reads while a client sends.
 HELD = 1 << 22
-#: What a CONV says before its output: nothing is left, nothing was replaced.
+#: The first bytes of a CONV's reply: nothing is left, nothing was replaced.
 WHOLE = bytes(8)
 
 
 class Client:
-    """A stream of conversions. Until it has to be silent it sends batches, and compares each reply."""
+    """A stream of conversions. It sends batches until it has to be silent, and compares each reply."""
 
     def __init__(self, number: int) -> None:
         self._dice = random.Random(number)
         self._replies = ReplyReader()
         self._tag = 0
-        #: The replies that are to come.
+        #: The replies that it waits for.
         self._awaited: List[Reply] = []
-        #: When the last batch began to be sent, and for how long nothing had been sent when all of it was.
+        #: When it began to send the last batch, and how long it had sent nothing when all of the batch was sent.
         self._sent = time.monotonic()
         self._silence = 0.0
-        #: Replies that are wrong, and what a stream that was drained may not do.
+        #: Wrong replies, and other faults that a drained stream may not have.
         self.wrong: List[str] = []
         self.lost: List[str] = []
         self.answered = 0
-        #: Requests that came after a silence at which the stream was ended, so that they were not read.
+        #: Requests that were not read, since they came after a silence that ended the stream.
         self.unread = 0
 
     async def run(self, address: Tuple[str, int], is_silent: Callable[[], bool]) -> None:
-        """Talks, is silent, and waits for the end of the stream."""
+        """Sends requests, is silent, and waits for the end of the stream."""
         writer: Optional[asyncio.StreamWriter] = None
         try:
             reader, writer = await asyncio.open_connection(*address, limit=HELD)
@@ -71,7 +71,7 @@ class Client:
         await self._send(writer, [(frames.convert_request(1, 0, frames.MAX_ROOM, text), WHOLE + output) for text, output in zip(texts, outputs)])
 
     async def _send(self, writer: asyncio.StreamWriter, batch: List[Tuple[Request, bytes]]) -> None:
-        """Sends requests, each with the body that its reply is to have."""
+        """Sends requests, each with the right body of its reply."""
         before, self._sent = self._sent, time.monotonic()
         for _, body in batch:
             self._awaited.append(Reply(1, self._tag, Status.OK, body))
@@ -84,7 +84,7 @@ class Client:
             self._silence = time.monotonic() - before
 
     async def _read(self, reader: asyncio.StreamReader, is_enough: Callable[[], bool]) -> None:
-        """Takes replies until it is enough, or the stream has ended."""
+        """Reads replies until `is_enough`, or the end of the stream."""
         while not is_enough():
             data = await reader.read(1 << 18)
             if not data:
@@ -95,7 +95,7 @@ class Client:
                 self.answered += 1
 
     def _end(self, how: Exception) -> None:
-        """The stream is over. What was not answered has to be requests that the server did not read."""
+        """The stream has ended. Requests without a reply have to be ones that the server did not read."""
         if not self._replies.is_between_frames:
             self.lost.append(f"the stream ended within a reply: {how!r}")
         if self._awaited and self._silence < SILENCE:

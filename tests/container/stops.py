@@ -1,4 +1,4 @@
-"""stops.py PROGRAM [--stops N] -- WORDS: starts `tini -- serve` by WORDS as process 1, and stops it while clients talk (see check)."""
+"""stops.py PROGRAM [--stops N] -- WORDS: starts `tini -- serve` by WORDS as process 1, and stops it while clients send requests (see check)."""
 
 from __future__ import annotations
 
@@ -21,9 +21,9 @@ from clients import Client
 
 SERVE = TOP / "contrib" / "container" / "serve"
 CLIENTS = 24
-#: For how many seconds a drain waits for streams at most. What clients send here is answered long before.
+#: How many seconds a drain waits for streams at most. All requests here are answered long before.
 DRAIN = 60
-#: A process that has to end by itself, or else the check fails.
+#: The check fails if a process takes longer than this many seconds to end by itself.
 PATIENCE = 180
 
 Check = Tuple[str, bool]
@@ -42,7 +42,7 @@ class Container:
         self._process = subprocess.Popen(whole, stdout=subprocess.PIPE, stderr=subprocess.PIPE, text=True, env=environment)
 
     def address(self) -> Tuple[str, int]:
-        """Where it listens, once it does."""
+        """The address at which it listens, once it does."""
         assert self._process.stdout
         lines = [self._process.stdout.readline(), self._process.stdout.readline()]
         if lines[1] != f"admin {self.admin}\n":
@@ -51,7 +51,7 @@ class Container:
         return host, int(port)
 
     def tini(self) -> int:
-        """The number of process 1, as it is seen from here."""
+        """The number of process 1 outside of the namespace."""
         return only_child(self._process.pid)
 
     def stop(self) -> None:
@@ -59,7 +59,7 @@ class Container:
         os.kill(self.tini(), signal.SIGTERM)
 
     def wait(self) -> Tuple[int, str]:
-        """The exit status, and what was said on standard error."""
+        """The exit status, and the standard error."""
         try:
             return self._process.wait(PATIENCE), self._process.communicate()[1]
         except subprocess.TimeoutExpired:
@@ -77,7 +77,7 @@ def children(process: int) -> List[int]:
 
 
 def until(holds: Callable[[], bool]) -> bool:
-    """Waits until something holds. False: it did not within a time that is far above what it takes."""
+    """Waits until a condition holds. False: it did not within a time that is far longer than it takes."""
     for _ in range(100 * PATIENCE):
         if holds():
             return True
@@ -93,7 +93,7 @@ def only_child(process: int) -> int:
 
 
 def run_within(talking: Coroutine[Any, Any, bool]) -> bool:
-    """Runs clients, whose servers have to answer them and to end their streams. False: they did not."""
+    """Runs clients. False: their servers did not answer them and end their streams in time."""
     try:
         return asyncio.run(asyncio.wait_for(talking, PATIENCE))
     except asyncio.TimeoutError:
@@ -101,13 +101,13 @@ def run_within(talking: Coroutine[Any, Any, bool]) -> bool:
 
 
 async def until_answered(clients: List[Client], tasks: List["asyncio.Task[None]"], replies: int) -> None:
-    """Waits until each client has so many replies, or has ended."""
+    """Waits until each client has `replies` replies, or has ended."""
     while not all(client.answered > replies or task.done() for client, task in zip(clients, tasks)):
         await asyncio.sleep(0.05)
 
 
 async def talk(container: Container, clients: List[Client]) -> bool:
-    """Runs the clients, stops the container twice meanwhile, and has them be silent. Whether a client that came after that was refused."""
+    """Runs the clients, stops the container twice meanwhile, and makes them silent. Returns whether a later client was refused."""
     address = container.address()
     is_silent = False
     tasks = [asyncio.create_task(client.run(address, lambda: is_silent)) for client in clients]
@@ -123,7 +123,7 @@ async def talk(container: Container, clients: List[Client]) -> bool:
 
 
 async def is_refused(address: Tuple[str, int]) -> bool:
-    """Connects until that is refused, for half of a drain's time. Whether it was."""
+    """Connects until that is refused, for at most half of a drain's time. Returns whether it was."""
     for _ in range(5 * DRAIN):
         try:
             _reader, writer = await asyncio.open_connection(*address)
@@ -157,7 +157,7 @@ def stopped(program: str, words: List[str], number: int) -> Iterator[Check]:
 
 
 def cut(program: str, words: List[str]) -> Iterator[Check]:
-    """Clients that never are silent: their streams are ended when the drain's time is over."""
+    """Clients that are never silent: their streams are ended when the drain's time is over."""
     with tempfile.TemporaryDirectory() as folder:
         container = Container(program, words, folder, ["--at-once", "64", "--drain", "2"])
         clients = [Client(place) for place in range(8)]
@@ -187,7 +187,7 @@ def early(program: str, words: List[str]) -> Iterator[Check]:
     for number in range(20):
         with tempfile.TemporaryDirectory() as folder:
             container = Container(program, words, folder, [])
-            # Before it has a child, process 1 takes no signals.
+            # Process 1 ignores signals before it has a child.
             only_child(container.tini())
             time.sleep(number * 0.005)
             container.stop()
@@ -196,7 +196,7 @@ def early(program: str, words: List[str]) -> Iterator[Check]:
 
 
 def faulty(program: str, words: List[str]) -> Iterator[Check]:
-    """Words that `listen` refuses."""
+    """Arguments that `listen` refuses."""
     for options, wanted in ((["--at-once", "many"], 2), (["--admin", "127.0.0.1:0"], 2)):
         with tempfile.TemporaryDirectory() as folder:
             status, log = Container(program, words, folder, options).wait()
@@ -204,7 +204,7 @@ def faulty(program: str, words: List[str]) -> Iterator[Check]:
 
 
 def reaped(program: str, words: List[str]) -> Iterator[Check]:
-    """A process whose parent has gone, as one of a health check, becomes a child of process 1, which takes it in."""
+    """A process whose parent has ended, such as one of a health check, becomes a child of process 1, which reaps it."""
     with tempfile.TemporaryDirectory() as folder:
         leaving = Path(folder, "leaving")
         leaving.write_text(f'#!/bin/sh\n(sleep 5 &)\nexec {program} "$@"\n', encoding="ascii")

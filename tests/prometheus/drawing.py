@@ -1,4 +1,4 @@
-"""Draws the panels of the dashboard in their grid, as Grafana would lay them out."""
+"""Draws the panels of the dashboard in their grid, in Grafana's layout."""
 
 from __future__ import annotations
 
@@ -18,7 +18,7 @@ Series = Tuple[str, List[float], List[float]]
 
 
 class Source(NamedTuple):
-    """A Prometheus and the time that is looked at."""
+    """A Prometheus and the time range."""
 
     port: int
     begin: float
@@ -42,7 +42,7 @@ class Source(NamedTuple):
 
 
 def shown(value: float, unit: str) -> str:
-    """A value as Grafana writes it, about."""
+    """A value, about as Grafana writes it."""
     suffix, is_scaled = _UNITS[unit]
     if unit == "percentunit":
         return f"{100 * value:.3g}%"
@@ -93,7 +93,7 @@ def _lines(axes: Any, panel: Dict[str, Any], series: List[Series]) -> None:
 
 
 def draw(text: str, source: Source, path: str) -> List[str]:
-    """Writes the picture. Gives the titles of panels without data."""
+    """Writes the picture. Returns the titles of panels without data."""
     import matplotlib  # type: ignore[import]
 
     matplotlib.use("agg")

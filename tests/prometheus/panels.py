@@ -7,7 +7,7 @@ from typing import Any, Dict, List, Tuple
 
 
 def panels(text: str) -> List[Dict[str, Any]]:
-    """The panels, and those inside rows that are shut."""
+    """The panels, also those inside collapsed rows."""
     found = []
     for panel in json.loads(text)["panels"]:
         found += [panel, *panel.get("panels", [])]

@@ -1,7 +1,7 @@
 #!/usr/bin/python3
-"""picture.py [PROGRAM] [--seconds S] [--out FILE.png]: the dashboard as a picture, over two servers under a mixed load.
+"""picture.py [PROGRAM] [--seconds S] [--out FILE.png]: draws the dashboard of two servers under a mixed load.
 
-A Prometheus of its own scrapes the servers, and is asked what each panel asks. It asserts nothing: look at the picture. One server is full
+A Prometheus of its own scrapes the servers, and answers the queries of each panel. It asserts nothing: look at the picture. One server is full
 now and then and closes new streams, allows a stream few callers, and is drained and started again. It needs prometheus and
 python3-matplotlib.
 """
@@ -36,7 +36,7 @@ from stream import Stream
 from iconvd import frames
 from iconvd.errors import ServerLost
 
-#: Seconds between two looks of Prometheus.
+#: Seconds between two scrapes.
 SCRAPE = 2
 
 
@@ -68,7 +68,7 @@ class Server:
         self.start()
 
     def may_end(self, _begun: float) -> bool:
-        """Whether a stream may be lost. Here nothing is judged."""
+        """Whether a stream may be lost. Here it always may, since nothing is judged."""
         return True
 
     def end(self) -> None:
@@ -77,7 +77,7 @@ class Server:
 
 
 async def until(end: float, act: Callable[[], Awaitable[object]]) -> None:
-    """Does something again and again; a server that is full or away ends it early."""
+    """Repeats an action until `end`. It may fail, since a server is full or gone."""
     while time.monotonic() < end:
         with contextlib.suppress(OSError, ServerLost):
             await asyncio.wait_for(act(), 30)
@@ -85,7 +85,7 @@ async def until(end: float, act: Callable[[], Awaitable[object]]) -> None:
 
 
 async def load(one: Server, two: Server, seconds: float) -> None:
-    """A gateway's day at the first server, and at the second one clients that do not mean well."""
+    """A gateway's day at the first server, and hostile clients at the second."""
     end = time.monotonic() + seconds
     day = Day(one, Corpus(1))
 
@@ -98,7 +98,7 @@ async def load(one: Server, two: Server, seconds: float) -> None:
         stream.close()
 
     async def sitting() -> None:
-        """Is there, and says nothing."""
+        """Connects, and sends nothing."""
         stream = await Stream.open(two.port)
         await stream.ask([frames.open_request(1, b"UTF-8", b"UTF-16")])
         await asyncio.sleep(8)

@@ -9,7 +9,7 @@ from scrape import Sample
 
 
 def draw(windows: Sequence[Window], samples: Sequence[Sample], drains: Sequence[Tuple[float, float]], path: str, title: str) -> bool:
-    """Writes an SVG file. Times are in seconds since the beginning. False: there is no matplotlib."""
+    """Writes an SVG file. Times are in seconds since the start. False: there is no matplotlib."""
     try:
         import matplotlib  # type: ignore[import]
     except ImportError:
@@ -49,7 +49,7 @@ def draw(windows: Sequence[Window], samples: Sequence[Sample], drains: Sequence[
 
 
 def _draw_times(axes: Any, windows: Sequence[Window]) -> None:
-    """How long a small request takes, beside an echo."""
+    """The times of a small request, and of an echo."""
     minutes = [window.at / 60 for window in windows]
     for name, color, style, figures in (
         ("p99", "#d62728", "-", [window.p99 for window in windows]),

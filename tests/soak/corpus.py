@@ -1,4 +1,4 @@
-"""The parts of mails: their charsets, their bytes, and what a conversion to UTF-8 has to say, by Python's codecs."""
+"""The parts of mails: their charsets, their bytes, and the right reply to a conversion to UTF-8, by Python's codecs."""
 
 from __future__ import annotations
 
@@ -18,7 +18,7 @@ _TEXTS = {
     "mixed": "plain ASCII, Ünï, Кир, 日本語, 😀 and so on. ",
 }
 
-#: The service's name, Python's, and the text. The first are the service's own, the others are charmaps.
+#: The service's name, Python's name, and the text. The first encodings are built into the service, the others are charmaps.
 _BUILTIN = [
     ("US-ASCII", "ascii", ""),
     ("ISO-8859-1", "latin-1", "latin"),
@@ -36,7 +36,7 @@ _CHARMAPS = [
     ("EUC-KR", "euc-kr", "hangul"),
 ]
 
-#: Names that no service knows, as hostile mails have them.
+#: Names that no service knows, as in hostile mails.
 HOSTILE_NAMES = [b"", b"x-unknown", b"UTF-8//TRANSLIT", b"../../etc/passwd", b"<code_set_name> X", b"\0\xff" * 100, b"A" * 255]
 
 
@@ -51,7 +51,7 @@ class Part(NamedTuple):
 
 
 class Corpus:
-    """Makes parts. All that it makes follows from the seed."""
+    """Makes parts, which depend on the seed alone."""
 
     def __init__(self, seed: int) -> None:
         self._dice = random.Random(seed)
@@ -69,7 +69,7 @@ class Corpus:
             self._kinds.append((charmap.name.decode(), codec, text))
 
     def part(self, size: int = 0) -> Part:
-        """A part of about so many characters, or of a usual size: most are short, few are long. One in eight is hostile."""
+        """A part of about `size` characters, or of a usual size: most are short, few are long. One in eight is hostile."""
         dice = self._dice
         name, codec, text_name = dice.choice(self._kinds)
         text = _TEXTS.get(text_name, "The quick brown fox. ")
@@ -80,7 +80,7 @@ class Corpus:
         return Part(name.encode(), whole.encode(codec), Status.OK, 0, whole.encode())
 
     def _faulty(self, name: str, codec: str, whole: str) -> Part:
-        """A part with bytes that are no character, or that ends inside a character."""
+        """A part with ill-formed bytes, or that ends inside a character."""
         before, after = whole[: len(whole) // 2], whole[len(whole) // 2 :].encode(codec)
         if self._dice.randrange(2):
             wrong = {"UTF-8": b"\xc0\xaf", "UTF-16LE": b"\x00\xdc"}[name] + after
@@ -99,5 +99,5 @@ class Corpus:
         return self._dice.randrange(count)
 
     def pause(self, seconds: float) -> float:
-        """Usually about so long."""
+        """A random pause, usually about `seconds` long."""
         return self._dice.expovariate(1 / seconds)

@@ -1,10 +1,10 @@
 #!/usr/bin/python3
-"""crowd.py [PROGRAM] [--streams N] [--bad PERCENT] [--seconds S]: many streams at once against `iconvd listen`, some of them bad.
+"""crowd.py [PROGRAM] [--streams N] [--bad PERCENT] [--seconds S]: runs many streams at once on `iconvd listen`, some of them bad.
 
-Each good client has a stream of its own, on which it sends mails, one caller each, until the time is over. Each bad client resets its
-stream in the middle of a frame, sends half a frame and stays, asks and never reads, or sends rubbish; then it comes back. Every reply to a
-good client is compared with what Python's codecs say, no stream of theirs may end before they close it, and each has to have replies. The
-last lines are the times of their requests, which nothing judges, and `N passed, N failed`.
+Each good client has a stream of its own, on which it sends mails, one caller each, until the time is over. Each bad client resets its stream
+within a frame, sends half a frame and stays, asks and never reads, or sends random bytes; then it connects again. Every reply to a good client is
+compared with Python's codecs, no good stream may end before its client closes it, and each must get replies. The last lines are the times of
+their requests, which are not judged, and `N passed, N failed`.
 """
 
 from __future__ import annotations
@@ -32,13 +32,13 @@ from soak import start
 from stream import Stream
 
 TARGET = b"UTF-8"
-#: A silent stream ends after so long.
+#: A silent stream ends after this many seconds.
 IDLE = 5
 PARTS = 200
 
 
 class Good:
-    """A client that converts parts of mails on one stream. It keeps how long each of its requests took, and what was wrong."""
+    """A client that converts parts of mails on one stream. It keeps the time of each request, and the faults."""
 
     def __init__(self, port: int, number: int, parts: Sequence[Part]) -> None:
         self._port = port
@@ -74,18 +74,18 @@ class Good:
 
 
 async def misbehave(port: int, number: int, end: float) -> int:
-    """A bad client, which comes back in another way each time. It counts its streams."""
+    """A bad client, which connects again in another way each time. Returns the number of its streams."""
     convert = frames.convert_request(1, 0, 100_000, b"x" * 50_000).frame(0)
     streams = number
     while time.monotonic() < end:
         streams += 1
         try:
             stream = await Stream.open(port)
-            if streams % 4 == 0:  # resets in the middle of a frame
+            if streams % 4 == 0:  # resets within a frame
                 stream.writer.write(convert[:1000])
                 await asyncio.sleep(0.1)
                 stream.reset()
-            elif streams % 4 == 1:  # half a frame, and stays until the server ends the stream
+            elif streams % 4 == 1:  # sends half a frame, and stays until the server ends the stream
                 stream.writer.write(convert[:1000])
                 await asyncio.sleep(IDLE + 1)
                 stream.close()
@@ -104,7 +104,7 @@ async def misbehave(port: int, number: int, end: float) -> int:
 
 
 async def crowd(port: int, good: Sequence[Good], bad: int, seconds: float) -> int:
-    """Runs all clients for so long. It gives how many streams the bad ones had."""
+    """Runs all clients for `seconds`. Returns how many streams the bad ones had."""
     end = time.monotonic() + seconds
     clients = [asyncio.create_task(one.run(end)) for one in good]
     others = [asyncio.create_task(misbehave(port, number, end)) for number in range(bad)]
@@ -113,7 +113,7 @@ async def crowd(port: int, good: Sequence[Good], bad: int, seconds: float) -> in
 
 
 def descriptors() -> int:
-    """How many descriptors this process may have from now on, and a server that it starts."""
+    """Raises the limit of descriptors for this process and the server that it starts. Returns the limit."""
     most = resource.getrlimit(resource.RLIMIT_NOFILE)[1]
     wanted = 8192 if most == resource.RLIM_INFINITY else min(most, 8192)
     resource.setrlimit(resource.RLIMIT_NOFILE, (wanted, most))

@@ -1,4 +1,4 @@
-"""A gateway's day: what its programs ask of the service, good ones and bad ones."""
+"""A gateway's day: the requests of its good and bad programs."""
 
 from __future__ import annotations
 
@@ -15,12 +15,12 @@ from corpus import HOSTILE_NAMES, Corpus, Part
 from stream import Stream
 
 TARGET = b"UTF-8"
-#: Requests after which a long stream is closed. Its million reads would last far longer than a soak.
+#: Requests after which a long stream is closed. A million reads would last far longer than a soak.
 LONG = 20_000
 
 
 class Service(Protocol):
-    """What serves them."""
+    """The service that they use."""
 
     port: int
 
@@ -29,7 +29,7 @@ class Service(Protocol):
 
 
 class Day:
-    """All actors, and what they saw."""
+    """All actors, and their results."""
 
     def __init__(self, service: Service, corpus: Corpus) -> None:
         self._service = service
@@ -40,12 +40,12 @@ class Day:
         self.wrong: List[str] = []
 
     async def run(self) -> None:
-        """All actors, until it is over."""
+        """Runs all actors until the end."""
         actors = [self._morning, *[self._gateway] * 3, *[self._letters] * 3, self._uploads, self._dying, self._deaf]
         await asyncio.gather(*(self._act(actor) for actor in actors))
 
     async def _act(self, actor: Callable[[], Awaitable[None]]) -> None:
-        """An actor whose stream is lost is seen and goes on. No stream should be, but by a drain."""
+        """Runs an actor again and again. If its stream is lost, that is counted, and it goes on. Only a drain may end a stream."""
         while not self.is_over:
             begun = time.monotonic()
             try:
@@ -86,7 +86,7 @@ class Day:
         self.counts["bytes"] += len(part.data)
 
     async def _mail(self, stream: Stream, caller: int) -> None:
-        """A mail of some parts, then BYE. Some ask for charsets that no one has."""
+        """A mail of some parts, then BYE. Some ask for unknown charsets."""
         for _ in range(1 + self._corpus.choice(6)):
             await self._convert(stream, caller, self._corpus.part())
         name = HOSTILE_NAMES[self._corpus.choice(len(HOSTILE_NAMES))]
@@ -97,10 +97,10 @@ class Day:
         self._expect_status(bye, Status.OK, "BYE")
         self.counts["mails"] += 1
 
-    # ---- the actors; each runs until it has done a piece of work, and is then run again
+    # ---- the actors; each does a piece of work, and is then run again
 
     async def _morning(self) -> None:
-        """Once: many streams at the same time with the largest parts, so that each thread has had one. Then it waits."""
+        """Once: many streams at the same time with the largest parts, so that each thread gets one. Then it waits."""
         streams = [await Stream.open(self._port) for _ in range(14)]
         parts = [self._corpus.part(100_000) for _ in streams]
         await asyncio.gather(*(self._convert(stream, 1, part) for stream, part in zip(streams, parts)))
@@ -129,7 +129,7 @@ class Day:
         await asyncio.sleep(self._corpus.pause(0.15))
 
     async def _uploads(self) -> None:
-        """A program with charmaps of its own, each of them new."""
+        """A program with charmaps of its own, all of them new."""
         stream = await Stream.open(self._port)
         text = self._corpus.own_charmap()
         cut = self._corpus.choice(len(text))
@@ -148,7 +148,7 @@ class Day:
         stream.close()
 
     async def _dying(self) -> None:
-        """Clients that are no clients, or that end in the middle."""
+        """Clients that send other protocols, or that end within a frame."""
         stream = await Stream.open(self._port)
         convert = frames.convert_request(1, 0, 1000, b"x" * 5000).frame(0)
         ways = [b"", b"GET / HTTP/1.1\r\n\r\n", b"\xff" * 100, b"\0\0\0\0", convert[:7], convert[:1000], convert * 20]
@@ -161,7 +161,7 @@ class Day:
         self.counts["clients that died"] += 1
 
     async def _deaf(self) -> None:
-        """A client that asks for a lot, reads nothing for a while, and goes."""
+        """A client that asks for much, reads nothing for a while, and goes."""
         stream = await Stream.open(self._port)
         stream.writer.transport.pause_reading()  # type: ignore[attr-defined]
         stream.writer.write(frames.open_request(1, TARGET, TARGET).frame(0))

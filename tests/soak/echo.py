@@ -1,4 +1,4 @@
-"""Echoes what comes by each stream, so that the times of the service stand beside those of the machine. Prints its port."""
+"""Echoes the bytes of each stream, so that the times of the service can be compared with the machine's. Prints its port."""
 
 from __future__ import annotations
 

@@ -1,4 +1,4 @@
-"""How long a small request takes, beside an echo of as many bytes that is asked at the same times; and the server's memory."""
+"""Measures the time of a small request, that of an echo of as many bytes at the same moments, and the server's memory."""
 
 from __future__ import annotations
 
@@ -13,7 +13,7 @@ from service import Service
 from stream import Stream
 
 PERIOD = 0.02
-#: Seconds of one window of the figures.
+#: The length of a window of the figures, in seconds.
 WINDOW = 2.0
 _TEXT = b"The quick brown fox jumps over the lazy dog, and then some more."
 _CONVERT = frames.convert_request(1, 0, 200, _TEXT)
@@ -21,7 +21,7 @@ _FRAME = _CONVERT.frame(0)
 
 
 class Window(NamedTuple):
-    """Figures of a few seconds: microseconds, bytes, and replies that the day's actors had."""
+    """Figures of a few seconds: microseconds, bytes, and replies to the day's actors."""
 
     at: float
     p50: float
@@ -44,7 +44,7 @@ def memory_of(process: int) -> int:
 
 
 class Probes:
-    """Two streams of their own: one to the server, one to the echo."""
+    """Two streams: one to the server, one to the echo."""
 
     def __init__(self, service: Service, echo_port: int) -> None:
         self._service = service
@@ -59,7 +59,7 @@ class Probes:
         await self._stream.ask([frames.open_request(1, b"UTF-8", b"UTF-8")])
 
     async def run(self, begin: float, replies: Callable[[], int]) -> None:
-        """Asks both, one after the other, until it is over."""
+        """Asks both, one after the other, until the end."""
         await self._connect()
         self._reader, self._writer = await asyncio.open_connection("127.0.0.1", self._echo_port)
         while not self.is_over:
@@ -73,7 +73,7 @@ class Probes:
         self._writer.close()
 
     async def _ask(self) -> None:
-        """Asks the server. A drain may end the stream: another one goes on."""
+        """Asks the server. If a drain ends the stream, it opens another."""
         try:
             await self._stream.ask([_CONVERT])
         except (OSError, ServerLost):

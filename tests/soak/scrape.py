@@ -14,7 +14,7 @@ PERIOD = 1.0
 
 
 class Sample(NamedTuple):
-    """What the servers say of themselves, together: bytes, and requests answered a second."""
+    """The metrics of all servers together: bytes, and requests answered a second."""
 
     at: float
     streams: int
@@ -30,7 +30,7 @@ def total(page: str, name: str) -> int:
 
 
 class Scraper:
-    """The samples of a run, and why a server that serves did not give its page."""
+    """The samples of a run, and why a serving server did not return its page."""
 
     def __init__(self, service: Service) -> None:
         self._service = service
@@ -42,11 +42,11 @@ class Scraper:
 
     @property
     def refused_memory(self) -> int:
-        """How many requests all servers answered ENOMEM."""
+        """How many requests the servers answered with ENOMEM."""
         return sum(self._refused.values())
 
     async def run(self, begin: float) -> None:
-        """Reads all pages each second, until it is over."""
+        """Reads all pages each second, until the end."""
         last = time.monotonic()
         while not self.is_over:
             await asyncio.sleep(PERIOD)
@@ -62,7 +62,7 @@ class Scraper:
             last = now
 
     async def _read(self, server: Server) -> List[int]:
-        """Streams, memory, memory of streams, its limit, and requests since the last time. Nothing from a server that ends meanwhile."""
+        """Streams, memory, memory of streams, its limit, and requests since the last sample. Empty for a server that ends meanwhile."""
         try:
             memory = memory_of(server.process)
             page = await server.ask("metrics")

@@ -1,4 +1,4 @@
-"""The service of a soak: one server at a time at a listener that outlives it, replaced by the next one without a pause."""
+"""The service of a soak: one server at a time, at a listener that outlives it. The next one replaces it without a pause."""
 
 from __future__ import annotations
 
@@ -12,7 +12,7 @@ import time
 from typing import List, NamedTuple, Optional
 
 OPTIONS = ["--at-once", "32", "--idle", "60", "--stream-memory", "6M", "--callers", "10000", "--drain", "10"]
-#: A server that drains has to end by itself, or else the soak fails.
+#: The soak fails if a drain takes longer than this many seconds.
 PATIENCE = 120
 
 
@@ -37,7 +37,7 @@ class Server:
         return self._process.poll()
 
     async def ask(self, page: str) -> str:
-        """Asks an admin page. Raises OSError if it is not to be had."""
+        """Asks an admin page. Raises OSError if that fails."""
         words = [self._program, "admin", self._admin, page]
         asking = await asyncio.create_subprocess_exec(*words, stdout=asyncio.subprocess.PIPE, stderr=asyncio.subprocess.PIPE)
         text, errors = await asking.communicate()
@@ -46,7 +46,7 @@ class Server:
         return text.decode()
 
     async def drain(self) -> str:
-        """Drains it, and waits until it has ended. Gives what is wrong, if anything is."""
+        """Drains it, and waits until it has ended. Returns what is wrong, or an empty text."""
         try:
             await self.ask("drain")
         except OSError as error:
@@ -65,14 +65,14 @@ class Server:
 
 
 class Drain(NamedTuple):
-    """From when to when a server drained, by time.monotonic()."""
+    """The start and the end of a drain, by time.monotonic()."""
 
     begin: float
     end: float
 
 
 class Service:
-    """The server that serves, and the one before it while it drains."""
+    """The serving server, and the one before it while it drains."""
 
     def __init__(self, program: str, out: str) -> None:
         self._program = program
@@ -92,7 +92,7 @@ class Service:
         return self.servers[-1].process
 
     async def replace(self) -> None:
-        """Starts a server at the same listener, and drains the one that was there."""
+        """Starts a server at the same listener, and drains the one before it."""
         self.drains.append(Drain(time.monotonic(), math.inf))
         self.servers.append(await asyncio.to_thread(self._start))
         if wrong := await self.servers[0].drain():
@@ -106,7 +106,7 @@ class Service:
         return any(begun < drain.end for drain in self.drains)
 
     def lives(self) -> bool:
-        """Whether the server that serves is there."""
+        """Whether the serving server runs."""
         return self.servers[-1].status() is None
 
     def kill(self) -> None:

@@ -1,10 +1,10 @@
 #!/usr/bin/python3
-"""soak.py [PROGRAM] [--minutes M] [--drains D] [--out FOLDER]: a gateway's day in M minutes against `iconvd listen`, with good and bad clients.
+"""soak.py [PROGRAM] [--minutes M] [--drains D] [--out FOLDER]: runs a gateway's day in M minutes on `iconvd listen`, with good and bad clients.
 
-Every reply is compared with what Python's codecs say. The metrics are read each second. D times another server takes the listener, and the
-one before is drained: its clients go on by other streams. It writes the figures over time as tables and as a chart (FOLDER/soak.csv,
-metrics.csv and soak.svg), and ends with `N passed, N failed`: no wrong reply, memory within its limit and level, times level. No figure is
-judged by itself: memory is compared with the same run's, times with those of an echo that is asked at the same moments.
+Every reply is compared with Python's codecs. The metrics are read each second. D times another server takes the listener, and the one before is
+drained: its clients go on with other streams. It writes the figures over time as tables and as a chart (FOLDER/soak.csv, metrics.csv and
+soak.svg), and ends with `N passed, N failed`: no wrong reply, memory within its limit and level, times level. No figure is judged by itself:
+memory is compared with earlier memory of the same run, and times with those of an echo at the same moments.
 """
 
 from __future__ import annotations
@@ -33,7 +33,7 @@ from verdict import bounded, memory_level, scraped, times_level
 
 
 class Run(NamedTuple):
-    """All that takes part, and when it began."""
+    """All parts of a run, and the time of its start."""
 
     day: Day
     probes: Probes
@@ -43,7 +43,7 @@ class Run(NamedTuple):
 
 
 def start(words: List[str], log: str) -> Tuple["subprocess.Popen[str]", int]:
-    """Starts a server, and reads its port from its first line. What it says on standard error is in `log`."""
+    """Starts a server, and reads its port from its first line. Its standard error is written to `log`."""
     with open(log, "w", encoding="utf-8") as errors:
         process = subprocess.Popen(words, stdout=subprocess.PIPE, stderr=errors, text=True)
     assert process.stdout is not None
@@ -61,7 +61,7 @@ async def replace_at(service: Service, moments: List[float]) -> None:
 
 
 async def soak(service: Service, echo_port: int, minutes: float, drains: int) -> Run:
-    """Runs the day, the probes and the scraper for so long, and replaces the server meanwhile."""
+    """Runs the day, the probes and the scraper for `minutes`, and replaces the server meanwhile."""
     corpus = Corpus(1)
     if corpus.without:
         print(f"without charmaps that this system lacks: {', '.join(corpus.without)}")
@@ -118,7 +118,7 @@ def main() -> int:
     options.add_argument("--out", default=os.path.join(HERE, "out"))
     said = options.parse_args()
     os.makedirs(said.out, exist_ok=True)
-    # So that a SIGTERM, too, ends what is started here.
+    # So that SIGTERM, too, ends the processes that are started here.
     signal.signal(signal.SIGTERM, signal.default_int_handler)
     echo, echo_port = start([sys.executable, os.path.join(HERE, "echo.py")], os.path.join(said.out, "echo.log"))
     service = Service(said.program, said.out)

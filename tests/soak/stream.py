@@ -1,4 +1,4 @@
-"""A stream to the server, for asyncio, with requests by their replies."""
+"""A stream to the server, for asyncio, which returns the replies to requests."""
 
 from __future__ import annotations
 
@@ -43,6 +43,6 @@ class Stream:
         self.writer.close()
 
     def reset(self) -> None:
-        """Ends the stream as a machine does that falls over and comes back."""
+        """Ends the stream as a machine does that crashes and starts again."""
         self.writer.get_extra_info("socket").setsockopt(socket.SOL_SOCKET, socket.SO_LINGER, struct.pack("ii", 1, 0))
         self.writer.transport.abort()

@@ -1,4 +1,4 @@
-"""What the figures say: whether memory and times stayed level, whatever the machine's speed, and what the metrics say."""
+"""Judges the figures: whether memory and times stayed level, at any speed of the machine, and what the metrics show."""
 
 from __future__ import annotations
 
@@ -8,9 +8,9 @@ from typing import List, Sequence, Tuple
 from probes import Window
 from scrape import Sample, Scraper
 
-#: The last third's memory may be above the middle third's by a tenth and this, since threads have caches of their own.
+#: The last third's memory may exceed the middle third's by a tenth and this, since threads have caches of their own.
 MEMORY_SLACK = 8 << 20
-#: A request beside the echo may take so many times as long in the last third as in the first. A leak of time would pass any number.
+#: The ratio of a request's time to the echo's may grow by this factor from the first third to the last. Steady growth would pass any factor.
 TIME_FACTOR = 3.0
 
 
@@ -26,19 +26,19 @@ def memory_level(windows: Sequence[Window]) -> Tuple[bool, str]:
 
 
 def times_level(windows: Sequence[Window]) -> Tuple[bool, str]:
-    """Whether the slowest requests in a hundred, beside those of the echo at the same times, stayed as slow."""
+    """Whether the 99th percentile of requests, divided by that of the echo at the same times, stayed level."""
     first, _, last = (median(window.p99 / max(window.echo_p99, 1.0) for window in third) for third in _thirds(windows))
     return last <= TIME_FACTOR * max(first, 1.0), f"p99 is {first:.2f} times the echo's in the first third, {last:.2f} in the last"
 
 
 def scraped(scraper: Scraper) -> Tuple[bool, str, str]:
-    """Whether a server that serves gave its metrics most times. On a busy machine a page may take longer than its two seconds."""
+    """Whether a serving server returned its metrics most times. On a busy machine a page may take longer than its two seconds."""
     count, failed = len(scraper.samples), len(scraper.failures)
     return count > failed, "the metrics are to be had", f"{count} times, and {failed} times not {scraper.failures[:3]}"
 
 
 def bounded(samples: Sequence[Sample]) -> Tuple[bool, str, str]:
-    """Whether streams held no more than they may."""
+    """Whether streams held no more than their limit."""
     holds = all(sample.stream_memory <= sample.limit for sample in samples)
     most = max((sample.stream_memory for sample in samples), default=0)
     limit = max((sample.limit for sample in samples), default=0)

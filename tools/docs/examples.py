@@ -1,4 +1,4 @@
-"""The examples of a document, run by a program: what the document shows has to be what the program prints.
+"""Runs the examples of a document: the program has to print what the document shows.
 
 An example is a block of code of one of three kinds: commands after `$ `, each followed by what it prints; a script, whose reply
 lines are the next block; or request frames in hexadecimal, whose reply frames are the next block.
@@ -22,12 +22,12 @@ SECONDS = 20
 
 
 def unescaped(line: str) -> str:
-    """A line of a manual page as it is shown."""
+    """A line of a manual page without roff's escapes."""
     return line.replace(r"\e", "\\").replace(r"\-", "-")
 
 
 def blocks(lines: list[str], manual: bool) -> Iterator[Block]:
-    """The blocks of code of a page, by the number of their first line."""
+    """The blocks of code of a page, each with the number of its first line."""
     begin = 0
     block: list[str] = []
     inside = False
@@ -44,7 +44,7 @@ def blocks(lines: list[str], manual: bool) -> Iterator[Block]:
 
 
 class Session:
-    """Commands of one page, in a folder of their own. They find the program as `iconvd`. A server listens at a port that the system chooses."""
+    """Runs the commands of one page in a folder of their own, with the program as `iconvd`. A server listens at a port that the system chooses."""
 
     def __init__(self, program: Path, folder: str) -> None:
         programs = Path(folder) / "bin"
@@ -56,7 +56,7 @@ class Session:
         self.servers: list[subprocess.Popen[str]] = []
 
     def run(self, command: str, shown: list[str]) -> str | None:
-        """What is wrong with what a command prints, if something is."""
+        """What is wrong with the output of a command, or None."""
         for shown_address, address in self.addresses.items():
             command = command.replace(shown_address, address)
         if command.endswith(" &"):
@@ -96,21 +96,21 @@ def is_all(block: Block, pattern: re.Pattern[str]) -> bool:
 
 
 def run_script(program: Path, request: Block, reply: Block) -> str | None:
-    """What is wrong with the reply lines to a script, if something is."""
+    """What is wrong with the reply lines to a script, or None."""
     script = "\n".join(request[1]).encode()
     printed = subprocess.run([program, "run"], input=script, capture_output=True, timeout=SECONDS).stdout.decode()
     return None if printed.splitlines() == reply[1] else f"the script's replies are {printed!r}"
 
 
 def serve_frames(program: Path, request: Block, reply: Block) -> str | None:
-    """What is wrong with the reply frames to request frames, if something is."""
+    """What is wrong with the reply frames to request frames, or None."""
     frames = bytes.fromhex("".join(request[1]))
     replies = subprocess.run([program, "pipe"], input=frames, capture_output=True, timeout=SECONDS).stdout.hex()
     return None if replies == "".join(reply[1]).replace(" ", "") else f"the frames' replies are {replies}"
 
 
 def exchanges(program: Path, found: list[Block]) -> Iterator[Finding]:
-    """Scripts and frames, each beside the next block of replies of its kind."""
+    """Compares each script and each block of frames with the next block of replies of its kind."""
     script: Block | None = None
     frames: Block | None = None
     for block in found:
@@ -128,7 +128,7 @@ def exchanges(program: Path, found: list[Block]) -> Iterator[Finding]:
 
 
 def findings(lines: list[str], manual: bool, program: Path) -> Iterator[Finding]:
-    """Each example of a page that the program does not print as it is shown."""
+    """Each example of a page whose output is not what the page shows."""
     found = list(blocks(lines, manual))
     yield from exchanges(program, found)
     with tempfile.TemporaryDirectory() as folder:

@@ -1,10 +1,9 @@
 #!/usr/bin/env python3
-"""list.py: lemmas that are stated more than once, that std has, or that nothing names. It only lists: each has to be looked at.
+"""list.py: lists lemmas that are stated more than once, that std has, or that nothing names. Look at each: it may be needed.
 
-Statements are compared as far as they stand on the lemma's first line, up to the names of what they bind. The same words over
-definitions of a file's own are another statement, and what is bound only to be recursed on is often stated alike. A lemma that
-nothing names can be found by a proof's search where its file is cited, so that it is dead only if the crate is proved without it.
-The status is 0.
+Only the first line of each statement is compared, up to the names of its variables. Two files may have the same words over different
+definitions, and lemmas that bind variables only to recurse on them often look alike. A proof's search can find a lemma that nothing
+names if its file is cited, so such a lemma is dead only if the crate is proved without it. The status is 0.
 """
 import glob
 import os
@@ -24,7 +23,7 @@ def read(path):
 
 
 def form(statement):
-    """A statement in which what is bound is numbered, one name to a binder, and arrows between binders are left out."""
+    """A statement with its variables numbered, one name to a binder, and without arrows between binders."""
     bound = []
     for names in re.findall(r"[({]([^(){}:]+) : ", statement):
         bound += [name for name in names.split() if name not in bound]
@@ -36,7 +35,7 @@ def form(statement):
 
 
 def stated(paths):
-    """Each form of the lemmas of some files, with where it is stated."""
+    """Each form of the lemmas of some files, with the places where it is stated."""
     found = {}
     for path in paths:
         for name, statement in LEMMA.findall(read(path)):
@@ -52,7 +51,7 @@ def std_pages():
 
 
 def nameless(lemmas, sources):
-    """The lemmas whose names stand only where they are stated and defined."""
+    """The lemmas whose names occur only where they are stated and defined."""
     counts = {}
     for text in sources.values():
         for word in re.findall(NAME, text):

@@ -1,10 +1,9 @@
-/* refuse.so, a library to be preloaded: it refuses one request for memory, that whose number FAIL_NTH is, counted from 1. sweep.py
-   runs programs with 1, 2 and so on, until a run has fewer requests than that. Those of fewer bytes than FAIL_FROM, if there is one,
-   are not counted.
+/* refuse.so, a library to preload: it makes one allocation fail, number FAIL_NTH, counted from 1. sweep.py runs programs with 1, 2 and
+   so on, until a run has fewer allocations. Allocations of fewer bytes than FAIL_FROM, if that is set, are not counted.
 
-   They are counted in the file that COUNT_TO names, as a long, so that the count is there however the program ends; and from
-   just before the program's own start, since those of the loader are none of its. Those of threads are counted as they come.
-   glibc has each of its functions under a second name, so none has to be looked up, which would itself take memory. */
+   The count is a long in the file that COUNT_TO names, so that it can be read however the program ends. It begins just before the
+   program's own start, without the loader's allocations. Those of threads are counted as they come. glibc has a second name for each
+   of these functions, so none has to be looked up, which would itself allocate. */
 #include <errno.h>
 #include <fcntl.h>
 #include <stdatomic.h>
@@ -56,7 +55,7 @@ void *calloc(size_t count, size_t size)
     return is_refused(count * size) ? NULL : __libc_calloc(count, size);
 }
 
-/* For no bytes it gives memory back, and is no request. */
+/* A size of 0 frees the block, and is not counted. */
 void *realloc(void *block, size_t size)
 {
     return size > 0 && is_refused(size) ? NULL : __libc_realloc(block, size);

@@ -1,14 +1,15 @@
 #!/usr/bin/env python3
-"""sweep.py LIBRARY PROGRAM REFUSALS: each request for memory refused in turn, for each command of iconvd and for the program refusals.
+"""sweep.py LIBRARY PROGRAM REFUSALS: makes each allocation fail in turn, for each command of iconvd and for the program refusals.
 
-Each runs with its Nth request refused (refuse.c), N counting up until a run meets none. What a run may come to:
-the ample answer, which is that of a run where nothing is refused; replies of which some are ENOMEM, and the others are what the same
-requests come to without those; or status 1 and the line `iconvd: out of memory`, with nothing printed or, where replies are written as
-they come, a front of the ample ones that ends with a whole one. A stream of `listen` may end so while the others are served whole, and
-the status is 0. Or `listen` has the ample answers, and one line says that it serves fewer streams at once than it was asked to.
-`refusals` has the ample answer alone; it says on standard error which call it made again, and that is counted. It runs once more with
-its large requests refused in turn, those of a guess among them, which no call may fail for: only calls that NEEDY names are made again.
-Any other run is named, and the status is then 1. The last line is `N passed, N failed`, and counts the runs.
+Each runs with its Nth allocation failing (refuse.c), for N from 1 until a run has fewer. A run may end in one of these ways:
+- the ample answer, which is that of a run in which no allocation fails;
+- replies of which some are ENOMEM, and the others are those of the same requests without these;
+- status 1 and the line `iconvd: out of memory`, with nothing printed or, if replies are written as they come, a prefix of the ample ones that
+  ends with a whole one; a stream of `listen` may end so while the others are served whole, and the status is 0;
+- the ample answers of `listen`, and one line that it serves fewer streams at once than it was asked to.
+`refusals` may have only the ample answer; it prints on standard error which call it made again, and that is counted. It runs once more with its
+large allocations failing in turn. Some of these are for a guess of what may come, and no call may fail for them: only calls in NEEDY are made again.
+Any other run is printed, and the status is then 1. The last line is `N passed, N failed`, and counts the runs.
 """
 import collections
 import concurrent.futures
@@ -27,16 +28,16 @@ SAYS = b"iconvd: out of memory\n"
 OF_STREAM = re.compile(rb"iconvd: stream from [0-9.]+:[0-9]+: out of memory, after [0-9]+ requests?\n")
 FEWER_THREADS = re.compile(rb"iconvd: only [0-9]+ streams at once: cannot start more threads\n")
 OUTCOMES = AMPLE, FEWER, ENOMEM, NOTHING, FRONT = ["ample", "fewer threads", "ENOMEM", "no memory", "after replies"]
-SECONDS = 20  # a run that takes longer stands still
-LARGE = 16384  # how many bytes a large request has at least
-# Calls of `refusals` that need large requests: for what a stream or a part brought, and not for a guess of what may come.
+SECONDS = 20  # a run that takes longer hangs
+LARGE = 16384  # the least size of a large allocation, in bytes
+# Calls of `refusals` that need large allocations: for what a stream or a part brought, and not for a guess of what may come.
 NEEDY = {"what calls are given", "World::answer", *(f"{engine}::{call}" for engine in ("World", "WorldWith", "Pool") for call in ("batch", "batch_into")),
          "serve", "serve, WorldWith", "serve, Pool", "serve, a text held", "serve_bytes"}
 CHARMAP = rb"<code_set_name> TOY|CHARMAP|<question-mark> \x3F|<U0100> \x80|END CHARMAP".replace(b"|", b"\n")
 
 Run = collections.namedtuple("Run", "status printed said streams", defaults=[()])
-# A command: its words and what it is given; the form and bytes of the requests that it answers, and by which command they are answered
-# where memory is ample; with which status it ends behind some of its replies; and how many bytes a request has at least that is refused.
+# A command: its words and its input; the form and the bytes of the requests that it answers, and the command that answers them if no allocation
+# fails; its status if it ends after some of its replies; and the least size of an allocation that fails, in bytes.
 Case = collections.namedtuple("Case", "words given form requests answering broken least", defaults=[None, b"", (), None, 0])
 
 
@@ -76,7 +77,7 @@ class Frames:
 
 
 def served(words, given, nth=0, least=0):
-    """A run whose request for memory of this number is refused, and how many it had; those of fewer bytes than the least are not counted."""
+    """A run whose Nth allocation fails, and how many it had. Allocations of fewer bytes than the least are not counted."""
     with tempfile.NamedTemporaryFile() as count:
         refusing = dict(os.environ, FAIL_NTH=str(nth), FAIL_FROM=str(least), COUNT_TO=count.name, LD_PRELOAD=LIBRARY)
         child = subprocess.Popen(words, stdin=subprocess.PIPE, stdout=subprocess.PIPE, stderr=subprocess.PIPE, env=refusing)
@@ -90,12 +91,12 @@ def served(words, given, nth=0, least=0):
 
 @functools.cache
 def ample(words, given):
-    """What a command of iconvd prints where nothing is refused."""
+    """What a command of iconvd prints if no allocation fails."""
     return served([PROGRAM, *words], given)[0].printed
 
 
 def ask_stream(address, frames):
-    """What a client is sent that sends these frames, and then reads to the end."""
+    """What a client receives that sends these frames, and then reads to the end."""
     replies = b""
     try:
         with socket.create_connection(address, SECONDS) as stream:
@@ -106,12 +107,12 @@ def ask_stream(address, frames):
     except TimeoutError:
         raise
     except OSError:
-        pass  # the stream was reset or refused, at whichever of these calls it showed
+        pass  # the stream was reset or refused, which any of these calls may report
     return replies
 
 
 def streams(ask_all, frames, child):
-    """Clients of `listen`, once it says where it listens. `ask_all` asks by the address and gives what each was sent."""
+    """Runs clients of `listen`, once it has printed its address. `ask_all` asks at the address and returns what each client received."""
     line, told = child.stdout.readline(), ()
     if line.startswith(b"listening "):
         host, port = line.split()[1].decode().rsplit(":", 1)
@@ -132,7 +133,7 @@ def at_once(address, frames):
 
 
 def has_refusals(case, told):
-    """Whether some of these replies are refusals, and the others are as if the requests of those hadn't been made."""
+    """Whether some of these replies are refusals, and the others are as if the refused requests had not been sent."""
     form, requests, replies = case.form, case.form.cut(case.requests), case.form.cut(told)
     if len(requests) != len(replies) or not any(map(form.is_refusal, replies)):
         return False
@@ -143,7 +144,7 @@ def has_refusals(case, told):
 
 
 def judge(case, whole, run):
-    """Which outcome a run has beside that with ample memory, or None."""
+    """The outcome of a run, compared with the one in which no allocation fails, or None."""
     if run == whole:
         return AMPLE
     if run._replace(said=whole.said) == whole and FEWER_THREADS.fullmatch(run.said):
@@ -155,7 +156,7 @@ def judge(case, whole, run):
     if len(others) != 1 or len(run.streams) != len(whole.streams) or case.form is None:
         return None
     told, wanted = others[0]
-    # Where streams end and the command goes on, the line says which stream.
+    # If streams end and the command goes on, the line names the stream.
     says = OF_STREAM.fullmatch(run.said) if case.broken == 0 else run.said == SAYS
     if run.status == case.broken and says:
         replies = case.form.cut(told)
@@ -164,7 +165,7 @@ def judge(case, whole, run):
 
 
 def sweep(name, case):
-    """Refuses each request of a command in turn, and prints what the runs came to. It gives their number, and that of the bad ones."""
+    """Makes each allocation of a command fail in turn, and prints the outcomes. Returns the number of runs, and of bad ones."""
     start, counts, again, bad = time.perf_counter(), collections.Counter(), collections.Counter(), 0
     whole, asked = served(case.words, case.given, 0, case.least)
     if asked == 0:
@@ -192,11 +193,11 @@ def sweep(name, case):
 def main():
     with open(os.path.join(os.path.dirname(os.path.abspath(__file__)), "script"), "rb") as opened:
         short = b"".join(line for line in opened if not line.startswith(b"#"))
-    # With this many comments the two uploads are worth threads.
+    # With this many comments the two uploads run in threads.
     long = short.replace(b"#|", 170 * (b"#" + 98 * b"-" + b"|"))
-    # With so many requests a stream has more batches than one, and is written in parts.
+    # With this many requests a stream has several batches, and is written in parts.
     frames = 3 * ample(("ask",), short)
-    # A conversion of which a stream keeps the replies' memory, and then a request that needs nothing large but the stream's read buffer.
+    # A conversion whose reply buffer the stream keeps, and then a request that needs nothing large except the stream's read buffer.
     grows = b"7 1 open UTF-8 ISO-8859-1\n7 2 conv 0 99999 " + 40_000 * b"e9" + b"\n7 3 raw 9 " + 300_000 * b"00" + b"\n7 4 bye\n"
     grows = ample(("ask",), grows)
     server = subprocess.Popen([PROGRAM, "listen", "127.0.0.1:0", "--streams", "1000000"], stdout=subprocess.PIPE, stderr=subprocess.DEVNULL)

@@ -87,7 +87,7 @@ def options_of(context: Context) -> str:
 
 
 def cases_of(program: Program, context: Context) -> dict[str, list[str]]:
-    """What is offered, with the patterns of the places where it is: a command with an option, with `-` or with the number of an argument."""
+    """What is offered, with the patterns of its places: a command with an option, with `-` or with the number of an argument."""
     cases: dict[str, list[str]] = {}
     for option in context.options:
         if option.kind != "flag":

@@ -6,7 +6,7 @@ from pathlib import Path
 
 TABLE = Path(__file__).resolve().parents[2] / "contrib/completions/options.tsv"
 KINDS = ("command", "flag", "choice", "list", "number", "prefix", "file", "names", "text")
-MOST_NUMBERS = 16  # of a longer range the shells offer none
+MOST_NUMBERS = 16  # the shells offer no numbers of a longer range
 
 
 @dataclass(frozen=True)
@@ -30,7 +30,7 @@ class Word:
 
     @property
     def name(self) -> str:
-        """What the value is called, where it is asked for."""
+        """The name of the value in a shell's message."""
         return self.forms[-1].lstrip("-").rstrip(".").lower()
 
     def offered(self) -> tuple[str, ...]:
@@ -52,7 +52,7 @@ class Context:
 
 @dataclass(frozen=True)
 class Program:
-    """A program; `contexts` begins with that of the program itself, whose command is empty."""
+    """A program. The first of its `contexts` is that of the program itself, with an empty command."""
 
     name: str
     commands: tuple[Word, ...]
@@ -79,7 +79,7 @@ def words() -> list[Word]:
 
 
 def context_of(rows: list[Word], command: str) -> Context:
-    """What may follow a command; `-` is that of the program itself."""
+    """What may follow a command, or with `-` the program itself."""
     own = [row for row in rows if command in row.commands and row.kind != "command"]
     options = tuple(row for row in own if row.is_option)
     return Context(command.strip("-"), options, tuple(row for row in own if not row.is_option))

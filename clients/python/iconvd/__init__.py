@@ -5,7 +5,7 @@
     iconvd.register()
     open("letter.txt", encoding="iconvd-koi8-r")        # codecs by name
 
-The server is named by the environment variable ICONVD (`exec:COMMAND`, `unix:PATH` or `tcp:HOST:PORT`). Without it a server
+The environment variable ICONVD names the server: `exec:COMMAND`, `unix:PATH` or `tcp:HOST:PORT`. Without it a server
 `iconvd pipe` is started when it is first needed, and ends with the program.
 """
 

@@ -1,4 +1,4 @@
-"""python3 -m iconvd: converts files, asks whether a server is there, lists charmaps."""
+"""python3 -m iconvd: converts files, tests whether a server answers, lists charmaps."""
 
 from __future__ import annotations
 
@@ -59,7 +59,7 @@ def parser() -> argparse.ArgumentParser:
 
 
 def main(arguments: Optional[List[str]] = None) -> int:
-    """Runs the command and returns the exit status: 0, 1 for a fault, 2 for a fault of the command line."""
+    """Runs the command and returns the exit status: 0 for success, 1 for a fault, 2 for a wrong command line."""
     options = parser().parse_args(arguments)
     try:
         with Client(options.server, options.timeout) as client:

@@ -1,4 +1,4 @@
-"""An asyncio client: any number of conversions under way on one stream."""
+"""An asyncio client: any number of conversions in flight on one stream."""
 
 from __future__ import annotations
 
@@ -24,7 +24,7 @@ _READ_SIZE = 262_144
 
 
 class _Waiting(NamedTuple):
-    """An exchange whose replies have not all come."""
+    """An exchange that waits for replies."""
 
     requests: Sequence[Request]
     first_tag: int
@@ -33,7 +33,7 @@ class _Waiting(NamedTuple):
 
 
 class _Connection:
-    """A stream. Requests are sent at once, and replies are given to those who wait, in order."""
+    """A stream. Requests are sent at once, and replies go to the waiting exchanges, in order."""
 
     def __init__(
         self, where: transport.Address, reader: asyncio.StreamReader, writer: asyncio.StreamWriter, library: Library
@@ -52,7 +52,7 @@ class _Connection:
         self._reading = asyncio.ensure_future(self._read_replies())
 
     async def exchange(self, requests: Sequence[Request], timeout: Optional[float]) -> List[Reply]:
-        """Sends requests, all in a row, and returns their replies."""
+        """Sends requests, with no others between them, and returns their replies."""
         if self.fault is not None:
             raise again(self.fault)
         done: "asyncio.Future[List[Reply]]" = asyncio.get_running_loop().create_future()
@@ -99,7 +99,7 @@ class _Connection:
                 waiting.done.set_result(waiting.replies)
 
     def fail(self, fault: ServerLost) -> None:
-        """Ends the stream: all who wait get the fault."""
+        """Ends the stream. All waiting exchanges get the fault."""
         if self.fault is None:
             self.fault = fault
         self._reading.cancel()
@@ -111,7 +111,7 @@ class _Connection:
                 waiting.done.exception()
 
     async def close(self) -> None:
-        """Ends the stream, and waits for a server that was started for it, which is killed after a second."""
+        """Ends the stream, and waits for a server that was started for it. After a second that is killed."""
         is_silent = isinstance(self.fault, TimedOut)
         self.fail(ServerLost("the client was closed"))
         child, self.child = self.child, None
@@ -150,9 +150,9 @@ async def _connect(where: transport.Address, library: Library, timeout: Optional
 class AsyncClient:
     """One stream to a server, opened when it is first needed, for one event loop.
 
-    Conversions that run at once are sent one after the other, and none waits for another's reply. What a lost server did not
-    answer is sent again on a new stream, twice at most. A server that takes no stream for now is tried again until the time
-    limit is up. What was not answered in time is not sent again.
+    Requests of several conversions are sent one after the other, and none waits for another's reply. Requests that a lost server
+    did not answer are sent again on a new stream, at most twice. A server that accepts no stream is tried again until the time
+    limit is up. Requests that were not answered in time are not sent again.
     """
 
     def __init__(self, where: Optional[str] = None, timeout: Optional[float] = None) -> None:
@@ -160,7 +160,7 @@ class AsyncClient:
         self._address = transport.address(where)
         self._timeout = transport.time_limit(timeout)
         self._was_served = False
-        # The last fault that those who waited for a stream meanwhile get too, and when it was.
+        # The last fault that others who waited for a stream meanwhile get too, and its time.
         self._fault: Optional[ServerLost] = None
         self._fault_at = 0.0
         self.library = Library()
@@ -261,7 +261,7 @@ class AsyncClient:
             running.close()
 
     async def _connected(self) -> _Connection:
-        """Returns the stream, which is opened if there is none. Those who wait for one that can't be opened wait once."""
+        """Returns the stream, and opens it if there is none. Calls that waited while it could not be opened do not wait again."""
         loop = asyncio.get_running_loop()
         asked = loop.time()
         if self._connecting is None:

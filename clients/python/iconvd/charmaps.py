@@ -1,8 +1,9 @@
-"""Charmaps: finding, reading and mending the files of the system, and those of the caller's own.
+"""Charmaps: finds, reads and mends the files of the system, and reads the caller's own charmaps.
 
-The files of Debian's package `locales` are made for localedef(1), and some need mending before the server takes them: a name
-of their own (two files share one), the least and the greatest length of a character counted if the file does not say them,
-lines marked `%IRREVERSIBLE%` after all others (both are read, the first is written), and a lacking line CHARMAP added.
+The files of Debian's package `locales` are made for localedef(1), and some need mending before the server takes them. They get
+a name of their own (two files share one), the least and the greatest length of a character if the file does not have them, and
+a missing line CHARMAP. Lines marked `%IRREVERSIBLE%` are moved after all others: both mappings of a character are read, and the
+first is written.
 """
 
 from __future__ import annotations
@@ -19,7 +20,7 @@ from .errors import CharmapRefused
 
 #: The folder of the system's charmaps. The environment variable ICONVD_CHARMAPS names another.
 FOLDER = "/usr/share/i18n/charmaps"
-#: Bytes that a charmap's text may have, as the server takes it.
+#: The most bytes of a charmap's text that the server takes.
 MAX_TEXT = 8_388_608
 #: Bytes of a file whose beginning is uploaded first.
 LONG_TEXT = 2_097_152
@@ -28,14 +29,14 @@ _DECLARATION = re.compile(rb"^<(code_set_name|escape_char|comment_char|mb_cur_mi
 #: The line CHARMAP, or a mapping in a file that has no such line.
 _BEGIN = re.compile(rb"^(?:CHARMAP.*\n?|(?=<U))", re.M)
 _END = b"END CHARMAP"
-#: Combining sequences, which are several names, are none.
+#: Combining sequences, which have several names, are not mappings.
 _MAPPING = re.compile(rb"^[ \t]*(%IRREVERSIBLE%)?(<[^>\n]*>(?:\.{2,3}<[^>\n]*>)?)[ \t]+(\S+)", re.M)
 _SPAN = re.compile(rb"<U([0-9A-Fa-f]+)>\.{2,3}<U([0-9A-Fa-f]+)>")
 _RANGE = re.compile(rb"<U([0-9A-Fa-f]+)>(\.{2,3})<U([0-9A-Fa-f]+)>")
 
 
 class Charmap(NamedTuple):
-    """A charmap as it is uploaded."""
+    """A charmap to upload."""
 
     #: The name in its text.
     name: bytes
@@ -53,7 +54,7 @@ class Charmap(NamedTuple):
 
 
 def folder() -> str:
-    """Returns the folder in which charmaps are looked for."""
+    """Returns the folder of the charmaps."""
     return os.environ.get("ICONVD_CHARMAPS") or FOLDER
 
 
@@ -67,7 +68,7 @@ def listed() -> List[str]:
 
 
 def _why_missing(path: str) -> str:
-    """Says what is not there: the folder of charmaps, or the file in it."""
+    """Returns what is missing: the folder of charmaps, or the file in it."""
     there = os.path.isdir(folder())
     what = f"there is no file {path}" if there else f"there is no charmap folder {folder()}"
     return what + ": Debian's package locales has the system's charmaps, and ICONVD_CHARMAPS names another folder"
@@ -102,7 +103,7 @@ def _body(text: bytes) -> Tuple[bytes, bytes]:
 
 
 def _span(name: bytes) -> int:
-    """Returns how many mappings a name or a range is."""
+    """Returns how many mappings a name or a range has."""
     found = _RANGE.fullmatch(name)
     if not found:
         return 1
@@ -114,7 +115,7 @@ def _span(name: bytes) -> int:
 
 
 def _is_clean(body: bytes, comment: bytes) -> bool:
-    """Whether each line is a mapping in both directions, a comment or empty."""
+    """Whether each line is a mapping in both directions, a comment, or empty."""
     lines = b"\n" + body
     if b"%IRREVERSIBLE%" in body or b"><" in body or len(comment) != 1 or comment in b"<\n":
         return False
@@ -132,7 +133,7 @@ def _spans(body: bytes) -> int:
 
 
 def _declared_charmap(name: bytes, body: bytes, declared: Dict[bytes, bytes], mappings: int) -> Charmap:
-    """Returns the charmap of lines that need no mending."""
+    """Returns the charmap from lines that need no mending."""
     lengths = declared[b"mb_cur_min"], declared[b"mb_cur_max"]
     head = b"".join(b"<%s> %s\n" % declaration for declaration in declared.items() if declaration[0] != b"code_set_name")
     text = b"<code_set_name> %s\n%sCHARMAP\n%sEND CHARMAP\n" % (name, head, body)
@@ -148,7 +149,7 @@ def _measured(name: bytes, text: bytes, mappings: List[Tuple[bytes, bytes, bytes
 
 
 def mend(file: str, text: bytes) -> Charmap:
-    """Returns the charmap of that file as the server takes it. Raises CharmapRefused if no line is a mapping."""
+    """Returns the charmap of that file, mended for the server. Raises CharmapRefused if no line is a mapping."""
     header, body = _body(text)
     declared: Dict[bytes, bytes] = dict(_DECLARATION.findall(header))
     name = b"map-" + file.encode("ascii", "replace")
@@ -178,8 +179,8 @@ class Beginning(NamedTuple):
 
 def beginning(file: str, text: bytes) -> Optional[Beginning]:
     """Returns the mappings of a long file before its first range and before the first character above U+FFFF, if they are half
-    of the file or more: the server takes them in a third of the time. What they convert all of the file converts to the same,
-    since the first mapping of a character counts."""
+    of the file or more: the server reads them in a third of the time. They convert as the whole file does, since the first
+    mapping of a character counts."""
     begin = _BEGIN.search(text)
     if len(text) < LONG_TEXT or not begin:
         return None

@@ -1,4 +1,4 @@
-"""A blocking client: safe for threads, and it survives fork(2) and a lost server."""
+"""A blocking client. It is safe for threads, and survives fork(2) and a lost server."""
 
 from __future__ import annotations
 
@@ -28,16 +28,16 @@ _READ_SIZE = 262_144
 class Client:
     """One stream to a server, opened when it is first needed.
 
-    All methods may be called from any thread; they take turns on the stream. After fork(2) the child opens a stream of its
-    own. A request that a lost server did not answer is sent again on a new stream, twice at most: no descriptor keeps
-    anything between two calls, so nothing is converted twice. A server that takes no stream for now is tried again until the
-    time limit is up (see tries.py). A request that was not answered in time is not sent again.
+    Any thread may call any method; calls take turns on the stream. After fork(2) the child opens a stream of its own. A request
+    that a lost server did not answer is sent again on a new stream, at most twice: no descriptor keeps anything between two
+    calls, so nothing is converted twice. A server that accepts no stream is tried again until the time limit is up (see
+    tries.py). A request that was not answered in time is not sent again.
     """
 
     def __init__(self, where: Optional[str] = None, timeout: Optional[float] = None) -> None:
-        """Names the server by `exec:COMMAND`, `unix:PATH` or `tcp:HOST:PORT`; without `where` by the environment variable ICONVD,
-        and without that starts `iconvd pipe`. `timeout` is the seconds that a reply may take, from ICONVD_TIMEOUT if it is None,
-        and 10 without that; infinity is no limit."""
+        """`where` names the server: `exec:COMMAND`, `unix:PATH` or `tcp:HOST:PORT`. By default it is the environment variable
+        ICONVD, and without that `exec:iconvd pipe`. `timeout` is how many seconds a reply may take; by default it is
+        ICONVD_TIMEOUT, and without that 10. Infinity is no limit."""
         self._address = address(where)
         self._timeout = time_limit(timeout)
         self.library = Library()
@@ -47,14 +47,14 @@ class Client:
         self._session = Session(self.library)
         self._closings = 0
         self._was_served = False
-        # The last fault that those who waited for their turn meanwhile get too, and when it was.
+        # The last fault that calls which waited for their turn meanwhile get too, and its time.
         self._fault: Optional[ServerLost] = None
         self._fault_at = 0.0
 
     # ---- the stream
 
     def run(self, make: Callable[[Session], Steps[T]]) -> T:
-        """Runs steps (see session.py) to their end, and once more on a new stream where one is lost."""
+        """Runs steps (see session.py) to their end, and again on a new stream if one is lost."""
         self._check_fork()
         began, closings = time.monotonic(), self._closings
         with self._lock:
@@ -92,7 +92,7 @@ class Client:
             result: T = ended.value
             return result
         except BaseException:
-            # Replies of this exchange may still come: what follows needs another stream.
+            # Replies of this exchange may still arrive, so the next one needs another stream.
             if not self._is_idle():
                 self._drop(at_once=True)
             raise
@@ -113,7 +113,7 @@ class Client:
             self._lock, self._lock_owner = threading.RLock(), os.getpid()
 
     def close(self) -> None:
-        """Closes the stream. The next call opens another. A call of another thread that has no reply after a second fails."""
+        """Closes the stream. The next call opens another. A call of another thread fails if it has no reply after a second."""
         self._check_fork()
         if not self._lock.acquire(timeout=ENDING):
             self._closings += 1
@@ -147,7 +147,7 @@ class Client:
         self.run(make)
 
     def decode(self, data: bytes, source: str, errors: str = "strict") -> str:
-        """Decodes bytes as `bytes.decode` does, marks of UTF-16 and UTF-32 included."""
+        """Decodes bytes as `bytes.decode` does, also marks of UTF-16 and UTF-32."""
         return self.decoder(source, source).decode(data, errors, True)[0]
 
     def encode(self, characters: str, target: str, errors: str = "strict") -> bytes:
@@ -166,7 +166,7 @@ class Client:
         return self.run(WholeConversion(self.library, asked, data).run)
 
     def open(self, to: str, source: str) -> Conversion:
-        """Opens a conversion of a text that comes in pieces."""
+        """Opens a conversion of a text in pieces."""
         return Conversion(self, to, source)
 
     def convert_file(self, file: BinaryIO, to: str, source: str, errors: str = "strict") -> Iterator[bytes]:
@@ -192,8 +192,8 @@ class Client:
 
     def upload(self, text: Union[bytes, str]) -> Charmap:
         """Adds a charmap of the caller's own to this client: an encoding by the name in its `<code_set_name>`. A text of one word
-        is the name of a charmap file of the system, which the server reads. Raises CharmapRefused if the name is taken or the
-        server refuses the text; it has the line and the cause."""
+        is the name of a charmap file of the system, which is uploaded. Raises CharmapRefused, with the line and the cause, if the
+        name is taken or the server refuses the text."""
         encoding, is_added = self.library.uploaded(text)
         try:
             self.run(lambda session: session.descriptor(Pair(UTF_8, encoding), is_whole=True))
@@ -217,7 +217,7 @@ def default() -> Client:
 
 
 def use(client: Client) -> None:
-    """Has `convert` and the codecs use this client."""
+    """Makes `convert` and the codecs use this client."""
     with _default_lock:
         _default[:] = [client]
 

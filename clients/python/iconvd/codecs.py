@@ -1,4 +1,4 @@
-"""Codecs by name: after `register()`, `iconvd-NAME` is an encoding of Python's, converted by the service."""
+"""Codecs by name: after `register()`, Python knows the encodings `iconvd-NAME`, which the service converts."""
 
 from __future__ import annotations
 
@@ -29,7 +29,7 @@ def info(name: str, encoding: Encoding, client: Optional[Client] = None) -> code
         return Decoder(_client(client), name, encoding).decode(raw, errors or "strict", True)[0], len(raw)
 
     class IncrementalEncoder(codecs.IncrementalEncoder):
-        """Encodes a text that comes in pieces."""
+        """Encodes a text in pieces."""
 
         def __init__(self, errors: str = "strict") -> None:
             super().__init__(errors)
@@ -41,7 +41,7 @@ def info(name: str, encoding: Encoding, client: Optional[Client] = None) -> code
         def reset(self) -> None:
             self._encoder = Encoder(_client(client), name, encoding)
 
-        # As CPython's utf_16 has it: 2 before the mark of UTF-16 or UTF-32 is written, 0 after it.
+        # As in CPython's utf_16: 2 before the mark of UTF-16 or UTF-32 is written, 0 after it.
         def getstate(self) -> int:
             return 0 if self._encoder.is_started else 2
 
@@ -50,7 +50,7 @@ def info(name: str, encoding: Encoding, client: Optional[Client] = None) -> code
             self._encoder.is_started = not state
 
     class IncrementalDecoder(codecs.BufferedIncrementalDecoder):
-        """Decodes bytes that come in pieces."""
+        """Decodes bytes in pieces."""
 
         def __init__(self, errors: str = "strict") -> None:
             super().__init__(errors)
@@ -63,7 +63,7 @@ def info(name: str, encoding: Encoding, client: Optional[Client] = None) -> code
             super().reset()
             self._decoder = Decoder(_client(client), name, encoding, needs_mark=True)
 
-        # The number says which order of bytes the text has: 0 where it is not known yet.
+        # The number says which byte order the text has: 0 if it is not known yet.
         def getstate(self) -> Tuple[bytes, int]:
             found = self._decoder.encoding
             return super().getstate()[0], _ORDERS.index(found.name[-2:]) if found and found.name[-2:] in _ORDERS else 0
@@ -98,7 +98,7 @@ def info(name: str, encoding: Encoding, client: Optional[Client] = None) -> code
         def decode(self, input: bytes, errors: str = "strict") -> Tuple[str, int]:
             return self._decoder.decode(bytes(input), errors, False)
 
-        # CPython's codecs of several bytes a character take None for all that is left.
+        # In CPython's multibyte codecs None means all that is left.
         def read(self, size: Optional[int] = -1, chars: int = -1, firstline: bool = False) -> str:
             return super().read(-1 if size is None else size, chars, firstline)
 
@@ -121,7 +121,7 @@ def info(name: str, encoding: Encoding, client: Optional[Client] = None) -> code
 
 
 def search(name: str) -> Optional[codecs.CodecInfo]:
-    """Finds the codec of `iconvd-NAME`; Python asks by `iconvd_name`."""
+    """Finds the codec of `iconvd-NAME`; Python asks for `iconvd_name`."""
     prefix, separator, rest = name.partition("_" if name.startswith(_PREFIX + "_") else "-")
     if prefix != _PREFIX or not separator:
         return None
@@ -134,6 +134,6 @@ def search(name: str) -> Optional[codecs.CodecInfo]:
 
 
 def register() -> None:
-    """Makes `iconvd-NAME` an encoding of Python's. A second call does nothing."""
+    """Makes the encodings `iconvd-NAME` known to Python. A second call does nothing."""
     codecs.unregister(search) if hasattr(codecs, "unregister") else None
     codecs.register(search)

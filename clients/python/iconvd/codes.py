@@ -1,6 +1,6 @@
 """The codes of a charmap: its byte strings and its characters, as the form of its encoding (see forms.py).
 
-Strings are kept as bits, one number for all that differ in the last byte alone (see mappings.py), and characters as ranges.
+Strings are kept as bits, one number for all that differ only in the last byte (see mappings.py), and characters as ranges.
 Scanners and regular expressions are made from both.
 """
 
@@ -23,13 +23,13 @@ _ILLEGAL = "illegal multibyte sequence"
 
 
 class _Strings:
-    """Byte strings as bits: for all bytes before the last one, which last bytes there are."""
+    """Byte strings as bits: the last bytes, by the bytes before them."""
 
     def __init__(self, found: LastBytes) -> None:
         self._leaves = found
 
     def scanner(self, separator: bytes) -> Optional[Scanner]:
-        """Returns what finds the faults of a text of these strings."""
+        """Returns the scanner that finds the faults of a text, or None if there is none for these strings."""
         by_size: Dict[int, List[bytes]] = {}
         for prefix in self._leaves:
             by_size.setdefault(len(prefix), []).append(prefix)
@@ -49,7 +49,7 @@ class _Strings:
         return (*columns, union(set(map(self._leaves.__getitem__, prefixes))))
 
     def _tree(self) -> Tuple[Dict[bytes, int], Dict[bytes, Set[int]]]:
-        """Returns the last bytes of the strings by what is before them, and the bytes between by what is before these."""
+        """Returns the last bytes of the strings by the bytes before them, and the bytes between by the bytes before those."""
         after: Dict[bytes, Set[int]] = {}
         for prefix in self._leaves:
             while prefix and prefix[-1] not in after.setdefault(prefix[:-1], set()):
@@ -58,7 +58,7 @@ class _Strings:
         return dict(self._leaves), after
 
     def patterns(self, separator: bytes) -> Patterns:
-        """Returns the patterns of the strings but the separator."""
+        """Returns the patterns of all strings except the separator."""
         leaves, after = self._tree()
         leaves[separator[:-1]] &= ~(1 << separator[-1])
         kinds = _kinds(b"", leaves, after)
@@ -75,7 +75,7 @@ class _Strings:
         )
 
 
-#: Bytes that are followed by the same, as bits, by the patterns of what follows: to the end of a string, and not to its end.
+#: Sets of bytes, as bits, by the patterns of what follows each of them: up to the end of a string, and not up to its end.
 _Kinds = Dict[Tuple[bytes, bytes], int]
 
 
@@ -93,7 +93,7 @@ def _by_size(kinds: _Kinds) -> List[Tuple[Tuple[bytes, bytes], int]]:
 
 
 def _patterns(prefix: bytes, leaves: Dict[bytes, int], after: Dict[bytes, Set[int]]) -> Tuple[bytes, bytes]:
-    """Returns patterns of what follows a prefix: to the end of a string, and not to its end."""
+    """Returns patterns of what follows a prefix: up to the end of a string, and not up to its end."""
     last = leaves.get(prefix, 0)
     good = [_class(last)] if last else []
     cut = []
@@ -113,7 +113,7 @@ def _class(bits: int) -> bytes:
 
 
 def _runs(spans: List[Tuple[int, int]]) -> Iterator[Tuple[int, int]]:
-    """Joins sorted spans that touch, and gives the first and the last number of each."""
+    """Joins sorted spans that touch, and yields the first and the last number of each."""
     begin, end = spans[0]
     for first, after in spans[1:]:
         if first > end:
@@ -125,7 +125,7 @@ def _runs(spans: List[Tuple[int, int]]) -> Iterator[Tuple[int, int]]:
 
 
 def _separator(found: List[Range]) -> Tuple[str, bytes]:
-    """Returns a character with a byte string of the least length, and no other: a rare one, if the charmap has it."""
+    """Returns a character whose only byte string has the least length, a rare character if the charmap has it."""
     shortest = min(length for _, _, _, length in found)
     able = sorted((first, code) for first, count, code, length in found if count == 1 and length == shortest)
     for mark, code in able:
@@ -146,10 +146,10 @@ def _usual_separator(charmap: Charmap, body: bytes, rest: bytes) -> Optional[Tup
 
 
 class CharmapForm(PatternForm):
-    """The form of a charmap's encoding. What is made of the charmap is made when it is first needed."""
+    """The form of a charmap's encoding. Its parts are made when they are first needed."""
 
     def __init__(self, charmap: Charmap, rest: bytes = b"") -> None:
-        """`rest` is the lines of a charmap of which `charmap` is the beginning."""
+        """`charmap` may be the beginning of a longer one, whose other lines are `rest`."""
         self._charmap = charmap
         self._rest = rest
         self.is_multibyte = charmap.longest > 1
@@ -182,7 +182,7 @@ class CharmapForm(PatternForm):
         found = mappings.spans(self._charmap.body(), self._charmap.escape)
         return list(_runs(sorted([*found, *self._rest_spans])))
 
-    # ---- the rest of a charmap of which the beginning is uploaded alone
+    # ---- the rest of a charmap of which only the beginning is uploaded
 
     def has_in_rest(self, character: str) -> bool:
         """Whether the rest of the charmap has a character."""

@@ -23,7 +23,7 @@ class WholeConversion:
         self.pair = Pair(self._target, self._origin)
 
     def run(self, session: Session) -> Steps[bytes]:
-        """Converts the text as it is, and from the first fault on by way of its characters."""
+        """Converts bytes to bytes up to the first fault, and the rest by decoding and encoding."""
         data = self._data[self._begin :] if self._begin else self._data
         ran = yield from steps.run(session, self.pair, data, self._ends.errors == "strict")
         if ran.status == Status.OK:

@@ -1,8 +1,8 @@
 """Cutting faults out of a text, with Python's error handlers.
 
-A window of a text becomes good pieces, which the server converts, and what Python's error handler gives for what is between
-them. The handler is called for each fault, in order, with the exception that CPython's codec would give it. A handler of Python's
-own that looks at the faulty bytes or characters alone is called once for each different fault.
+A window of a text becomes good pieces, which the server converts, and between them the results of Python's error handler. The
+handler is called for each fault, in order, with the exception that CPython's codec would give it. A handler of Python's own that
+looks only at the faulty bytes or characters is called once for each different fault.
 """
 
 from __future__ import annotations
@@ -14,7 +14,7 @@ from typing import AnyStr, Callable, Dict, Iterable, List, NamedTuple, Optional,
 from .forms import Form
 from .scan import Scanner
 
-#: Bytes or characters that are looked at in one go.
+#: Bytes or characters that are searched at once.
 WINDOW = 65_515
 _LOCAL = frozenset(
     "ignore_errors replace_errors backslashreplace_errors xmlcharrefreplace_errors namereplace_errors surrogateescape".split()
@@ -24,20 +24,20 @@ _Handler = Callable[[UnicodeError], Tuple[Union[str, bytes], int]]
 
 
 class DecodingCut(NamedTuple):
-    """Bytes that are good with a separator between them, what comes in the place of each, and where the text goes on."""
+    """Good bytes with separators between them, the texts that replace the separators, and where the text goes on."""
 
     good: bytes
-    #: How many separators these have.
+    #: How many separators the good bytes have.
     marks: int
     between: Sequence[str]
     at: int
     has_faults: bool
-    #: What comes in the place of all of them, if that is the same; then `between` is empty.
+    #: The text that replaces all of them, if that is the same; then `between` is empty.
     same: Optional[str] = None
 
 
 class EncodingCut(NamedTuple):
-    """Characters that the encoding has, what is between them (one less), and where the text goes on."""
+    """Pieces that the encoding has, what is between them (one less), and where the text goes on."""
 
     good: List[str]
     between: List[Union[str, bytes]]
@@ -45,7 +45,7 @@ class EncodingCut(NamedTuple):
 
 
 def joined(pieces: Sequence[AnyStr], between: Sequence[AnyStr]) -> AnyStr:
-    """Puts pieces and what is between them together."""
+    """Joins pieces and what is between them."""
     nothing = pieces[0][:0]
     whole = [nothing] * (len(pieces) + len(between))
     whole[::2] = pieces
@@ -54,7 +54,7 @@ def joined(pieces: Sequence[AnyStr], between: Sequence[AnyStr]) -> AnyStr:
 
 
 def gathered(pieces: Sequence[AnyStr], between: Sequence[_Between]) -> Tuple[List[AnyStr], List[_Between]]:
-    """Joins what nothing is between, and leaves out the empty pieces."""
+    """Joins pieces with nothing between them, and leaves out the empty pieces."""
     kept: List[AnyStr] = [pieces[0]]
     runs: List[List[_Between]] = []
     for piece, item in zip(pieces[1:], between):
@@ -75,7 +75,7 @@ class _Handling:
         self._form = form
         self._name = name
         self._handle: _Handler = codecs.lookup_error(errors)
-        #: Whether it looks at the faulty bytes or characters alone.
+        #: Whether it looks only at the faulty bytes or characters.
         self.is_local = isinstance(self._handle, BuiltinFunctionType) and self._handle.__name__ in _LOCAL
 
 
@@ -91,7 +91,7 @@ class DecodingHandling(_Handling):
         return found or self._cut_one_by_one(data, at, end, is_end)
 
     def _texts(self, items: Iterable[bytes]) -> Optional[Dict[bytes, str]]:
-        """Returns what the handler gives for faults, or None if it has to see them where they are."""
+        """Returns what the handler gives for faults, or None if it has to see their place in the text."""
         texts: Dict[bytes, str] = {}
         try:
             for item in items:
@@ -124,7 +124,7 @@ class DecodingHandling(_Handling):
         return cut and cut._replace(has_faults=bool(faults.bytes))
 
     def _between(self, good: bytes, items: bytes, tail: str, end: int) -> Optional[DecodingCut]:
-        """Returns a cut with what the handler gives in the place of the items, each of which is a byte or begins with it."""
+        """Returns a cut in which the handler's texts replace the items. Each item is a byte or begins with it."""
         form = self._form
         kinds = set(items) - {form.separator[0]}
         texts = self._texts(bytes((byte,)) for byte in kinds)
@@ -142,7 +142,7 @@ class DecodingHandling(_Handling):
         return DecodingCut(good, marks, [*map(between.__getitem__, items), *([tail] if tail else ())], end, True)
 
     def _cut_at_once(self, data: bytes, at: int, end: int, is_end: bool) -> Optional[DecodingCut]:
-        """Returns None if the handler has to see the faults where they are."""
+        """Returns None if the handler has to see the faults' place in the text."""
         form = self._form
         found = form.find_all(data, at, end)
         if found is None:
@@ -160,7 +160,7 @@ class DecodingHandling(_Handling):
         return self._cut(good, list(map(texts.__getitem__, items)), end, has_faults)
 
     def _cut(self, good: List[bytes], between: List[str], at: int, has_faults: bool) -> DecodingCut:
-        """Returns a cut. A separator of several bytes is not sent where two faults follow each other."""
+        """Returns a cut. If two faults follow each other, a separator of several bytes is not sent between them."""
         if len(self._form.separator) > self._form.unit:
             good, between = gathered(good, between)
         if len(set(between)) == 1:
@@ -199,7 +199,7 @@ class EncodingHandling(_Handling):
         return found or self._cut_one_by_one(text, at, end)
 
     def _cut_at_once(self, window: str, end: int) -> Optional[EncodingCut]:
-        """Returns None if the handler has to see the characters where they are."""
+        """Returns None if the handler has to see the characters' place in the text."""
         form = self._form
         items = form.special.findall(window)
         replaced = self.replaced(set(items) - {form.mark})
@@ -209,7 +209,7 @@ class EncodingHandling(_Handling):
         return EncodingCut(form.special.split(window), [replaced[item] for item in items], end)
 
     def replaced(self, items: Iterable[str]) -> Optional[Dict[str, Union[str, bytes]]]:
-        """Returns what the handler gives for characters that the encoding lacks, or None if it has to see them where they are."""
+        """Returns what the handler gives for lacking characters, or None if it has to see their place in the text."""
         replaced: Dict[str, Union[str, bytes]] = {}
         try:
             for item in items:
@@ -245,7 +245,7 @@ class EncodingHandling(_Handling):
         return EncodingCut([*good, text[at:end]], between, end)
 
     def _replaced(self, error: UnicodeEncodeError, size: int) -> Tuple[Union[str, bytes], int]:
-        """Returns what the handler gives in place of characters. Raises the fault if the encoding has no such text."""
+        """Returns what the handler gives for characters. Raises the fault if the encoding lacks that text."""
         replaced, after = self._handle(error)
         if not isinstance(replaced, (str, bytes)) or not isinstance(after, int):
             raise TypeError("encoding error handler must return (str/bytes, int) tuple")

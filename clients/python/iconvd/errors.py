@@ -1,4 +1,4 @@
-"""What can go wrong, as exceptions."""
+"""The exceptions of this package."""
 
 from __future__ import annotations
 
@@ -8,11 +8,11 @@ class IconvdError(Exception):
 
 
 class ServerLost(IconvdError, ConnectionError):
-    """The server can't be reached, ended the stream, did not answer in time, or sent bytes that are no reply."""
+    """The server can't be reached, ended the stream, did not answer in time, or sent bytes that are not a reply."""
 
 
 class TimedOut(ServerLost, TimeoutError):
-    """The server did not answer within the time limit. What it was asked is not tried again."""
+    """The server did not answer within the time limit. The request is not tried again."""
 
 
 class NotStarted(ServerLost):
@@ -24,7 +24,7 @@ class NotReached(ServerLost):
 
 
 class ServerBusy(ServerLost):
-    """The server ends new streams before their first reply, or takes none: it is full, or it is draining."""
+    """The server ends new streams before their first reply, or accepts none: it is full or draining."""
 
 
 class UnknownEncoding(IconvdError, LookupError):
@@ -44,7 +44,7 @@ class RequestRefused(IconvdError):
 
 
 class CharmapRefused(IconvdError, LookupError, ValueError):
-    """A charmap is not there, can't be read or was refused by the server. `line` is 0 if no single line is at fault."""
+    """A charmap is missing, can't be read, or was refused by the server. `line` is 0 if no single line is at fault."""
 
     def __init__(self, name: str, why: str, line: int = 0) -> None:
         super().__init__(f"charmap {name}: " + (f"line {line}: {why}" if line else why))

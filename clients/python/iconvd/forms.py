@@ -1,9 +1,8 @@
-"""The form of an encoding: which bytes are a character, which are none, and which characters it lacks.
+"""The form of an encoding: which bytes are a character, which are a fault, and which characters it lacks.
 
-The server says at which byte it stopped. The client knows the form too, so it finds all faults of a piece of text at once. It
-cuts them out, puts a separator in the place of each, and has the server convert all that is between them by one request. The
-separator is a character that is counted as a special item wherever the text itself has it. So the output has it exactly where
-something was cut out.
+The server says only at which byte it stopped. The client knows the form too, so it finds all faults of a piece of text at once.
+It replaces each by a separator, and the server converts the whole piece by one request. The separator is a character. If the
+text itself has it, that is cut out like a fault. So the output has it exactly where something was cut out.
 """
 
 from __future__ import annotations
@@ -15,19 +14,19 @@ from typing import Callable, Dict, List, NamedTuple, Optional, Pattern, Sequence
 
 from .scan import Box, Scanner, bits
 
-#: The first and the last of characters that follow each other.
+#: The first and the last of a run of characters.
 Span = Tuple[int, int]
 
 
 class Found(NamedTuple):
-    """What is at a place of a text: good bytes, and the item after them."""
+    """Good bytes at a place of a text, and the item after them."""
 
-    #: Bytes that the server converts.
+    #: The bytes that the server converts.
     good: bytes
     #: Where the item begins and ends. It is empty at the end of the text.
     start: int
     end: int
-    #: What CPython says of a fault; empty for an item that is none.
+    #: CPython's reason for a fault; empty for an item that is not a fault.
     reason: str = ""
     #: The characters of the item, or those before the fault in it.
     text: str = ""
@@ -38,9 +37,9 @@ class Found(NamedTuple):
 class Form:
     """What the client knows of an encoding."""
 
-    #: What CPython says of characters that the encoding lacks.
+    #: CPython's reason for characters that the encoding lacks.
     lacking_reason = "surrogates not allowed"
-    #: The bytes of an error handler are put into the output if they are a multiple of this.
+    #: The bytes of an error handler are put into the output if their number is a multiple of this.
     unit = 1
     #: Whether only ASCII characters of an error handler are put into the output, as CPython's codec does.
     is_ascii_put_in = False
@@ -69,11 +68,11 @@ class Form:
         raise NotImplementedError
 
     def scanner(self) -> Optional[Scanner]:
-        """Returns what finds all faults at once, if the encoding is one for it."""
+        """Returns the scanner that finds all faults at once, if the encoding has one."""
         return None
 
     def split(self, data: bytes, count: int) -> List[bytes]:
-        """Cuts text without faults at its separators, of which there are `count`."""
+        """Cuts a text without faults at its `count` separators."""
         raise NotImplementedError
 
     def is_cut(self, item: bytes) -> bool:
@@ -81,18 +80,18 @@ class Form:
         raise NotImplementedError
 
     def reason(self, item: bytes, is_cut: bool) -> str:
-        """Returns what CPython says of a fault."""
+        """Returns CPython's reason for a fault."""
         raise NotImplementedError
 
     @property
     def special(self) -> Pattern[str]:
-        """The pattern of the mark, and of characters that the encoding lacks, as many as CPython reports at once."""
+        """The pattern of the mark, and of the lacking characters that CPython reports at once."""
         if self._special is None:
             self._special = re.compile(f"{re.escape(self.mark)}|{_lacking(self.has())}" + ("+" if self._in_runs else ""))
         return self._special
 
     def lacks(self, text: str) -> Optional[int]:
-        """Returns where the first character is that the encoding lacks."""
+        """Returns the place of the first character that the encoding lacks."""
         return next((found.start() for found in self.special.finditer(text) if found[0] != self.mark), None)
 
 
@@ -104,7 +103,7 @@ class Patterns(NamedTuple):
     #: The first byte of a character of several bytes, and such a character.
     lead: bytes
     multiple: bytes
-    #: A byte that begins no character.
+    #: A byte with which no character begins.
     never: bytes
     #: The bytes of a fault at the beginning of a character, or of a character that the end of the text cuts.
     bad: bytes
@@ -113,7 +112,7 @@ class Patterns(NamedTuple):
 
 
 def _good(patterns: Patterns) -> bytes:
-    """Returns the pattern of any number of characters. Those of one byte are passed over in the fastest way."""
+    """Returns the pattern of any number of characters, which skips those of one byte fastest."""
     single = patterns.single + b"*" if patterns.single else b""
     if not patterns.multiple:
         return single
@@ -172,7 +171,7 @@ class PatternForm(Form):
 
 
 def _lacking(has: Sequence[Span]) -> str:
-    """Returns the pattern of a character outside of sorted spans. What is less is in it: it is made character by character."""
+    """Returns the pattern of a character outside of sorted spans. It lists the spans or the gaps, the smaller set of both."""
     between = zip([-1, *(last for _, last in has)], [*(first for first, _ in has), 0x110000])
     gaps = [(last + 1, first - 1) for last, first in between if first - last > 1]
     is_rich = sum(min(last, 0xFFFF) - first for first, last in has if first <= 0xFFFF) >= 0x8000
@@ -185,7 +184,7 @@ def _escaped(point: int) -> str:
 
 
 class UnicodeForm(PatternForm):
-    """The form of an encoding of Unicode. CPython's codec of it is asked for the reason of a fault."""
+    """The form of an encoding of Unicode. CPython's codec gives the reason of a fault."""
 
     def __init__(
         self, codec: str, patterns: Patterns, in_runs: bool, last: int = 0x10FFFF, boxes: Optional[Sequence[Box]] = None
@@ -287,7 +286,7 @@ _UTF_32LE = Patterns(
 _UTF_32BE = _UTF_32LE._replace(multiple=rb"\0\0[^\0\xd8-\xdf].|\0\0\0[^\0]|\0[\x01-\x10]..")
 _ASCII = Patterns(rb"[\x01-\x7f]", b"", b"", rb"[\x80-\xff]", b"", b"")
 
-#: The forms of the encodings that the server has itself, but for UTF-7; see shifted.py.
+#: The forms of the built-in encodings, except UTF-7; see shifted.py.
 BUILTIN: Dict[str, Callable[[], Form]] = {
     "US-ASCII": lambda: UnicodeForm("ascii", _ASCII, True, 0x7F, ()),
     "ISO-8859-1": lambda: UnicodeForm("latin-1", _ASCII._replace(single=rb"[\x01-\xff]", never=b""), True, 0xFF),

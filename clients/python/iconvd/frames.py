@@ -1,4 +1,4 @@
-"""Request and reply frames, as bytes. Nothing here reads or writes a stream (see iconvd-protocol(5))."""
+"""Request and reply frames, as bytes (see iconvd-protocol(5)). Nothing here reads or writes a stream."""
 
 from __future__ import annotations
 
@@ -11,11 +11,11 @@ from .errors import ServerLost
 #: The length field counts the bytes after it.
 MIN_LENGTH = 9
 MAX_LENGTH = 1_048_576
-#: Bytes of a body, at most.
+#: The most bytes of a body.
 MAX_BODY = MAX_LENGTH - MIN_LENGTH
-#: Bytes of the input of one CONV, at most.
+#: The most bytes of the input of one CONV.
 MAX_INPUT = MAX_BODY - 8
-#: Bytes of output that one CONV may ask for.
+#: The most bytes of output of one CONV.
 MAX_ROOM = 1_000_000
 #: An input of this size makes a CONV of 65,536 bytes, which the server takes in one read.
 CHUNK = 65_515
@@ -30,7 +30,7 @@ _TWO = struct.Struct(">II")
 
 
 class Op(IntEnum):
-    """What a request asks."""
+    """The op of a request."""
 
     PUT = 1
     DROP = 2
@@ -43,7 +43,7 @@ class Op(IntEnum):
 
 
 class Status(IntEnum):
-    """What a reply says."""
+    """The status of a reply."""
 
     OK = 0
     E2BIG = 1
@@ -116,7 +116,7 @@ class Reply(NamedTuple):
 
 
 class Converted(NamedTuple):
-    """What a CONV did."""
+    """The result of a CONV."""
 
     status: Status
     #: How many bytes of the input were not used.
@@ -125,13 +125,13 @@ class Converted(NamedTuple):
 
 
 class ReplyReader:
-    """Cuts the bytes of a stream into replies, however they arrive."""
+    """Cuts the bytes of a stream into replies, in any pieces in which they arrive."""
 
     def __init__(self) -> None:
         self._held = bytearray()
 
     def feed(self, data: bytes) -> Iterator[Reply]:
-        """Takes bytes and gives the replies that they complete. Raises ServerLost for a length that no frame has."""
+        """Takes bytes, and yields the replies that they complete. Raises ServerLost for a length out of range."""
         held = self._held
         held += data
         at = 0
@@ -170,17 +170,17 @@ def convert_request(caller: int, descriptor: int, room: int, data: bytes) -> Req
 
 
 def reset_request(caller: int, descriptor: int, room: int) -> Request:
-    """Takes a descriptor back to its start."""
+    """Resets a descriptor to its start."""
     return Request(caller, Op.RESET, _TWO.pack(descriptor, room))
 
 
 def close_request(caller: int, descriptor: int) -> Request:
-    """Gives a descriptor back."""
+    """Frees a descriptor."""
     return Request(caller, Op.CLOSE, _NUMBER.pack(descriptor))
 
 
 def read_converted(reply: Reply, sent: int) -> Converted:
-    """Reads the reply to a CONV of `sent` bytes. Raises ServerLost if it is none."""
+    """Reads the reply to a CONV of `sent` bytes. Raises ServerLost if it is not one."""
     left = reply.number()
     if reply.status not in STOPS or left > sent or len(reply.body) < 8:
         raise ServerLost(f"the server sent a wrong reply to CONV: status {reply.status}")

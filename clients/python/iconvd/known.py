@@ -1,4 +1,4 @@
-"""The bytes of characters that the server was asked for. They are kept, so that short pieces of text cost no request."""
+"""The bytes of characters that the server has converted. They are kept, so that short pieces of text cost no request."""
 
 from __future__ import annotations
 
@@ -12,7 +12,7 @@ class Known:
     """Characters of an encoding with their bytes."""
 
     def __init__(self, form: Form) -> None:
-        # As charmap_encode takes it.
+        # The argument of charmap_encode.
         self._table: Any = {ord(form.mark): form.separator}
 
     def __len__(self) -> int:
@@ -26,7 +26,7 @@ class Known:
             return None
 
     def new_units(self, texts: Iterable[str]) -> List[str]:
-        """Returns what is not known of some texts, as pieces that have the same bytes in any text."""
+        """Returns the unknown parts of some texts, as pieces that have the same bytes in any text."""
         return [character for character in sorted(set("".join(texts))) if ord(character) not in self._table]
 
     def add(self, units: Iterable[str], encoded: Iterable[bytes]) -> None:
@@ -35,7 +35,7 @@ class Known:
 
 
 class KnownRuns(Known):
-    """Characters of an encoding with shifts: runs of them that are shifted as one. All others are ASCII and stay as they are."""
+    """Characters of an encoding with shifts: runs of them that are shifted together. All others are ASCII and unchanged."""
 
     def __init__(self, form: Form) -> None:
         super().__init__(form)
@@ -61,5 +61,5 @@ class KnownRuns(Known):
 
 
 def known_of(form: Form) -> Known:
-    """Returns what is known of an encoding at first: its separator."""
+    """Returns what is known of an encoding at the start: its separator."""
     return KnownRuns(form) if form.runs is not None else Known(form)

@@ -1,4 +1,4 @@
-"""The charmaps of a client and the forms of its encodings, each of which is read once."""
+"""The charmaps of a client and the forms of its encodings. Each is read once."""
 
 from __future__ import annotations
 
@@ -12,11 +12,11 @@ from .forms import Form
 from .known import Known, known_of
 from .names import Encoding
 
-#: Begins the names of own charmaps. No file's name has it.
+#: The beginning of the names of own charmaps. No file's name has it.
 _OWN = "/"
-#: Spellings of names that are kept.
+#: How many spellings of names are kept.
 _MAX_FOUND = 4096
-#: Characters of an encoding whose bytes are kept.
+#: The bytes of how many characters of an encoding are kept.
 _MAX_KNOWN = 65_536
 
 
@@ -56,7 +56,7 @@ class Library:
         return self._read[file]
 
     def beginning(self, file: str) -> Optional[Beginning]:
-        """Returns what is uploaded of a long file first, or None for all of it. Raises CharmapRefused."""
+        """Returns the beginning of a long file, which is uploaded first, or None for all of it. Raises CharmapRefused."""
         if file not in self._beginnings and file not in self._read and file not in self._refused:
             try:
                 text = charmaps.read_file(file)
@@ -68,7 +68,7 @@ class Library:
         return self._beginnings.get(file)
 
     def may_have_in_rest(self, encoding: Encoding, what: Union[str, bytes]) -> bool:
-        """Whether the rest of an encoding whose beginning is uploaded may have a character, or bytes that a text goes on with."""
+        """Whether the rest of an encoding whose beginning is uploaded may have a character, or the next bytes of a text."""
         form = self.form(encoding)
         if not isinstance(form, CharmapForm):
             return False
@@ -79,7 +79,8 @@ class Library:
         self._beginnings[file] = None
 
     def uploaded(self, text: Union[bytes, str]) -> Tuple[Encoding, bool]:
-        """Returns the encoding of a charmap's text, which is added, or of the system's file if the text is one word."""
+        """Adds a charmap's text. Returns its encoding, or that of the system's file if the text is one word, and whether it was
+        added."""
         if isinstance(text, str) and "\n" not in text:
             return Encoding(True, text), False
         return self._add(text if isinstance(text, bytes) else text.encode("utf-8")), True
@@ -99,7 +100,7 @@ class Library:
         raise CharmapRefused(name, "an encoding has this name")
 
     def remove(self, added: Encoding) -> None:
-        """Takes out a charmap of the caller's own, which the server did not take."""
+        """Removes a charmap of the caller's own, which the server refused."""
         self._found.clear()
         self._read.pop(added.name, None)
         self._forms.pop(added, None)
@@ -124,8 +125,8 @@ class Library:
         return shifted.Utf7Form() if encoding.name == "UTF-7" else forms.BUILTIN[encoding.name]()
 
     def known(self, encoding: Encoding, errors: str = "") -> Known:
-        """Returns the characters of an encoding that the server was asked for, with their bytes, and with those of what an error
-        handler gives for characters that the encoding lacks."""
+        """Returns the known characters of an encoding with their bytes, also the bytes of what an error handler gives for
+        characters that the encoding lacks."""
         known = self._known.get((encoding, errors))
         if known is None or len(known) > _MAX_KNOWN:
             known = self._known[encoding, errors] = known_of(self.form(encoding))

@@ -1,7 +1,7 @@
 """The mappings of a charmap's text: its characters and its byte strings.
 
-A charmap has up to 262,144 mappings, and GB18030's text has 4 MB. The lines of a usual text are found by one regular expression
-for each question, and their digits are read all at once. Other texts are read line by line.
+A charmap has up to 262,144 mappings, and GB18030's text has 4 MB. For each question one regular expression finds the lines of a
+usual text, and their digits are read all at once. Other texts are read line by line.
 """
 
 from __future__ import annotations
@@ -21,15 +21,15 @@ _CODE = rb"((?:%sx[0-9A-Fa-f]{2})+)(?=\s)"
 _USUAL = rb"^[ \t]*" + _NAME + rb"+" + _CODE
 _LINE = re.compile(rb"^[ \t]*<([^>\n]*)>(?:(\.{2,3})<U([0-9A-Fa-f]{4,8})>)?[ \t]+(\S+)", re.M)
 _CONSTANT = re.compile(rb".(?:x([0-9A-Fa-f]{2})|d([0-9]{2,3})|([0-7]{2,3}))", re.S)
-#: Lines are found by the end of the line before, which is many times as fast as `^`.
+#: The end of the line before finds a line many times as fast as `^`.
 _SINGLE_POINTS = re.compile(rb"\n<U([0-9A-Fa-f]{4,8})>[ \t]")
 _POINTS = re.compile(rb"\n" + _NAME)
 _BIT = [1 << byte for byte in range(256)]
-#: As many bits as are counted, and one more.
+#: For each index a number with index + 1 low bits.
 _FIRST = [(2 << more) - 1 for more in range(256)]
 _ALL = (1 << 256) - 1
-#: A character, how many there are from it on, the number that the bytes of the first are (the highest byte first), and how
-#: many bytes they are.
+#: A character, how many characters there are from it on, the bytes of the first as a number (the highest byte first), and how
+#: many bytes these are.
 Range = Tuple[int, int, int, int]
 #: The last bytes of byte strings, as bits, by the bytes before them.
 LastBytes = Dict[bytes, int]
@@ -48,11 +48,11 @@ def _point(name: bytes) -> Optional[int]:
 
 
 def _unusual_ranges(body: bytes) -> Iterator[Range]:
-    """Gives the mappings of lines with symbolic names, with decimal and octal constants, and with ranges in decimal."""
+    """Yields the mappings of lines with symbolic names, with decimal and octal constants, and with ranges in decimal."""
     for name, dots, last, constants in _LINE.findall(body):
         code, length = _code(constants)
         if dots == b"...":
-            # A number's decimal digits are the character's hexadecimal ones.
+            # The decimal digits of the number are the hexadecimal digits of the character.
             for offset, number in enumerate(range(int(name[1:], 10), int(last, 10) + 1)):
                 yield int(str(number), 16), 1, code + offset, length
             continue
@@ -62,7 +62,7 @@ def _unusual_ranges(body: bytes) -> Iterator[Range]:
 
 
 def _usual_ranges(found: Iterable[Tuple[bytes, bytes, bytes]], constant: bytes) -> Iterator[Range]:
-    """Gives the mappings of usual lines by their digits and constants."""
+    """Yields the mappings of usual lines from their digits and constants."""
     for first, last, constants in found:
         digits = constants.replace(constant, b"")
         yield int(first, 16), int(last, 16) - int(first, 16) + 1 if last else 1, int(digits, 16), len(digits) // 2
@@ -78,7 +78,7 @@ def ranges(body: bytes, escape: bytes) -> List[Range]:
 
 
 def _parts(body: bytes) -> Tuple[bytes, bytes]:
-    """Returns the lines before the first range, and those from it on. Each begins with the end of the line before."""
+    """Returns the lines before the first range, and those from it on. Each part begins with the end of the line before."""
     lines = b"\n" + body
     dots = lines.find(b">..<U")
     at = lines.rfind(b"\n", 0, dots) if dots >= 0 else len(lines)
@@ -105,13 +105,13 @@ def spans(body: bytes, escape: bytes) -> List[Tuple[int, int]]:
 
 
 def _alike(items: List[bytes]) -> List[List[bytes]]:
-    """Returns items of one length together."""
+    """Returns the items in groups of one length."""
     sizes = set(map(len, items))
     return [items] if len(sizes) == 1 else [[item for item in items if len(item) == size] for size in sizes]
 
 
 def _numbers(digits: List[bytes]) -> array[int]:
-    """Returns the numbers of four or of up to eight hexadecimal digits, each as many as the first."""
+    """Returns the numbers of four or of up to eight hexadecimal digits. All have as many digits as the first."""
     is_short = len(digits[0]) == 4
     whole = b"".join(digits if is_short or len(digits[0]) == 8 else [each.zfill(8) for each in digits])
     numbers = array("H" if is_short else "I", bytes.fromhex(whole.decode("ascii")))
@@ -127,7 +127,7 @@ def _points(named: List[Tuple[bytes, bytes]]) -> Tuple[array[int], array[int]]:
 
 
 def _runs(firsts: array[int], lasts: array[int]) -> Iterator[Tuple[int, int]]:
-    """Gives the runs of ranges that follow each other: the first character, and the one after the last."""
+    """Yields the runs of ranges that follow each other: the first character, and the one after the last."""
     ends = list(compress(count(1), map(ne, islice(firsts, 1, None), map(add, lasts, repeat(1)))))
     begin = 0
     for end in [*ends, len(firsts)] if firsts else ():
@@ -161,12 +161,12 @@ def first_bytes(body: bytes, escape: bytes) -> Optional[Set[int]]:
     ranged = re.compile(rb">\.\.<[^>\n]*>[ \t]+(%s)(?:%s){3}" % (byte, byte)).findall(body)
     if not _are_all(len(found), body) or len(ranged) != body.count(b">.."):
         return None
-    # A range may carry into the first of four bytes once: there are fewer characters than three bytes have values.
+    # A range may carry into the first of four bytes at most once: there are fewer characters than values of three bytes.
     return {int(constant[-2:], 16) for constant in set(found)} | {int(constant[-2:], 16) + 1 for constant in set(ranged)}
 
 
 def _strings(codes: List[bytes], constant: bytes) -> Iterator[Tuple[Any, ...]]:
-    """Gives the byte strings of constants, as many each: all bytes but the last one, and this."""
+    """Yields the byte strings of constants, all of one length: all bytes but the last one, and the last one."""
     size = len(codes[0]) // 4
     return iter_unpack(f"{size - 1}sB", bytes.fromhex(b"".join(codes).replace(constant, b"").decode("ascii")))
 

@@ -1,7 +1,7 @@
 """Names of encodings: which built-in encoding or which charmap a name means.
 
-The table is the C library's too. `clients/names/generate.py` makes it from the C library's gconv-modules and from the
-system's charmaps when the package is built.
+The C library has the same table. When the package is built, `clients/names/generate.py` makes it from glibc's gconv-modules and
+from the system's charmaps.
 """
 
 from __future__ import annotations
@@ -13,7 +13,7 @@ from typing import Dict, List, NamedTuple, Tuple
 
 from .errors import UnknownEncoding
 
-#: The encodings that the server has itself.
+#: The built-in encodings of the server.
 BUILTIN = (
     "US-ASCII",
     "ISO-8859-1",
@@ -32,14 +32,14 @@ _NEITHER_LETTER_NOR_DIGIT = re.compile(r"[^A-Z0-9]")
 
 
 class Encoding(NamedTuple):
-    """An encoding: one that the server has, or a charmap, by the name of its file."""
+    """An encoding: a built-in one, or a charmap, by the name of its file."""
 
     is_charmap: bool
     name: str
 
 
 class Table(NamedTuple):
-    """The encodings by name, and by the letters and digits of the name alone."""
+    """The encodings by name, and by only the letters and digits of the name."""
 
     exact: Dict[str, Encoding]
     loose: Dict[str, Encoding]
@@ -67,7 +67,7 @@ def read_table(lines: List[str]) -> Table:
 
 @functools.lru_cache(maxsize=None)
 def table() -> Table:
-    """Returns the table that was made when the package was built, or the built-in names alone if there is none."""
+    """Returns the table that was made when the package was built, or only the built-in names if there is none."""
     path = os.path.join(os.path.dirname(os.path.abspath(__file__)), "data", "names.tsv")
     try:
         with open(path, encoding="utf-8") as file:

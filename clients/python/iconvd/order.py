@@ -1,4 +1,4 @@
-"""The two ends of a conversion by keyword, and in the older order by place."""
+"""The target and the source of a conversion, by keyword, or by position in the older order."""
 
 from __future__ import annotations
 
@@ -9,7 +9,7 @@ _warned: List[bool] = []
 
 
 class Ends(NamedTuple):
-    """What `convert` is asked for."""
+    """The arguments of `convert`."""
 
     to: str
     source: str
@@ -17,7 +17,7 @@ class Ends(NamedTuple):
 
 
 def ends(by_place: Tuple[str, ...], to: str, source: str, errors: str) -> Ends:
-    """Returns the target, the source and the error handler. Those by place are warned of, once in a process."""
+    """Returns the target, the source and the error handler. Warns of positional ones, once in a process."""
     if len(by_place) > 3:
         raise TypeError("convert() takes data, to, source and errors")
     if by_place and not _warned:

@@ -1,4 +1,4 @@
-"""Texts that come in pieces: decoders, encoders and conversions."""
+"""Texts in pieces: decoders, encoders and conversions."""
 
 from __future__ import annotations
 
@@ -13,15 +13,15 @@ from .names import Encoding
 if TYPE_CHECKING:
     from .client import Client
 
-#: Characters of a piece that is put together here.
+#: The most characters of a piece that is encoded here, from known characters.
 _SHORT = 1024
 
 
 class Decoder:
-    """Decodes one text, which may come in pieces."""
+    """Decodes one text, which may be in pieces."""
 
     def __init__(self, client: Client, name: str, encoding: Encoding, needs_mark: bool = False) -> None:
-        """`needs_mark` refuses a text in UTF-16 or UTF-32 that begins with no mark, as CPython's streams do."""
+        """With `needs_mark` a text in UTF-16 or UTF-32 without a mark is refused, as by CPython's streams."""
         self._client = client
         self._name = name
         self._declared = encoding
@@ -44,23 +44,23 @@ class Decoder:
 
     @property
     def encoding(self) -> Optional[Encoding]:
-        """The encoding with its order of bytes, once it is known."""
+        """The encoding with its byte order, once that is known."""
         return self._codec.encoding if self._codec else None
 
     def set_encoding(self, encoding: Optional[Encoding]) -> None:
-        """Goes on with the order of bytes that another decoder found."""
+        """Goes on with the byte order that another decoder found."""
         self._codec = text.TextCodec(self._name, encoding, self._client.library) if encoding else None
 
 
 class Encoder:
-    """Encodes one text, which may come in pieces: only the first has the mark of UTF-16 or UTF-32."""
+    """Encodes one text, which may be in pieces: only the first has the mark of UTF-16 or UTF-32."""
 
     def __init__(self, client: Client, name: str, encoding: Encoding) -> None:
         self._client = client
         ordered, self._mark = text.mark_of(encoding)
         self._codec = text.TextCodec(name, ordered, client.library)
         self.is_started = False
-        # What is known of the characters, and for which error handler, once the text is started.
+        # The known characters, and their error handler, once the text is started.
         self._known: Optional[Known] = None
         self._known_errors = ""
 
@@ -72,8 +72,8 @@ class Encoder:
         return mark + output
 
     def encode_piece(self, characters: str, errors: str) -> bytes:
-        """Returns the bytes of the next piece of a text. Of short pieces each character is asked for once, so that a text file
-        that is written line by line, which takes the bytes of each line at once, costs no request for each."""
+        """Returns the bytes of the next piece of a text. In short pieces each character costs one request in all. So a text file
+        that is written line by line, and needs the bytes of each line at once, costs no request for each line."""
         if self._known is not None and errors == self._known_errors and len(characters) <= _SHORT:
             encoded = self._known.bytes_of(characters)
             if encoded is not None:
@@ -81,7 +81,7 @@ class Encoder:
         return self._encode_new(characters, errors)
 
     def _encode_new(self, characters: str, errors: str) -> bytes:
-        """Returns the bytes of a piece that is long, begins the text, or has characters that are not known."""
+        """Returns the bytes of a piece that is long, begins the text, or has unknown characters."""
         if not self.is_started or len(characters) > _SHORT:
             return self.encode(characters, errors)
         known = self._known = self._codec.known(errors)
@@ -92,7 +92,7 @@ class Encoder:
 
 
 class Conversion:
-    """A conversion of one text that comes in pieces, as iconv_open(3) gives it."""
+    """A conversion of one text in pieces, as iconv_open(3) returns it."""
 
     def __init__(self, client: Client, to: str, source: str) -> None:
         self._client = client
@@ -123,7 +123,7 @@ class Conversion:
         return b""
 
     def close(self) -> None:
-        """Forgets what is held. The server's descriptors are shared, and stay."""
+        """Forgets kept bytes and the state. The server's descriptors are shared, and stay open."""
         self._start()
 
     def __enter__(self) -> Conversion:

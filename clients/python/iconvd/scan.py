@@ -1,7 +1,7 @@
-"""Finding all faults of a piece of text at once, in an encoding of one byte and more a character.
+"""Finds all faults of a piece of text at once, in an encoding of one or more bytes a character.
 
-No byte is looked at by itself: a translation gives each byte its classes as bits, the pieces of text become long numbers, and a
-few operations on these say where a character of each length can begin. So it takes the same time for any text.
+No byte is examined by itself. A translation gives each byte its classes as bits, the pieces of text become long numbers, and a
+few operations on these find where a character of each length can begin. So it takes the same time for any text.
 """
 
 from __future__ import annotations
@@ -9,7 +9,7 @@ from __future__ import annotations
 from itertools import compress
 from typing import Container, Iterable, List, Mapping, NamedTuple, Optional, Sequence, Tuple
 
-#: For each place of a character, its bytes there, as bits: all combinations of these are characters.
+#: For each place in a character, the possible bytes, as bits. All combinations of these are characters.
 Box = Tuple[int, ...]
 _ALL = (1 << 256) - 1
 
@@ -19,15 +19,15 @@ class Faults(NamedTuple):
 
     #: Bytes that are in no character.
     bytes: int
-    #: Those of them that go on with a fault.
+    #: Those of them that continue a fault.
     following: int
-    #: The separator, where it is a character.
+    #: The separators that are characters.
     separators: int
     #: Where the text is cut within a character, or its length.
     tail: int
 
     def cut_short(self) -> Faults:
-        """Returns those of the text without its tail."""
+        """Returns the faults of the text without its tail."""
         whole = (1 << 8 * self.tail) - 1
         return Faults(self.bytes & whole, self.following & whole, self.separators & whole, self.tail)
 
@@ -40,9 +40,9 @@ def table(some: int) -> bytes:
 class Strings(NamedTuple):
     """The strings of a charmap."""
 
-    #: The last bytes, as bits, by what is before them.
+    #: The last bytes, as bits, by the bytes before them.
     last: Mapping[bytes, int]
-    #: What is before them and is not all that is.
+    #: The proper prefixes of the bytes before them.
     shorter: Container[bytes]
 
 
@@ -65,12 +65,12 @@ class _Plane:
 
     def __init__(self, boxes: Sequence[Box]) -> None:
         longest = max(map(len, boxes))
-        #: For the first byte of a character, the second and so on: the boxes that may have each byte there.
+        #: For the first byte of a character, the second and so on: the boxes that allow each byte there.
         self.tables = [
             bytes(sum(1 << n for n, box in enumerate(boxes) if at < len(box) and box[at] >> byte & 1) for byte in range(256))
             for at in range(longest)
         ]
-        #: For boxes that match as many bytes as are counted: how long those are that match to their end.
+        #: For boxes that match a number of bytes: the lengths of those that match to their end.
         self.lengths = []
         for size in range(1, longest + 1):
             ending = sum(1 << place for place, box in enumerate(boxes) if len(box) == size)
@@ -106,7 +106,7 @@ def _has_own_leads(boxes: Sequence[Box]) -> bool:
 
 
 def _has_digits(boxes: Sequence[Box]) -> bool:
-    """Whether characters have two bytes, or four of which the second and the last are in no other place, as GB18030 has them."""
+    """Whether characters have two bytes, or four of which the second and the last occur in no other place, as in GB18030."""
     fours = [box for box in boxes if len(box) == 4]
     digits = union(box[1] | box[3] for box in fours)
     others = union(bits for box in boxes if len(box) == 2 for bits in box) | union(box[0] | box[2] for box in fours)
@@ -117,9 +117,9 @@ class Scanner:
     """Finds the faults of texts of one encoding."""
 
     def __init__(self, single: int, boxes: Sequence[Box], separator: int, strings: Optional[Strings]) -> None:
-        """`single` has the bytes that are a character by themselves. With `strings` a box of three bytes or more has others too,
-        and each byte of a character that is cut short is a fault; without them all these bytes are one, as CPython has it for
-        UTF-8."""
+        """`single` has the bytes that are a character by themselves. With `strings`, boxes of three or more bytes also allow
+        other strings, and each byte of an incomplete character is a fault. Without, these bytes are one fault together, as in
+        CPython's UTF-8."""
         used = single | union(bits for box in boxes for bits in box)
         self._single = table(single)
         self._is_separator = table(1 << separator)
@@ -159,7 +159,7 @@ class Scanner:
         return Faults(bad, following & bad, separators, self._tail(data, bad))
 
     def _begins(self, data: bytes) -> Tuple[bytes, List[bytes]]:
-        """Returns the lengths of the characters, each where it begins; and where two bytes or three of a longer one are."""
+        """Returns the lengths of the characters, each at its beginning; and the places of two or three bytes of a longer one."""
         found = 0
         size = len(data)
         groups = [0] * (self._longest - 2 if self._strings is None else 0)
@@ -172,7 +172,7 @@ class Scanner:
                 elif self._strings is None and length < self._longest:
                     groups[place] |= number(matching)
                 found |= number(whole)
-        # A character of two bytes hides those that could begin at its second one.
+        # A character of two bytes hides one that could begin at its second byte.
         begins = found.to_bytes(size, "little")
         if self._longest > 2 and self._has_own_leads:
             hidden = 0
@@ -211,7 +211,7 @@ class Scanner:
         boxes = (box for box in self._boxes if len(box) > len(rest))
         return any(all(some >> byte & 1 for some, byte in zip(box, rest)) for box in boxes)
 
-    # ---- what is made of a text and its faults
+    # ---- texts made from a text and its faults
 
     def with_separators(self, data: bytes, places: int) -> bytes:
         """Returns a text with the separator in the place of some bytes."""
@@ -227,7 +227,7 @@ class Scanner:
         return bytes(compress(data, keep))
 
     def only(self, data: bytes, places: int) -> bytes:
-        """Returns faulty bytes and separators of a text alone."""
+        """Returns only the faulty bytes and separators of a text."""
         if not places:
             return b""
         return self._filled(data, ((1 << 8 * len(data)) - 1) & ~places, self._filler).translate(None, self._filler)

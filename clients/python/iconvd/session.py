@@ -1,4 +1,4 @@
-"""What one stream's server holds for this client: its callers with their descriptors and charmaps.
+"""What the server of one stream holds for this client: callers with their descriptors and charmaps.
 
 The methods are generators that read and write nothing. Each yields a list of requests and is sent the list of their replies,
 so that a blocking client and an asyncio client share them.
@@ -16,9 +16,9 @@ from .library import Library
 from .names import Encoding
 
 T = TypeVar("T")
-#: Bytes of the first request after a fault, at least.
+#: The least bytes of the first request after a fault.
 _SHORT = 256
-#: Ends the keys of beginnings. No charmap's name has it.
+#: The end of the keys of beginnings. No charmap's name has it.
 _BEGINNING = "\n"
 #: A caller number that no session uses.
 NO_CALLER = 0xFFFFFFFF
@@ -29,19 +29,19 @@ Steps = Generator[List[Request], List[Reply], T]
 
 
 class Pair(NamedTuple):
-    """The two ends of a conversion."""
+    """The target and the source of a conversion."""
 
     target: Encoding
     source: Encoding
 
 
 class Descriptor(NamedTuple):
-    """A descriptor of a caller. Only UTF-7's has a state; all others may be shared by any number of conversions."""
+    """A descriptor of a caller. Only one of UTF-7 has a state; any number of conversions may share another."""
 
     caller: int
     number: int
     has_state: bool
-    #: Those ends of which the beginning of a charmap is uploaded alone.
+    #: The encodings of which only the beginning of the charmap is uploaded.
     parts: Tuple[Encoding, ...] = ()
 
 
@@ -84,12 +84,11 @@ class Session:
         self._first_pieces: Dict[Pair, int] = {}
 
     def descriptor(self, pair: Pair, is_whole: bool = False) -> Steps[Descriptor]:
-        """Returns the descriptor of a pair, which is opened, and its charmaps uploaded, when it is first asked for. Of a long
-        charmap the beginning is uploaded, or all of it if `is_whole` says so. UTF-7 has a state, which can't go from one to
-        another descriptor."""
+        """Returns the descriptor of a pair. The first call uploads the charmaps and opens it. Of a long charmap only the
+        beginning is uploaded, unless `is_whole` is true. UTF-7 has a state, which can't be moved to another descriptor."""
         found = self._descriptors.get(pair)
         while pair in self._opening and (found is None or (is_whole and found.parts)):
-            # Another task opens it. Replies come in order.
+            # Another task opens it. Replies arrive in order.
             yield [Request(NO_CALLER, Op.BYE)]
             found = self._descriptors.get(pair)
         if found is None or (is_whole and found.parts):
@@ -102,12 +101,12 @@ class Session:
         return found
 
     def needs_whole(self, pair: Pair, descriptor: Descriptor, status: Status, data: bytes) -> bool:
-        """Whether a descriptor stopped at something that the rest of a charmap may have. `data` is what the text goes on with."""
+        """Whether a descriptor stopped at something that the rest of a charmap may have. `data` is the next bytes of the text."""
         if status == Status.EILSEQ and pair.source in descriptor.parts:
             return self._library.may_have_in_rest(pair.source, data)
         if status != Status.ENOCHAR or pair.target not in descriptor.parts:
             return False
-        # It is empty where a server stopped within a character.
+        # It is empty if a server stopped within a character.
         character = data.decode("utf-8", "ignore")[:1] if pair.source == UTF_8 else ""
         return not character or self._library.may_have_in_rest(pair.target, character)
 
@@ -116,7 +115,7 @@ class Session:
         return self._first_pieces.get(pair, frames.CHUNK) if self._first_pieces else frames.CHUNK
 
     def note_end(self, pair: Pair, used: int, is_fault: bool) -> None:
-        """Notes how far a call came. After a fault the next one begins with a short piece, which grows while all goes well."""
+        """Notes how far a call got. After a fault the next one begins with a short piece; pieces grow while there is no fault."""
         first = self.first_piece(pair)
         if is_fault or used >= first:
             first = max(_SHORT, 2 * used)
@@ -150,7 +149,7 @@ class Session:
         raise RequestRefused("OPEN", status)
 
     def _charmap(self, end: Encoding, is_whole: bool) -> Tuple[str, Charmap]:
-        """Returns what is uploaded for an encoding, the beginning of a long file or all of it, and its key."""
+        """Returns the key and the charmap to upload for an encoding: the beginning of a long file, or all of it."""
         is_there = any(end.name in caller.charmaps for caller in self._callers)
         beginning = None if is_whole or is_there else self._library.beginning(end.name)
         if beginning is None:
@@ -172,7 +171,7 @@ class Session:
             if key in caller.charmaps:
                 continue
             is_first = not caller.charmaps and not caller.descriptors
-            # Noted before the reply, so that no other task uploads it too: what that asks is sent after it.
+            # Noted before the reply, so that no other task uploads it too: its requests are sent after this one.
             caller.charmaps[key] = charmap.mappings
             reply = yield from self._upload(caller.number, charmap)
             caller.charmaps[key] = reply.number() if reply.status == Status.OK else 0

@@ -8,7 +8,7 @@ from typing import List, NamedTuple, Optional, Tuple
 
 from .forms import Form, Found
 
-#: Bytes that are themselves, but for the tab, which is the separator; and `+-`.
+#: Bytes that are themselves, except the tab, which is the separator; and `+-`.
 _DIRECT = re.compile(rb"(?:[A-Za-z0-9'(),\-./:?!\"#$%&*;<=>@\[\]^_`{|} \r\n]+|\+-)*")
 _SHIFTED = re.compile(rb"\+([A-Za-z0-9+/]*)")
 #: All characters between two that are written as themselves.
@@ -20,13 +20,13 @@ _ILL_FORMED = "ill-formed sequence"
 
 
 def open_at(data: bytes) -> int:
-    """Returns where a shifted sequence begins that the end of the text leaves open, or the length of the text."""
+    """Returns the place of a shifted sequence that is still open at the end of the text, or the length of the text."""
     found = _OPEN.search(data)
     return found.start() if found else len(data)
 
 
 class _Sequence(NamedTuple):
-    """What the digits of a shifted sequence are."""
+    """The meaning of the digits of a shifted sequence."""
 
     text: str
     reason: str

@@ -9,15 +9,15 @@ from .errors import RequestRefused
 from .frames import Reply, Request, Status
 from .session import UTF_8, Descriptor, Pair, Session, Steps
 
-#: Room for what closes a shift.
+#: Room for the bytes that close a shift.
 _CLOSING = 8
-#: Bytes of a CONV of a long text. The first is shorter, and then they double while all goes well: a fault has the rest of one
-#: sent again.
+#: The most bytes of a CONV of a long text. The first CONV is shorter, and the size doubles while there is no fault: after a fault
+#: the rest of a CONV is sent again.
 _LONG_CHUNK = 262_144
 
 
 class Run(NamedTuple):
-    """How far a conversion came and why it stopped: OK, EILSEQ, EINVAL or ENOCHAR."""
+    """How far a conversion got, and why it stopped: OK, EILSEQ, EINVAL or ENOCHAR."""
 
     output: bytes
     used: int
@@ -25,8 +25,9 @@ class Run(NamedTuple):
 
 
 def run(session: Session, pair: Pair, data: bytes, is_careful: bool = False) -> Steps[Run]:
-    """Converts from the start of `data` as far as it goes. `is_careful` is for a call that ends at a fault: its first request is
-    short if the last such call had one, since a program may go on after each fault by a call for all that is left."""
+    """Converts from the start of `data` up to a fault or the end. `is_careful` is for a call that ends at a fault: its first
+    request is short if the last such call had a fault, since a program may go on after each fault by a call for all that is
+    left."""
     descriptor = yield from session.descriptor(pair)
     pieces: List[bytes] = []
     at = 0

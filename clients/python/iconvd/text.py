@@ -1,7 +1,7 @@
 """Decoding to str and encoding from str, with Python's error handlers, as generators over a session.
 
-A text without faults goes to the server as it is. After the first fault the client cuts the faults out itself (see cutting.py),
-window by window, and sends what is between them.
+A text without faults is sent to the server as it is. After the first fault the client itself cuts out the faults (see
+cutting.py), window by window, and sends what is between them.
 """
 
 from __future__ import annotations
@@ -19,7 +19,7 @@ from .library import Library
 from .names import Encoding
 from .session import UTF_8, Pair, Session, Steps
 
-#: Characters, or bytes, of a long text that are converted before the next are copied.
+#: How many characters, or bytes, of a long text are converted before the next are copied.
 _PART = 1_048_576
 #: The error handler that ends a call at its first fault.
 _STRICT = "strict"
@@ -41,7 +41,8 @@ class Decoded(NamedTuple):
 
 
 def without_mark(encoding: Encoding, data: bytes) -> Tuple[Encoding, int]:
-    """Returns the order of bytes of a text in UTF-16 or UTF-32 and the size of its mark. Without one it is the machine's."""
+    """Returns the encoding with the byte order of a text in UTF-16 or UTF-32, and the size of its mark. Without a mark it is the
+    machine's order."""
     if encoding.is_charmap or encoding.name not in ("UTF-16", "UTF-32"):
         return encoding, 0
     wide = encoding.name == "UTF-32"
@@ -54,7 +55,7 @@ def without_mark(encoding: Encoding, data: bytes) -> Tuple[Encoding, int]:
 
 
 def mark_of(encoding: Encoding) -> Tuple[Encoding, bytes]:
-    """Returns the encoding that follows the mark which UTF-16 and UTF-32 begin with, and the mark."""
+    """Returns the encoding of the text after the mark of UTF-16 or UTF-32, and the mark."""
     if encoding.is_charmap or encoding.name not in ("UTF-16", "UTF-32"):
         return encoding, b""
     ordered = Encoding(False, encoding.name + ("LE" if sys.byteorder == "little" else "BE"))
@@ -65,8 +66,8 @@ class TextCodec:
     """Decodes and encodes texts of one encoding."""
 
     def __init__(self, error_name: str, encoding: Encoding, library: Library, has_faults: bool = False) -> None:
-        """`error_name` is what exceptions call the encoding. `has_faults` says that a fault is known to be in the text."""
-        # Handlers such as `surrogatepass` go by CPython's own names.
+        """`error_name` is the encoding's name in exceptions. `has_faults` says that the text is known to have a fault."""
+        # Handlers such as `surrogatepass` need CPython's own names.
         self._error_name = error_name if encoding.is_charmap else _PYTHON.get(encoding.name, error_name)
         self.encoding = encoding
         self._library = library
@@ -87,7 +88,7 @@ class TextCodec:
             if at == end or (waits and not final):
                 return Decoded("".join(pieces), at)
             if self.has_state:
-                # The fault may be within a shifted sequence, of which nothing is known but its beginning.
+                # The fault may be within a shifted sequence, of which only the beginning is known.
                 at = begin
                 pieces.clear()
         handling = DecodingHandling(self._library.form(self.encoding), self._error_name, errors)
@@ -102,8 +103,8 @@ class TextCodec:
         return Decoded("".join(pieces), at)
 
     def _end_of_whole(self, data: bytes) -> int:
-        """Returns the end of the bytes that need not wait for others: an open shifted sequence does. So does the beginning of a
-        surrogate in UTF-8, as for CPython, since `surrogatepass` may take it."""
+        """Returns the end of the bytes that need not wait for others. An open shifted sequence has to wait. So has the beginning
+        of a surrogate in UTF-8, as in CPython, since `surrogatepass` may accept it."""
         if self.has_state:
             return shifted.open_at(data)
         waits = self.encoding == UTF_8 and data[-2:-1] == b"\xed" and data[-1] & 0xE0 == 0xA0
@@ -112,7 +113,7 @@ class TextCodec:
     def _decode_whole(
         self, session: Session, data: bytes, span: Tuple[int, int], is_careful: bool, pieces: List[str]
     ) -> Steps[Tuple[int, bool]]:
-        """Decodes up to the first fault. Returns where it is, and whether more bytes may complete a character there."""
+        """Decodes up to the first fault. Returns its place, and whether more bytes may complete a character there."""
         at, end = span
         pair = Pair(UTF_8, self.encoding)
         while at < end:
@@ -154,7 +155,7 @@ class TextCodec:
         return b"".join(pieces)
 
     def _encode_whole(self, session: Session, text: str, at: int, is_careful: bool, pieces: List[bytes]) -> Steps[int]:
-        """Encodes up to the first character that the encoding lacks. Returns where it is."""
+        """Encodes up to the first character that the encoding lacks. Returns its place."""
         pair = Pair(self.encoding, UTF_8)
         while at < len(text):
             limit = len(text) if self.has_state else at + _PART
@@ -173,7 +174,7 @@ class TextCodec:
         if not any(good):
             return b"".join(between)
         if form.mark > "\x7f":
-            # A mark of several bytes is not sent where two lacking characters follow each other.
+            # A mark of several bytes is not sent between two lacking characters that follow each other.
             good, between = gathered(good, between)
         output = yield from self._encode_good(session, form.mark.join(good))
         return joined(_checked(form.split(output, len(between)), between), between)
@@ -183,7 +184,7 @@ class TextCodec:
         return _whole(ran)
 
     def _as_bytes(self, session: Session, texts: Sequence[Union[str, bytes]]) -> Steps[List[bytes]]:
-        """Encodes what error handlers gave, by the bytes of each unit: the server is asked once for each."""
+        """Encodes what error handlers returned, from the bytes of each unit. The server is asked once for each unit."""
         known = self._library.known(self.encoding)
         unlike = {text for text in texts if isinstance(text, str)}
         yield from self._learn(session, unlike, known)
@@ -191,13 +192,13 @@ class TextCodec:
         return [encoded[text] if isinstance(text, str) else text for text in texts]
 
     def known(self, errors: str) -> Known:
-        """Returns the characters of the encoding that the server was asked for."""
+        """Returns the known characters of the encoding."""
         is_local = EncodingHandling(self._library.form(self.encoding), self._error_name, errors).is_local
         return self._library.known(self.encoding, errors if is_local else "")
 
     def learn(self, session: Session, text: str, errors: str, known: Known) -> Steps[None]:
-        """Asks the server for the bytes of the new characters of a text. For those that the encoding lacks it takes what the error
-        handler gives, if that is the same in any text."""
+        """Asks the server for the bytes of the new characters of a text. For those that the encoding lacks it uses what the error
+        handler returns, if that is the same in any text."""
         form = self._library.form(self.encoding)
         new = known.new_units((text,))
         data = form.mark.join(new).encode("utf-8", "surrogatepass")
@@ -220,7 +221,7 @@ class TextCodec:
 
 
 def _whole(ran: steps.Run) -> bytes:
-    """Returns the output for a text that the client found to be without faults."""
+    """Returns the output for a text in which the client found no faults."""
     if ran.status != Status.OK:
         raise RequestRefused("CONV", ran.status)
     return ran.output

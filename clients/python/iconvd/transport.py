@@ -15,16 +15,16 @@ from typing import List, NamedTuple, Optional, Sequence, Tuple
 from .errors import NotReached, NotStarted, ServerBusy, ServerLost, TimedOut
 from .frames import Reply, ReplyReader, Request
 
-#: The server, if neither the program nor the environment variable ICONVD names one.
+#: The server, if neither the program nor ICONVD names one.
 DEFAULT_SERVER = "exec:iconvd pipe"
-#: Seconds that a reply may take, if neither the program nor the environment variable ICONVD_TIMEOUT says it.
+#: How many seconds a reply may take, if neither the program nor ICONVD_TIMEOUT says.
 DEFAULT_TIMEOUT = 10.0
-#: Seconds that a server which was started here may take to end, once its stream is closed. Then it is killed.
+#: How many seconds a server that was started here may take to end, once its stream is closed. Then it is killed.
 ENDING = 1.0
 
 
 def not_connected(where: "Address", error: OSError) -> ServerLost:
-    """Returns the exception for a server that can't be had. Of a program that can't be started it has the name."""
+    """Returns the exception for a server that can't be reached. For a program that can't be started it has the name."""
     if isinstance(error, TimeoutError):
         return TimedOut(f"can't connect to {where}: {error}")
     if where.kind == "exec" and error.filename is not None:
@@ -79,8 +79,8 @@ def host_and_port(text: str) -> Tuple[str, int]:
 
 
 def time_limit(seconds: Optional[float] = None) -> Optional[float]:
-    """Returns the seconds that a reply may take: those given, or those of ICONVD_TIMEOUT, or 10. None is no limit, which is
-    said by infinity. Raises ValueError for a number that is not above 0."""
+    """Returns how many seconds a reply may take: the given number, or ICONVD_TIMEOUT, or 10. For infinity it is None: no limit.
+    Raises ValueError for a number that is not above 0."""
     if seconds is None:
         said = os.environ.get("ICONVD_TIMEOUT")
         try:
@@ -94,7 +94,7 @@ def time_limit(seconds: Optional[float] = None) -> Optional[float]:
 
 
 def _program(word: str) -> str:
-    """Returns the path of a program. Elements of PATH that are no absolute path, and so whatever folder one is in, are left out."""
+    """Returns the path of a program. Relative elements of PATH are ignored, since they depend on the current folder."""
     if "/" in word:
         return word
     for folder in os.environ.get("PATH", os.defpath).split(os.pathsep):
@@ -118,7 +118,7 @@ def start(command: str, child_end: socket.socket) -> "subprocess.Popen[bytes]":
 
 
 def end(child: "subprocess.Popen[bytes]", at_once: bool = False) -> None:
-    """Waits for a server whose stream is closed, and kills it after a second or, if it has to end at once, now."""
+    """Waits for a server whose stream is closed, and kills it after a second or, with `at_once`, now."""
     try:
         child.wait(0 if at_once else ENDING)
     except subprocess.TimeoutExpired:
@@ -229,7 +229,7 @@ class Stream:
             raise ServerLost("the server answered what was not asked")
 
     def shut(self) -> None:
-        """Has an exchange that another thread waits for fail now."""
+        """Makes an exchange of another thread fail now."""
         try:
             self._socket.shutdown(socket.SHUT_RDWR)
         except OSError:
@@ -242,6 +242,6 @@ class Stream:
         if child is None:
             return
         if self.process_id != os.getpid():
-            child.returncode = 0  # it is the parent's to wait for
+            child.returncode = 0  # the parent waits for it
             return
         end(child, at_once)

@@ -1,4 +1,4 @@
-"""Tries of a server that was lost: how many there are, and how long to wait between them."""
+"""Tries to reach a lost server: how many, and the pauses between them."""
 
 from __future__ import annotations
 
@@ -7,19 +7,19 @@ from typing import Optional
 
 from .errors import NotReached, NotStarted, ServerBusy, ServerLost, TimedOut
 
-#: Seconds before the first try on a new stream, and before any other at most: each pause is twice the one before it.
+#: The seconds before the first try on a new stream, and the most before any other. Each pause is twice the one before it.
 FIRST_PAUSE = 0.05
 LONGEST_PAUSE = 1.0
-#: How often requests are sent again that a lost server may have read.
+#: How often requests that a lost server may have read are sent again.
 MORE_TRIES = 2
 
 
 class Tries:
-    """The tries of one call, which begins with no fault."""
+    """The tries of one call."""
 
     def __init__(self, limit: Optional[float], has_stream: bool) -> None:
-        """`limit` is the seconds that a server is tried which takes no stream, or None. A stream that was kept from an earlier
-        call, which `has_stream` says, is replaced at once: a server ends idle streams."""
+        """`limit` is how many seconds a server that accepts no stream is tried, or None. If `has_stream` is true, the call begins
+        on a stream that was kept from an earlier one. That is replaced at once, since a server ends idle streams."""
         self._limit = math.inf if limit is None else limit
         self._until: Optional[float] = None
         self._left = MORE_TRIES
@@ -43,10 +43,10 @@ class Tries:
 
 
 def concerns_all(fault: ServerLost) -> bool:
-    """Whether those who waited for their turn meanwhile would get the same fault."""
+    """Whether calls that waited for their turn meanwhile would get the same fault."""
     return isinstance(fault, (TimedOut, NotReached, ServerBusy))
 
 
 def again(fault: ServerLost) -> ServerLost:
-    """Returns the same fault for another who waits."""
+    """Returns the same fault for another waiting call."""
     return type(fault)(str(fault))

@@ -210,11 +210,11 @@ bench: ## draws charts of speed beside other libraries and servers, in about ten
 	bench/charts $(PROGRAM) $(BENCH)
 
 # Tables of every pair of encodings beside the system's iconv, what requests cost, batches by 1, 2 and 4 workers, one stream beside an echo in
-# C, and many at once. They take long, and assert nothing.
-bench-tables: ## prints tables of every pair of encodings, of requests, batches and streams
+# C, and many at once. They assert nothing.
+bench-tables: ## prints tables of every pair of encodings, of requests, batches and streams, in a quarter of an hour
 	@tools/need 'make bench-tables' rt python3 $(C)
 	@$(MAKE) $(PROGRAM) $(BENCH)
-	bench/pairs $(PROGRAM)
+	bench/pairs --calls-only --size 16384 --turns 5 $(PROGRAM)
 	bench/requests $(PROGRAM)
 	cd crates/pool_bench && rt run -- 9
 	bench/network/run $(PROGRAM)

@@ -113,11 +113,13 @@ def configuration(folder: str, ports: Sequence[int], port: int) -> str:
     """Writes the shipped configuration with these servers, and returns its file."""
     with open(_SHIPPED, encoding="utf-8") as file:
         text = file.read()
-    text = re.sub(r"^    (user|group|chroot|log /dev/log|stats socket) .*\n", "", text, flags=re.MULTILINE)
+    text = re.sub(r"^    (user|group|chroot|log /dev/log|stats socket)\b.*\n", "", text, flags=re.MULTILINE)
+    # The servers have no admin address: a connection is their check.
+    text = re.sub(r"^    (option httpchk|http-check)\b.*\n", "", text, flags=re.MULTILINE).replace(" check port 9879 ", " check ")
     text = re.sub(r"^    bind unix@.*\n", "", text, flags=re.MULTILINE)
     text = re.sub(r"^    bind 127\.0\.0\.1:7879$", f"    bind 127.0.0.1:{port}", text, flags=re.MULTILINE)
     text = re.sub(r"^frontend statistics\n(    .*\n)*", "", text, flags=re.MULTILINE)
-    text = text.replace("maxconn 60 ", f"maxconn {AT_ONCE - 10} ")
+    text = re.sub(r"\bmaxconn 120\b", f"maxconn {AT_ONCE - 10}", text)
     servers = "".join(f"    server s{one} 127.0.0.1:{one}\n" for one in ports)
     text = re.sub(r"^(    server \w+ .*\n)+", servers, text, flags=re.MULTILINE)
     path = os.path.join(folder, f"haproxy-{len(ports)}.cfg")

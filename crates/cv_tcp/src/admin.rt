@@ -6,7 +6,7 @@ use crate::accepting::{Complaints, next_admin_client};
 use crate::connection::Connection;
 use crate::inlet::{Bound, Inlet};
 use crate::overview::Overview;
-use crate::retrying::{Retrying, begin};
+use crate::retrying::{Retrying, TimeFrom, begin};
 use crate::streams::{Service, serve_slots};
 use crate::timed::Timed;
 use crate::turns::{Job, Slot, Turns};
@@ -56,8 +56,8 @@ fn answer_client<R: Clock + RandomSource, O: Operated>(
         return;
     };
     client.send_at_once();
-    let mut reader = Retrying::new(rt, Timed::new(rt, client, deadline), None);
-    let mut writer = Retrying::new(rt, Timed::new(rt, client, deadline), None);
+    let mut reader = Retrying::new(rt, Timed::new(rt, client, deadline), None, TimeFrom::Call);
+    let mut writer = Retrying::new(rt, Timed::new(rt, client, deadline), None, TimeFrom::Call);
     if serve_client(alloc, keys, operated, &mut reader, &mut writer).is_ok() {
         client.end_writing();
         drain_rest(&mut reader);

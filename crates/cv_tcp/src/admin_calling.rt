@@ -4,7 +4,7 @@ ghost use Rattle.cv_tcp.specs.Admin.{Adds};
 ghost use Rattle.cv_tcp.specs.Admin as spec;
 
 use crate::calling::connect;
-use crate::retrying::{Retrying, begin};
+use crate::retrying::{Retrying, TimeFrom, begin};
 use crate::timed::Timed;
 use cv_admin::{Page, read_answer, request_for};
 use std::alloc::Global;
@@ -115,8 +115,8 @@ where
     let Ok(stream) = connect(rt, address, Some(limit)) else {
         return Err(AdminFault::CannotConnect);
     };
-    let mut reader = Retrying::new(rt, Timed::new(rt, &stream, deadline), None);
-    let mut writer = Retrying::new(rt, Timed::new(rt, &stream, deadline), None);
+    let mut reader = Retrying::new(rt, Timed::new(rt, &stream, deadline), None, TimeFrom::Call);
+    let mut writer = Retrying::new(rt, Timed::new(rt, &stream, deadline), None, TimeFrom::Call);
     let got = exchange(alloc, &mut reader, &mut writer, page)?;
     show_answer(&got, text)
 }

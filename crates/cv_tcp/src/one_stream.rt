@@ -88,10 +88,10 @@ fn serve_by<R: Threads + Wait + Clock + Sync, C: Counts>(
     stream.send_at_once();
     let patience = limits.patience;
     // If the system refuses this, the stream has no limit.
-    let limit = patience.longest_call();
+    let (limit, from) = (patience.longest_call(), patience.time_from());
     let _ = stream.set_timeouts(limit);
-    let reader = Watched::new(Metered::new(counts, Retrying::new(rt, stream, limit)));
-    let writer = Watched::new(Metered::new(counts, Retrying::new(rt, stream, limit)));
+    let reader = Watched::new(Metered::new(counts, Retrying::new(rt, stream, limit, from)));
+    let writer = Watched::new(Metered::new(counts, Retrying::new(rt, stream, limit, from)));
     let mut source = FromReader::new(Ticking::new(rt, reader, patience));
     let mut sink = ToWriter::new(Ticking::new(rt, writer, patience));
     let terms = StreamTerms {

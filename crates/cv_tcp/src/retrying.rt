@@ -39,6 +39,15 @@ impl Deadline {
     }
 }
 
+/// From when on the time of a call counts.
+#[derive(Clone, Copy, Debug)]
+pub(crate) enum TimeFrom {
+    /// From when it is made: the clock is read before each call.
+    Call,
+    /// From when it is interrupted first: the clock is read for interrupted calls alone, and these wait for up to twice the limit.
+    Interruption,
+}
+
 /// A reader or a writer whose interrupted calls are made again, with what is left of their time.
 ///
 /// A call on a socket with a time limit is interrupted when its process is stopped and continued, or when a debugger attaches (signal(7)).
@@ -47,19 +56,21 @@ pub(crate) struct Retrying<'a, R, T> {
     rt: &'a R,
     inner: T,
     limit: Option<Duration>,
+    from: TimeFrom,
     /// Whether calls wait for less than the limit now.
     is_shortened: bool,
 }
 
 impl<'a, R, T> Retrying<'a, R, T> {
     /// Each call on it waits for at most so long, which was set.
-    pub(crate) fn new(rt: &'a R, inner: T, limit: Option<Duration>) -> Self
+    pub(crate) fn new(rt: &'a R, inner: T, limit: Option<Duration>, from: TimeFrom) -> Self
         ensures { result.inner ≡ inner }
     {
         Retrying {
             rt,
             inner,
             limit,
+            from,
             is_shortened: false,
         }
     }
@@ -80,14 +91,23 @@ pub(crate) fn late() -> io::Error
 }
 
 impl<R: Clock, T: Waits> Retrying<'_, R, T> {
+    /// The deadline of a call that is made now, if its time counts from now on.
+    fn deadline(&self) -> Option<Deadline> {
+        match self.from {
+            TimeFrom::Call => begin(self.rt, self.limit),
+            TimeFrom::Interruption => None,
+        }
+    }
+
     /// Whether an interrupted call is made again: not once its time is over. It waits for what is left of that.
-    fn goes_on(&mut self, deadline: &Option<Deadline>) -> bool
+    fn goes_on(&mut self, deadline: &mut Option<Deadline>) -> bool
         ensures { self.new.inner ≡ self.old.inner }
     {
-        let Some(deadline) = deadline else {
+        let Some(begun) = deadline else {
+            *deadline = begin(self.rt, self.limit);
             return true;
         };
-        let Some(left) = deadline.left(self.rt) else {
+        let Some(left) = begun.left(self.rt) else {
             return false;
         };
         self.inner.limit_waits(Some(left));
@@ -108,7 +128,7 @@ impl<R: Clock, T: Waits> Retrying<'_, R, T> {
 
 impl<R: Clock, T: Read + Waits> Retrying<'_, R, T> {
     /// One read that no signal ends. It is made again as often as std makes one again.
-    fn read_on(&mut self, buf: &mut [u8], deadline: &Option<Deadline>) -> io::Result<usize>
+    fn read_on(&mut self, buf: &mut [u8], deadline: &mut Option<Deadline>) -> io::Result<usize>
         ensures bound { ReadsAtMost result buf.new }
         ensures bytes { ReadConsumes (T.remaining self.old.inner) (T.remaining self.new.inner) result buf.new }
         ensures retried { IfErr result (λ e. error_kind e ≢ ErrorKind.Interrupted) }
@@ -132,7 +152,7 @@ impl<R: Clock, T: Read + Waits> Retrying<'_, R, T> {
 
 impl<R: Clock, T: Write + Waits> Retrying<'_, R, T> {
     /// One write that no signal ends. It is made again as often as std makes one again.
-    fn write_on(&mut self, bytes: &[u8], deadline: &Option<Deadline>) -> io::Result<usize>
+    fn write_on(&mut self, bytes: &[u8], deadline: &mut Option<Deadline>) -> io::Result<usize>
         ensures bound { WritesAtMost result bytes.now }
         ensures bytes { WriteAppends (T.contents self.old.inner) (T.contents self.new.inner) result bytes.now }
         ensures retried { IfErr result (λ e. error_kind e ≢ ErrorKind.Interrupted) }
@@ -158,8 +178,8 @@ impl<R: Clock, T: Read + Waits> Read for Retrying<'_, R, T> {
     ghost remaining = { λ r. T.remaining r.inner };
 
     fn read(&mut self, buf: &mut [u8]) -> io::Result<usize> {
-        let deadline = begin(self.rt, self.limit);
-        let came = self.read_on(buf, &deadline);
+        let mut deadline = self.deadline();
+        let came = self.read_on(buf, &mut deadline);
         self.restore();
         came
     }
@@ -169,8 +189,8 @@ impl<R: Clock, T: Write + Waits> Write for Retrying<'_, R, T> {
     ghost contents = { λ w. T.contents w.inner };
 
     fn write(&mut self, bytes: &[u8]) -> io::Result<usize> {
-        let deadline = begin(self.rt, self.limit);
-        let taken = self.write_on(bytes, &deadline);
+        let mut deadline = self.deadline();
+        let taken = self.write_on(bytes, &mut deadline);
         self.restore();
         taken
     }

@@ -5,7 +5,7 @@ ghost use Rattle.std.specs.Io.KnownBytes.{WriteAppends};
 ghost use Rattle.cv_tcp.specs.Ticks.{ReadsOn};
 
 use crate::draining::Draining;
-use crate::retrying::late;
+use crate::retrying::{TimeFrom, late};
 use std::io::{self, ErrorKind, Read, Write};
 use std::time::{Clock, Duration};
 
@@ -40,6 +40,14 @@ impl Patience<'_> {
             None => self
                 .limit
                 .map(|seconds| Duration::from_secs(u64::from(seconds))),
+        }
+    }
+
+    /// From when on the time of one call of the system counts. A tick is too short for two readings of the clock for each request.
+    pub(crate) fn time_from(&self) -> TimeFrom {
+        match self.draining {
+            Some(_) => TimeFrom::Interruption,
+            None => TimeFrom::Call,
         }
     }
 

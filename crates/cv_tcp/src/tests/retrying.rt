@@ -1,5 +1,5 @@
 //! Calls that a signal interrupts.
-use crate::retrying::{Retrying, Waits};
+use crate::retrying::{Retrying, TimeFrom, Waits};
 use std::io::{self, ErrorKind, Read, Write};
 use std::sync::{Mutex, Wait};
 use std::test::Fail;
@@ -67,7 +67,7 @@ fn interrupted_calls_go_on(rt: HostRuntime) -> Result<(), Fail> {
             left: interruptions,
             limits: &limits,
         };
-        let mut stream = Retrying::new(&rt, inner, limit);
+        let mut stream = Retrying::new(&rt, inner, limit, TimeFrom::Call);
         let mut buf = [0; 2];
         assert_eq!(rt; stream.read(&mut buf)?, 1);
         assert_eq!(rt; buf, [b'a', 0]);
@@ -89,7 +89,7 @@ fn an_interrupted_call_ends_with_its_time(rt: HostRuntime) -> Result<(), Fail> {
         left: 2,
         limits: &limits,
     };
-    let mut stream = Retrying::new(&rt, inner, Some(Duration::from_millis(1)));
+    let mut stream = Retrying::new(&rt, inner, Some(Duration::from_millis(1)), TimeFrom::Call);
     let mut buf = [0; 2];
     let read = stream.read(&mut buf).map_err(|failure| failure.kind());
     assert_eq!(rt; read, Err(ErrorKind::WouldBlock));
@@ -97,5 +97,28 @@ fn an_interrupted_call_ends_with_its_time(rt: HostRuntime) -> Result<(), Fail> {
     assert_eq!(rt; written, Err(ErrorKind::WouldBlock));
     assert_eq!(rt; stream.write(b"abc")?, 3);
     assert_eq!(rt; limits.into_inner().len(), 0);
+    Ok(())
+}
+
+#[test]
+fn time_may_count_from_the_first_interruption(rt: HostRuntime) -> Result<(), Fail> {
+    let limits = Mutex::new(Vec::new(rt.alloc()));
+    for (interruptions, limit, ends) in [(1, 1, Ok(1)), (2, 1, Err(ErrorKind::WouldBlock)), (3, 60_000, Ok(1))] {
+        let inner = Interrupted {
+            rt: &rt,
+            left: interruptions,
+            limits: &limits,
+        };
+        let limit = Some(Duration::from_millis(limit));
+        let mut stream = Retrying::new(&rt, inner, limit, TimeFrom::Interruption);
+        let mut buf = [0; 2];
+        let read = stream.read(&mut buf).map_err(|failure| failure.kind());
+        assert_eq!(rt; read, ends);
+    }
+    // Only the last one waited with less time: twice, and then with the whole limit again.
+    let limits = limits.into_inner();
+    assert_eq!(rt; limits.len(), 3);
+    assert_eq!(rt; limits[2], Some(Duration::from_secs(60)));
+    assert!(rt; limits[0] < limits[2] && limits[1] < limits[0]);
     Ok(())
 }

@@ -1,4 +1,4 @@
--- What a look-up finds.
+-- The value that a look-up finds.
 use Rattle.std.proofs.Common.{◌≡◌, Bool, true, false, cond, List, [], ◌∷◌, Some, refl}
 use Rattle.std.specs.Option.{option_map}
 use Rattle.std.specs.Map.{lookup, lookup_entry}

@@ -118,8 +118,8 @@ impl Table {
         place
     }
 
-    /// Returns what a name stands for: a built-in encoding, or else a charmap that is held. ASCII case does not matter
-    /// in a charmap's name.
+    /// Returns what a name stands for: a built-in encoding, or else a charmap that is held. The case of ASCII letters
+    /// does not matter.
     pub fn find(&self, name: &[u8]) -> Option<Found>
         ensures named { option_map named_found result ≡ named_of self.now.charmaps name.now }
         ensures found { IfSome result (IsFound self.now.charmaps) }

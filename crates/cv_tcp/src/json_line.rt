@@ -11,8 +11,8 @@ use std::alloc::{AllocError, Global};
 use std::fmt::Display;
 use std::time::Clock;
 
-/// How many bytes of a message are shown if the line is too long with the whole of it and its pairs. Escaped they are at most six times as
-/// many, and fit.
+/// How many bytes of a message are shown if the whole line is too long. Escaped, they take at most six times as many,
+/// which fit.
 const SHORT: usize = 600;
 
 /// Collects pairs as the members of a JSON object.
@@ -54,7 +54,7 @@ impl VisitSource for JsonPairs {
     }
 }
 
-/// The word of a level, as the command line has it.
+/// The word for a level, as in `--log`.
 fn level_word(level: Level) -> &'static str {
     match level {
         Level::Error => "error",
@@ -97,7 +97,7 @@ fn whole_line<D: Display, K: kv::Source, S: Spans>(
     Value::Object(pairs.members).to_string(alloc)
 }
 
-/// A record as a JSON object that is no longer than a line: without its pairs, and with a message that is cut.
+/// A record as a JSON object that fits a line: without its pairs, and with its message cut.
 fn short_line<D: Display, K: kv::Source, S: Spans>(
     alloc: Global,
     time: Option<Timestamp>,

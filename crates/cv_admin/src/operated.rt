@@ -15,13 +15,13 @@ pub enum Health {
 
 /// A server as the pages see it. Several threads may use it at once.
 pub trait Operated {
-    /// Whether a client that connects now is served at once.
+    /// Returns whether a client that connects now is served at once.
     fn health(&self) -> Health;
 
-    /// Returns the metrics in Prometheus's text format. An error: an allocation failed.
+    /// Returns the metrics in Prometheus's text format. It fails if an allocation fails.
     fn metrics(&self, alloc: Global) -> Result<String, AllocError>;
 
-    /// Returns a JSON array with an object for each stream. An error: an allocation failed.
+    /// Returns a JSON array with an object for each stream. It fails if an allocation fails.
     fn streams(&self, alloc: Global) -> Result<String, AllocError>;
 
     /// Begins a drain: no new stream is served from now on. Further calls change nothing.

@@ -28,7 +28,7 @@ pub struct Pages<'a, O> {
     operated: &'a O,
 }
 
-/// Fills a response that closes the connection. `kind` is its content type. An error: an allocation failed.
+/// Fills a response that closes the connection. `kind` is its content type. It fails if an allocation fails.
 fn fill(
     response: &mut Response,
     status: StatusCode,

@@ -1,4 +1,4 @@
-//! Serving one client of the pages.
+//! Serves one client of the pages.
 
 use crate::operated::Operated;
 use crate::pages::Pages;

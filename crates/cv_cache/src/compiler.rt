@@ -1,4 +1,4 @@
-//! The trait of what compiles charmap texts.
+//! The trait of compilers of charmap texts.
 ghost use Rattle.cv_cache.specs.Compiled.{IsCompiled};
 
 use cv_charmap::CompileFault;

@@ -45,7 +45,7 @@ pub found_free : {X : Type 0} (places : List (Option X)) (found : Option ℕ) �
 found_free places (Some place) e = is_nothing _ ((position-Some is_none places place None (sym e)).1)
 found_free places None e = tt
 
--- what holds of each entry still holds after one is set to a value of which it holds
+-- a property of all entries still holds after one is set to a value that has it
 pub at_set : {X : Type 0} (P : Option X → Type 0) (xs : List (Option X)) (i : ℕ) (x : Option X) → ((k : ℕ) → P (get_or xs k None)) → P x → (k : ℕ) → P (get_or (set xs i x) k None)
 at_set P [] i x all is k = all k
 at_set P (y ∷ xs) zero x all is zero = is

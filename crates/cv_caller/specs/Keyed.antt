@@ -58,7 +58,7 @@ place_bytes None = 0
 abbrev pub held_by : Keyed → ℕ
 held_by keyed = caller_bytes + sum_by place_bytes keyed.places + keyed.bytes + length keyed.part
 
--- ---- what every table keeps
+-- ---- what holds of every table
 
 -- If a slot is given, it has a charmap.
 abbrev pub IsHeld : Charmaps → Option ℕ → Type 0

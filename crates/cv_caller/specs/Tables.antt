@@ -112,7 +112,7 @@ with_charmap table place charmap = record table { charmaps = slice_set table.cha
 abbrev pub with_part : Table → List ℕ → Table
 with_part table part = record table { part = part }
 
--- ---- what every table keeps
+-- ---- what holds of every table
 
 -- The charmaps that a caller may hold: eight slots, each free or with the pairs of a charmap, and together at most
 -- 262,144 mappings.

@@ -140,7 +140,7 @@ impl Table {
         self.find(name).is_some()
     }
 
-    /// Returns the charmap in a slot as an encoding, which shares it. An error: an allocation failed.
+    /// Returns the charmap in a slot as an encoding, which shares it. It fails if an allocation fails.
     pub fn encoding(&self, map: u8) -> Result<Encoding, Memory>
         requires { is_some (charmap_at self.now.charmaps map) ≡ true }
         ensures { IfOk result (λ e. form_of e ≡ Mapped (pairs_in (charmap_at self.now.charmaps map))) }
@@ -148,8 +148,8 @@ impl Table {
         self.uploads.encoding(map)
     }
 
-    /// Puts a charmap into the least free slot, and returns how many bytes it counts for: at most `left`. A charmap
-    /// that is refused is dropped, and the table stays as it is.
+    /// Puts a charmap into the least free slot, and returns how many bytes it counts for. A charmap that counts for
+    /// more than `left` bytes is refused. One that is refused is dropped, and the table stays as it is.
     pub fn add_map(
         &mut self,
         alloc: Global,
@@ -200,7 +200,7 @@ impl Table {
     }
 
     /// Appends bytes to the part, and returns how many bytes the part has then. Empty `bytes` drop the part, and need
-    /// no memory. At most `left` bytes are taken. A refusal leaves the part as it is.
+    /// no memory. More than `left` bytes are refused. A refusal leaves the part as it is.
     pub fn add_part(&mut self, alloc: Global, bytes: &[u8], left: u64) -> Result<u32, PartFault>
         ensures parted { IsPart self.old bytes.now result self.new }
         ensures within { OnOk result (length bytes.now ≤ left) }

@@ -1,4 +1,4 @@
-//! From the command line to the exit status.
+//! Runs the commands, and gives the exit status of each.
 ghost use Rattle.std.specs.Prelude.{◌≡◌, ◌≢◌, ◌≤◌, IfOk, IfErr, OnOk, OnErr, if◌then◌else◌};
 ghost use Rattle.clap.specs.Values.{kind_of};
 ghost use Rattle.cv_commands.specs.Status.{status_of};
@@ -203,8 +203,9 @@ fn print_help<R: Print>(rt: &R, alloc: Global, asked: &Error) -> Result<(), RunF
     Ok(())
 }
 
-/// Handles a command line without a job, and returns the exit status. It prints the help or version that was asked for:
-/// 0, or 1 if that failed. Or it reports a failed allocation: 1; or what is wrong with the command line: 2.
+/// Handles a command line that gives no job, and returns the exit status. If it asks for help or the version, the text
+/// is printed: 0, or 1 if that fails. If an allocation failed, that is reported: 1. Otherwise it reports what is wrong:
+/// 2.
 pub fn explain<R: Print + Eprint>(rt: &R, alloc: Global, fault: &Error) -> u8
     ensures memory { kind_of fault.now ≡ ErrorKind.OutOfMemory → result ≡ 1 }
     ensures help { kind_of fault.now ≡ ErrorKind.DisplayHelp → result ≤ 1 }

@@ -114,7 +114,7 @@ fn fault_of_address<'a>(matches: &ArgMatches<'a>, job: Job<'a>) -> Option<(&'a s
     }
 }
 
-/// How many bytes a stream may hold, if `--stream-memory` was given. An error: its word is not a size.
+/// How many bytes a stream may hold, if `--stream-memory` was given. It fails if its word is not a size.
 fn stream_memory_of<'a>(alloc: Global, matches: &ArgMatches<'a>) -> Result<Option<u64>, Error> {
     let Some(word) = word_of(matches, STREAM_MEMORY) else {
         return Ok(None);

@@ -24,7 +24,7 @@ pub struct Board {
 }
 
 impl Board {
-    /// Returns a board with `count` places and all counters 0. An error: an allocation failed.
+    /// Returns a board with `count` places and all counters 0. It fails if an allocation fails.
     pub fn new(alloc: Global, count: u32) -> Result<Board, AllocError> {
         let mut places = Vec::new(alloc);
         for _place in 0..count {
@@ -102,7 +102,7 @@ impl Board {
         sum
     }
 
-    /// Returns all metrics in Prometheus's text format, version 0.0.4. An error: an allocation failed.
+    /// Returns all metrics in Prometheus's text format, version 0.0.4. It fails if an allocation fails.
     pub fn metrics<R: Wait>(
         &self,
         rt: &R,
@@ -113,7 +113,7 @@ impl Board {
     }
 
     /// Returns the streams that are being served as a JSON array with an object for each. `now` is the time in
-    /// nanoseconds. An error: an allocation failed.
+    /// nanoseconds. It fails if an allocation fails.
     pub fn streams<R: Wait>(&self, rt: &R, alloc: Global, now: u64) -> Result<String, AllocError> {
         rows::streams(rt, alloc, self, now)
     }

@@ -55,7 +55,7 @@ impl Cause {
 /// The kind of a fault.
 #[derive(Clone, Copy, Debug, PartialEq, Eq)]
 pub enum FaultKind {
-    /// A frame had a length that no frame has.
+    /// A frame had an invalid length.
     BadLength,
     /// A stream ended within a frame.
     TruncatedFrame,

@@ -1,4 +1,4 @@
-//! Counters that one thread writes and others read.
+//! Counters that threads may write and read at the same time.
 ghost use Rattle.std.specs.Prelude.{◌≡◌, IfOk, vec_len};
 
 use std::alloc::{AllocError, Global};

@@ -7,8 +7,8 @@ use std::alloc::{AllocError, Global};
 use std::sync::atomic::{AtomicU64, Ordering};
 use std::sync::{Mutex, Wait};
 
-/// The counters of a place, over all streams that were served there, and the stream that is being served. Only the
-/// thread that serves there writes them. Any thread may read them.
+/// The counters of a place, over all streams that were served there, and the stream that is being served. The thread
+/// that serves there writes them. Any thread may read them.
 #[derive(Drop)]
 pub struct Place {
     stream: Mutex<Option<Stream>>,
@@ -77,7 +77,7 @@ impl Place {
         self.clear();
     }
 
-    /// Sets what the present stream has pending and holds to 0.
+    /// Sets the pending requests, the callers and the bytes of the present stream to 0.
     fn clear(&self) {
         self.pending.store(0, Ordering::Relaxed);
         self.hold(0, 0);

@@ -132,7 +132,7 @@ pub(crate) fn next_client<R: Wait + Clock, G: Log, L: Inlet>(
                 Some(place) => return Ok(Next::Client(stream, place)),
                 None => note_refused(log, operation, &stream),
             },
-            // The drain has shut the listener. The next round returns it.
+            // The drain has shut the listener. The next round returns `Drained`.
             Err(_) if drain_of(operation).is_some() => {}
             Err(failure) if gave_up(&failure) => thread::sleep(rt, Duration::from_millis(BREATH)),
             Err(failure) if is_lasting(&failure) => return Err(failure),

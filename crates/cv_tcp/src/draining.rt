@@ -72,7 +72,7 @@ impl Draining {
         }
     }
 
-    /// Whether it has begun and its time is over, or the clock cannot be read.
+    /// Whether it has begun, and its time is over or the clock cannot be read.
     pub(crate) fn is_over<R: Clock>(&self, rt: &R) -> bool {
         match self.begun() {
             None => false,

@@ -27,8 +27,8 @@ pub(crate) enum StreamFault {
     Run(RunFault),
 }
 
-/// Why a stream ended whose serving ended by this fault. `late_read` and `late_write`: its last read, or its last
-/// write, timed out.
+/// Why a stream ended, if serving it ended by this fault. `late_read` and `late_write` say whether its last read and
+/// its last write timed out.
 pub(crate) fn end_of(fault: RunFault, late_read: bool, late_write: bool) -> StreamFault
     ensures { result ≡ end_of fault late_read late_write }
 {
@@ -65,8 +65,8 @@ pub enum CallFault {
     Run(RunFault),
 }
 
-/// Why a call ended whose asking ended by this fault. `late_read` and `late_write`: its last read, or its last write,
-/// timed out.
+/// Why a call ended, if asking ended by this fault. `late_read` and `late_write` say whether its last read and its last
+/// write timed out.
 pub(crate) fn call_end_of(fault: RunFault, late_read: bool, late_write: bool) -> CallFault
     ensures { result ≡ call_end_of fault late_read late_write }
 {

@@ -49,7 +49,7 @@ impl Operation {
     }
 
     /// Returns the state of a server that can be drained, and counts its streams from now on. The metrics show
-    /// `version`. An error: an allocation failed.
+    /// `version`. It fails if an allocation fails.
     pub fn counted<R: Clock>(
         rt: &R,
         alloc: Global,

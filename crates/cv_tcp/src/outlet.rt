@@ -6,7 +6,7 @@ use libc::net::{POLLOUT, poll};
 use libc::types::pollfd;
 use std::fmt::Display;
 
-/// How many bytes of a line are written. With `…`, if the line is cut, and a newline these are 4,096. A pipe takes that
+/// How many bytes of a line are written. A cut line with its `…` and its newline has 4,096 bytes. A pipe takes that
 /// many at once when `poll` says that it can be written to (pipe(7), `PIPE_BUF`).
 pub(crate) const LONGEST: usize = 4_092;
 

@@ -19,8 +19,8 @@ pub(crate) struct Ended {
     pub(crate) written: u64,
 }
 
-/// The level of the record of a stream that ended by this fault. It is usual that a client is silent for too long, or
-/// is drained: info.
+/// The level at which the end of a stream by this fault is logged: info for an idle or a drained client, which is
+/// usual, else error.
 fn level_of(fault: StreamFault) -> Level {
     match fault {
         StreamFault::Idle | StreamFault::Drained => Level::Info,

@@ -1,6 +1,7 @@
 //! Addresses of servers.
 
-/// The address of a server: that of a TCP port, the path of a Unix socket, or the number of a listener that the process was given.
+/// The address of a server: that of a TCP port, the path of a Unix socket, or the number of a listener that the process
+/// was given.
 #[derive(Clone, Copy, Debug, PartialEq, Eq)]
 pub(crate) enum Address<'a> {
     Tcp(&'a str),

@@ -7,7 +7,8 @@ const MOST: u32 = 100;
 /// How many nanoseconds a second has.
 const SECOND: u64 = 1_000_000_000;
 
-/// The faults of the current second, by a clock that counts nanoseconds. The next second begins with the first record after it is over.
+/// The faults of the current second, by a clock that counts nanoseconds. The next second begins with the first record
+/// after it is over.
 #[derive(Clone, Copy, Debug, PartialEq, Eq)]
 pub(crate) struct FaultLimit {
     /// When the second began.

@@ -65,7 +65,8 @@ fn level_word(level: Level) -> &'static str {
     }
 }
 
-/// The first members of a record's object: its time (RFC 3339, UTC), if the clock can be read, its level and its message.
+/// The first members of a record's object: its time (RFC 3339, UTC), if the clock can be read, its level and its
+/// message.
 fn begun<D: Display>(
     alloc: Global,
     time: Option<Timestamp>,
@@ -108,8 +109,8 @@ fn short_line<D: Display, K: kv::Source, S: Spans>(
     Value::Object(pairs.members).to_string(alloc)
 }
 
-/// A record as a JSON object: its time, its level, its message and its pairs. If that is longer than a line, the pairs are left out and the
-/// message is cut.
+/// A record as a JSON object: its time, its level, its message and its pairs. If that is longer than a line, the pairs
+/// are left out and the message is cut.
 pub(crate) fn json_line<R: AllocGlobal + Clock, D: Display, K: kv::Source, S: Spans>(
     rt: &R,
     record: &Record<'_, D, K, S>,

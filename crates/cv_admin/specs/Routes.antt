@@ -24,7 +24,7 @@ takes page.Metrics method = is_read method
 takes page.Streams method = is_read method
 takes page.Drain method = bytes_eq method (codes "POST")
 
--- A page, by a method that it takes or by another.
+-- The route to a page, by a method that it takes or by another; `Nowhere` without a page.
 abbrev pub route_to : Option Page → List ℕ → Route
 route_to None method = Nowhere
 route_to (Some asked) method = if takes asked method then To asked else NotAllowed asked

@@ -1,4 +1,4 @@
-//! Asking for a page: what is sent, and what the answer says.
+//! Asks for a page: the request as bytes, and what the answer says.
 ghost use Rattle.std.specs.Prelude.{◌≡◌, IfSome};
 ghost use Rattle.cv_admin.specs.Asking.{request_text, IsAnswer, IsFramed};
 
@@ -8,18 +8,18 @@ use http1::framing::{Framing, FramingError, MethodKind, response_framing};
 use httparse::Status;
 use httparse::spans::{EMPTY_HEADER_SPAN, parse_response};
 
-/// How many fields the head of an answer may have.
+/// How many header fields an answer may have.
 const MOST_FIELDS: usize = 64;
 
-/// What a server answered.
+/// The answer of a server.
 #[derive(Clone, Copy, Debug, PartialEq, Eq)]
 pub struct Answer<'a> {
-    /// The status, as 200.
+    /// The HTTP status, such as 200.
     pub status: u16,
     pub text: &'a [u8],
 }
 
-/// The bytes that ask for a page.
+/// Returns the HTTP/1.1 request for a page. It asks the server to close the connection after its answer.
 pub fn request_for(page: Page) -> &'static [u8]
     ensures { result.now ≡ request_text page }
 {
@@ -31,7 +31,8 @@ pub fn request_for(page: Page) -> &'static [u8]
     }
 }
 
-/// The text by where it ends, of what follows a head. `None`: it was cut off, is in chunks, or has no known end.
+/// Finds the end of an answer's text in the bytes that follow the head. `None`: the text was cut off, is chunked, or
+/// has no known end.
 fn framed(framing: Result<Framing, FramingError>, rest: &[u8]) -> Option<&[u8]>
     ensures { IfSome result (λ text. IsFramed framing rest.now text.now) }
 {
@@ -46,8 +47,8 @@ fn framed(framing: Result<Framing, FramingError>, rest: &[u8]) -> Option<&[u8]>
     }
 }
 
-/// Reads an answer, from its first byte to where the server closed the connection. `None`: this is no HTTP, was cut off, or is in chunks,
-/// which this server sends none of.
+/// Reads an answer from all bytes that came before the server closed the connection. `None`: they are not HTTP, were
+/// cut off, or are chunked. This server never sends chunks.
 pub fn read_answer(bytes: &[u8]) -> Option<Answer<'_>>
     ensures { IfSome result (λ answer. IsAnswer bytes.now answer.status answer.text.now) }
 {

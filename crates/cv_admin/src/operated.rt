@@ -1,29 +1,29 @@
-//! What the pages show and change.
+//! What the pages show, and what they do.
 
 use std::alloc::{AllocError, Global};
 
 /// Whether a client that connects now is served at once.
 #[derive(Clone, Copy, Debug, PartialEq, Eq)]
 pub enum Health {
-    /// It is: a place is free.
+    /// It is served at once: a place is free.
     Free,
-    /// It waits, or is closed: all places are taken.
+    /// It waits or is closed: all places are taken.
     Full,
-    /// It is not served: the server is about to end.
+    /// It is not served: a drain has begun, and the server will end.
     Draining,
 }
 
-/// A server as the pages see it. Many threads ask at once.
+/// A server as the pages see it. Several threads may use it at once.
 pub trait Operated {
-    /// Whether a client that connects now is served at once.
+    /// Returns whether a client that connects now is served at once.
     fn health(&self) -> Health;
 
-    /// The metrics, in Prometheus's text format.
+    /// Returns the metrics in Prometheus's text format. It fails if an allocation fails.
     fn metrics(&self, alloc: Global) -> Result<String, AllocError>;
 
-    /// A JSON array, one object a stream.
+    /// Returns a JSON array with an object for each stream. It fails if an allocation fails.
     fn streams(&self, alloc: Global) -> Result<String, AllocError>;
 
-    /// No new stream is served from now on. Asking again changes nothing.
+    /// Begins a drain: no new stream is served from now on. Further calls change nothing.
     fn drain(&self);
 }

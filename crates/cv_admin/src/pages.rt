@@ -1,4 +1,4 @@
-//! The pages as a service of HTTP.
+//! The pages as an HTTP service.
 ghost use Rattle.std.specs.Prelude.{◌≡◌, IsTrue, OnOk};
 ghost use Rattle.http.specs.Request.{head_of};
 ghost use Rattle.http_header.specs.FieldValue.{is_visible_text};
@@ -13,22 +13,22 @@ use http::{HeaderName, HeaderValue, Request, StatusCode};
 use http_server::{Response, Service};
 use std::alloc::{AllocError, Global};
 
-/// The kind of text of all pages but these two.
+/// The content type of all answers but the pages `/metrics` and `/streams`.
 const PLAIN: &str = "text/plain; charset=utf-8";
 
-/// Prometheus's text format, in the version that all its releases read.
+/// The content type of Prometheus's text format, in the version that all releases of Prometheus read.
 const PROMETHEUS: &str = "text/plain; version=0.0.4; charset=utf-8";
 
 const JSON: &str = "application/json";
 
-/// The pages over what they show and change.
+/// The pages of a server.
 #[derive(Drop)]
 pub struct Pages<'a, O> {
     alloc: Global,
     operated: &'a O,
 }
 
-/// Fills a response, after which the connection is closed.
+/// Fills a response that closes the connection. `kind` is its content type. It fails if an allocation fails.
 fn fill(
     response: &mut Response,
     status: StatusCode,
@@ -47,7 +47,7 @@ fn fill(
     response.body.put_slice(body)
 }
 
-/// The status of a health: 200 where a place is free.
+/// The status of the page `/health`: 200 if a place is free, else 503.
 fn status_of(health: Health) -> StatusCode
     ensures { result ≡ health_status health }
 {
@@ -57,7 +57,7 @@ fn status_of(health: Health) -> StatusCode
     }
 }
 
-/// The word for a health.
+/// The text of the page `/health`.
 fn text_of(health: Health) -> &'static [u8]
     ensures { result.now ≡ health_text health }
 {
@@ -68,7 +68,7 @@ fn text_of(health: Health) -> &'static [u8]
     }
 }
 
-/// Answers that a page doesn't take the method, and which ones it takes.
+/// Answers 405 (method not allowed), with the methods that the page takes.
 fn refuse_method(response: &mut Response, page: Page) -> Result<(), AllocError>
     requires { IsBlank response.old }
     ensures { OnOk result (NotAllowed page response.new) }
@@ -83,12 +83,12 @@ fn refuse_method(response: &mut Response, page: Page) -> Result<(), AllocError>
 }
 
 impl<'a, O: Operated> Pages<'a, O> {
-    /// The pages over a server.
+    /// Makes the pages of this server.
     pub fn new(alloc: Global, operated: &'a O) -> Pages<'a, O> {
         Pages { alloc, operated }
     }
 
-    /// Answers with a page.
+    /// Answers with a page. `Drain` begins a drain.
     fn show(&self, page: Page, response: &mut Response) -> Result<(), AllocError>
         requires { IsBlank response.old }
         ensures { OnOk result (IsPage page response.new) }
@@ -113,7 +113,7 @@ impl<'a, O: Operated> Pages<'a, O> {
         }
     }
 
-    /// Answers on a route.
+    /// Answers a request by its route.
     fn answer(&self, route: Route, response: &mut Response) -> Result<(), AllocError>
         requires { IsBlank response.old }
         ensures { OnOk result (AnswersOn route response.new) }

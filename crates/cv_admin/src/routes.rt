@@ -14,15 +14,15 @@ pub enum Page {
 /// What a request asks for.
 #[derive(Clone, Copy, Debug, PartialEq, Eq)]
 pub enum Route {
-    /// A page, by a method that it takes.
+    /// A page, asked for by a method that it takes.
     To(Page),
-    /// A page, by another method.
+    /// A page, asked for by another method.
     NotAllowed(Page),
     /// No page has this path.
     Nowhere,
 }
 
-/// Whether a text is this one.
+/// Whether two texts are equal.
 fn is(text: &[u8], other: &[u8]) -> bool
     ensures { result ≡ bytes_eq text.now other.now }
 {
@@ -46,7 +46,7 @@ fn page_at(path: &[u8]) -> Option<Page>
     }
 }
 
-/// Whether a page takes a method: a page that only shows takes GET and HEAD, one that changes something POST.
+/// Whether a page takes a method. Pages that only show something take GET and HEAD; `Drain` takes POST.
 fn takes(page: Page, method: &[u8]) -> bool
     ensures { result ≡ spec.takes page method.now }
 {
@@ -56,7 +56,7 @@ fn takes(page: Page, method: &[u8]) -> bool
     }
 }
 
-/// What a request with this method and this path asks for.
+/// Returns what a request with this method and this path asks for.
 pub fn route_of(method: &[u8], path: &[u8]) -> Route
     ensures { result ≡ spec.route_of method.now path.now }
 {

@@ -1,4 +1,4 @@
-//! Serving one client of the pages.
+//! Serves one client of the pages.
 
 use crate::operated::Operated;
 use crate::pages::Pages;
@@ -8,13 +8,13 @@ use std::alloc::Global;
 use std::hash::RandomState;
 use std::io::{self, Read, Write};
 
-/// How many bytes the body of a request may have: no page reads one.
+/// How many bytes the body of a request may have. No page reads a body.
 pub const MOST_REQUEST_BODY: usize = 1024;
 
-/// How many bytes are asked for at each read, and how many may wait to be sent before more is read.
+/// How many bytes each read asks for, and how many may wait to be sent before more is read.
 const STEP: usize = 1024;
 
-/// The limits of a connection. Those of a head are the usual ones.
+/// The limits of a connection. Those of a head are the defaults of `http1`.
 fn limits() -> Config {
     Config {
         limits: Limits::default(),
@@ -24,8 +24,9 @@ fn limits() -> Config {
     }
 }
 
-/// Reads a request, answers it, and is done: each connection has one request. What is no request is answered by the server's own refusal.
-/// An error is the reader's or the writer's, or out of memory; the client then has no answer or a part of it.
+/// Reads one request, answers it and returns: a connection serves one request. Bytes that are not a request get the
+/// refusal of `http_server`. An error is the reader's, the writer's, or a failed allocation. The client then got no
+/// answer, or only a part of it.
 pub fn serve_client<O: Operated, R: Read, W: Write>(
     alloc: Global,
     keys: RandomState,

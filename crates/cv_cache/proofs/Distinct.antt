@@ -1,4 +1,4 @@
--- That keys of a list differ, where one entry is used, one is put, and the last ones go.
+-- The keys of a list still differ after one entry is used, one is put, or the last ones are dropped.
 use Rattle.std.proofs.Common.{◌≡◌, ℕ, ◌-◌, zero, suc, Bool, true, false, cond, List, [], ◌∷◌, take, Option, None, Some, refl, subst, ◌∙◌}
 use Rattle.std.specs.List.{IsDistinct, AllByRecursion}
 use Rattle.std.specs.Option.{option_map_or}
@@ -42,7 +42,7 @@ module _ {K V : Type 0} where
     distinct_taken (suc n) [] d = tt
     distinct_taken (suc n) (x ∷ xs) d = (all_taken (λ y. eq x.0 y ≡ false) n xs d.0, distinct_taken n xs d.1)
 
-    -- the others differ from a key that is found, and all from one that is not
+    -- the other keys differ from a key that is found; all keys differ from one that is not found
     pub apart_removed : ((x y : K) → eq x y ≡ eq y x) → (k : K) (xs : List (K × V)) (e : K × V) → IsDistinct eq (keys_of xs) → lookup_entry (eq k) xs ≡ Some e → AllByRecursion (λ y. eq e.0 y ≡ false) (keys_of (remove_entry (eq k) xs))
     apart_removed flips k [] e d h = tt
     apart_removed flips k (x ∷ xs) e d h = (elim (eq k x.0) as (λ b. eq k x.0 ≡ b → AllByRecursion (λ y. eq e.0 y ≡ false) (keys_of (cond b xs (x ∷ remove_entry (eq k) xs)))) [

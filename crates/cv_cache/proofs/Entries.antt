@@ -1,4 +1,4 @@
--- The entries of a cache have numbers: what lru's words say of them by their texts.
+-- What the operations of `lru`, which go by number, do to the entries of a cache by text.
 use Rattle.std.proofs.Common.{◌≡◌, ℕ, ◌-◌, true, false, cond, ◌&&◌, ◌==◌, List, [], ◌∷◌, map, take, None, Some, Ok, MatchOption, Contains, nat_eq, inl, inr, refl, sym, ap, subst, ◌∙◌}
 use Rattle.std.specs.List.{IsDistinct, find}
 use Rattle.std.specs.Option.{option_map}
@@ -35,7 +35,7 @@ text_of e = e.1.text.items
 abbrev pub AreRight : HashKeys → List Entry → Type 0
 AreRight keys es = (e : Entry) → Contains es e → IsRight keys e.1
 
--- Each text is there once.
+-- No text is there twice.
 abbrev pub AreApart : List Entry → Type 0
 AreApart es = IsDistinct bytes_eq (keys_of (map shown es))
 
@@ -45,14 +45,14 @@ flips a b = (elim (bytes_eq b a) as (λ x. bytes_eq b a ≡ x → bytes_eq a b �
   | false ↦ λ t. false_from_ne_true (bytes_eq a b) (λ same. let one = (bytes_eq-Decides a b).0 same in let two = (bytes_eq-Decides b a).1 (sym one) in absurd (cc))
 ]) refl
 
--- Where the sum of an entry is right, the test is whether its text is this one.
+-- If the sum of an entry is right, the test is whether its text is this one.
 agree : (keys : HashKeys) (text : List ℕ) (sum : ℕ) (e : Entry) → sum ≡ sum_of keys text → IsRight keys e.1 → matches sum text e ≡ bytes_eq text (text_of e)
 agree keys text sum e known right = (elim (bytes_eq text (text_of e)) as (λ b. bytes_eq text (text_of e) ≡ b → ((e.1.sum == sum) && b) ≡ b) [
   | true ↦ λ same. and_from (e.1.sum == sum) true (eq-eqb e.1.sum sum (right.summed ∙ ap (sum_of keys) (sym ((bytes_eq-Decides text (text_of e)).0 same)) ∙ sym known)) refl
   | false ↦ λ _. and_right (e.1.sum == sum) false refl
 ]) refl
 
--- An entry is that of its number, and that of its text.
+-- An entry of the list that is found by its number, and by its text.
 pub record IsOf (text : List ℕ) (es : List Entry) (e : Entry) : Type 0 where
   pub same : text ≡ text_of e
   pub there : Contains es e
@@ -96,14 +96,14 @@ module _ (text : List ℕ) where
       | false ↦ λ t. let other : bytes_eq text (text_of x) ≡ false = sym (agree keys text sum x known (right x (Contains-head x es))) ∙ t in rw other (no_entry es (λ f has. right f (Contains-tail x es f has)) (rw t at h))
     ]) refl
 
-  -- what a look answers
+  -- the result of a look-up
   pub looked_up : (es : List Entry) (e : Entry) → IsOf text es e → lookup (bytes_eq text) (map shown es) ≡ Some (value_of e.1)
   looked_up es e at = found_value (bytes_eq text) (map shown es) ∙ ap (option_map (λ e. e.1)) at.found
 
   pub looked_up_none : (es : List Entry) → lookup_entry (bytes_eq text) (map shown es) ≡ None → lookup (bytes_eq text) (map shown es) ≡ None
   looked_up_none es none = found_value (bytes_eq text) (map shown es) ∙ ap (option_map (λ e. e.1)) none
 
-  -- and the order after it
+  -- the order after a look-up
   pub promoted_shown : (es : List Entry) (e : Entry) → IsOf text es e → promoted (bytes_eq text) (map shown es) ≡ map shown (promoted (nat_eq e.0) es)
   promoted_shown es e at = rw (at.found, at.others, at.numbered) refl
 

@@ -1,4 +1,4 @@
--- How many bytes entries take, where one is used, one is put, and the last goes.
+-- How many bytes the entries take after one is used, one is put, or the last one is dropped.
 use Rattle.std.proofs.Common.{◌≡◌, ℕ, zero, suc, ◌+◌, ◌-◌, ◌≤◌, ◌<◌, Bool, true, false, cond, List, [], ◌∷◌, length, take, slice_get, Option, None, Some, refl, arith}
 use Rattle.std.specs.List.{sum_by}
 use Rattle.std.specs.Option.{option_map, option_map_or, unwrap_or}
@@ -7,7 +7,7 @@ use Rattle.std.proofs.lemmas.List.Sums.{sum_by-cons}
 use Rattle.lru.specs.LruCache.{LruCache, promoted, put_entries, displaced}
 use Rattle.cv_cache.proofs.Found.{found_value}
 
--- how many bytes an entry takes that may be there
+-- how many bytes an entry takes; 0 without one
 abbrev pub freed : {K V : Type 0} → (V → ℕ) → Option (K × V) → ℕ
 freed size o = unwrap_or (option_map (λ e. size e.1) o) 0
 
@@ -16,7 +16,7 @@ module _ {K V : Type 0} (g : V → ℕ) where
   abbrev size : K × V → ℕ
   size e = g e.1
 
-  -- the last one goes
+  -- the last one is dropped
   pub cut : (n : ℕ) (es : List (K × V)) → length es ≤ n + 1 → sum_by size (take n es) + freed g (slice_get es n) ≡ sum_by size es
   cut zero [] h = refl
   cut zero (e ∷ []) h = refl
@@ -50,7 +50,7 @@ module _ {K V : Type 0} (g : V → ℕ) where
         | Some e ↦ λ h. rw (sum_by-cons size (e.0, v) (remove_entry (eq k) c.entries)) (omega (arith, h))
       ]) (without (eq k) c.entries))
 
-  -- and what `push` hands back
+  -- what `push` hands back
   pub gone : (eq : K → K → Bool) (c : LruCache K V) (k : K) (v : V) → freed g (displaced eq c k v) ≡ option_map_or g (lookup (eq k) c.entries) (freed g (slice_get c.entries (c.cap - 1)))
   gone eq c k v = elim (lookup (eq k) c.entries) as (λ o. freed g (option_map_or (λ old. Some (k, old)) o (slice_get c.entries (c.cap - 1))) ≡ option_map_or g o (freed g (slice_get c.entries (c.cap - 1)))) [ None ↦ refl | Some old ↦ refl ]
 

@@ -1,17 +1,17 @@
--- What the hash of a text is. No program here runs it; the sums of texts have `folded` alone of it.
+-- The keyed hash of a text. No program here runs it. The sums of texts use only `folded` of it.
 use Rattle.std.specs.Prelude.{ℕ, ◌+◌, ◌-◌, ◌*◌, ◌/◌, ◌%◌, ◌^◌, bit_and, bit_xor}
 use Rattle.cv_cache.specs.declared.text_hasher.HashKeys.{HashKeys}
 use Rattle.cv_cache.specs.declared.text_hasher.TextHasher.{TextHasher}
 
--- no byte was hashed
+-- the hasher before the first byte
 abbrev pub begun : HashKeys → TextHasher
 begun keys = record { keys = keys; place = 0; total = 0 }
 
--- the two halves of a product of 128 bits, joined
+-- the xor of the two halves of a 128-bit product
 unfoldable pub folded : ℕ → ℕ → ℕ
 folded a b = bit_xor (bit_and (a * b) (2 ^ 64 - 1)) (a * b / 2 ^ 64)
 
--- One byte more: what it and its place are mixed to is added.
+-- The hasher after one more byte: what the byte, its index and the keys are mixed to is added.
 unfoldable pub with_byte : TextHasher → ℕ → TextHasher
 with_byte hasher byte = record {
   keys = hasher.keys;
@@ -19,6 +19,6 @@ with_byte hasher byte = record {
   total = (hasher.total + folded (bit_xor hasher.keys.seed ((hasher.place + byte) % 2 ^ 64)) hasher.keys.factor) % 2 ^ 64;
 }
 
--- the hash of what was hashed
+-- the hash of the bytes so far
 abbrev pub hash_of : TextHasher → ℕ
 hash_of hasher = folded (bit_xor hasher.total hasher.keys.seed) hasher.keys.factor

@@ -1,4 +1,4 @@
-//! What compiles charmap texts.
+//! The trait of compilers of charmap texts.
 ghost use Rattle.cv_cache.specs.Compiled.{IsCompiled};
 
 use cv_charmap::CompileFault;
@@ -8,17 +8,17 @@ use std::sync::Arc;
 
 /// Compiles charmap texts. `R` is the runtime that it may use.
 pub trait Compiler<R> {
-    /// What a compilation needs of the compiler and of the runtime, as that threads can share it.
+    /// What a compilation requires of the compiler, such as that threads can share it.
     ghost ready: { Self → Type 0 } = { λ _. Unit {0} };
 
-    /// Compiles a text: the charmap that it means, to be shared by all who use it, or its first fault. Of want of memory the
-    /// contract says nothing: it may be answered for every text.
+    /// Compiles a text: returns the charmap that it means, which its users share, or its first fault. The contract
+    /// allows `CompileFault::Memory` for every text.
     fn compile(&self, rt: &R, alloc: Global, text: &[u8]) -> Result<Arc<Charmap>, CompileFault>
         requires { ready self.now }
         ensures { IsCompiled text.now result };
 
-    /// Gives up the memory of what it keeps for later, and says whether there was any. It is asked where memory was refused, before the request
-    /// is tried once more. What a text is compiled to doesn't depend on it.
+    /// Frees what it keeps for later, and returns whether there was anything. It is called after an allocation failed,
+    /// before the request is tried once more. It does not change what a text compiles to.
     fn give_up(&self, _rt: &R) -> bool
         requires { ready self.now }
     {
@@ -26,7 +26,7 @@ pub trait Compiler<R> {
     }
 }
 
-/// A compiler that is lent compiles as its owner does: so many may compile by one at the same time.
+/// A borrowed compiler compiles like its owner, so several users may share one.
 impl<R, C: Compiler<R>> Compiler<R> for &C {
     ghost ready = { λ compiler. C.ready compiler.now };
 

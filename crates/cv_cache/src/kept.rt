@@ -15,7 +15,8 @@ use std::alloc::Global;
 use std::num::NonZeroUsize;
 use std::sync::Arc;
 
-/// A text that is held, with its sum by the keys of its cache, the charmap that it means, and how many bytes both take.
+/// A text that is held, its sum by the keys of its cache, the charmap that it means, and how many bytes text and
+/// charmap take.
 #[derive(Drop)]
 pub(crate) struct Kept {
     pub(crate) sum: u64,
@@ -24,8 +25,8 @@ pub(crate) struct Kept {
     pub(crate) size: usize,
 }
 
-/// The texts that are held, the last used first, and the keys by which they are summed. Each has a number, since the map hashes its key in
-/// each of its calls.
+/// The texts that are held, the last used first, and the keys by which they are summed. The key of an entry is a
+/// number, not its text, because the map hashes the key in each of its calls.
 #[derive(Drop)]
 pub(crate) struct Texts {
     pub(crate) keys: HashKeys,
@@ -33,7 +34,7 @@ pub(crate) struct Texts {
 }
 
 impl Texts {
-    /// No text yet. A sum that was made while the lock was free counts only by the same keys, so they have to be those that it is given.
+    /// No text yet. The keys are kept as given: a sum that was made outside the lock is only valid with the same keys.
     pub(crate) fn new(alloc: Global, keys: HashKeys) -> Result<Texts, Memory>
         ensures keys { IfOk result (λ texts. texts.keys ≡ keys) }
         ensures entries { IfOk result (λ texts. texts.entries ≡ lru_cache [] MOST_TEXTS) }
@@ -46,7 +47,7 @@ impl Texts {
     }
 }
 
-/// The entry of a text, and its number. Texts are compared where their sums are equal.
+/// The entry of a text, and its number. Texts are compared only if their sums are equal.
 pub(crate) fn entry_of<'a>(
     entries: &'a LruCache<u64, Kept>,
     sum: u64,
@@ -56,7 +57,7 @@ pub(crate) fn entry_of<'a>(
         ≡ find (matches sum text.now) entries.now.entries }
     ensures valid { IsValid nat_eq entries.now }
 {
-    // So the cache says that its numbers differ.
+    // By its contract, `len` states that the numbers differ.
     let _ = entries.len();
     for (number, kept) in entries {
         if kept.sum == sum && text == kept.text.as_slice() {
@@ -66,8 +67,8 @@ pub(crate) fn entry_of<'a>(
     None
 }
 
-/// A number that no entry has: of one more than there may be entries there always is one. It is mostly the one after that of the last text
-/// that came.
+/// A number that no entry has. It tries one number more than there may be entries, so one of them is free: mostly the
+/// first, which follows the number of the text that was used last.
 fn free_number(entries: &LruCache<u64, Kept>) -> Option<u64>
     ensures { IfSome result (λ n. lookup (nat_eq n) entries.now.entries ≡ None) }
 {
@@ -84,7 +85,7 @@ fn free_number(entries: &LruCache<u64, Kept>) -> Option<u64>
     None
 }
 
-/// The number of a text that is held, or else one that is free.
+/// The number of a text that is held, or else a free number.
 pub(crate) fn number_for(entries: &LruCache<u64, Kept>, sum: u64, text: &[u8]) -> Option<u64>
     ensures number { IfSome result (IsNumberFor sum text.now entries.now.entries) }
     ensures valid { IsValid nat_eq entries.now }
@@ -95,7 +96,8 @@ pub(crate) fn number_for(entries: &LruCache<u64, Kept>, sum: u64, text: &[u8]) -
     }
 }
 
-/// Puts an entry first, and answers how many bytes went: those of the one with its number, or of the last.
+/// Puts an entry first, and returns how many bytes the dropped entry took: that with the same number, or, if the cache
+/// was full, the last. Without a dropped entry it returns 0.
 pub(crate) fn put(
     entries: &mut LruCache<u64, Kept>,
     number: u64,
@@ -107,7 +109,7 @@ pub(crate) fn put(
         ≡ bytes_of entries.old.entries + kept.size) }
     ensures err { OnErr result (entries.new ≡ entries.old) }
 {
-    // So the cache says how many there are at most.
+    // By its contract, `len` states how many entries there are at most.
     let _ = entries.len();
     match entries.push(number, kept)? {
         Some((_, gone)) => Ok(gone.size),

@@ -1,5 +1,5 @@
-//! The keys of a cache, and a hash by them. The cache itself sums its texts by words (`text_sum.rt`): no program here runs the hash, which is
-//! for a map whose keys are texts.
+//! The keys of a cache, and a keyed hash for maps whose keys are texts. No program here runs the hash: the cache sums
+//! its texts by words (`text_sum.rt`).
 ghost use Rattle.std.specs.Prelude.{◌≡◌};
 ghost use Rattle.std.specs.List.{fold};
 ghost use Rattle.cv_cache.specs.Hashes.{begun, folded, with_byte, hash_of};
@@ -7,18 +7,18 @@ ghost use Rattle.cv_cache.specs.Hashes.{begun, folded, with_byte, hash_of};
 use std::hash::{BuildHasher, Hasher};
 use std::random::RandomSource;
 
-/// What a cache mixes into the sums of its texts. Clients choose the texts, and a cache tells its entries apart by their sums: who doesn't
-/// know the keys can't find texts that meet.
+/// What a cache mixes into the sums of its texts. Clients choose the texts, and a cache compares whole texts only if
+/// their sums are equal. Without the keys a client cannot find texts with equal sums.
 #[derive(Clone, Copy)]
 pub struct HashKeys {
-    /// What a sum begins with, and what each byte and its place are mixed with in a hash.
+    /// A sum begins with it. In a hash, each byte and its index are mixed with it.
     pub(crate) seed: u64,
-    /// What one factor of each product is, or is mixed with.
+    /// One factor of each product, or what that factor is mixed with.
     pub(crate) factor: u64,
 }
 
 impl HashKeys {
-    /// Keys that everybody knows: of pi and of the golden ratio.
+    /// Returns the known keys, which are public: bits of pi and of the golden ratio.
     pub fn known() -> HashKeys {
         HashKeys {
             seed: 0x243f_6a88_85a3_08d3,
@@ -26,7 +26,7 @@ impl HashKeys {
         }
     }
 
-    /// Keys by chance. Where the system gives none they are the known ones: a cache is right by any keys.
+    /// Returns random keys, or the known ones if the system gives no random bytes. A cache is right with any keys.
     pub fn drawn<R: RandomSource>(rt: &R) -> HashKeys {
         let mut bytes = [0u8; 16];
         if rt.fill_bytes(&mut bytes).is_err() {
@@ -54,8 +54,8 @@ impl BuildHasher for HashKeys {
     }
 }
 
-/// Hashes a text by a sum over its bytes, each mixed with its place and with keys. A slice gives its bytes one by one, and in a sum none
-/// waits for the one before it.
+/// Hashes a text as a sum over its bytes, each mixed with its index and the keys. The bytes of a slice come one by one.
+/// In a sum, no multiplication waits for the one before it.
 #[derive(Clone, Copy)]
 pub struct TextHasher {
     keys: HashKeys,
@@ -64,7 +64,7 @@ pub struct TextHasher {
     total: u64,
 }
 
-/// The two halves of a product, joined.
+/// The xor of the two halves of a 128-bit product.
 pub(crate) fn folded(a: u64, b: u64) -> u64
     ensures { result ≡ folded a b }
 {

@@ -5,7 +5,7 @@ ghost use Rattle.cv_cache.specs.Private.Sums.{begun, with_block, with_byte, ende
 
 use crate::text_hasher::{HashKeys, folded};
 
-/// The sum of a text, and the keys that it was made by.
+/// The sum of a text, and the keys that it was made with.
 #[derive(Clone, Copy)]
 pub(crate) struct Sum {
     keys: HashKeys,
@@ -23,7 +23,8 @@ impl Sum {
         }
     }
 
-    /// The sum of the same text by these keys. They are the same keys in every run of the program, but no lock can say so of what it holds.
+    /// The sum of the same text by these keys. In the program they are always the sum's own keys, but a contract cannot
+    /// say that of what a lock holds.
     pub(crate) fn by(self, keys: &HashKeys, text: &[u8]) -> u64
         requires { IsSum text.now self }
         ensures { result ≡ sum_of keys.now text.now }
@@ -35,7 +36,7 @@ impl Sum {
     }
 }
 
-/// Two chains of products, which take turns: the multiplications of one don't wait for those of the other.
+/// Two chains of products. The multiplications of one do not wait for those of the other.
 #[derive(Clone, Copy)]
 struct Chains {
     even: u64,
@@ -43,7 +44,8 @@ struct Chains {
 }
 
 impl Chains {
-    /// Before any byte of a text of this length. So what fills a block differs from what is left over.
+    /// The chains before the first byte of a text. They begin with its length, which tells bytes that fill a block from
+    /// bytes that are left over.
     fn begun(keys: &HashKeys, length: usize) -> Chains
         ensures { result ≡ begun keys.now length }
     {
@@ -52,7 +54,7 @@ impl Chains {
         Chains { even, odd }
     }
 
-    /// After one more block, the first half of which goes into one chain and the second into the other.
+    /// The chains after one more block. Its first half goes into one chain, its second half into the other.
     fn with_block(self, factor: u64, block: &[u8; 32]) -> Chains
         ensures { result ≡ with_block factor self block.now }
     {
@@ -66,7 +68,7 @@ impl Chains {
         Chains { even, odd }
     }
 
-    /// After one more byte.
+    /// The chains after one more byte.
     fn with_byte(self, factor: u64, byte: u8) -> Chains
         ensures { result ≡ with_byte factor self byte }
     {
@@ -76,7 +78,7 @@ impl Chains {
         }
     }
 
-    /// What both chains come to.
+    /// The sum that both chains give.
     fn ended(self, keys: &HashKeys) -> u64
         ensures { result ≡ ended keys.now self }
     {
@@ -84,7 +86,7 @@ impl Chains {
     }
 }
 
-/// After all blocks.
+/// The chains after all blocks.
 fn over_blocks(begun: Chains, factor: u64, blocks: &[[u8; 32]]) -> Chains
     ensures { result ≡ fold (with_block factor) begun blocks.now }
 {
@@ -95,7 +97,7 @@ fn over_blocks(begun: Chains, factor: u64, blocks: &[[u8; 32]]) -> Chains
     chains
 }
 
-/// After the bytes that fill no block.
+/// The chains after the bytes that fill no block.
 fn over_bytes(begun: Chains, factor: u64, bytes: &[u8]) -> Chains
     ensures { result ≡ fold (with_byte factor) begun bytes.now }
 {
@@ -107,9 +109,10 @@ fn over_bytes(begun: Chains, factor: u64, bytes: &[u8]) -> Chains
 }
 
 impl HashKeys {
-    /// The sum of a text, by whole words. Each word is mixed with a key, or with a chain that hangs on the keys, before it is multiplied: so
-    /// who doesn't know the keys knows neither factor of any product, and can't find texts that meet. A chain tells the places of its
-    /// blocks apart, and begins with the length.
+    /// The sum of a text, by words of 8 bytes; at most 31 last bytes are summed one by one. Each word is mixed with a
+    /// key, or with a chain that depends on the keys, before it is multiplied. Without the keys a client knows neither
+    /// factor of any product, and cannot find texts with equal sums. A chain depends on the order of its blocks, and
+    /// begins with the length.
     pub(crate) fn sum_of(&self, text: &[u8]) -> u64
         ensures { result ≡ sum_of self.now text.now }
     {

@@ -1,4 +1,4 @@
--- If nothing is at any place, and there is no part, a table is the empty one.
+-- A table without charmaps, descriptors and part is the empty table.
 use Rattle.std.proofs.Common.{◌≡◌, ℕ, zero, suc, nat_eq, Bool, true, false, List, [], ◌∷◌, length, map, replicate, Option, Some, None, refl, sym, ap, ◌∙◌, arith}
 use Rattle.std.specs.Prelude.{is_some, option_map, sum_by, IsTrue, ◌↔◌}
 use Rattle.std.specs.List.{list_any}
@@ -12,7 +12,7 @@ use Rattle.cv_caller.specs.declared.place.Place.{Place}
 use Rattle.cv_caller.specs.declared.store.Store.{Store}
 use Rattle.cv_caller.specs.declared.weighed.Weighed.{Weighed}
 
--- places are free if none of them has anything
+-- if no entry has a value, all entries are `None`, and mapping keeps that
 all_free : {X Y : Type 0} (f : X → Y) (xs : List (Option X)) → list_any is_some xs ≡ false → map (option_map f) xs ≡ replicate (length xs) None
 all_free f [] e = refl
 all_free {Y = Y} f (None ∷ xs) e = ap (λ (ys : List (Option Y)). None ∷ ys) (all_free f xs e)
@@ -23,7 +23,7 @@ all_none [] e = refl
 all_none {X} (None ∷ xs) e = ap (λ (ys : List (Option X)). None ∷ ys) (all_none xs e)
 all_none (Some x ∷ xs) e = absurd cc
 
--- mapped places have something if the places have
+-- some mapped entry has a value exactly if some entry has one
 list_any_some-map : {X Y : Type 0} (f : X → Y) (xs : List (Option X)) → list_any is_some (map (option_map f) xs) ≡ list_any is_some xs
 list_any_some-map f [] = refl
 list_any_some-map f (None ∷ xs) = list_any_some-map f xs
@@ -33,7 +33,7 @@ same_uploads : (charmaps others : Charmaps) (part rest : List ℕ) (n m : ℕ) �
     → (let u : Uploaded = record { charmaps = charmaps; part = part; bytes = n } in u) ≡ record { charmaps = others; part = rest; bytes = m }
 same_uploads charmaps others part rest n m c p b = cc
 
--- places that have nothing are counted for nothing
+-- slots without charmaps count for 0 bytes
 no_bytes : (xs : List (Option Weighed)) → list_any is_some xs ≡ false → length xs ≡ 8 → sum_by weighed_bytes xs ≡ 0
 no_bytes xs none size = ap (sum_by weighed_bytes) (all_none xs none ∙ ap (λ (k : ℕ). let ys : List (Option Weighed) = replicate k None in ys) size)
 

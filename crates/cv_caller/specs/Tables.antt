@@ -10,7 +10,7 @@ use Rattle.cv_pivot.specs.Encodings.{Builtin, Form, Own, Mapped, builtin_of}
 use Rattle.cv_pivot.specs.declared.outcome.States.{States}
 use Rattle.cv_caller.specs.Limits.{most_descriptors, most_charmaps, most_mappings, most_part}
 
--- An encoding of a descriptor: a built-in one, or a charmap that the caller holds, by its place.
+-- An encoding of a descriptor: a built-in one, or a charmap that the caller holds, by its slot.
 pub data Named : Type 0 where
   BuiltIn : (builtin : Builtin) → Named
   Held : (place : ℕ) → Named
@@ -22,89 +22,89 @@ pub record Descriptor : Type 0 where
   pub policy : Policy
   pub states : States
 
--- charmaps by their places
+-- charmaps by slot
 abbrev pub Charmaps : Type 0
 Charmaps = List (Option Charmap)
 
--- What a caller has: charmaps by their places, descriptors by their numbers, and the part of an upload that was sent so far.
+-- What a caller has: charmaps by slot, descriptors by number, and the part of an upload that was sent so far.
 pub record Table : Type 0 where
   pub charmaps : Charmaps
   pub descriptors : List (Option Descriptor)
   pub part : List ℕ
 
--- nothing is held or open
+-- no charmap, no descriptor, no part
 abbrev pub empty_table : Table
 empty_table = record { charmaps = replicate most_charmaps None; descriptors = replicate most_descriptors None; part = [] }
 
 -- ---- charmaps
 
--- what is at a place
+-- the charmap in a slot, if there is one
 abbrev pub charmap_at : Charmaps → ℕ → Option Charmap
 charmap_at charmaps place = slice_index_or charmaps place None
 
--- the list of a charmap; a place that is free has none
+-- the list of pairs of a charmap; empty for a free slot
 abbrev pub pairs_in : Option Charmap → List Pair
 pairs_in (Some charmap) = charmap.pairs
 pairs_in None = []
 
--- the form of an encoding of a descriptor
+-- the form of a descriptor's encoding
 abbrev pub form_in : Charmaps → Named → Form
 form_in charmaps (BuiltIn builtin) = Own builtin
 form_in charmaps (Held place) = Mapped (pairs_in (charmap_at charmaps place))
 
--- whether a charmap is there, of this name in any case of its ASCII letters
+-- whether there is a charmap and it has this name; ASCII case is ignored
 abbrev pub has_name : List ℕ → Option Charmap → Bool
 has_name name (Some charmap) = is_same_name charmap.name name
 has_name name None = false
 
--- the place of the charmap of a name
+-- the slot of the charmap of this name
 abbrev pub place_of : Charmaps → List ℕ → Option ℕ
 place_of charmaps name = position (has_name name) charmaps
 
--- a built-in encoding, or else the charmap at a place
+-- a built-in encoding, or else the charmap in a slot
 abbrev pub named_by : Option Builtin → Option ℕ → Option Named
 named_by (Some builtin) place = Some (BuiltIn builtin)
 named_by None place = option_map Held place
 
--- what a name names: a built-in encoding, or else a charmap that is held
+-- what a name stands for: a built-in encoding, or else a charmap that is held
 abbrev pub named_of : Charmaps → List ℕ → Option Named
 named_of charmaps name = named_by (builtin_of name) (place_of charmaps name)
 
--- the least free place
+-- the least free slot
 abbrev pub least_place : Charmaps → Option ℕ
 least_place charmaps = position is_none charmaps
 
--- how many mappings there are in all
+-- how many mappings the charmaps have together
 abbrev pub mappings : Charmaps → ℕ
 mappings charmaps = sum_by (λ charmap. length (pairs_in charmap)) charmaps
 
 -- ---- descriptors
 
--- the least free number
+-- the least free descriptor number
 abbrev pub least_free : Table → Option ℕ
 least_free table = position is_none table.descriptors
 
--- what a number stands for
+-- the descriptor of a number, if it is open
 abbrev pub descriptor_at : Table → ℕ → Option Descriptor
 descriptor_at table number = slice_index_or table.descriptors number None
 
--- whether an encoding is the charmap at a place
+-- whether an encoding is the charmap in this slot
 abbrev pub is_held : ℕ → Named → Bool
 is_held place (BuiltIn builtin) = false
 is_held place (Held other) = other == place
 
--- whether a descriptor reads or writes the charmap at a place
+-- whether a descriptor reads or writes the charmap in a slot
 abbrev pub uses : ℕ → Option Descriptor → Bool
 uses place (Some descriptor) = is_held place descriptor.to || is_held place descriptor.from
 uses place None = false
 
 -- ---- changes
 
--- the table with this at a number
+-- the table with this at a descriptor number
 abbrev pub with_descriptor : Table → ℕ → Option Descriptor → Table
 with_descriptor table number descriptor = record table { descriptors = slice_set table.descriptors number descriptor }
 
--- the table with this at a place
+-- the table with this in a slot
 abbrev pub with_charmap : Table → ℕ → Option Charmap → Table
 with_charmap table place charmap = record table { charmaps = slice_set table.charmaps place charmap }
 
@@ -112,15 +112,16 @@ with_charmap table place charmap = record table { charmaps = slice_set table.cha
 abbrev pub with_part : Table → List ℕ → Table
 with_part table part = record table { part = part }
 
--- ---- what every table keeps
+-- ---- what holds of every table
 
--- Charmaps that a caller may hold: eight places, each empty or with the pairs of a charmap, and no more mappings together than the limit.
+-- The charmaps that a caller may hold: eight slots, each free or with the pairs of a charmap, and together at most
+-- 262,144 mappings.
 pub record AreCharmaps (charmaps : Charmaps) : Type 0 where
   pub places : length charmaps ≡ most_charmaps
   pub maps : (place : ℕ) → IfSome (charmap_at charmaps place) (λ charmap. IsMap charmap.pairs)
   pub few : mappings charmaps ≤ most_mappings
 
--- A table that a caller may have.
+-- A table that a caller may have: it is within the limits.
 pub record IsTable (table : Table) : Type 0 where
   pub charmaps : AreCharmaps table.charmaps
   pub numbers : length table.descriptors ≡ most_descriptors

@@ -1,4 +1,4 @@
-//! Charmaps at their places.
+//! The charmaps of a table, by slot.
 ghost use Rattle.std.specs.Prelude.{◌≡◌, ◌<◌, ◌≤◌, ◌^◌, IfSome, is_none, is_some, length, sum_by, option_map};
 ghost use Rattle.std.specs.List.{position, list_any};
 ghost use Rattle.cv_caller.specs.Private.Views.{weighed_value, weighed_bytes};
@@ -8,7 +8,7 @@ use crate::limits::{CHARMAPS, MOST_MAPPINGS};
 use crate::weighed::Weighed;
 use cv_base::same_name;
 
-/// Whether a charmap of this name is there.
+/// Whether a slot has the charmap of this name.
 fn is_named(held: &Option<Weighed>, name: &[u8]) -> bool
     ensures { result ≡ has_name name.now (option_map weighed_value held.now) }
 {
@@ -18,7 +18,7 @@ fn is_named(held: &Option<Weighed>, name: &[u8]) -> bool
     }
 }
 
-/// The place of the charmap of a name.
+/// The slot of the charmap of this name.
 pub(crate) fn place_named(charmaps: &[Option<Weighed>; CHARMAPS], name: &[u8]) -> Option<usize>
     ensures place { result ≡ position (λ held. has_name name.now (option_map weighed_value held)) charmaps.now }
     ensures within { IfSome result (λ place. place < CHARMAPS) }
@@ -26,7 +26,7 @@ pub(crate) fn place_named(charmaps: &[Option<Weighed>; CHARMAPS], name: &[u8]) -
     charmaps.iter().position(|held| is_named(held, name))
 }
 
-/// The least free place.
+/// The least free slot.
 pub(crate) fn first_place(charmaps: &[Option<Weighed>; CHARMAPS]) -> Option<usize>
     ensures free { result ≡ position is_none charmaps.now }
     ensures within { IfSome result (λ place. place < CHARMAPS) }
@@ -34,7 +34,7 @@ pub(crate) fn first_place(charmaps: &[Option<Weighed>; CHARMAPS]) -> Option<usiz
     charmaps.iter().position(|held| held.is_none())
 }
 
-/// Whether a charmap is at some place.
+/// Whether some slot has a charmap.
 pub(crate) fn has_charmaps(charmaps: &[Option<Weighed>; CHARMAPS]) -> bool
     ensures any { result ≡ list_any is_some charmaps.now }
     ensures size { length charmaps.now ≡ CHARMAPS }
@@ -42,7 +42,7 @@ pub(crate) fn has_charmaps(charmaps: &[Option<Weighed>; CHARMAPS]) -> bool
     charmaps.iter().any(|held| held.is_some())
 }
 
-/// How many mappings are there.
+/// How many mappings the charmap in a slot has; 0 without one.
 fn size_of_held(held: &Option<Weighed>) -> usize
     ensures { result ≡ length (pairs_in (option_map weighed_value held.now)) }
 {
@@ -52,7 +52,7 @@ fn size_of_held(held: &Option<Weighed>) -> usize
     }
 }
 
-/// How many mappings charmaps have in all.
+/// How many mappings the charmaps have together.
 pub(crate) fn count_mappings(charmaps: &[Option<Weighed>; CHARMAPS]) -> usize
     requires { sum_by (λ held. length (pairs_in (option_map weighed_value held))) charmaps.now ≤ MOST_MAPPINGS }
     ensures { result ≡ sum_by (λ held. length (pairs_in (option_map weighed_value held))) charmaps.now }
@@ -60,7 +60,7 @@ pub(crate) fn count_mappings(charmaps: &[Option<Weighed>; CHARMAPS]) -> usize
     charmaps.iter().map(|held| size_of_held(held)).sum()
 }
 
-/// How many bytes the charmap at a place is counted for.
+/// How many bytes the charmap in a slot counts for; 0 without one.
 pub(crate) fn bytes_of_held(held: &Option<Weighed>) -> u32
     ensures { result ≡ weighed_bytes held.now }
 {
@@ -70,7 +70,7 @@ pub(crate) fn bytes_of_held(held: &Option<Weighed>) -> u32
     }
 }
 
-/// How many bytes charmaps are counted for in all.
+/// How many bytes the charmaps count for together.
 pub(crate) fn count_bytes(charmaps: &[Option<Weighed>; CHARMAPS]) -> u64
     ensures sum { result ≡ sum_by weighed_bytes charmaps.now }
     ensures few { result < 2 ^ 40 }

@@ -1,4 +1,4 @@
-//! Why a caller's table stays unchanged.
+//! Why a table refuses a change. It then stays as it is.
 use thiserror::Error;
 
 /// Why a charmap was not taken.
@@ -7,10 +7,10 @@ pub enum AddFault {
     /// Its name is that of a built-in encoding, or of a charmap that is held.
     #[error("the name is taken")]
     Exists,
-    /// Its mappings and those that are held are too many together, or no place is free.
+    /// With its mappings the caller would have too many, or no slot is free.
     #[error("too many charmaps or mappings")]
     Quota,
-    /// Fewer bytes are left than it takes.
+    /// It takes more bytes than are left.
     #[error("too few bytes are left")]
     Full,
     /// An allocation failed.
@@ -32,10 +32,10 @@ pub enum DropFault {
 /// Why a part was not taken.
 #[derive(Clone, Copy, Debug, PartialEq, Eq, Error)]
 pub enum PartFault {
-    /// It is too long, with the part before it.
+    /// With the part that is already there it is too long.
     #[error("the part is too long")]
     Quota,
-    /// Fewer bytes are left than it takes.
+    /// It takes more bytes than are left.
     #[error("too few bytes are left")]
     Full,
     /// An allocation failed.

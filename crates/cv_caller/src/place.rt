@@ -1,8 +1,8 @@
-//! What a number and a name stand for.
+//! What descriptor numbers and names stand for.
 use cv_pivot::Encoding;
 
-/// What a number stands for: the key of its conversion among those of all callers, and the places of the charmaps that it
-/// writes and reads, if they are charmaps.
+/// What a descriptor number stands for: the key of its conversion among those of all callers, and the slots of the
+/// charmaps that it writes (`to`) and reads (`from`). `None`: that side is a built-in encoding.
 #[derive(Clone, Copy, Debug, PartialEq, Eq)]
 pub struct Place {
     pub key: u32,
@@ -10,11 +10,11 @@ pub struct Place {
     pub from: Option<u8>,
 }
 
-/// What a name stands for.
+/// What the name of an encoding stands for.
 #[derive(Drop)]
 pub enum Found {
     /// A built-in encoding.
     Builtin(Encoding),
-    /// The charmap at this place.
+    /// The charmap in this slot.
     Map(u8),
 }

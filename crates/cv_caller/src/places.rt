@@ -1,4 +1,4 @@
-//! Descriptors' places by number.
+//! The descriptors of a table, by number.
 ghost use Rattle.std.specs.Prelude.{◌≡◌, ◌<◌, IfSome, is_none, is_some};
 ghost use Rattle.std.specs.List.{position, list_any};
 ghost use Rattle.cv_caller.specs.Keyed.{refers};
@@ -6,7 +6,7 @@ ghost use Rattle.cv_caller.specs.Keyed.{refers};
 use crate::limits::DESCRIPTORS;
 use crate::place::Place;
 
-/// The least free number.
+/// The least free number. `None`: all are in use.
 pub(crate) fn first_free(places: &[Option<Place>; DESCRIPTORS]) -> Option<usize>
     ensures least { result ≡ position is_none places.now }
     ensures within { IfSome result (λ number. number < DESCRIPTORS) }
@@ -14,14 +14,14 @@ pub(crate) fn first_free(places: &[Option<Place>; DESCRIPTORS]) -> Option<usize>
     places.iter().position(|place| place.is_none())
 }
 
-/// Whether some number stands for something.
+/// Whether a number is in use.
 pub(crate) fn has_places(places: &[Option<Place>; DESCRIPTORS]) -> bool
     ensures { result ≡ list_any is_some places.now }
 {
     places.iter().any(|place| place.is_some())
 }
 
-/// Whether a number writes or reads the charmap at a place.
+/// Whether a descriptor writes or reads the charmap in a slot.
 fn does_refer(place: &Option<Place>, map: u8) -> bool
     ensures { result ≡ refers map place.now }
 {
@@ -31,7 +31,7 @@ fn does_refer(place: &Option<Place>, map: u8) -> bool
     }
 }
 
-/// Whether some number writes or reads the charmap at a place.
+/// Whether some descriptor writes or reads the charmap in a slot.
 pub(crate) fn is_busy(places: &[Option<Place>; DESCRIPTORS], map: u8) -> bool
     ensures { result ≡ list_any (refers map) places.now }
 {

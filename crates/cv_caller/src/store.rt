@@ -9,14 +9,14 @@ use crate::weighed::Weighed;
 use cv_base::Memory;
 use std::alloc::Global;
 
-/// Charmaps at their places, and the part of one that is still being uploaded.
+/// Charmaps by slot, and the part of one that is still being uploaded.
 #[derive(Drop)]
 pub(crate) struct Store {
     pub(crate) charmaps: [Option<Weighed>; CHARMAPS],
     pub(crate) part: Option<Vec<u8>>,
 }
 
-/// How many bytes a part has.
+/// How many bytes a part has; 0 without one.
 fn part_len(part: &Option<Vec<u8>>) -> usize
     ensures { result ≡ length (part_of part.now) }
 {
@@ -26,7 +26,7 @@ fn part_len(part: &Option<Vec<u8>>) -> usize
     }
 }
 
-/// Whether nothing is in a store.
+/// Whether a store has no charmap, and no bytes in its part.
 pub(crate) fn is_bare(store: &Store) -> bool
     ensures { IsTrue result ↔ (stored_in store.now ≡ no_uploads) }
 {
@@ -51,7 +51,7 @@ pub(crate) fn make_store(alloc: Global, store: &mut Option<Box<Store>>) -> Resul
     Ok(())
 }
 
-/// Sets what is at a place.
+/// Puts a charmap into a slot, or with `None` frees the slot.
 pub(crate) fn set_charmap(store: &mut Option<Box<Store>>, place: u8, charmap: Option<Weighed>)
     requires there { IsSome store.old }
     requires within { place < CHARMAPS }
@@ -65,7 +65,7 @@ pub(crate) fn set_charmap(store: &mut Option<Box<Store>>, place: u8, charmap: Op
     store.charmaps[place as usize] = charmap;
 }
 
-/// How many bytes the charmap at a place is counted for.
+/// How many bytes the charmap in a slot counts for; 0 without one.
 pub(crate) fn bytes_in(store: &Option<Box<Store>>, place: u8) -> u32
     requires { place < CHARMAPS }
     ensures { result ≡ bytes_at store.now place }
@@ -89,7 +89,7 @@ fn extend(alloc: Global, store: &mut Store, bytes: &[u8]) -> Result<(), Memory>
     Ok(())
 }
 
-/// Appends bytes to the part that is stored.
+/// Appends bytes to the part. If an allocation fails, the part stays as it is.
 pub(crate) fn append(
     alloc: Global,
     store: &mut Option<Box<Store>>,
@@ -104,7 +104,7 @@ pub(crate) fn append(
     extend(alloc, store, bytes)
 }
 
-/// Drops the part that is stored.
+/// Drops the part.
 pub(crate) fn clear(store: &mut Option<Box<Store>>)
     ensures { uploaded_of store.new ≡ record (uploaded_of store.old) { part = [] } }
 {

@@ -22,8 +22,8 @@ use std::alloc::Global;
 use std::marker::Model;
 use std::sync::Arc;
 
-/// One caller's charmaps, its descriptors by number, and the part of an upload. Contracts see charmaps as their names and lists, and
-/// descriptors as the keys of their conversions.
+/// One caller's charmaps, its descriptors by number, and the part of an upload. Contracts see a charmap as its name and
+/// list of pairs, and a descriptor as the key of its conversion and the slots of its charmaps.
 #[derive(Drop)]
 pub struct Table {
     places: [Option<Place>; DESCRIPTORS],
@@ -42,7 +42,7 @@ impl Model for Table {
 }
 
 impl Table {
-    /// Nothing is held or open.
+    /// Returns a table without charmaps, descriptors or part.
     pub fn new() -> Table
         ensures { result ≡ no_keys }
     {
@@ -52,14 +52,14 @@ impl Table {
         }
     }
 
-    /// States what every table keeps. It does nothing.
+    /// States for proofs that the table is within its limits. It does nothing.
     pub fn assert_keyed(&self)
         ensures { IsKeyed self.now }
     {
         self.uploads.assert_uploaded();
     }
 
-    /// Whether nothing is held or open, and there is no part.
+    /// Returns whether the table has no charmap, no descriptor and no part.
     pub fn is_empty(&self) -> bool
         ensures { IsTrue result ↔ (self.now ≡ no_keys) }
     {
@@ -69,7 +69,7 @@ impl Table {
         self.uploads.is_empty()
     }
 
-    /// The least free number.
+    /// Returns the least free descriptor number. `None`: all 16 are in use.
     pub fn least_free(&self) -> Option<u32>
         ensures least { result ≡ position is_none self.now.places }
         ensures within { IfSome result (λ number. number < DESCRIPTORS) }
@@ -81,7 +81,7 @@ impl Table {
         }
     }
 
-    /// What a number stands for.
+    /// Returns what a descriptor number stands for. `None`: it is free, or there is no such number.
     pub fn place(&self, number: u32) -> Option<Place>
         ensures place { result ≡ place_at self.now number }
         ensures within { IfSome result (λ _. number < DESCRIPTORS) }
@@ -94,7 +94,7 @@ impl Table {
         }
     }
 
-    /// Binds a free number.
+    /// Binds a free descriptor number. The charmaps of `place` have to be held.
     pub fn bind(&mut self, number: u32, place: Place)
         requires within { number < DESCRIPTORS }
         requires free { place_at self.old number ≡ None }
@@ -105,7 +105,7 @@ impl Table {
         self.places[number as usize] = Some(place);
     }
 
-    /// Frees a number, and answers what it stood for.
+    /// Frees a descriptor number, and returns what it stood for. A number that is not in use changes nothing.
     pub fn unbind(&mut self, number: u32) -> Option<Place>
         ensures place { result ≡ place_at self.old number }
         ensures free { self.new ≡ with_place self.old number None }
@@ -118,7 +118,8 @@ impl Table {
         place
     }
 
-    /// What a name stands for: a built-in encoding, or else a charmap that is held.
+    /// Returns what a name stands for: a built-in encoding, or else a charmap that is held. The case of ASCII letters
+    /// does not matter.
     pub fn find(&self, name: &[u8]) -> Option<Found>
         ensures named { option_map named_found result ≡ named_of self.now.charmaps name.now }
         ensures found { IfSome result (IsFound self.now.charmaps) }
@@ -132,14 +133,14 @@ impl Table {
         }
     }
 
-    /// Whether a name stands for something.
+    /// Whether a built-in encoding or a charmap has this name.
     fn is_taken(&self, name: &[u8]) -> bool
         ensures { result ≡ is_taken self.now.charmaps name.now }
     {
         self.find(name).is_some()
     }
 
-    /// The charmap at a place, as an encoding.
+    /// Returns the charmap in a slot as an encoding, which shares it. It fails if an allocation fails.
     pub fn encoding(&self, map: u8) -> Result<Encoding, Memory>
         requires { is_some (charmap_at self.now.charmaps map) ≡ true }
         ensures { IfOk result (λ e. form_of e ≡ Mapped (pairs_in (charmap_at self.now.charmaps map))) }
@@ -147,8 +148,8 @@ impl Table {
         self.uploads.encoding(map)
     }
 
-    /// Holds a charmap at the least free place, and says for how many bytes it is counted. A charmap that is refused is dropped. It may
-    /// take no more bytes than are left.
+    /// Puts a charmap into the least free slot, and returns how many bytes it counts for. A charmap that counts for
+    /// more than `left` bytes is refused. One that is refused is dropped, and the table stays as it is.
     pub fn add_map(
         &mut self,
         alloc: Global,
@@ -175,7 +176,8 @@ impl Table {
         Ok(bytes)
     }
 
-    /// Drops the charmap of a name, unless a descriptor reads or writes it, and says for how many bytes it was counted.
+    /// Drops the charmap of this name, and returns how many bytes it counted for. If a descriptor reads or writes it,
+    /// it is kept: `Busy`.
     pub fn drop_map(&mut self, name: &[u8]) -> Result<u32, DropFault>
         ensures { IsDropped self.old name.now result self.new }
     {
@@ -189,7 +191,7 @@ impl Table {
         Ok(bytes)
     }
 
-    /// The part of an upload.
+    /// Returns the part of an upload, which is empty if nothing was sent.
     pub fn part(&self) -> &[u8]
         ensures value { result.now ≡ self.now.part }
         ensures short { length result.now ≤ MOST_PART }
@@ -197,8 +199,8 @@ impl Table {
         self.uploads.part()
     }
 
-    /// Puts a part after the one that was sent before, and answers how many bytes they have. An empty one drops what was sent, and
-    /// takes no memory. It may have no more bytes than are left.
+    /// Appends bytes to the part, and returns how many bytes the part has then. Empty `bytes` drop the part, and need
+    /// no memory. More than `left` bytes are refused. A refusal leaves the part as it is.
     pub fn add_part(&mut self, alloc: Global, bytes: &[u8], left: u64) -> Result<u32, PartFault>
         ensures parted { IsPart self.old bytes.now result self.new }
         ensures within { OnOk result (length bytes.now ≤ left) }
@@ -219,14 +221,14 @@ impl Table {
         }
     }
 
-    /// Drops the part, because the request that it was sent for is done.
+    /// Drops the part, when the request that it was sent for is done.
     pub fn clear_part(&mut self)
         ensures { self.new ≡ keyed_with_part self.old [] }
     {
         self.uploads.clear_part();
     }
 
-    /// How many bytes its charmaps and its part are counted for.
+    /// Returns how many bytes its charmaps and its part count for.
     pub fn upload_bytes(&self) -> u64
         ensures sum { result ≡ self.now.bytes + length self.now.part }
         ensures few { result < 2 ^ 41 }

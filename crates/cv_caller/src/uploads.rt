@@ -16,8 +16,9 @@ use std::alloc::Global;
 use std::marker::Model;
 use std::sync::Arc;
 
-/// What a caller has uploaded: charmaps, and the part of one that is still being uploaded. Most callers upload nothing, so a store
-/// is allocated only once something was. Contracts see the names and lists of the charmaps, and the part.
+/// What a caller has uploaded: charmaps, and the part of one that is still being uploaded. Most callers upload nothing,
+/// so the store is allocated at the first upload. Contracts see the charmaps' names and lists of pairs, the part, and
+/// how many bytes the charmaps count for.
 #[derive(Drop)]
 pub(crate) struct Uploads {
     store: Option<Box<Store>>,
@@ -35,21 +36,21 @@ impl Model for Uploads {
 }
 
 impl Uploads {
-    /// Nothing was uploaded.
+    /// No uploads. It allocates nothing.
     pub(crate) fn new() -> Uploads
         ensures { result ≡ no_uploads }
     {
         Uploads { store: None }
     }
 
-    /// States what is kept of all uploads. It does nothing.
+    /// States for proofs that the uploads are within their limits. It does nothing.
     pub(crate) fn assert_uploaded(&self)
         ensures { IsUploaded self.now }
     {
         let _ = &self.store;
     }
 
-    /// Whether nothing is held, and there is no part.
+    /// Whether there is no charmap and no part.
     pub(crate) fn is_empty(&self) -> bool
         ensures { IsTrue result ↔ (self.now ≡ no_uploads) }
     {
@@ -68,7 +69,7 @@ impl Uploads {
         }
     }
 
-    /// The place of the charmap of a name.
+    /// The slot of the charmap of this name.
     pub(crate) fn find(&self, name: &[u8]) -> Option<u8>
         ensures place { result ≡ place_of self.now.charmaps name.now }
         ensures held { IfSome result (λ place. is_some (charmap_at self.now.charmaps place) ≡ true) }
@@ -83,7 +84,7 @@ impl Uploads {
         }
     }
 
-    /// The least free place.
+    /// The least free slot.
     pub(crate) fn least_place(&self) -> Option<u8>
         ensures place { result ≡ least_place self.now.charmaps }
         ensures within { IfSome result (λ place. place < CHARMAPS) }
@@ -97,7 +98,7 @@ impl Uploads {
         }
     }
 
-    /// How many mappings the charmaps have in all.
+    /// How many mappings the charmaps have together.
     pub(crate) fn mappings(&self) -> usize
         ensures value { result ≡ mappings self.now.charmaps }
         ensures few { result ≤ MOST_MAPPINGS }
@@ -108,12 +109,12 @@ impl Uploads {
         }
     }
 
-    /// The least free place, unless this many more mappings are too many.
+    /// The least free slot, unless `more` further mappings are too many.
     pub(crate) fn place_for(&self, more: usize) -> Option<u8>
         ensures full { is_none result ≡ is_full self.now.charmaps more }
         ensures place { IfSome result (λ place. least_place self.now.charmaps ≡ Some place) }
 
-        // So a charmap of `more` mappings may be put there.
+        // A charmap of `more` mappings may be put there.
         ensures within { IfSome result (λ place. place < CHARMAPS) }
         ensures free { IfSome result (λ place. charmap_at self.now.charmaps place ≡ None) }
         ensures few { IfSome result (λ _. mappings self.now.charmaps + more ≤ MOST_MAPPINGS) }
@@ -124,7 +125,7 @@ impl Uploads {
         self.least_place()
     }
 
-    /// The charmap at a place, as an encoding.
+    /// The charmap in a slot, as an encoding.
     pub(crate) fn encoding(&self, place: u8) -> Result<Encoding, Memory>
         requires { is_some (charmap_at self.now.charmaps place) ≡ true }
         ensures { IfOk result (λ e. form_of e ≡ Mapped (pairs_in (charmap_at self.now.charmaps place))) }
@@ -138,7 +139,7 @@ impl Uploads {
         Ok(Encoding::Charmap(Arc::try_clone(&held.charmap)?))
     }
 
-    /// Puts a charmap at a free place.
+    /// Puts a charmap into a free slot.
     pub(crate) fn put(&mut self, alloc: Global, place: u8, held: Weighed) -> Result<(), Memory>
         requires within { place < CHARMAPS }
         requires free { charmap_at self.old.charmaps place ≡ None }
@@ -155,7 +156,7 @@ impl Uploads {
         Ok(())
     }
 
-    /// Drops the charmap at a place, and says for how many bytes it was counted.
+    /// Drops the charmap in a slot, and returns how many bytes it counted for.
     pub(crate) fn remove(&mut self, place: u8) -> u32
         requires { is_some (charmap_at self.old.charmaps place) ≡ true }
         ensures same { self.new ≡ record self.old { charmaps = slice_set self.old.charmaps place None; bytes = self.new.bytes } }
@@ -167,7 +168,7 @@ impl Uploads {
         bytes
     }
 
-    /// How many bytes the charmaps and the part are counted for.
+    /// How many bytes the charmaps and the part count for.
     pub(crate) fn bytes(&self) -> u64
         ensures sum { result ≡ self.now.bytes + length self.now.part }
         ensures few { result < 2 ^ 41 }
@@ -178,7 +179,7 @@ impl Uploads {
         }
     }
 
-    /// The part.
+    /// The part; empty without one.
     pub(crate) fn part(&self) -> &[u8]
         ensures value { result.now ≡ self.now.part }
         ensures short { length result.now ≤ MOST_PART }

@@ -1,4 +1,4 @@
--- The numbers that digits say.
+-- The numbers that digits give.
 use Rattle.std.proofs.Common.{◌≡◌, ℕ, suc, ◌+◌, ◌*◌, ◌^◌, ◌<◌, ◌≤◌, Bool, true, false, cond, get_or, List, [], ◌∷◌, ◌++◌, length, take, drop, Option, Some, None, refl, sym, ap, ◌∙◌, arith, take-append-drop}
 use Rattle.std.specs.Prelude.{nat_lt}
 use Rattle.std.specs.Char.{is_ascii_digit, digit_value}
@@ -18,7 +18,7 @@ value_split : (n : ℕ) (front back : List ℕ) → digits_value_after 10 n (fro
 value_split n [] back = refl
 value_split n (c ∷ front) back = value_split (n * 10 + digit_value c) front back
 
--- digits at the front say no more than all
+-- the first digits of a word give no larger number than all
 value_front : (word : List ℕ) (i : ℕ) → digits_value 10 (take i word) ≤ digits_value 10 word
 value_front word i =
     let all : digits_value 10 (take i word ++ drop i word) ≡ digits_value 10 word = ap (digits_value 10) (take-append-drop i word) in
@@ -46,7 +46,7 @@ stops_by true word i lt e large =
     number_large word (omega (arith, step, front, large refl))
 stops_by false word i lt e large = number_no_digit word (list_all_at is_ascii_digit word i 0 lt e)
 
--- where a digit is none, or makes the number too large, the word says no number
+-- if a byte is not a digit, or makes the number too large, the word gives no number
 pub number_stops : (word : List ℕ) (i : ℕ) → i < length word
     → (is_ascii_digit (get_or word i 0) ≡ true → 2 ^ 64 ≤ digits_value 10 (take i word) * 10 + digit_value (get_or word i 0)) → number_in word ≡ None
 number_stops word i lt large = stops_by (is_ascii_digit (get_or word i 0)) word i lt refl large
@@ -59,7 +59,7 @@ number_is : (word : List ℕ) → list_all is_ascii_digit word ≡ true → digi
 unfolding number_in
 number_is word all small = let t : nat_lt (digits_value 10 word) (2 ^ 64) ≡ true = lt-ltb (digits_value 10 word) (2 ^ 64) small in rw (all, t) refl
 
--- all digits say their number
+-- if all bytes are digits, the word gives their number
 pub number_done : (word : List ℕ) (i number : ℕ) → length word ≤ i → number ≡ digits_value 10 (take i word) → list_all is_ascii_digit (take i word) ≡ true → number < 2 ^ 64
     → number_in word ≡ Some number
 number_done word i number past is all small =

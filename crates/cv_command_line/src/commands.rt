@@ -1,4 +1,4 @@
-//! From the command line to the exit status.
+//! Runs the commands, and gives the exit status of each.
 ghost use Rattle.std.specs.Prelude.{◌≡◌, ◌≢◌, ◌≤◌, IfOk, IfErr, OnOk, OnErr, if◌then◌else◌};
 ghost use Rattle.clap.specs.Values.{kind_of};
 ghost use Rattle.cv_commands.specs.Status.{status_of};
@@ -26,10 +26,11 @@ use std::sync::Wait;
 use std::thread::Threads;
 use std::time::Clock;
 
-/// For how many seconds `admin` waits, unless the command line says it.
+/// How many seconds `admin` waits for its whole answer without `--timeout`.
 const ADMIN_TIMEOUT: u32 = 5;
 
-/// The exit status of a command. A fault is said on standard error, if that can be; the status doesn't depend on it.
+/// The exit status of a command. A fault is written to standard error, if that is possible; the status does not depend
+/// on it.
 fn conclude<R: Eprint>(rt: &R, done: Result<(), RunFault>) -> u8
     ensures done { OnOk done (result ≡ 0) }
     ensures fault { IfErr done (λ fault. result ≡ status_of fault) }
@@ -43,7 +44,8 @@ fn conclude<R: Eprint>(rt: &R, done: Result<(), RunFault>) -> u8
     }
 }
 
-/// The exit status of `listen`. The log has said why it cannot listen; another fault is said on standard error, if that takes it at once.
+/// The exit status of `listen`. The log has already said why it cannot listen. Other faults are written to standard
+/// error, if it takes them at once.
 fn conclude_listening<R: Eprint>(rt: &R, done: Result<(), RunFault>) -> u8
     ensures done { OnOk done (result ≡ 0) }
     ensures fault { IfErr done (λ fault. result ≡ status_of fault) }
@@ -58,7 +60,7 @@ fn conclude_listening<R: Eprint>(rt: &R, done: Result<(), RunFault>) -> u8
     }
 }
 
-/// The exit status of `call`. A fault is said on standard error, if that can be.
+/// The exit status of `call`. A fault is written to standard error, if that is possible.
 fn conclude_call<R: Eprint>(rt: &R, done: Result<(), CallFault>) -> u8
     ensures done { OnOk done (result ≡ 0) }
     ensures fault { IfErr done (λ fault. result ≡ call_status_of fault) }
@@ -72,7 +74,8 @@ fn conclude_call<R: Eprint>(rt: &R, done: Result<(), CallFault>) -> u8
     }
 }
 
-/// The exit status of `admin`: 0 if the server says that all is well. A fault is said on standard error, if that can be.
+/// The exit status of `admin`: 0 if the status of the answer is a good one, else 1. A fault is written to standard
+/// error, if that is possible.
 fn conclude_admin<R: Eprint>(rt: &R, done: Result<bool, AdminFault>) -> u8
     ensures done { IfOk done (λ is_well. result ≡ (if is_well then 0 else 1)) }
     ensures fault { OnErr done (result ≡ 1) }
@@ -103,7 +106,7 @@ where
     }
 }
 
-/// `call`: asks a server at an address for a script, and prints the lines of its replies, also of those that came before a fault.
+/// `call`: sends a script to the server at an address, and prints the reply lines, including those from before a fault.
 fn call<R>(rt: &R, address: &str, timeout: Option<u32>, script: &[u8]) -> Result<(), CallFault>
 where
     R: Print + AllocGlobal + Clock + Net<Listener = TcpListener, Stream = TcpStream>,
@@ -112,13 +115,13 @@ where
     let mut lines = Vec::new(alloc);
     let called = cv_tcp::call(rt, alloc, address, timeout, script, &mut lines);
     let printed = write_all(io::writer(rt), &lines);
-    // Where both failed, why there are no more lines is told.
+    // If both failed, the call's fault is reported: it says why lines are missing.
     called?;
     printed.map_err(CallFault::Run)?;
     Ok(())
 }
 
-/// By what terms streams are served.
+/// The terms by which streams are served.
 fn terms_of(said: Options<'_>) -> Terms
     ensures at_once { result.at_once ≡ said.entry.at_once }
     ensures workers { result.workers ≡ said.entry.workers }
@@ -135,7 +138,8 @@ fn terms_of(said: Options<'_>) -> Terms
     }
 }
 
-/// `listen`: serves the streams that come in at an address, and answers the clients of the admin pages if they have one.
+/// `listen`: serves the clients that connect to an address, and with `--admin` also answers the clients of the admin
+/// pages.
 fn serve<R>(rt: &R, address: &str, said: Options<'_>) -> Result<(), RunFault>
 where
     R: Files + Print + Eprint + AllocGlobal + Clock + RandomSource + Threads + Wait + Sync,
@@ -190,7 +194,7 @@ where
     }
 }
 
-/// Prints the help or the version, for which the command line asked.
+/// Prints the help or the version that the command line asked for.
 fn print_help<R: Print>(rt: &R, alloc: Global, asked: &Error) -> Result<(), RunFault>
     ensures { IfErr result (λ fault. status_of fault ≡ 1) }
 {
@@ -199,7 +203,9 @@ fn print_help<R: Print>(rt: &R, alloc: Global, asked: &Error) -> Result<(), RunF
     Ok(())
 }
 
-/// Shows what a command line that is no command asked for, or says what is wrong with it, and gives the exit status.
+/// Handles a command line that gives no job, and returns the exit status. If it asks for help or the version, the text
+/// is printed: 0, or 1 if that fails. If an allocation failed, that is reported: 1. Otherwise it reports what is wrong:
+/// 2.
 pub fn explain<R: Print + Eprint>(rt: &R, alloc: Global, fault: &Error) -> u8
     ensures memory { kind_of fault.now ≡ ErrorKind.OutOfMemory → result ≡ 1 }
     ensures help { kind_of fault.now ≡ ErrorKind.DisplayHelp → result ≤ 1 }
@@ -240,7 +246,7 @@ where
     Ok(perform(rt, said))
 }
 
-/// Does what the command line says, and gives the exit status.
+/// Runs the command of the command line, and returns the exit status.
 pub fn program<R>(rt: &R) -> u8
 where
     R: Env

@@ -1,4 +1,4 @@
-//! What the help of the commands ends with.
+//! The ends of the commands' help texts.
 
 /// What the help of the commands that take a script ends with.
 pub(crate) const SCRIPTS: &str = "\

@@ -1,4 +1,4 @@
-//! What the parser found of the command's options.
+//! The values that the parser found for the command's options.
 
 use clap::ArgMatches;
 

@@ -11,7 +11,8 @@ pub(crate) fn given_script<R: Files + Input + AllocGlobal>(rt: &R) -> Result<Vec
     with_files(rt, script)
 }
 
-/// The exit status of a command whose script was not read. The fault is said on standard error, if that can be.
+/// Writes the fault to standard error, if that is possible, and gives the exit status of a command whose script was not
+/// read.
 pub(crate) fn refuse_script<R: Eprint>(rt: &R, fault: &ScriptFault) -> u8
     ensures { result ≡ script_status_of fault.now }
 {

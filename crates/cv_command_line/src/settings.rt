@@ -44,7 +44,7 @@ pub(crate) const TIMEOUT: &str = "timeout";
 /// How many workers there may be.
 pub(crate) const MOST_WORKERS: u32 = 16;
 
-/// For how many seconds anything may wait: a week.
+/// The longest time of an option, in seconds: a week.
 const MOST_SECONDS: u32 = 604_800;
 
 /// The words that name a page.
@@ -100,14 +100,14 @@ pub(crate) fn timeout_option<'a>(alloc: Global) -> Arg<'a> {
     seconds_option(alloc, TIMEOUT).help("give up if the server is silent for S seconds")
 }
 
-/// How long asking for a page may take.
+/// How long `admin` waits for its whole answer.
 pub(crate) fn admin_timeout_option<'a>(alloc: Global) -> Arg<'a> {
     seconds_option(alloc, TIMEOUT)
         .default_value("5")
         .help("give up if the whole reply has not come within S seconds")
 }
 
-/// Where the admin pages are.
+/// The address of the admin pages.
 pub(crate) fn admin_option<'a>(alloc: Global) -> Arg<'a> {
     Arg::new(alloc, ADMIN).long(ADMIN).value_name(ADDRESS).help(
         "answer health, metrics, streams and drain by HTTP at ADDR",
@@ -121,7 +121,7 @@ pub(crate) fn drain_option<'a>(alloc: Global) -> Arg<'a> {
     )
 }
 
-/// What becomes of a client that finds no place.
+/// What happens to a client when all places are taken.
 pub(crate) fn when_full_option<'a>(alloc: Global) -> Arg<'a> {
     Arg::new(alloc, WHEN_FULL)
         .long(WHEN_FULL)
@@ -179,7 +179,7 @@ pub(crate) fn log_format_option<'a>(alloc: Global) -> Arg<'a> {
         .help("log lines of text, or one JSON object a line")
 }
 
-/// Where to listen, or whom to ask.
+/// The address to listen at, or the address of the server.
 pub(crate) fn address_word<'a>(alloc: Global) -> Arg<'a> {
     Arg::new(alloc, ADDRESS)
         .help("HOST:PORT, or unix:PATH")

@@ -1,10 +1,10 @@
-//! Numbers of bytes, as the command line says them.
+//! Sizes in bytes, as words of the command line.
 ghost use Rattle.std.specs.Prelude.{◌≡◌, ◌≤◌, ◌+◌, ◌*◌, ◌^◌, ◌<◌, length, true, IfSome, IfNone};
 ghost use Rattle.std.specs.Char.{is_ascii_digit, digit_value};
 ghost use Rattle.cv_command_line.specs.Sizes as spec;
 ghost use Rattle.cv_command_line.specs.Sizes.{number_in, unit_of, size_in};
 
-/// The number with one more decimal digit. `None`: the byte is no digit, or the number does not fit 64 bits.
+/// The number with one more decimal digit. `None`: the byte is not a digit, or the number does not fit 64 bits.
 fn with_digit(number: u64, digit: u8) -> Option<u64>
     ensures some { IfSome result (λ n. (is_ascii_digit digit ≡ true) × (n ≡ number * 10 + digit_value digit) × (n < 2 ^ 64)) }
     ensures none { IfNone result (is_ascii_digit digit ≡ true → 2 ^ 64 ≤ number * 10 + digit_value digit) }
@@ -15,7 +15,8 @@ fn with_digit(number: u64, digit: u8) -> Option<u64>
     number.checked_mul(10)?.checked_add(u64::from(digit - b'0'))
 }
 
-/// The number that decimal digits say. `None`: there is another byte, or it does not fit 64 bits.
+/// The number that decimal digits give; 0 without digits. `None`: there is another byte, or the number does not fit 64
+/// bits.
 fn number_of(digits: &[u8]) -> Option<u64>
     ensures { result ≡ number_in digits.now }
 {
@@ -26,7 +27,7 @@ fn number_of(digits: &[u8]) -> Option<u64>
     Some(number)
 }
 
-/// How many bytes a letter after a number stands for, or 0 where it is none of these.
+/// How many bytes the letter after a number means: 1 without a letter, 0 for an unknown one.
 fn unit(letter: &[u8]) -> u64
     ensures { result ≡ unit_of letter.now }
 {
@@ -47,7 +48,7 @@ fn digits_at(word: &[u8]) -> usize
     word.iter().take_while(|b| b.is_ascii_digit()).count()
 }
 
-/// A number of units. `None`: it is 0, or does not fit 64 bits.
+/// `number` times `unit`. `None`: the product is 0, or does not fit 64 bits.
 fn positive(number: u64, unit: u64) -> Option<u64>
     ensures { result ≡ spec.positive (number * unit) }
 {
@@ -57,7 +58,8 @@ fn positive(number: u64, unit: u64) -> Option<u64>
     }
 }
 
-/// How many bytes a word says: a number, or one with K, M or G after it. `None`: it has another form, says 0, or does not fit 64 bits.
+/// Returns the size in bytes that a word gives: a decimal number, alone or followed by K, M or G (2^10, 2^20 or 2^30).
+/// `None`: the word has another form, or the size is 0 or does not fit 64 bits.
 pub fn size_of(word: &[u8]) -> Option<u64>
     ensures { result ≡ size_in word.now }
 {

@@ -1,4 +1,4 @@
-//! The command line.
+//! What the words of the command line mean, and their faults.
 ghost use Rattle.std.specs.Prelude.{◌≡◌, ◌≢◌, ◌≤◌, IfOk};
 ghost use Rattle.clap.specs.Values.{kind_of};
 
@@ -17,10 +17,10 @@ use cv_tcp::{LogFormat, MOST_AT_ONCE, Page, WhenFull, is_address, is_admin_addre
 use log::LevelFilter;
 use std::alloc::{AllocError, Global};
 
-/// For how many seconds a drain waits for the streams, unless the command line says it.
+/// How many seconds a drain waits for the streams without `--drain`.
 const USUAL_DRAIN: u32 = 30;
 
-/// What the command and its words say is to be done.
+/// The job that the command and its words give.
 fn job_of<'a>(matches: &ArgMatches<'a>) -> Job<'a> {
     match matches.subcommand() {
         Some(("ask", _)) => Job::Ask,
@@ -37,7 +37,7 @@ fn job_of<'a>(matches: &ArgMatches<'a>) -> Job<'a> {
     }
 }
 
-/// The page that a word names. The parser took these four alone.
+/// The page that a word names. The parser accepts only these four words.
 fn page_of(word: Option<&str>) -> Page {
     match word {
         Some("metrics") => Page::Metrics,
@@ -47,23 +47,23 @@ fn page_of(word: Option<&str>) -> Page {
     }
 }
 
-/// How many workers the command has: 1 where it has no such option. The parser took 1 to 16 alone, but of a command's own options no
-/// contract says so.
+/// How many workers the command has: 1 if it has no such option. The parser accepts only 1 to 16, but no contract says
+/// so of a subcommand's options.
 fn workers_of<'a>(matches: &ArgMatches<'a>) -> u32
     ensures { (1 ≤ result) × (result ≤ 16) }
 {
     number_of(matches, WORKERS).map_or(1, |workers| workers.clamp(1, MOST_WORKERS))
 }
 
-/// How many streams are served at the same time: 1 where the command has no such option. As of the workers no contract says what the
-/// parser took.
+/// How many streams are served at the same time: 1 if the command has no such option. As for the workers, no contract
+/// says what the parser accepts.
 fn at_once_of<'a>(matches: &ArgMatches<'a>) -> u32
     ensures { (1 ≤ result) × (result ≤ 1000) }
 {
     number_of(matches, AT_ONCE).map_or(1, |at_once| at_once.clamp(1, MOST_AT_ONCE))
 }
 
-/// How many streams are served. Unless the command line says it: one, or without end where there are several at once.
+/// How many streams are served. Without `--streams`: 1, or no limit (`u64::MAX`) if several are served at once.
 fn streams_of<'a>(matches: &ArgMatches<'a>, at_once: u32) -> u64 {
     let default = if at_once > 1 { u64::MAX } else { 1 };
     match matches.subcommand() {
@@ -72,7 +72,7 @@ fn streams_of<'a>(matches: &ArgMatches<'a>, at_once: u32) -> u64 {
     }
 }
 
-/// Which records are logged: errors alone where the command has no such option.
+/// Which records are logged: only errors if the command has no such option.
 fn level_of<'a>(matches: &ArgMatches<'a>) -> LevelFilter {
     match word_of(matches, LOG) {
         Some("info") => LevelFilter::Info,
@@ -81,7 +81,7 @@ fn level_of<'a>(matches: &ArgMatches<'a>) -> LevelFilter {
     }
 }
 
-/// How records are written: as text where the command has no such option.
+/// How records are written: as text if the command has no such option.
 fn format_of<'a>(matches: &ArgMatches<'a>) -> LogFormat {
     match word_of(matches, LOG_FORMAT) {
         Some("json") => LogFormat::Json,
@@ -89,12 +89,12 @@ fn format_of<'a>(matches: &ArgMatches<'a>) -> LogFormat {
     }
 }
 
-/// For how many seconds a drain waits for the streams.
+/// How many seconds a drain waits for the streams.
 fn drain_of<'a>(matches: &ArgMatches<'a>) -> u32 {
     number_of(matches, DRAIN).unwrap_or(USUAL_DRAIN)
 }
 
-/// What becomes of a client that finds no place.
+/// What happens to a client when all places are taken.
 fn when_full_of<'a>(matches: &ArgMatches<'a>) -> WhenFull {
     match word_of(matches, WHEN_FULL) {
         Some("close") => WhenFull::Close,
@@ -102,7 +102,8 @@ fn when_full_of<'a>(matches: &ArgMatches<'a>) -> WhenFull {
     }
 }
 
-/// The first word that is no address where one has to be: of the place to listen at, or of the admin pages.
+/// The first word that has to be an address but is not, and its name in the usage: the ADDR of `listen`, or of
+/// `--admin`.
 fn fault_of_address<'a>(matches: &ArgMatches<'a>, job: Job<'a>) -> Option<(&'a str, &'static str)> {
     match listened_at(job) {
         Some(address) if !is_address(address) => Some((address, "<ADDR>")),
@@ -113,7 +114,7 @@ fn fault_of_address<'a>(matches: &ArgMatches<'a>, job: Job<'a>) -> Option<(&'a s
     }
 }
 
-/// How many bytes a stream may hold, if the command line says it.
+/// How many bytes a stream may hold, if `--stream-memory` was given. It fails if its word is not a size.
 fn stream_memory_of<'a>(alloc: Global, matches: &ArgMatches<'a>) -> Result<Option<u64>, Error> {
     let Some(word) = word_of(matches, STREAM_MEMORY) else {
         return Ok(None);
@@ -124,7 +125,8 @@ fn stream_memory_of<'a>(alloc: Global, matches: &ArgMatches<'a>) -> Result<Optio
     }
 }
 
-/// What the words of the command line say; the first is the program's name.
+/// Parses the words of the command line; the first is the program's name. An error is a wrong command line, a request
+/// for help or the version, or a failed allocation.
 pub fn options<'a>(alloc: Global, words: &'a [&'a str]) -> Result<Options<'a>, Error>
     ensures workers { IfOk result (λ said. (1 ≤ said.workers) × (said.workers ≤ 16)) }
     ensures at_once { IfOk result (λ said. (1 ≤ said.at_once) × (said.at_once ≤ 1000)) }
@@ -166,7 +168,7 @@ fn listened_at<'a>(job: Job<'a>) -> Option<&'a str> {
     }
 }
 
-/// The fault of a command line that has this word where the address of a place has to be.
+/// The fault of a command line whose value for `place` is this word, and not an address.
 fn no_address(alloc: Global, word: &str, place: &str) -> Result<Error, AllocError>
     ensures { IfOk result (λ fault. kind_of fault ≡ ErrorKind.InvalidValue) }
 {
@@ -176,7 +178,7 @@ fn no_address(alloc: Global, word: &str, place: &str) -> Result<Error, AllocErro
     program(alloc)?.error(ErrorKind::InvalidValue, text.as_str())
 }
 
-/// The fault of a command line that has this word where a size has to be.
+/// The fault of a command line whose value for `--stream-memory` is this word, and not a size.
 fn no_size(alloc: Global, word: &str) -> Result<Error, AllocError>
     ensures { IfOk result (λ fault. kind_of fault ≡ ErrorKind.InvalidValue) }
 {
@@ -186,7 +188,7 @@ fn no_size(alloc: Global, word: &str) -> Result<Error, AllocError>
     program(alloc)?.error(ErrorKind::InvalidValue, text.as_str())
 }
 
-/// The fault of a command line whose limits leave nothing for some of so many workers.
+/// The fault of a command line whose limits are too small to give each of the workers a share.
 fn no_share(alloc: Global, workers: u32) -> Result<Error, AllocError>
     ensures { IfOk result (λ fault. kind_of fault ≡ ErrorKind.InvalidValue) }
 {
@@ -196,7 +198,7 @@ fn no_share(alloc: Global, workers: u32) -> Result<Error, AllocError>
     program(alloc)?.error(ErrorKind::InvalidValue, text.as_str())
 }
 
-/// The fault of a command line that has this word, which isn't UTF-8.
+/// Returns the fault of a command line with this word, which is not UTF-8.
 pub fn not_utf8(alloc: Global, word: &[u8]) -> Result<Error, AllocError>
     ensures { IfOk result (λ fault. kind_of fault ≡ ErrorKind.InvalidValue) }
 {
@@ -204,7 +206,7 @@ pub fn not_utf8(alloc: Global, word: &[u8]) -> Result<Error, AllocError>
     program(alloc)?.error(ErrorKind::InvalidValue, &text)
 }
 
-/// The exit status of a fault of the command line: 1 where memory lacked, else 2.
+/// Returns the exit status of a fault of the command line: 1 if an allocation failed, else 2.
 pub fn usage_status(fault: &Error) -> u8
     ensures memory { kind_of fault.now ≡ ErrorKind.OutOfMemory → result ≡ 1 }
     ensures usage { kind_of fault.now ≢ ErrorKind.OutOfMemory → result ≡ 2 }

@@ -4,7 +4,7 @@ use Rattle.cv_frame.specs.Ops.{op_put, op_drop, op_open, op_conv, op_reset, op_c
 use Rattle.cv_metrics.specs.declared.op.Op.{Op}
 use Rattle.cv_metrics.specs.declared.op.Op.TheVariants.{Put, Drop, Open, Conv, Reset, Close, Bye, Part, Other}
 
--- The op that has this number in a request.
+-- The op that has this number in a request; `Other` for an unknown number.
 abbrev pub op_of : ℕ → Op
 op_of number =
     if number == op_put then Put else
@@ -17,7 +17,7 @@ op_of number =
     if number == op_part then Part else
     Other
 
--- The place of an op among all of them.
+-- The index of an op among all ops.
 abbrev pub op_place : Op → ℕ
 op_place Put = 0
 op_place Drop = 1

@@ -1,4 +1,4 @@
--- What a scan finds at the front of bytes.
+-- What a scan finds at the start of bytes.
 use Rattle.std.specs.Prelude.{◌≡◌, ℕ, Option, Some, None}
 use Rattle.cv_frame.specs.declared.reading.Frame.{Frame}
 use Rattle.cv_frame.specs.declared.reading.Frame.TheVariants.{Whole, Partial, Bad}
@@ -9,7 +9,7 @@ use Rattle.cv_metrics.specs.declared.scan.State.TheVariants.{Head}
 abbrev pub IsBetweenFrames : Scan → Type 0
 IsBetweenFrames scan = scan.state ≡ Head 0
 
--- The op or status of a whole frame, and its length. Without a whole frame there is none.
+-- The op or status of a whole frame, and the frame's length in bytes. Otherwise `None`.
 abbrev pub seen_in : Frame → Option (ℕ × ℕ)
 seen_in (Whole message n) = Some (message.code, n)
 seen_in Partial = None

@@ -1,4 +1,4 @@
-//! What all streams are counted on.
+//! The counters of all streams.
 ghost use Rattle.std.specs.Prelude.{◌≡◌, ◌≤◌};
 
 use crate::causes::{Cause, FaultKind};
@@ -12,7 +12,8 @@ use std::alloc::{AllocError, Global};
 use std::sync::Wait;
 use std::sync::atomic::{AtomicU64, Ordering};
 
-/// What a server counts: a place for each stream that may be served at once, and how streams ended. Any thread may use it.
+/// What a server counts: the counters of each place at which streams are served, and how streams ended. Any thread may
+/// use it.
 #[derive(Drop)]
 pub struct Board {
     places: Vec<Place>,
@@ -23,7 +24,7 @@ pub struct Board {
 }
 
 impl Board {
-    /// A board with so many places, on which nothing was counted yet.
+    /// Returns a board with `count` places and all counters 0. It fails if an allocation fails.
     pub fn new(alloc: Global, count: u32) -> Result<Board, AllocError> {
         let mut places = Vec::new(alloc);
         for _place in 0..count {
@@ -38,23 +39,22 @@ impl Board {
         })
     }
 
-    /// The place of this number, from 0.
+    /// Returns the place with this index. `None`: the board has no more than `number` places.
     pub fn place(&self, number: usize) -> Option<&Place> {
         self.places.get(number)
     }
 
-    /// The places.
     pub(crate) fn places(&self) -> &[Place] {
         &self.places
     }
 
-    /// A stream begins at a place, at this time in nanoseconds.
+    /// Notes that a stream begins at a place. `now` is the time in nanoseconds.
     pub fn begin<R: Wait>(&self, rt: &R, place: &Place, peer: Peer, now: u64) {
         let number = self.begun.fetch_add(1, Ordering::Relaxed).wrapping_add(1);
         place.begin(rt, number, peer, now);
     }
 
-    /// The stream at a place has ended, by a fault of this kind where there was one.
+    /// Notes that the stream at a place has ended, and counts the cause and, if there was one, the fault.
     pub fn end<R: Wait>(&self, rt: &R, place: &Place, cause: Cause, fault: Option<FaultKind>) {
         place.end(rt);
         add(&self.ended, cause.place(), 1);
@@ -63,12 +63,12 @@ impl Board {
         }
     }
 
-    /// There was a fault of no stream, or of one that has ended.
+    /// Counts a fault. It is of no stream, or of one that has ended.
     pub fn note_fault(&self, kind: FaultKind) {
         add(&self.faults, kind.place(), 1);
     }
 
-    /// A stream was closed at once, since all places were taken.
+    /// Counts a stream that was closed at once because all places were taken.
     pub fn note_refused(&self) {
         self.refused.fetch_add(1, Ordering::Relaxed);
     }
@@ -78,7 +78,7 @@ impl Board {
         self.begun.load(Ordering::Relaxed)
     }
 
-    /// How many streams ended so.
+    /// How many streams ended by this cause.
     pub(crate) fn ended(&self, cause: Cause) -> u64 {
         count_at(&self.ended, cause.place())
     }
@@ -88,7 +88,7 @@ impl Board {
         count_at(&self.faults, kind.place())
     }
 
-    /// How many streams were closed since all places were taken.
+    /// How many streams were closed at once because all places were taken.
     pub(crate) fn refused(&self) -> u64 {
         self.refused.load(Ordering::Relaxed)
     }
@@ -102,7 +102,7 @@ impl Board {
         sum
     }
 
-    /// All metrics in Prometheus's text format, 0.0.4.
+    /// Returns all metrics in Prometheus's text format, version 0.0.4. It fails if an allocation fails.
     pub fn metrics<R: Wait>(
         &self,
         rt: &R,
@@ -112,7 +112,8 @@ impl Board {
         text::metrics(rt, alloc, self, told)
     }
 
-    /// The streams that are being served, as a JSON array with an object for each. `now` is the time in nanoseconds.
+    /// Returns the streams that are being served as a JSON array with an object for each. `now` is the time in
+    /// nanoseconds. It fails if an allocation fails.
     pub fn streams<R: Wait>(&self, rt: &R, alloc: Global, now: u64) -> Result<String, AllocError> {
         rows::streams(rt, alloc, self, now)
     }

@@ -1,4 +1,4 @@
-//! Why streams end, as metrics name it.
+//! Why streams end, and the kinds of faults, as the metrics name them.
 ghost use Rattle.std.specs.Prelude.{◌<◌};
 
 /// Why a stream ended.
@@ -12,17 +12,17 @@ pub enum Cause {
     Stalled,
     /// A fault ended it.
     Fault,
-    /// It ended by itself while the server drained.
+    /// A drain ended it after whole frames, when its client was silent.
     Drained,
-    /// The server cut it when it had drained for as long as it may.
+    /// A drain ended it within a frame, or the drain's time was over.
     Cut,
 }
 
 impl Cause {
-    /// How many there are.
+    /// The number of variants.
     pub const COUNT: usize = 6;
 
-    /// All of them, each at its `place`.
+    /// All variants, each at the index that `place` returns.
     pub const ALL: [Cause; 6] = [
         Cause::Client,
         Cause::Idle,
@@ -32,14 +32,14 @@ impl Cause {
         Cause::Cut,
     ];
 
-    /// Its place among all of them.
+    /// Returns its index in `ALL`.
     pub fn place(self) -> usize
         ensures { result < 6 }
     {
         self as usize
     }
 
-    /// Its word in metrics.
+    /// Returns its label in the metrics.
     pub fn word(self) -> &'static str {
         match self {
             Cause::Client => "client",
@@ -52,10 +52,10 @@ impl Cause {
     }
 }
 
-/// What kind of fault there was.
+/// The kind of a fault.
 #[derive(Clone, Copy, Debug, PartialEq, Eq)]
 pub enum FaultKind {
-    /// A frame had a length that no frame has.
+    /// A frame had an invalid length.
     BadLength,
     /// A stream ended within a frame.
     TruncatedFrame,
@@ -63,19 +63,19 @@ pub enum FaultKind {
     Read,
     /// A write failed.
     Write,
-    /// An allocation failed, so that a stream could not be served on.
+    /// An allocation failed, so a stream could not be served further.
     Memory,
-    /// The system gave no stream.
+    /// A connection could not be accepted.
     Accept,
-    /// Any other.
+    /// Any other fault.
     Other,
 }
 
 impl FaultKind {
-    /// How many there are.
+    /// The number of variants.
     pub const COUNT: usize = 7;
 
-    /// All of them, each at its `place`.
+    /// All variants, each at the index that `place` returns.
     pub const ALL: [FaultKind; 7] = [
         FaultKind::BadLength,
         FaultKind::TruncatedFrame,
@@ -86,14 +86,14 @@ impl FaultKind {
         FaultKind::Other,
     ];
 
-    /// Its place among all of them.
+    /// Returns its index in `ALL`.
     pub fn place(self) -> usize
         ensures { result < 7 }
     {
         self as usize
     }
 
-    /// Its word in metrics.
+    /// Returns its label in the metrics.
     pub fn word(self) -> &'static str {
         match self {
             FaultKind::BadLength => "bad_length",

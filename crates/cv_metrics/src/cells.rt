@@ -1,10 +1,10 @@
-//! Counters that one thread writes and others read.
+//! Counters that threads may write and read at the same time.
 ghost use Rattle.std.specs.Prelude.{◌≡◌, IfOk, vec_len};
 
 use std::alloc::{AllocError, Global};
 use std::sync::atomic::{AtomicU64, Ordering};
 
-/// So many counters, all 0.
+/// Allocates `count` counters, all 0.
 pub(crate) fn zeros(alloc: Global, count: usize) -> Result<Vec<AtomicU64>, AllocError>
     ensures { IfOk result (λ cells. vec_len cells ≡ count) }
 {
@@ -15,14 +15,14 @@ pub(crate) fn zeros(alloc: Global, count: usize) -> Result<Vec<AtomicU64>, Alloc
     Ok(cells)
 }
 
-/// Adds to the counter at a place. A counter that would not fit begins again at 0.
+/// Adds `more` to the counter at an index, modulo 2^64. Without such a counter it does nothing.
 pub(crate) fn add(cells: &Vec<AtomicU64>, place: usize, more: u64) {
     if let Some(cell) = cells.get(place) {
         cell.fetch_add(more, Ordering::Relaxed);
     }
 }
 
-/// The counter at a place, or 0.
+/// The counter at an index, or 0 without such a counter.
 pub(crate) fn count_at(cells: &Vec<AtomicU64>, place: usize) -> u64 {
     match cells.get(place) {
         Some(cell) => cell.load(Ordering::Relaxed),

@@ -1,4 +1,5 @@
-//! What a server counts of its streams: requests by their op and status, bytes, times and faults, and the pages that show them.
+//! What a server counts of its streams: requests by op and status, bytes, times and faults. Also the texts that show
+//! the counts.
 #![tactic(auto)]
 
 mod board;

@@ -4,7 +4,7 @@ ghost use Rattle.cv_metrics.specs.Ops.{op_of, op_place};
 
 use cv_frame::ops;
 
-/// What a request asks, by its op.
+/// The op of a request.
 #[derive(Clone, Copy, Debug, PartialEq, Eq)]
 pub enum Op {
     Put,
@@ -15,15 +15,15 @@ pub enum Op {
     Close,
     Bye,
     Part,
-    /// An op that the service doesn't know, or one that was not noted since an allocation failed.
+    /// An op that the service does not know, or one that was not kept because an allocation failed.
     Other,
 }
 
 impl Op {
-    /// How many there are.
+    /// The number of variants.
     pub const COUNT: usize = 9;
 
-    /// All of them, each at its `place`.
+    /// All variants, each at the index that `place` returns.
     pub const ALL: [Op; 9] = [
         Op::Put,
         Op::Drop,
@@ -36,7 +36,7 @@ impl Op {
         Op::Other,
     ];
 
-    /// The op that has this number in a request.
+    /// Returns the op that has this number in a request, or `Other` for an unknown number.
     pub fn of(number: u8) -> Op
         ensures { result ≡ op_of number }
     {
@@ -53,7 +53,7 @@ impl Op {
         }
     }
 
-    /// Its place among all of them.
+    /// Returns its index in `ALL`.
     pub fn place(self) -> usize
         ensures place { result ≡ op_place self }
         ensures below { result < 9 }
@@ -71,7 +71,7 @@ impl Op {
         }
     }
 
-    /// The word that scripts have for it, or `other`.
+    /// Returns its word in scripts, or `other`.
     pub fn word(self) -> &'static str {
         match self {
             Op::Put => "put",

@@ -5,7 +5,7 @@ ghost use Rattle.cv_metrics.specs.Ops.{op_place};
 use crate::op::Op;
 use cv_frame::Status;
 
-/// What a request asked, and the number of the status of its reply.
+/// The op of a request, and the number of its reply's status.
 #[derive(Clone, Copy, Debug, PartialEq, Eq)]
 pub struct Outcome {
     pub op: Op,
@@ -13,13 +13,13 @@ pub struct Outcome {
 }
 
 impl Outcome {
-    /// How many statuses are told apart: the sixteen that there are, and any other.
+    /// How many statuses are counted apart: the 16 of the protocol, and one for all other numbers.
     pub const STATUSES: usize = 17;
 
-    /// How many counters there are.
+    /// How many counters there are: one for each op and status.
     pub const COUNT: usize = 153;
 
-    /// Where it is counted: a row for each op, with a place for each status.
+    /// Returns the index of its counter. Each op has a row of 17 counters, one for each status.
     pub fn place(self) -> usize
         ensures place { result ≡ 17 * op_place self.op + min self.status 16 }
         ensures below { result < 153 }
@@ -28,7 +28,7 @@ impl Outcome {
         17 * self.op.place() + status
     }
 
-    /// The name of its status, or `other`.
+    /// Returns the name of its status, such as `EILSEQ`, or `other`.
     pub fn status_name(self) -> &'static str {
         match Status::from_number(self.status) {
             Some(status) => status.name(),
@@ -36,7 +36,7 @@ impl Outcome {
         }
     }
 
-    /// Whether its reply says that an allocation failed.
+    /// Returns whether its status is ENOMEM: an allocation failed.
     pub fn lacks_memory(self) -> bool
         ensures { result ≡ (self.status == 6) }
     {

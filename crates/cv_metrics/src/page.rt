@@ -1,4 +1,4 @@
-//! Writing Prometheus's text format, 0.0.4.
+//! Writes Prometheus's text format, version 0.0.4.
 use std::alloc::{AllocError, Global};
 use std::fmt::Display;
 
@@ -10,7 +10,7 @@ pub(crate) struct Page {
 }
 
 impl Page {
-    /// No metric yet.
+    /// A page without metrics.
     pub(crate) fn new(alloc: Global) -> Page {
         Page {
             alloc,
@@ -18,7 +18,7 @@ impl Page {
         }
     }
 
-    /// What it is allocated by.
+    /// Its allocator.
     pub(crate) fn alloc(&self) -> Global {
         self.alloc
     }
@@ -29,7 +29,7 @@ impl Page {
         text
     }
 
-    /// Says what a metric is, before its samples.
+    /// Adds the help and the type of a metric. They precede its samples.
     pub(crate) fn family(&mut self, name: &str, kind: &str, help: &str) -> Result<(), AllocError> {
         let lines = format!(in self.alloc;
             "# HELP iconvd_{name} {help}\n# TYPE iconvd_{name} {kind}\n"
@@ -37,7 +37,7 @@ impl Page {
         self.text.push_str(&lines)
     }
 
-    /// A sample with no label.
+    /// Adds a sample without labels.
     pub(crate) fn sample<D: Display + Drop>(
         &mut self,
         name: &str,
@@ -47,7 +47,7 @@ impl Page {
         self.text.push_str(&line)
     }
 
-    /// A sample with these labels, which need no escape.
+    /// Adds a sample with these labels, written as they are: they must need no escape.
     pub(crate) fn labelled<L: Display + Drop, D: Display + Drop>(
         &mut self,
         name: &str,
@@ -58,13 +58,13 @@ impl Page {
         self.text.push_str(&line)
     }
 
-    /// A metric that has one sample.
+    /// Adds a gauge with one sample.
     pub(crate) fn gauge(&mut self, name: &str, help: &str, value: u64) -> Result<(), AllocError> {
         self.family(name, "gauge", help)?;
         self.sample(name, value)
     }
 
-    /// A counter that has one sample.
+    /// Adds a counter with one sample.
     pub(crate) fn counter(&mut self, name: &str, help: &str, value: u64) -> Result<(), AllocError> {
         self.family(name, "counter", help)?;
         self.sample(name, value)

@@ -7,26 +7,26 @@ use std::alloc::{AllocError, Global};
 use std::sync::atomic::{AtomicU64, Ordering};
 use std::sync::{Mutex, Wait};
 
-/// The counters of a place, over all streams that were served there, and the stream that is. The thread that serves there writes them; any
-/// thread may read them.
+/// The counters of a place, over all streams that were served there, and the stream that is being served. The thread
+/// that serves there writes them. Any thread may read them.
 #[derive(Drop)]
 pub struct Place {
     stream: Mutex<Option<Stream>>,
-    /// When a byte last came, in nanoseconds.
+    /// When the stream began or its last byte came, in nanoseconds.
     active: AtomicU64,
     received: AtomicU64,
     sent: AtomicU64,
     outcomes: Vec<AtomicU64>,
     pub(crate) conv: Histogram,
     pub(crate) put: Histogram,
-    /// How many requests of the stream that is being served have come and have no whole reply.
+    /// How many requests of the present stream have come and have no whole reply yet.
     pending: AtomicU64,
-    /// How many callers it has, and how many bytes they hold.
+    /// How many callers the present stream has, and how many bytes they hold.
     callers: AtomicU64,
     memory_bytes: AtomicU64,
 }
 
-/// What the counters of a place have at one time.
+/// The counters of a place at one time, and the stream that is being served there.
 #[derive(Clone, Copy, Debug)]
 pub(crate) struct Now {
     pub(crate) stream: Stream,
@@ -40,7 +40,7 @@ pub(crate) struct Now {
 }
 
 impl Place {
-    /// A place at which no stream was served yet.
+    /// A place with all counters 0 and no stream.
     pub(crate) fn new(alloc: Global) -> Result<Place, AllocError> {
         Ok(Place {
             stream: Mutex::new(None),
@@ -56,7 +56,7 @@ impl Place {
         })
     }
 
-    /// A stream begins here at this time.
+    /// Notes that a stream begins here at this time.
     pub(crate) fn begin<R: Wait>(&self, rt: &R, number: u64, peer: Peer, now: u64) {
         let stream = Stream {
             number,
@@ -71,46 +71,46 @@ impl Place {
         *self.stream.lock(rt) = Some(stream);
     }
 
-    /// The stream here has ended.
+    /// Notes that the stream here has ended.
     pub(crate) fn end<R: Wait>(&self, rt: &R) {
         *self.stream.lock(rt) = None;
         self.clear();
     }
 
-    /// No stream has anything here.
+    /// Sets the pending requests, the callers and the bytes of the present stream to 0.
     fn clear(&self) {
         self.pending.store(0, Ordering::Relaxed);
         self.hold(0, 0);
     }
 
-    /// So many callers of the stream hold so many bytes.
+    /// Notes that the present stream has `callers` callers, which together hold `bytes` bytes.
     pub fn hold(&self, bytes: u64, callers: u64) {
         self.memory_bytes.store(bytes, Ordering::Relaxed);
         self.callers.store(callers, Ordering::Relaxed);
     }
 
-    /// So many bytes came at this time.
+    /// Counts bytes that came at this time.
     pub(crate) fn came(&self, bytes: u64, now: u64) {
         self.received.fetch_add(bytes, Ordering::Relaxed);
         self.active.store(now, Ordering::Relaxed);
     }
 
-    /// So many requests have no whole reply.
+    /// Notes how many requests have no whole reply yet.
     pub(crate) fn wait(&self, pending: u64) {
         self.pending.store(pending, Ordering::Relaxed);
     }
 
-    /// So many bytes went.
+    /// Counts bytes that were sent.
     pub(crate) fn went(&self, bytes: u64) {
         self.sent.fetch_add(bytes, Ordering::Relaxed);
     }
 
-    /// So many requests had this outcome.
+    /// Counts `times` requests of this outcome.
     pub(crate) fn answered(&self, outcome: Outcome, times: u64) {
         add(&self.outcomes, outcome.place(), times);
     }
 
-    /// How many requests had this outcome.
+    /// How many requests had the outcome with this index.
     pub(crate) fn count_of(&self, place: usize) -> u64 {
         count_at(&self.outcomes, place)
     }
@@ -129,12 +129,12 @@ impl Place {
         self.received.load(Ordering::Relaxed)
     }
 
-    /// How many bytes went.
+    /// How many bytes were sent.
     pub(crate) fn sent(&self) -> u64 {
         self.sent.load(Ordering::Relaxed)
     }
 
-    /// What the counters have now, if a stream is served.
+    /// The counters now, if a stream is being served here.
     pub(crate) fn now<R: Wait>(&self, rt: &R) -> Option<Now> {
         let guard = self.stream.lock(rt);
         let stream = (*guard)?;
@@ -150,7 +150,7 @@ impl Place {
         })
     }
 
-    /// Adds the times of this place.
+    /// Adds the histograms of this place to `conv` and `put`.
     pub(crate) fn add_times(&self, conv: &mut Times, put: &mut Times) {
         self.conv.add_to(conv);
         self.put.add_to(put);

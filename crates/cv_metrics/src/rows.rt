@@ -18,7 +18,7 @@ impl Display for Seconds {
     }
 }
 
-/// The object of one stream. Nothing in it needs an escape: the peer is an address or a word.
+/// The JSON object of one stream. Its only string is the peer, an address or a word, which needs no escape.
 fn row(alloc: Global, now: u64, at: &Now) -> Result<String, AllocError> {
     let stream = at.stream;
     let peer = stream.peer;

@@ -8,7 +8,7 @@ pub enum Peer {
     At(SocketAddr),
     /// A process of this machine, over a Unix socket.
     Local,
-    /// Nobody any more.
+    /// Unknown: the system no longer has an address, since the connection is gone.
     Gone,
 }
 
@@ -22,10 +22,10 @@ impl Display for Peer {
     }
 }
 
-/// A stream that is being served, and what the counters of its place were when it began.
+/// A stream that is being served, and the values of its place's counters when it began.
 #[derive(Clone, Copy, Debug, PartialEq, Eq)]
 pub struct Stream {
-    /// Which of all streams it is, from 1.
+    /// Its number among all streams of the server, from 1.
     pub number: u64,
     pub peer: Peer,
     /// When it began, in nanoseconds.

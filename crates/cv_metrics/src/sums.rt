@@ -1,4 +1,4 @@
-//! What all places have together.
+//! Sums over all places.
 use crate::board::Board;
 use crate::histogram::Times;
 use crate::op::Op;
@@ -43,7 +43,7 @@ impl Sums {
     }
 }
 
-/// How many requests found no memory.
+/// How many requests were answered ENOMEM.
 fn memory_refused(board: &Board) -> u64 {
     let mut sum: u64 = 0;
     for op in Op::ALL {

@@ -1,4 +1,4 @@
-//! Counting by hand, and the pages.
+//! Counts by hand, and the pages.
 mod metering;
 mod paging;
 mod scanning;
@@ -15,7 +15,7 @@ const OK: u8 = 0;
 
 const EBADF: u8 = 4;
 
-/// The bounds of the buckets in nanoseconds.
+/// The upper bounds of the buckets, in nanoseconds.
 const TIMES: [u64; 11] = [
     10_000,
     30_000,
@@ -30,7 +30,7 @@ const TIMES: [u64; 11] = [
     1_000_000_000,
 ];
 
-/// Frames with no body that have these ops or statuses.
+/// Frames without a body, one with each of these ops or statuses.
 fn frame(alloc: Global, codes: &[u8]) -> Result<Vec<u8>, Fail> {
     let mut bytes = Vec::new(alloc);
     for code in codes {
@@ -40,12 +40,12 @@ fn frame(alloc: Global, codes: &[u8]) -> Result<Vec<u8>, Fail> {
     Ok(bytes)
 }
 
-/// The first bytes, so many at most, and those after them.
+/// Splits after `count` bytes, or at the end if there are fewer.
 fn parted(bytes: &[u8], count: usize) -> (&[u8], &[u8]) {
     bytes.split_at(count.min(bytes.len()))
 }
 
-/// What the server tells.
+/// Example values of what the board does not count.
 fn told() -> Told<'static> {
     Told {
         version: "0.1.0",

@@ -1,4 +1,4 @@
-//! What the metrics are: their names, what they say, and where their values come from.
+//! The metrics: their names, their help texts, and where their values come from.
 use crate::board::Board;
 use crate::causes::{Cause, FaultKind};
 use crate::histogram::{BOUNDS, Times};
@@ -10,7 +10,7 @@ use std::alloc::{AllocError, Global};
 use std::fmt::{self, Display, Formatter};
 use std::sync::Wait;
 
-/// What metrics tell besides what the board counts.
+/// The values in the metrics that the board does not count.
 #[derive(Clone, Copy, Debug)]
 pub struct Told<'a> {
     /// The program's version.
@@ -19,21 +19,21 @@ pub struct Told<'a> {
     pub start_time: u64,
     /// How many streams may be served at once.
     pub places: u64,
-    /// How many charmaps the cache has, and how many bytes they take with their texts.
+    /// How many charmaps the cache has, and how many bytes they and their texts take.
     pub cache_charmaps: u64,
     pub cache_bytes: u64,
-    /// How many texts the cache had, and how many it did not have.
+    /// How many look-ups found the text in the cache, and how many did not.
     pub cache_hits: u64,
     pub cache_misses: u64,
-    /// How many bytes a stream may hold. `None`: there is no limit.
+    /// How many bytes the callers of one stream may hold. `None`: no limit.
     pub stream_memory_limit: Option<u64>,
-    /// Whether it is being drained.
+    /// Whether a drain has begun.
     pub is_draining: bool,
     /// How many lines of the log were dropped.
     pub log_lines_dropped: u64,
 }
 
-/// Shows nanoseconds as seconds, with all of their digits.
+/// Shows nanoseconds as seconds with nine digits after the point.
 #[derive(Clone, Copy, Debug)]
 struct Seconds(u64);
 
@@ -64,7 +64,7 @@ pub(crate) fn metrics<R: Wait>(
     Ok(page.into_text())
 }
 
-/// The server, and how many streams there are.
+/// Writes the metrics of the server, and how many streams there are.
 fn server(page: &mut Page, board: &Board, told: &Told<'_>, sums: &Sums) -> Result<(), AllocError> {
     let version = told.version;
     page.family("build_info", "gauge", "The program, by its version.")?;
@@ -84,7 +84,7 @@ fn server(page: &mut Page, board: &Board, told: &Told<'_>, sums: &Sums) -> Resul
     )
 }
 
-/// How streams ended.
+/// Writes how streams ended, and the faults.
 fn endings(page: &mut Page, board: &Board) -> Result<(), AllocError> {
     let name = "streams_ended_total";
     page.family(name, "counter", "Streams that ended, by their cause.")?;
@@ -103,7 +103,8 @@ fn endings(page: &mut Page, board: &Board) -> Result<(), AllocError> {
     Ok(())
 }
 
-/// What was asked and answered. An op and a status of which there was no request have no sample.
+/// Writes the requests by op and status, and the bytes received and sent. An op and status that no request had get no
+/// sample.
 fn requests(page: &mut Page, board: &Board, sums: &Sums) -> Result<(), AllocError> {
     let name = "requests_total";
     let help = "Requests whose whole reply was written, by op and status.";
@@ -119,7 +120,7 @@ fn requests(page: &mut Page, board: &Board, sums: &Sums) -> Result<(), AllocErro
     page.counter("sent_bytes_total", help, sums.sent)
 }
 
-/// The requests of one outcome, if there were any.
+/// Writes the requests of one outcome, if there were any.
 fn outcome(page: &mut Page, board: &Board, outcome: Outcome) -> Result<(), AllocError> {
     let count = board.count_of(outcome);
     if count == 0 {
@@ -134,7 +135,7 @@ fn outcome(page: &mut Page, board: &Board, outcome: Outcome) -> Result<(), Alloc
     )
 }
 
-/// A histogram of the times of one op.
+/// Writes the histogram of the times of one op.
 fn times(page: &mut Page, word: &str, op: &str, times: &Times) -> Result<(), AllocError> {
     let alloc = page.alloc();
     let name = format!(in alloc; "{word}_duration_seconds")?;
@@ -156,7 +157,8 @@ fn times(page: &mut Page, word: &str, op: &str, times: &Times) -> Result<(), All
     page.sample(&total, count)
 }
 
-/// Memory: the cache, the streams, and what the log dropped.
+/// Writes the metrics of memory: ENOMEM replies, the cache and what streams hold. Last come the dropped lines of the
+/// log.
 fn memory(page: &mut Page, told: &Told<'_>, sums: &Sums) -> Result<(), AllocError> {
     let help = "Requests that were answered ENOMEM.";
     page.counter("memory_refused_total", help, sums.memory_refused)?;

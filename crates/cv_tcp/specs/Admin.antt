@@ -1,12 +1,12 @@
--- What asking an admin page comes to.
+-- The result of asking for an admin page.
 use Rattle.std.specs.Prelude.{◌≡◌, ℕ, Bool, ◌||◌, ◌==◌, List, ◌++◌}
 use Rattle.cv_admin.specs.Asking.{IsAnswer}
 
--- The status says that all is well: 200, or 202 of a drain that has begun.
+-- The status is a good one: 200, or 202 for a drain that has begun.
 abbrev pub agrees : ℕ → Bool
 agrees status = status == 200 || status == 202
 
--- The text of an answer by HTTP was appended, and `is_well` says whether its status agrees.
+-- The text of an HTTP answer was appended, and `is_well` says whether its status is a good one.
 abbrev pub Adds : List ℕ → Bool → List ℕ → List ℕ → Type 0
 Adds answer is_well text text' =
     (status : ℕ) × (more : List ℕ) × IsAnswer answer status more × (is_well ≡ agrees status) × (text' ≡ text ++ more)

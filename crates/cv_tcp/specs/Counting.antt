@@ -10,7 +10,7 @@ use Rattle.cv_metrics.specs.declared.causes.FaultKind.TheVariants as kind
 use Rattle.cv_tcp.specs.declared.fault.StreamFault.{StreamFault}
 use Rattle.cv_tcp.specs.declared.fault.StreamFault.TheVariants as stream
 
--- Why a stream ended: by its client, unless a fault or a drain ended it.
+-- The cause of a stream's end: its client, unless a fault or a drain ended it.
 abbrev pub cause_of : Option StreamFault → Cause
 cause_of None = cause.Client
 cause_of (Some stream.Idle) = cause.Idle
@@ -19,7 +19,7 @@ cause_of (Some stream.Drained) = cause.Drained
 cause_of (Some stream.Cut) = cause.Cut
 cause_of (Some (stream.Run f)) = cause.Fault
 
--- What kind of fault a run ended by.
+-- The kind of the fault that ended a run.
 abbrev pub kind_of : RunFault → FaultKind
 kind_of (run.Serve (serving.BadLength n)) = kind.BadLength
 kind_of (run.Serve serving.TruncatedFrame) = kind.TruncatedFrame

@@ -1,4 +1,4 @@
-//! Accepting streams, whatever passes by itself.
+//! Accepts streams. Failures that pass by themselves do not end it.
 ghost use Rattle.std.specs.Prelude.{◌≡◌, true, IfErr};
 ghost use Rattle.std.specs.IoError.{raw_os_error};
 ghost use Rattle.cv_tcp.specs.Accepting.{is_lasting, is_of_listener};
@@ -15,10 +15,10 @@ use std::sync::{Mutex, Wait};
 use std::thread;
 use std::time::{Clock, Duration, Instant};
 
-/// For how many milliseconds a thread sleeps after an accept that failed.
+/// How many milliseconds a thread sleeps after a failed accept.
 const PAUSE: u64 = 50;
 
-/// For how many seconds no other failed accept is reported after one.
+/// How many seconds must pass before another failed accept is reported.
 const QUIET: u64 = 1;
 
 /// When a failed accept was last reported, by any thread.
@@ -28,12 +28,12 @@ pub(crate) struct Complaints {
 }
 
 impl Complaints {
-    /// None was reported yet.
+    /// No failed accept was reported yet.
     pub(crate) fn new() -> Complaints {
         Complaints { last: None }
     }
 
-    /// Whether a failure at this time is to be reported: at most one a second is.
+    /// Whether a failure at this time has to be reported: at most one a second is. It notes the time if so.
     fn is_due(&mut self, now: Instant) -> bool {
         let is_due = match self.last {
             Some(last) => now.duration_since(last) >= Duration::from_secs(QUIET),
@@ -46,15 +46,16 @@ impl Complaints {
     }
 }
 
-/// Whether an error number says that the descriptor is no listener, or no longer one: EBADF, EINVAL, ENOTSOCK or EOPNOTSUPP.
+/// Whether an error number says that the descriptor is not a listener, or no longer one: EBADF, EINVAL, ENOTSOCK or
+/// EOPNOTSUPP.
 fn is_of_listener(number: u32) -> bool
     ensures { result ≡ is_of_listener number }
 {
     number == 9 || number == 22 || number == 88 || number == 95
 }
 
-/// Whether every later accept fails as this one did: the listener is gone. All other failures pass, as a lack of descriptors or memory does,
-/// or concern one client that has left.
+/// Whether every later accept will fail as this one did, because the listener is gone. All other failures pass, such as
+/// too few descriptors or too little memory, or concern a single client that has left.
 fn is_lasting(failure: &io::Error) -> bool
     ensures { result ≡ is_lasting (raw_os_error failure.now) }
 {
@@ -80,11 +81,11 @@ fn complain<R: Wait + Clock, G: Log>(
     }
 }
 
-/// For how many milliseconds a thread sleeps after an accept that gave up. Another process may have the listener too, and make it one at
-/// which no accept waits.
+/// How many milliseconds a thread sleeps after an accept that gave up. Another process that has the listener too may
+/// make it non-blocking.
 const BREATH: u64 = 1;
 
-/// What a thread has after it has waited.
+/// What a thread gets after it has waited.
 pub(crate) enum Next {
     /// A stream, and its place.
     Client(Connection, Place),
@@ -92,12 +93,12 @@ pub(crate) enum Next {
     Drained(Begun),
 }
 
-/// Whether an accept gave up, as one at a listener that is shared with other processes does after a while.
+/// Whether an accept gave up. At a listener that is shared with other processes it does so after a while.
 fn gave_up(failure: &io::Error) -> bool {
     failure.kind() == ErrorKind::WouldBlock
 }
 
-/// The drain that has begun.
+/// The drain that has begun, if one has.
 fn drain_of(operation: &Operation) -> Option<Begun> {
     match &operation.draining {
         Some(draining) => draining.begun(),
@@ -105,7 +106,7 @@ fn drain_of(operation: &Operation) -> Option<Begun> {
     }
 }
 
-/// A client is sent away, since all places are taken.
+/// Counts and logs a client that is closed because all places are taken.
 fn note_refused<G: Log>(log: &G, operation: &Operation, stream: &Connection) {
     if let Some(counters) = &operation.counters {
         counters.note_refused();
@@ -113,8 +114,8 @@ fn note_refused<G: Log>(log: &G, operation: &Operation, stream: &Connection) {
     debug!(log; peer:% = stream.peer(); "client refused");
 }
 
-/// Waits for a stream that has a place. While all are taken, streams are closed at once. An accept that fails is tried again, unless every
-/// other will fail too.
+/// Waits for a client and takes a place for it, or returns that a drain has begun. While all places are taken, clients
+/// are closed at once. A failed accept is tried again, unless every later one will fail too.
 pub(crate) fn next_client<R: Wait + Clock, G: Log, L: Inlet>(
     service: &Service<'_, R, G, L>,
     complaints: &Mutex<Complaints>,
@@ -131,7 +132,7 @@ pub(crate) fn next_client<R: Wait + Clock, G: Log, L: Inlet>(
                 Some(place) => return Ok(Next::Client(stream, place)),
                 None => note_refused(log, operation, &stream),
             },
-            // The drain has shut the listener.
+            // The drain has shut the listener. The next round returns `Drained`.
             Err(_) if drain_of(operation).is_some() => {}
             Err(failure) if gave_up(&failure) => thread::sleep(rt, Duration::from_millis(BREATH)),
             Err(failure) if is_lasting(&failure) => return Err(failure),
@@ -147,7 +148,7 @@ pub(crate) fn next_client<R: Wait + Clock, G: Log, L: Inlet>(
     unreachable!()
 }
 
-/// Waits for the next client of the admin pages. An accept that fails is tried again, unless every other will fail too.
+/// Waits for the next client of the admin pages. A failed accept is tried again, unless every later one will fail too.
 pub(crate) fn next_admin_client<R: Wait + Clock, G: Log, L: Inlet>(
     rt: &R,
     log: &G,

@@ -1,16 +1,17 @@
-//! Where a server is.
+//! Addresses of servers.
 
-/// The address of a server: that of a TCP port, the path of a Unix socket, or the number of a listener that the process was given.
+/// The address of a server: that of a TCP port, the path of a Unix socket, or the number of a listener that the process
+/// was given.
 #[derive(Clone, Copy, Debug, PartialEq, Eq)]
 pub(crate) enum Address<'a> {
     Tcp(&'a str),
     Unix(&'a str),
-    /// `None`: the word has no such number.
+    /// `None`: no number from 0 to 65,535 follows `fd:`.
     Given(Option<u16>),
 }
 
-/// Whether a word can be the address of a listener: `HOST:PORT`, `unix:` and a path, or `fd:` and the number of a descriptor. Whether there is
-/// such a host or descriptor is not asked.
+/// Returns whether a word can be the address of a listener: `HOST:PORT`, `unix:` and a path, or `fd:` and the number of
+/// a descriptor. It does not check that the host or the descriptor exists.
 pub fn is_address(word: &str) -> bool {
     match Address::of(word) {
         Address::Unix(path) => !path.is_empty(),
@@ -22,7 +23,7 @@ pub fn is_address(word: &str) -> bool {
     }
 }
 
-/// Whether a word can be the address of the admin pages: `HOST:PORT`, or `unix:` and a path.
+/// Returns whether a word can be the address of the admin pages: `HOST:PORT`, or `unix:` and a path.
 pub fn is_admin_address(word: &str) -> bool {
     match Address::of(word) {
         Address::Given(_) => false,
@@ -31,7 +32,7 @@ pub fn is_admin_address(word: &str) -> bool {
 }
 
 impl<'a> Address<'a> {
-    /// The address that a word of the command line means: after `unix:` there is a path, and after `fd:` a number.
+    /// The address that a word of the command line means: a path after `unix:`, a number after `fd:`, else `HOST:PORT`.
     pub(crate) fn of(word: &'a str) -> Address<'a> {
         if let Some(path) = word.strip_prefix("unix:") {
             return Address::Unix(path);

@@ -1,4 +1,4 @@
-//! Answering the clients of the admin pages, by threads of their own beside those that serve streams.
+//! Answers the clients of the admin pages, in threads of its own beside those that serve streams.
 ghost use Rattle.std.specs.Prelude.{◌≤◌};
 ghost use Rattle.std.specs.Thread.{IsSync};
 
@@ -22,16 +22,17 @@ use std::thread;
 use std::thread::Threads;
 use std::time::{Clock, Duration};
 
-/// How many clients are answered at the same time. Further ones wait.
+/// How many clients are answered at the same time. Further clients wait.
 const ADMIN_THREADS: u32 = 4;
 
-/// For how many seconds a client of the pages is there in all.
+/// How many seconds a client of the pages may take in all.
 const ADMIN_SECONDS: u64 = 2;
 
-/// How many bytes are read at once of what nobody wants.
+/// How many bytes are read at a time of input that is dropped.
 const SCRAP: usize = 4096;
 
-/// Reads what still comes, and drops it: a stream that is closed before loses what it was just sent.
+/// Reads and drops what still comes. If a stream were closed with input unread, its client could lose what it was just
+/// sent.
 fn drain_rest<T: Read>(reader: &mut T) {
     let mut scrap = [0; SCRAP];
     for _read in 0..u64::MAX {
@@ -42,7 +43,8 @@ fn drain_rest<T: Read>(reader: &mut T) {
     }
 }
 
-/// Answers one client, which has so many seconds for all that it sends and takes. Why it had no answer, nobody asks.
+/// Answers one client. All that it sends and takes has `ADMIN_SECONDS` seconds. If it gets no answer, the reason is not
+/// reported.
 fn answer_client<R: Clock + RandomSource, O: Operated>(
     rt: &R,
     alloc: Global,
@@ -64,7 +66,7 @@ fn answer_client<R: Clock + RandomSource, O: Operated>(
     }
 }
 
-/// Answers clients, one after the other, until the inlet is shut.
+/// Answers clients, one after the other, until the listener is shut.
 pub(crate) fn answer_clients<R, G, O>(
     rt: &R,
     alloc: Global,
@@ -86,7 +88,8 @@ where
     }
 }
 
-/// Serves streams, and where there are admin pages answers their clients meanwhile, until the last stream has ended.
+/// Serves streams, until the last one has ended. If there are admin pages and the server counts, it answers their
+/// clients meanwhile.
 pub(crate) fn serve_beside<'a, R, G, L, J>(
     service: &'a Service<'a, R, G, L>,
     cached: &'a Cached,

@@ -1,4 +1,4 @@
-//! Asking a server's admin pages.
+//! Asks for the admin pages of a server.
 ghost use Rattle.std.specs.Prelude.{◌≡◌, ℕ, List, ◌++◌, IfOk, OnOk, OnErr};
 ghost use Rattle.cv_tcp.specs.Admin.{Adds};
 ghost use Rattle.cv_tcp.specs.Admin as spec;
@@ -16,22 +16,22 @@ use thiserror::Error;
 /// How many bytes an answer may have.
 const MOST_ANSWER: usize = 16 * 1024 * 1024;
 
-/// How many bytes are read at once.
+/// How many bytes are read at a time.
 const PIECE: usize = 4096;
 
-/// Why a page was not had. Its text is what the program says of it.
+/// Why a page was not obtained. Its text is the program's message.
 #[derive(Clone, Copy, Debug, PartialEq, Eq, Error)]
 pub enum AdminFault {
-    /// Nobody serves at the address, or it is none.
+    /// No server listens at the address, or it is not an address.
     #[error("cannot connect")]
     CannotConnect,
-    /// The server did not answer in time.
+    /// The server did not answer in time, or the clock cannot be read.
     #[error("no reply")]
     NoReply,
-    /// What came is no answer of HTTP, is cut off, or is longer than 16 MiB.
+    /// A read failed, or what came is not an HTTP answer, is cut off, is chunked, or is longer than 16 MiB.
     #[error("bad reply")]
     BadReply,
-    /// No memory was to be had.
+    /// An allocation failed.
     #[error("out of memory")]
     Memory,
 }
@@ -43,7 +43,7 @@ fn agrees(status: u16) -> bool
     status == 200 || status == 202
 }
 
-/// Appends all that comes until the other end has closed the stream.
+/// Appends all that comes until the other end closes the stream.
 fn read_to_end<T: Read>(reader: &mut T, got: &mut Vec<u8>) -> Result<(), AdminFault> {
     let mut piece = [0; PIECE];
     for _read in 0..MOST_ANSWER {
@@ -66,21 +66,21 @@ fn read_to_end<T: Read>(reader: &mut T, got: &mut Vec<u8>) -> Result<(), AdminFa
     Err(AdminFault::BadReply)
 }
 
-/// Sends the request for a page over a stream, and gives all that comes back.
+/// Sends the request for a page over a stream, and returns all that comes back.
 fn exchange<S: Read, T: Write>(
     alloc: Global,
     reader: &mut S,
     writer: &mut T,
     page: Page,
 ) -> Result<Vec<u8>, AdminFault> {
-    // A server that refuses early answers all the same.
+    // A server that refuses early stops reading, but still answers.
     let _ = writer.write_all(request_for(page));
     let mut got = Vec::new(alloc);
     read_to_end(reader, &mut got)?;
     Ok(got)
 }
 
-/// Appends the text of an answer. Gives whether its status is 200 or 202.
+/// Appends the text of an answer, and returns whether its status is 200 or 202.
 pub(crate) fn show_answer(answer: &[u8], text: &mut Vec<u8>) -> Result<bool, AdminFault>
     ensures added { IfOk result (λ is_well. Adds answer.now is_well text.old.items text.new.items) }
     ensures err { OnErr result (text.new.items ≡ text.old.items) }
@@ -94,7 +94,9 @@ pub(crate) fn show_answer(answer: &[u8], text: &mut Vec<u8>) -> Result<bool, Adm
     }
 }
 
-/// Asks for a page of the server at an address, within so many seconds in all, and appends its text. Gives whether the status is 200 or 202.
+/// Asks the server at an admin address for a page, appends the page's text to `text`, and returns whether the status is
+/// 200 or 202. Reads and writes end `timeout` seconds after the call begins. Connecting over TCP may take `timeout`
+/// seconds for each address that the host name has. A fault leaves `text` as it is.
 pub fn call_admin<R>(
     rt: &R,
     alloc: Global,

@@ -1,4 +1,4 @@
-//! Where the clients of the admin pages come in.
+//! The listener of the admin pages.
 use crate::address::Address;
 use crate::inlet::{Bound, Listener};
 use crate::socket_file::{self, FileId, SocketAt};
@@ -8,7 +8,7 @@ use std::fs::Files;
 use std::io::{self, ErrorKind};
 use std::net::{Net, SocketAddr, TcpListener, TcpStream};
 
-/// The address that the admin pages were to have.
+/// Shows the address that was given for the admin pages.
 #[derive(Clone, Copy, Debug)]
 pub(crate) struct AdminAt<'a>(pub(crate) &'a str);
 
@@ -19,7 +19,7 @@ impl Display for AdminAt<'_> {
     }
 }
 
-/// Where the admin pages are.
+/// The address of the admin pages.
 #[derive(Drop)]
 pub(crate) enum AdminPlace {
     At(SocketAddr),
@@ -41,7 +41,7 @@ impl Display for AdminPlace {
 pub(crate) struct AdminInlet {
     bound: Bound,
     place: AdminPlace,
-    /// Which file the listener has made, if it is a Unix socket.
+    /// The socket file that the listener has made, if it is a Unix socket.
     made: Option<FileId>,
 }
 
@@ -82,17 +82,17 @@ impl AdminInlet {
         match Address::of(address) {
             Address::Tcp(address) => open_tcp(rt, address),
             Address::Unix(path) => open_unix(rt, alloc, path),
-            // What was given is for streams.
+            // A listener that the process was given is for streams.
             Address::Given(_) => Err(io::Error::from(ErrorKind::InvalidInput)),
         }
     }
 
-    /// Where clients come in.
+    /// The listener.
     pub(crate) fn bound(&self) -> &Bound {
         &self.bound
     }
 
-    /// Where it is. At port 0 the system has chosen the port.
+    /// Its address. If the port was 0, this is the one that the system chose.
     pub(crate) fn place(&self) -> &AdminPlace {
         &self.place
     }

@@ -16,7 +16,7 @@ pub(crate) enum Connection {
 }
 
 impl Connection {
-    /// Sends what is written at once. If the system refuses this, bytes only arrive later.
+    /// Has the system send each write at once (TCP_NODELAY). If it refuses, bytes only arrive later.
     pub(crate) fn send_at_once(&self) {
         match self {
             Connection::Tcp(stream) => {
@@ -26,7 +26,7 @@ impl Connection {
         }
     }
 
-    /// Limits how long each later read or write waits. `None`: for ever.
+    /// Limits how long each later read or write waits. `None`: no limit.
     pub(crate) fn set_timeouts(&self, limit: Option<Duration>) -> io::Result<()> {
         match self {
             Connection::Tcp(stream) => {
@@ -40,7 +40,7 @@ impl Connection {
         }
     }
 
-    /// Tells the other end that nothing more is written.
+    /// Tells the other end that no more bytes come.
     pub(crate) fn end_writing(&self) {
         let _ = match self {
             Connection::Tcp(stream) => stream.shutdown(Shutdown::Write),
@@ -48,7 +48,7 @@ impl Connection {
         };
     }
 
-    /// Reads once, into the front of `buf`.
+    /// Reads once, into the start of `buf`.
     fn read_once(&self, buf: &mut [u8]) -> io::Result<usize>
         ensures { ReadsAtMost result buf.new }
     {
@@ -58,7 +58,7 @@ impl Connection {
         }
     }
 
-    /// Writes once, from the front of `bytes`.
+    /// Writes once, from the start of `bytes`.
     fn write_once(&self, bytes: &[u8]) -> io::Result<usize>
         ensures { WritesAtMost result bytes.now }
     {
@@ -80,14 +80,14 @@ impl Connection {
     }
 }
 
-/// Reads once by a reader that is lent.
+/// Reads once from a borrowed reader.
 fn read_by<T: Read + Drop>(mut reader: T, buf: &mut [u8]) -> io::Result<usize>
     ensures { ReadsAtMost result buf.new }
 {
     reader.read(buf)
 }
 
-/// Writes once by a writer that is lent.
+/// Writes once to a borrowed writer.
 fn write_by<T: Write + Drop>(mut writer: T, bytes: &[u8]) -> io::Result<usize>
     ensures { WritesAtMost result bytes.now }
 {

@@ -25,7 +25,7 @@ fn cause_of(fault: Option<StreamFault>) -> Cause
     }
 }
 
-/// What kind of fault a run ended by.
+/// The kind of the fault that ended a run.
 fn kind_of(fault: RunFault) -> FaultKind
     ensures { result ≡ kind_of fault }
 {
@@ -43,7 +43,7 @@ fn kind_of(fault: RunFault) -> FaultKind
 /// How many nanoseconds a second has.
 const SECOND: u64 = 1_000_000_000;
 
-/// What the server counts, and when it began: times are counted from there.
+/// The server's board, and when the server began: times are measured from there.
 #[derive(Drop)]
 pub(crate) struct Counters {
     board: Board,
@@ -54,7 +54,7 @@ pub(crate) struct Counters {
 }
 
 impl Counters {
-    /// Nothing was counted yet. So many threads serve, and the server, which has this version, begins now.
+    /// Counters at 0, for a server of this version that begins now and serves with `threads` threads.
     pub(crate) fn new<R: Clock>(
         rt: &R,
         alloc: Global,
@@ -70,7 +70,7 @@ impl Counters {
         })
     }
 
-    /// When the server began, in seconds since 1970.
+    /// When the server began, in seconds since 1970, or 0 if the clock could not be read.
     pub(crate) fn start_time(&self) -> u64 {
         self.start_time
     }
@@ -80,12 +80,12 @@ impl Counters {
         self.version.as_str()
     }
 
-    /// What is counted.
+    /// The board.
     pub(crate) fn board(&self) -> &Board {
         &self.board
     }
 
-    /// For how many nanoseconds the server has run, or 0 if the clock cannot be read.
+    /// How many nanoseconds the server has run, or 0 if the clock cannot be read.
     pub(crate) fn now<R: Clock>(&self, rt: &R) -> u64 {
         let Some(begun) = self.begun else {
             return 0;
@@ -100,13 +100,13 @@ impl Counters {
             .saturating_add(u64::from(lasted.subsec_nanos()))
     }
 
-    /// A stream begins at a place.
+    /// Notes that a stream begins at a place.
     pub(crate) fn begin<R: Clock + Wait>(&self, rt: &R, place: &Place, peer: Peer) {
         let now = self.now(rt);
         self.board.begin(rt, place, peer, now);
     }
 
-    /// The stream at a place has ended.
+    /// Notes that the stream at a place has ended, and counts why.
     pub(crate) fn end<R: Wait>(&self, rt: &R, place: &Place, fault: Option<StreamFault>) {
         let cause = cause_of(fault);
         let kind = match fault {
@@ -116,12 +116,12 @@ impl Counters {
         self.board.end(rt, place, cause, kind);
     }
 
-    /// An accept failed.
+    /// Counts a failed accept.
     pub(crate) fn note_failed_accept(&self) {
         self.board.note_fault(FaultKind::Accept);
     }
 
-    /// A client was sent away, since all places were taken.
+    /// Counts a client that was closed because all places were taken.
     pub(crate) fn note_refused(&self) {
         self.board.note_refused();
     }

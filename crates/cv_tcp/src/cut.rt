@@ -1,4 +1,4 @@
-//! Text that is cut where it is too long.
+//! Cuts texts that are too long.
 ghost use Rattle.std.specs.Prelude.{◌≡◌};
 
 use std::fmt::{self, Display, Formatter, Write};
@@ -10,7 +10,7 @@ pub(crate) struct Shortened<D> {
     most: usize,
 }
 
-/// A text of which at most so many bytes are shown.
+/// A text of which at most `most` bytes are shown.
 pub(crate) fn cut<D>(text: D, most: usize) -> Shortened<D>
     ensures text { result.text ≡ text }
     ensures most { result.most ≡ most }
@@ -33,7 +33,7 @@ impl<D: Display> Display for Shortened<D> {
     }
 }
 
-/// A writer that passes on as many bytes as there is room for, and whole characters only.
+/// A writer that passes on as many bytes as there is room for, but only whole characters.
 #[derive(Drop)]
 struct Shown<'f, W> {
     f: &'f mut Formatter<W>,

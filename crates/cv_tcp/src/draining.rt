@@ -7,16 +7,16 @@ use std::time::Clock;
 /// Milliseconds of a second.
 const SECOND: u64 = 1_000;
 
-/// Whether a server is drained, and for how long it then waits for its streams. Its threads share it.
+/// Whether a drain has begun, and how long it waits for streams. The server's threads share it.
 #[derive(Drop)]
 pub(crate) struct Draining {
-    /// For how many milliseconds a drain waits for streams.
+    /// How many milliseconds a drain waits for streams.
     limit: u64,
     /// When it began, in milliseconds of the clock and at least 1. 0: it has not begun.
     since: AtomicU64,
 }
 
-/// A drain has begun.
+/// A drain that has begun, and when.
 #[derive(Clone, Copy, Debug)]
 pub(crate) struct Begun {
     since: u64,
@@ -28,7 +28,7 @@ fn milliseconds<R: Clock>(rt: &R) -> Option<u64> {
     Some(u64::try_from(now.as_millis()).unwrap_or(u64::MAX))
 }
 
-/// Whether so much time has passed.
+/// Whether `limit` has passed from `since` to `now`.
 fn has_passed(limit: u64, since: u64, now: u64) -> bool
     ensures yes { result ≡ true → since + limit ≤ now }
     ensures no { result ≡ false → now < since + limit }
@@ -37,7 +37,7 @@ fn has_passed(limit: u64, since: u64, now: u64) -> bool
 }
 
 impl Draining {
-    /// It has not begun. Later it waits for so many seconds.
+    /// A drain that has not begun. Once it has, it waits `seconds` seconds.
     pub(crate) fn new(seconds: u32) -> Draining
         ensures { result.limit ≡ 1000 * seconds }
     {
@@ -47,7 +47,8 @@ impl Draining {
         }
     }
 
-    /// Begins it. If it has begun already, this changes nothing. By a clock that cannot be read its time is over at once.
+    /// Begins it. If it has begun already, this changes nothing. If the clock cannot be read, its time counts as over
+    /// at once.
     pub(crate) fn begin<R: Clock>(&self, rt: &R) {
         let now = milliseconds(rt).unwrap_or(1).max(1);
         let _ = self
@@ -55,7 +56,7 @@ impl Draining {
             .compare_exchange(0, now, Ordering::SeqCst, Ordering::SeqCst);
     }
 
-    /// Whether it has begun.
+    /// The drain, if it has begun.
     pub(crate) fn begun(&self) -> Option<Begun> {
         match self.since.load(Ordering::SeqCst) {
             0 => None,
@@ -63,7 +64,7 @@ impl Draining {
         }
     }
 
-    /// For how many milliseconds it has been going on, or 0.
+    /// How many milliseconds ago it began; 0 if it has not begun or the clock cannot be read.
     pub(crate) fn elapsed<R: Clock>(&self, rt: &R) -> u64 {
         match (self.begun(), milliseconds(rt)) {
             (Some(begun), Some(now)) => now.saturating_sub(begun.since),
@@ -71,7 +72,7 @@ impl Draining {
         }
     }
 
-    /// Whether it has begun and its time is over.
+    /// Whether it has begun, and its time is over or the clock cannot be read.
     pub(crate) fn is_over<R: Clock>(&self, rt: &R) -> bool {
         match self.begun() {
             None => false,

@@ -4,14 +4,14 @@ ghost use Rattle.std.specs.Prelude.{◌≡◌, ◌+◌, ◌<◌};
 /// How many lines were dropped.
 #[derive(Clone, Copy, Debug, PartialEq, Eq)]
 pub(crate) struct DroppedLines {
-    /// Since the log began.
+    /// How many since the log began.
     all: u64,
-    /// Those of them that no line has reported yet.
+    /// How many of them no line has reported yet.
     unreported: u64,
 }
 
 impl DroppedLines {
-    /// None.
+    /// No line was dropped.
     pub(crate) fn new() -> DroppedLines
         ensures all { result.all ≡ 0 }
         ensures unreported { result.unreported ≡ 0 }
@@ -36,7 +36,7 @@ impl DroppedLines {
         self.unreported
     }
 
-    /// One more was dropped.
+    /// Counts one more dropped line.
     pub(crate) fn add(&mut self)
         ensures all { self.old.all < u64.MAX → self.new.all ≡ self.old.all + 1 }
         ensures unreported { self.old.unreported < u64.MAX → self.new.unreported ≡ self.old.unreported + 1 }
@@ -45,7 +45,7 @@ impl DroppedLines {
         self.unreported = self.unreported.saturating_add(1);
     }
 
-    /// A line has reported all of them.
+    /// Notes that a line has reported all of them.
     pub(crate) fn report(&mut self)
         ensures all { self.new.all ≡ self.old.all }
         ensures unreported { self.new.unreported ≡ 0 }

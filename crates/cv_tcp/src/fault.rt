@@ -7,7 +7,7 @@ use cv_commands::{RunFault, status};
 use cv_loop::ServeFault;
 use thiserror::Error;
 
-/// Why a stream ended before its client ended it. Its text is what the log has of it.
+/// Why a stream ended before its client ended it. Its text is the log's message.
 #[derive(Clone, Copy, Debug, PartialEq, Eq, Error)]
 pub(crate) enum StreamFault {
     /// Nothing came for too long.
@@ -22,12 +22,13 @@ pub(crate) enum StreamFault {
     /// A drain ended it within a frame, or when the drain's time was over.
     #[error("cut by a drain")]
     Cut,
-    /// What serving ended by.
+    /// Serving ended by this fault.
     #[error("{0}")]
     Run(RunFault),
 }
 
-/// Why a stream ended that serving ended by this fault, where its last read, or its last write, gave up for want of time.
+/// Why a stream ended, if serving it ended by this fault. `late_read` and `late_write` say whether its last read and
+/// its last write timed out.
 pub(crate) fn end_of(fault: RunFault, late_read: bool, late_write: bool) -> StreamFault
     ensures { result ≡ end_of fault late_read late_write }
 {
@@ -38,7 +39,7 @@ pub(crate) fn end_of(fault: RunFault, late_read: bool, late_write: bool) -> Stre
     }
 }
 
-/// Why a stream ended, if its client didn't end it: of how serving it ended, and who ended it.
+/// Why a stream ended, if its client did not end it: from the fault of serving it, and who ended it.
 pub(crate) fn stream_end(fault: Option<StreamFault>, by: EndedBy) -> Option<StreamFault>
     ensures { result ≡ stream_end fault by }
 {
@@ -53,18 +54,19 @@ pub(crate) fn stream_end(fault: Option<StreamFault>, by: EndedBy) -> Option<Stre
     }
 }
 
-/// Why a call ended before each request had its reply. Its text is what the program says of it.
+/// Why a call ended before each request had its reply. Its text is the program's message.
 #[derive(Clone, Copy, Debug, PartialEq, Eq, Error)]
 pub enum CallFault {
     /// The server gave no reply in time.
     #[error("no reply")]
     NoReply,
-    /// What asking ended by.
+    /// Asking ended by this fault.
     #[error("{0}")]
     Run(RunFault),
 }
 
-/// Why a call ended that asking ended by this fault, where its last read, or its last write, gave up for want of time.
+/// Why a call ended, if asking ended by this fault. `late_read` and `late_write` say whether its last read and its last
+/// write timed out.
 pub(crate) fn call_end_of(fault: RunFault, late_read: bool, late_write: bool) -> CallFault
     ensures { result ≡ call_end_of fault late_read late_write }
 {
@@ -75,7 +77,7 @@ pub(crate) fn call_end_of(fault: RunFault, late_read: bool, late_write: bool) ->
     }
 }
 
-/// The exit status of a call that ended by this fault.
+/// Returns the exit status of a call that ended by this fault.
 pub fn call_status(fault: &CallFault) -> u8
     ensures { result ≡ call_status_of fault.now }
 {

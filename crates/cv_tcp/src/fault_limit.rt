@@ -1,26 +1,27 @@
-//! How many faults of a second are written.
+//! Limits how many faults of a second the log has.
 ghost use Rattle.std.specs.Prelude.{◌≡◌, ◌+◌, ◌-◌, ◌<◌, ◌≤◌, true, false};
 
-/// How many faults of a second are written. The others are counted.
+/// How many faults of a second are written. Further ones are only counted.
 const MOST: u32 = 100;
 
 /// How many nanoseconds a second has.
 const SECOND: u64 = 1_000_000_000;
 
-/// The faults of the current second, by a clock that counts nanoseconds. The next second begins with the first record after it is over.
+/// The faults of the current second, by a clock that counts nanoseconds. The next second begins with the first record
+/// after it is over.
 #[derive(Clone, Copy, Debug, PartialEq, Eq)]
 pub(crate) struct FaultLimit {
     /// When the second began.
     begun: u64,
     /// How many of its faults were written.
     written: u32,
-    /// How many were not, and were not reported yet.
+    /// How many were only counted, and not reported yet.
     counted: u64,
     ghost few: { written ≤ 100 },
 }
 
 impl FaultLimit {
-    /// Of a second without faults, at 0.
+    /// A second without faults, which begins at time 0.
     pub(crate) fn new() -> FaultLimit
         ensures begun { result.begun ≡ 0 }
         ensures written { result.written ≡ 0 }
@@ -33,8 +34,9 @@ impl FaultLimit {
         }
     }
 
-    /// A record comes at this time. If the second is over, the next begins, and the result is how many of its faults were counted.
-    /// They are counted no longer, since the caller reports them now. Within the second the result is 0.
+    /// Notes that a record comes at this time. If the second is over, the next one begins, and the result is how many
+    /// faults were only counted. The count is 0 again, since the caller reports them now. Within the second the result
+    /// is 0.
     pub(crate) fn pass(&mut self, now: u64) -> u64
         ensures over { 1000000000 ≤ now - self.old.begun → result ≡ self.old.counted }
         ensures begun { 1000000000 ≤ now - self.old.begun → self.new.begun ≡ now }
@@ -51,7 +53,7 @@ impl FaultLimit {
         self.take_counted()
     }
 
-    /// Whether a fault is written. Otherwise it is counted.
+    /// Whether a fault is written: the first 100 of a second are. Others are counted.
     pub(crate) fn admits(&mut self) -> bool
         ensures begun { self.new.begun ≡ self.old.begun }
         ensures yes { self.old.written < 100 → result ≡ true }
@@ -69,7 +71,7 @@ impl FaultLimit {
         false
     }
 
-    /// How many faults were counted. They are counted no longer, since the caller reports them now.
+    /// How many faults were only counted. The count is 0 again, since the caller reports them now.
     pub(crate) fn take_counted(&mut self) -> u64
         ensures taken { result ≡ self.old.counted }
         ensures counted { self.new.counted ≡ 0 }

@@ -10,19 +10,19 @@ use std::os::fd::{AsRawFd, IntoRawFd, OwnedFd};
 use std::os::unix::net::UnixListener;
 use std::time::Duration;
 
-/// EINVAL: what an accept says of a socket that does not listen.
+/// EINVAL, the error of an accept at a socket that does not listen.
 const NOT_LISTENING: i32 = 22;
 
-/// For how many seconds an accept waits before it gives up, so that its thread can look whether a drain has begun.
+/// How many seconds an accept waits before it gives up, so that its thread can check whether a drain has begun.
 const WAIT: u64 = 1;
 
-/// A listener that the process was given, and that another process may use at the same time or later. It is never shut.
+/// A listener that the process was given. Another process may use it at the same time or later, so it is never shut.
 #[derive(Drop)]
 pub(crate) struct Inherited {
     listener: Listener,
 }
 
-/// Whether a socket is ready for what no listener is ever ready for: a write, or an end.
+/// Whether a socket is ready to write, or has ended: a listener never is.
 fn is_stream(socket: &OwnedFd) -> bool {
     let mut asked = [pollfd {
         fd: socket.as_raw_fd(),
@@ -32,7 +32,7 @@ fn is_stream(socket: &OwnedFd) -> bool {
     poll(&mut asked, 0) != 0
 }
 
-/// Another descriptor of the open file that has this number. The number itself stays open.
+/// A duplicate of the descriptor with this number, which itself stays open.
 fn duplicate(number: u16) -> io::Result<OwnedFd> {
     let given = unsafe { OwnedFd::from_raw_fd(i32::from(number)) };
     let duplicate = given.try_clone();
@@ -40,7 +40,7 @@ fn duplicate(number: u16) -> io::Result<OwnedFd> {
     duplicate
 }
 
-/// The listener of TCP or of a Unix socket whose descriptor this is.
+/// The TCP or Unix listener that has this descriptor.
 fn listener_of(socket: OwnedFd) -> io::Result<Listener> {
     if is_stream(&socket) {
         return Err(io::Error::from_raw_os_error(NOT_LISTENING));
@@ -55,7 +55,7 @@ fn listener_of(socket: OwnedFd) -> io::Result<Listener> {
 }
 
 impl Inherited {
-    /// The listener that has this number.
+    /// The listener that the process was given as the descriptor with this number.
     pub(crate) fn new(number: u16) -> io::Result<Inherited> {
         let socket = TcpStream::from(duplicate(number)?);
         socket.set_read_timeout(Some(Duration::from_secs(WAIT)))?;

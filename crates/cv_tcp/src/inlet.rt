@@ -1,16 +1,17 @@
-//! Where streams come in.
+//! The listeners at which streams come in.
 use crate::connection::Connection;
 use std::io;
 use std::net::{Shutdown, TcpListener, TcpStream};
 use std::os::fd::OwnedFd;
 use std::os::unix::net::UnixListener;
 
-/// Where streams come in, for many threads at once.
+/// A listener that many threads may use at once.
 pub(crate) trait Inlet {
     /// Waits for the next stream.
     fn accept(&self) -> io::Result<Connection>;
 
-    /// Makes every `accept` end from now on, also those that are waiting.
+    /// Ends every `accept` from now on, also those that are waiting. A listener that the process was given is not shut:
+    /// each accept there gives up after a second.
     fn shut(&self);
 }
 
@@ -36,7 +37,7 @@ impl Listener {
         }
     }
 
-    /// Has its accepts wait, also if it was made otherwise.
+    /// Has its accepts wait, also if it was made non-blocking.
     pub(crate) fn wait_at_accepts(&self) -> io::Result<()> {
         match self {
             Listener::Tcp(listener) => listener.set_nonblocking(false),
@@ -44,7 +45,8 @@ impl Listener {
         }
     }
 
-    /// A second descriptor of the socket. std can shut a socket only as a stream; the system makes no difference.
+    /// A second descriptor of the socket. std can shut down a socket only as a stream; for the system they are the
+    /// same.
     fn socket(&self) -> io::Result<TcpStream> {
         let socket = match self {
             Listener::Tcp(listener) => OwnedFd::from(listener.try_clone()?),
@@ -54,7 +56,7 @@ impl Listener {
     }
 }
 
-/// A listener, and a second descriptor of its socket, by which it is shut.
+/// A listener, and a second descriptor of its socket, which is used to shut it.
 #[derive(Drop)]
 pub(crate) struct Bound {
     listener: Listener,
@@ -62,13 +64,13 @@ pub(crate) struct Bound {
 }
 
 impl Bound {
-    /// Takes the second descriptor now: once it is needed, there may be none.
+    /// Takes the second descriptor now: when it is needed, none may be free.
     pub(crate) fn new(listener: Listener) -> io::Result<Bound> {
         let socket = listener.socket()?;
         Ok(Bound { listener, socket })
     }
 
-    /// Another descriptor, by which it may be shut too.
+    /// Another descriptor, which can also shut it.
     pub(crate) fn door(&self) -> io::Result<TcpStream> {
         self.socket.try_clone()
     }

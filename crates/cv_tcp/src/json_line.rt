@@ -11,8 +11,8 @@ use std::alloc::{AllocError, Global};
 use std::fmt::Display;
 use std::time::Clock;
 
-/// How many bytes of a message are shown if the line is too long with the whole of it and its pairs. Escaped they are at most six times as
-/// many, and fit.
+/// How many bytes of a message are shown if the whole line is too long. Escaped, they take at most six times as many,
+/// which fit.
 const SHORT: usize = 600;
 
 /// Collects pairs as the members of a JSON object.
@@ -54,7 +54,7 @@ impl VisitSource for JsonPairs {
     }
 }
 
-/// The word of a level, as the command line has it.
+/// The word for a level, as in `--log`.
 fn level_word(level: Level) -> &'static str {
     match level {
         Level::Error => "error",
@@ -65,7 +65,8 @@ fn level_word(level: Level) -> &'static str {
     }
 }
 
-/// The first members of a record's object: its time (RFC 3339, UTC), if the clock can be read, its level and its message.
+/// The first members of a record's object: its time (RFC 3339, UTC), if the clock can be read, its level and its
+/// message.
 fn begun<D: Display>(
     alloc: Global,
     time: Option<Timestamp>,
@@ -97,7 +98,7 @@ fn whole_line<D: Display, K: kv::Source, S: Spans>(
     Value::Object(pairs.members).to_string(alloc)
 }
 
-/// A record as a JSON object that is no longer than a line: without its pairs, and with a message that is cut.
+/// A record as a JSON object that fits a line: without its pairs, and with its message cut.
 fn short_line<D: Display, K: kv::Source, S: Spans>(
     alloc: Global,
     time: Option<Timestamp>,
@@ -108,8 +109,8 @@ fn short_line<D: Display, K: kv::Source, S: Spans>(
     Value::Object(pairs.members).to_string(alloc)
 }
 
-/// A record as a JSON object: its time, its level, its message and its pairs. If that is longer than a line, the pairs are left out and the
-/// message is cut.
+/// A record as a JSON object: its time, its level, its message and its pairs. If that is longer than a line, the pairs
+/// are left out and the message is cut.
 pub(crate) fn json_line<R: AllocGlobal + Clock, D: Display, K: kv::Source, S: Spans>(
     rt: &R,
     record: &Record<'_, D, K, S>,

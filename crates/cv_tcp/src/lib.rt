@@ -1,4 +1,4 @@
-//! Serving and asking over TCP and Unix sockets.
+//! Serves clients, and asks servers, over TCP and Unix sockets.
 #![tactic(auto)]
 
 mod accepting;

@@ -10,13 +10,14 @@ use std::fmt::{self, Display, Formatter};
 /// How listening ended without a fault.
 #[derive(Clone, Copy, Debug, PartialEq, Eq)]
 pub enum Listened {
-    /// So many streams were served, which is all that there were to be.
+    /// All streams that the terms allow were served: `streams`.
     Served { streams: u64 },
-    /// A drain ended it. So many streams were served until then, of which so many were cut.
+    /// A drain ended it. Until then `streams` streams were served, and `cut` of them were cut.
     Drained { streams: u64, cut: u64 },
 }
 
-/// How listening ended by which so many turns were taken, of so many streams that there were to be. `None`: no drain has begun, and turns are left.
+/// How listening ended, from the turns that were taken and the number of streams that were wanted. `None`: no drain has
+/// begun, and turns are left.
 pub(crate) fn ended(total: Total, wanted: u64, is_drained: bool) -> Option<Listened>
     requires all { total.is_all ≡ true → total.served ≡ wanted }
     requires some { total.served ≤ wanted }
@@ -52,7 +53,8 @@ impl Display for Seconds {
     }
 }
 
-/// Logs that a drain has ended, what it cut, and how many milliseconds it took.
+/// Logs that a drain has ended, if one has: how many streams were served and cut, and how long it took. `elapsed` is in
+/// milliseconds.
 pub(crate) fn tell<G: Log>(log: &G, listened: Listened, elapsed: u64) {
     if let Listened::Drained { streams, cut } = listened {
         let seconds = Seconds(elapsed);

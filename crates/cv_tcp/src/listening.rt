@@ -1,4 +1,4 @@
-//! Listening at an address.
+//! Listens at an address.
 ghost use Rattle.std.specs.Prelude.{◌≡◌, ◌≤◌, IfOk, IfErr};
 ghost use Rattle.cv_tcp.specs.Faults.{IsOfListening};
 ghost use Rattle.cv_tcp.specs.Listening.{IsEnd};
@@ -18,14 +18,14 @@ use std::sync::Wait;
 use std::thread::Threads;
 use std::time::Clock;
 
-/// Logs how listening ended, and what the log has not told yet.
+/// Flushes the log, and logs a drain that ended listening.
 fn conclude<R: Clock, G: Log>(
     site: &Site<'_, R, G>,
     listened: Result<Listened, RunFault>,
 ) -> Result<Listened, RunFault>
     ensures { result ≡ listened }
 {
-    // The line of a drain is written however many faults of the same second there were.
+    // After a flush, the line of a drain is written however many faults the same second had.
     site.log.flush();
     if let Ok(listened) = listened {
         tell(site.log, listened, site.operation.drained_for(site.rt));
@@ -34,7 +34,8 @@ fn conclude<R: Clock, G: Log>(
     listened
 }
 
-/// Listens as `listen` does, until all streams are served or the operation is drained. A drain is logged when it has ended.
+/// Listens as `listen` does, until all streams are served or the operation is drained. It returns which of these ended
+/// it. A drain is logged when it has ended.
 pub fn listen_until_drained<'a, R, G>(
     rt: &'a R,
     alloc: Global,
@@ -56,10 +57,10 @@ where
     requires at_once { 1 ≤ terms.at_once }
     requires workers { (1 ≤ terms.workers) × (terms.workers ≤ 16) }
 
-    // All threads together took a turn for each stream that there was to be; or for fewer, and a drain had begun.
+    // All threads together took a turn for each wanted stream. Or a drain had begun, and they took at most as many.
     ensures end { IfOk result (λ listened. IsEnd terms.streams listened) }
 
-    // No fault of a stream is among these.
+    // The fault of a stream is not among these.
     ensures err { IfErr result IsOfListening }
 {
     let admin = None;
@@ -74,14 +75,14 @@ where
     conclude(&site, listen_at(&site, address))
 }
 
-/// Removes the socket file of the admin pages, if they have one.
+/// Removes the socket file of the admin pages, if there is one.
 fn remove_admin<R: Files, G>(site: &Site<'_, R, G>) {
     if let Some(admin) = site.admin {
         admin.remove(site.rt);
     }
 }
 
-/// Where a server listens.
+/// The addresses at which a server listens.
 #[derive(Clone, Copy, Debug, PartialEq, Eq)]
 pub struct Addresses<'a> {
     /// For its streams.
@@ -90,8 +91,9 @@ pub struct Addresses<'a> {
     pub admin: &'a str,
 }
 
-/// Listens as `listen_until_drained` does, and meanwhile answers the clients of the admin pages at an address of their own. It is printed
-/// after the other one. The pages are there until the last stream has ended. They are whole where the operation counts.
+/// Listens as `listen_until_drained` does, and meanwhile answers the clients of the admin pages at an address of their
+/// own. That address is printed after the other one. The pages are answered until the last stream has ended, and only
+/// if the operation counts (`Operation::counted`).
 pub fn listen_administered<'a, R, G>(
     rt: &'a R,
     alloc: Global,
@@ -113,10 +115,10 @@ where
     requires at_once { 1 ≤ terms.at_once }
     requires workers { (1 ≤ terms.workers) × (terms.workers ≤ 16) }
 
-    // All threads together took a turn for each stream that there was to be; or for fewer, and a drain had begun.
+    // All threads together took a turn for each wanted stream. Or a drain had begun, and they took at most as many.
     ensures end { IfOk result (λ listened. IsEnd terms.streams listened) }
 
-    // No fault of a stream is among these.
+    // The fault of a stream is not among these.
     ensures err { IfErr result IsOfListening }
 {
     if let Err(failure) = check_given(addresses.streams) {
@@ -139,8 +141,9 @@ where
     conclude(&site, listened)
 }
 
-/// Listens at an address, prints it on standard output, and serves streams by these terms, each by a new pool of workers and all with one
-/// cache of compiled charmaps. The fault of a stream goes to the log, and the next is served.
+/// Listens at an address, prints the address on standard output, serves streams by these terms, and returns how many.
+/// Each stream has a new pool of workers; all share one cache of compiled charmaps. The fault of a stream is logged,
+/// and the next stream is served.
 pub fn listen<R, G>(
     rt: &R,
     alloc: Global,
@@ -161,16 +164,16 @@ where
     requires at_once { 1 ≤ terms.at_once }
     requires workers { (1 ≤ terms.workers) × (terms.workers ≤ 16) }
 
-    // All threads together took a turn for each stream that there was to be.
+    // All threads together took a turn for each wanted stream.
     ensures served { IfOk result (λ n. n ≡ terms.streams) }
 
-    // No fault of a stream is among these.
+    // The fault of a stream is not among these.
     ensures err { IfErr result IsOfListening }
 {
     let operation = Operation::new(&terms);
     match listen_until_drained(rt, alloc, log, address, terms, &operation)? {
         Listened::Served { streams } => Ok(streams),
-        // Nobody can drain it.
+        // This operation cannot be drained.
         Listened::Drained { .. } => Err(RunFault::AcceptFailed),
     }
 }

@@ -1,4 +1,4 @@
-//! Where a server reports what becomes of its streams.
+//! The log of a server.
 ghost use Rattle.std.specs.Prelude.{◌≡◌};
 
 use crate::dropped_lines::DroppedLines;
@@ -14,36 +14,37 @@ use std::sync::atomic::{AtomicU64, Ordering};
 use std::sync::{Mutex, Wait};
 use std::time::Clock;
 
-/// How a record is written: as a sentence or as a JSON object.
+/// How a record is written: as a line of text or as a JSON object.
 #[derive(Clone, Copy, Debug, PartialEq, Eq)]
 pub enum LogFormat {
     Text,
     Json,
 }
 
-/// What a log knows of the records that it did not write.
+/// The counts of what a log did not write.
 #[derive(Drop)]
 struct Unwritten {
     faults: FaultLimit,
     lines: DroppedLines,
 }
 
-/// A log whose records are lines of an outlet. Records above its level are dropped. Of the errors within a second the first 100 are written,
-/// and how many more there were is one line before the next record, or at a flush, after which a second begins anew. A line that the outlet does
-/// not take at once is dropped, and once it takes lines again, one says how many were.
+/// A log that writes its records as lines to an outlet. Records above its level are dropped. Of the errors within a
+/// second the first 100 are written. One line says how many more there were: before the first record after that second,
+/// or at a flush, which ends the second. A line that the outlet does not take at once is dropped. When the outlet takes
+/// lines again, one line says how many were dropped.
 #[derive(Drop)]
 pub struct LogLines<'a, R, O> {
     rt: &'a R,
     outlet: O,
     level: LevelFilter,
     format: LogFormat,
-    /// Where it tells how many lines it has dropped.
+    /// The counter in which it keeps how many lines it has dropped, for others to read.
     lost: Option<&'a AtomicU64>,
     unwritten: Mutex<Unwritten>,
 }
 
 impl<'a, R, O> LogLines<'a, R, O> {
-    /// A log of an outlet, at a level and in a format. No line of it was dropped.
+    /// Returns a log that writes to an outlet, with this level and this format.
     pub fn new(rt: &'a R, outlet: O, level: LevelFilter, format: LogFormat) -> LogLines<'a, R, O>
         ensures rt { result.rt ≡ rt.entry }
         ensures outlet { result.outlet ≡ outlet }
@@ -65,7 +66,7 @@ impl<'a, R, O> LogLines<'a, R, O> {
 }
 
 impl<'a, R, O> LogLines<'a, R, O> {
-    /// The same log, which keeps in a cell how many lines it has dropped.
+    /// Returns the same log, which also keeps in `lost` how many lines it has dropped.
     pub fn telling(self, lost: &'a AtomicU64) -> LogLines<'a, R, O>
         ensures rt { result.rt ≡ self.entry.rt }
         ensures outlet { result.outlet ≡ self.entry.outlet }
@@ -78,7 +79,7 @@ impl<'a, R, O> LogLines<'a, R, O> {
         }
     }
 
-    /// One more line was dropped.
+    /// Counts a dropped line.
     fn drop_line(&self, dropped: &mut DroppedLines) {
         dropped.add();
         if let Some(lost) = self.lost {
@@ -88,20 +89,20 @@ impl<'a, R, O> LogLines<'a, R, O> {
 }
 
 impl<'a, R: Wait, O> LogLines<'a, R, O> {
-    /// How many lines were dropped, since the outlet did not take them or they found no memory.
+    /// Returns how many lines were dropped, because the outlet did not take them or an allocation failed.
     pub fn dropped(&self) -> u64 {
         self.unwritten.lock(self.rt).lines.all()
     }
 }
 
 impl<'a, R: AllocGlobal + Clock, O: Outlet> LogLines<'a, R, O> {
-    /// The time of the clock that never goes back.
+    /// The time of the monotonic clock, in nanoseconds.
     fn now(&self) -> io::Result<u64> {
         let time = self.rt.monotonic()?;
         Ok(u64::try_from(time.as_nanos()).unwrap_or(u64::MAX))
     }
 
-    /// Writes a record, unless it would have to wait. Whether it was written.
+    /// Writes a record, unless it would have to wait, and returns whether it was written.
     fn put<D: Display, K: kv::Source, S: Spans>(&self, record: &Record<'_, D, K, S>) -> bool {
         match self.format {
             LogFormat::Text => {
@@ -118,10 +119,10 @@ impl<'a, R: AllocGlobal + Clock, O: Outlet> LogLines<'a, R, O> {
         }
     }
 
-    /// Writes how many there were of something, as an error.
+    /// Writes a count as a record of level error, and returns whether it was written.
     fn put_count<D: Display + Drop>(&self, count: u64, message: D) -> bool {
         let metadata = Metadata::new(Level::Error, "");
-        // A sentence has the number in its words.
+        // In text, the message has the number.
         let pairs = match self.format {
             LogFormat::Text => None,
             LogFormat::Json => Some(("count", count)),
@@ -129,7 +130,7 @@ impl<'a, R: AllocGlobal + Clock, O: Outlet> LogLines<'a, R, O> {
         self.put(&Record::new(metadata, message, pairs, ()))
     }
 
-    /// Reports the lines that were dropped, if there are any. Whether none is left that no line has reported.
+    /// Reports the dropped lines that no line has reported yet, and returns whether none is left.
     fn report_dropped(&self, dropped: &mut DroppedLines) -> bool {
         let count = dropped.unreported();
         if count == 0 {
@@ -143,7 +144,7 @@ impl<'a, R: AllocGlobal + Clock, O: Outlet> LogLines<'a, R, O> {
         is_written
     }
 
-    /// Reports the faults of a second that were counted, if there are any.
+    /// Reports the faults of a second that were only counted, if there are any.
     fn report_faults(&self, dropped: &mut DroppedLines, count: u64) {
         if count == 0 {
             return;
@@ -175,7 +176,7 @@ impl<'a, R: AllocGlobal + Clock + Wait, O: Outlet> Log for LogLines<'a, R, O> {
         }
         let mut unwritten = self.unwritten.lock(self.rt);
         let Unwritten { faults, lines } = &mut *unwritten;
-        // A clock that cannot be read limits nothing.
+        // If the clock cannot be read, there is no limit.
         if let Ok(now) = self.now() {
             self.report_faults(lines, faults.pass(now));
             if record.level() == Level::Error && !faults.admits() {

@@ -1,4 +1,4 @@
-//! What a server does, for those who ask, and how it is drained.
+//! The state of a running server, and how it is drained.
 ghost use Rattle.std.specs.Prelude.{◌≡◌, None, IsSome, IfOk};
 
 use crate::counters::Counters;
@@ -12,20 +12,20 @@ use std::sync::atomic::{AtomicU64, Ordering};
 use std::sync::{Mutex, Wait};
 use std::time::Clock;
 
-/// What a server does. The threads that serve share it with those who ask, and who drain it.
+/// The state of a running server. The threads that serve share it with those that read it or begin a drain.
 #[derive(Drop)]
 pub struct Operation {
     pub(crate) places: Places,
     pub(crate) draining: Option<Draining>,
     pub(crate) counters: Option<Counters>,
-    /// How many lines the log has dropped, as it tells.
+    /// How many lines the log has dropped. The log writes it.
     lost_lines: AtomicU64,
-    /// A second descriptor of the listener, by which a drain ends the accepts that wait.
+    /// A second descriptor of the listener, with which a drain ends the accepts that wait.
     door: Mutex<Option<TcpStream>>,
 }
 
 impl Operation {
-    /// Of a server that cannot be drained.
+    /// Returns the state of a server that cannot be drained and counts nothing.
     pub fn new(terms: &Terms) -> Operation
         ensures { result.draining ≡ None }
     {
@@ -39,7 +39,7 @@ impl Operation {
         }
     }
 
-    /// Of a server that can be drained.
+    /// Returns the state of a server that can be drained. It counts nothing.
     pub fn with_drain(terms: &Terms) -> Operation
         ensures { IsSome result.draining }
     {
@@ -48,7 +48,8 @@ impl Operation {
         operation
     }
 
-    /// Of a server that can be drained, and whose streams are counted from now on. The version is what its metrics tell.
+    /// Returns the state of a server that can be drained, and counts its streams from now on. The metrics show
+    /// `version`. It fails if an allocation fails.
     pub fn counted<R: Clock>(
         rt: &R,
         alloc: Global,
@@ -64,7 +65,7 @@ impl Operation {
         Ok(operation)
     }
 
-    /// Where the log tells how many lines it has dropped.
+    /// Returns the counter in which the log keeps how many lines it has dropped (`LogLines::telling`).
     pub fn lost_lines(&self) -> &AtomicU64 {
         &self.lost_lines
     }
@@ -82,7 +83,7 @@ impl Operation {
         }
     }
 
-    /// For how many milliseconds a drain has been going on, or 0.
+    /// How many milliseconds ago a drain began; 0 without one.
     pub(crate) fn drained_for<R: Clock>(&self, rt: &R) -> u64 {
         match &self.draining {
             Some(draining) => draining.elapsed(rt),
@@ -90,7 +91,7 @@ impl Operation {
         }
     }
 
-    /// Whether a client that connects now is served at once.
+    /// Returns whether a client that connects now is served at once.
     pub fn health<R: Wait>(&self, rt: &R) -> Health {
         if self.is_draining() {
             Health::Draining
@@ -101,8 +102,9 @@ impl Operation {
         }
     }
 
-    /// Begins a drain, if the server can be drained: no new stream is served from now on. Streams that are served end once they are silent,
-    /// or when the drain's time is over. If it has begun already, this changes nothing.
+    /// Begins a drain, if the server can be drained: no new stream is served from now on. A stream that is being served
+    /// ends when its client is silent for a second, or when the drain's time is over. If a drain has begun already,
+    /// this changes nothing.
     pub fn drain<R: Wait + Clock>(&self, rt: &R) {
         let Some(draining) = &self.draining else {
             return;
@@ -114,12 +116,12 @@ impl Operation {
         }
     }
 
-    /// How many streams are served.
+    /// Returns how many streams are being served.
     pub fn streams<R: Wait>(&self, rt: &R) -> u64 {
         self.places.taken(rt)
     }
 
-    /// Has a drain shut this listener.
+    /// Sets the descriptor with which a drain shuts the listener.
     pub(crate) fn set_door<R: Wait>(&self, rt: &R, socket: TcpStream) {
         *self.door.lock(rt) = Some(socket);
     }

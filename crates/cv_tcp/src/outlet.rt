@@ -1,4 +1,4 @@
-//! Where the lines of a log go.
+//! The outlet of a log's lines.
 ghost use Rattle.std.specs.Prelude.{◌≡◌};
 
 use crate::cut::cut;
@@ -6,24 +6,24 @@ use libc::net::{POLLOUT, poll};
 use libc::types::pollfd;
 use std::fmt::Display;
 
-/// How many bytes of a line are written. With the `…` of one that is cut and its newline there are 4,096: so many a pipe takes at once
-/// where `poll` says that it can be written to (pipe(7), `PIPE_BUF`).
+/// How many bytes of a line are written. A cut line with its `…` and its newline has 4,096 bytes. A pipe takes that
+/// many at once when `poll` says that it can be written to (pipe(7), `PIPE_BUF`).
 pub(crate) const LONGEST: usize = 4_092;
 
-/// Where lines go, one after the other. One thread at a time writes them.
+/// Takes lines, one after the other. Only one thread at a time writes.
 pub trait Outlet {
-    /// Writes a line, if that can be done without waiting. Whether it was written.
+    /// Writes a line, unless it would have to wait, and returns whether it was written.
     fn put<D: Display + Drop>(&self, line: D) -> bool;
 }
 
-/// The standard error. A line of more than 4,092 bytes is cut and ends in `…`.
+/// Standard error. A line of more than 4,092 bytes is cut and ends in `…`.
 #[derive(Drop)]
 pub struct StandardError<'a, R> {
     rt: &'a R,
 }
 
 impl<'a, R> StandardError<'a, R> {
-    /// The standard error of this runtime.
+    /// Returns the standard error of this runtime.
     pub fn new(rt: &'a R) -> StandardError<'a, R>
         ensures { result.rt ≡ rt.entry }
     {
@@ -31,7 +31,8 @@ impl<'a, R> StandardError<'a, R> {
     }
 }
 
-/// Whether the standard error takes a line now. A regular file always does, and what is closed or has no reader fails at once.
+/// Whether standard error takes a line now. A regular file always does. A closed descriptor, or a pipe without a
+/// reader, fails at once.
 fn is_ready() -> bool {
     let mut asked = [pollfd {
         fd: libc::STDERR_FILENO,

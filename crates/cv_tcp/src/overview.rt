@@ -1,4 +1,4 @@
-//! What the admin pages show of a server, and what they do to it.
+//! What the admin pages show of a server, and how they drain it.
 use crate::counters::Counters;
 use crate::operation::Operation;
 use crate::streams::Service;
@@ -23,7 +23,7 @@ pub(crate) struct Overview<'a, R, G> {
 }
 
 impl<'a, R: Wait, G: Log> Overview<'a, R, G> {
-    /// Of a service that is counted so, and whose streams share this cache.
+    /// The overview of a service with these counters, whose streams share this cache.
     pub(crate) fn new<L>(
         service: &Service<'a, R, G, L>,
         cached: &'a Cached,
@@ -39,7 +39,7 @@ impl<'a, R: Wait, G: Log> Overview<'a, R, G> {
         }
     }
 
-    /// What the metrics tell besides what is counted of streams.
+    /// The values in the metrics that the board does not count.
     fn told(&self) -> Told<'_> {
         let cache = self.cached.counts();
         Told {

@@ -6,10 +6,10 @@ use std::fmt::{self, Display, Formatter};
 use std::sync::{Mutex, Wait};
 use std::time::{Clock, Duration, Instant};
 
-/// For how many seconds it is not logged again that all places are taken.
+/// How many seconds must pass before it is logged again that all places are taken.
 const QUIET: u64 = 1;
 
-/// How many streams are served, of how many at most.
+/// How many places there are, and how many are taken.
 #[derive(Drop)]
 struct Taken {
     most: u64,
@@ -39,7 +39,7 @@ impl Taken {
         true
     }
 
-    /// A place is free again.
+    /// Frees a place.
     fn free(&mut self)
         ensures most { self.new.most ≡ self.old.most }
         ensures freed { 0 < self.old.taken → self.new.taken + 1 ≡ self.old.taken }
@@ -47,7 +47,7 @@ impl Taken {
         self.taken = self.taken.saturating_sub(1);
     }
 
-    /// There are no more places than this, except those that are taken.
+    /// Sets the number of places to `most`, or to the number that is taken if that is more.
     fn limit(&mut self, most: u64)
         ensures taken { self.new.taken ≡ self.old.taken }
         ensures most { most ≤ self.new.most }
@@ -56,17 +56,17 @@ impl Taken {
     }
 }
 
-/// What the log says of the places.
+/// What the log last said of the places.
 #[derive(Drop)]
 struct Said {
-    /// Whether its last line says that all are taken.
+    /// Whether its last line says that all places are taken.
     is_full: bool,
     /// When it said so last.
     at: Option<Instant>,
 }
 
 impl Said {
-    /// Whether it is said now that all are taken: at most once a second.
+    /// Whether the log says now that all places are taken: at most once a second, and not if its last line says so.
     fn says_full(&mut self, now: Option<Instant>) -> bool {
         let is_due = match (self.at, now) {
             (Some(at), Some(now)) => now.duration_since(at) >= Duration::from_secs(QUIET),
@@ -80,7 +80,7 @@ impl Said {
         is_said
     }
 
-    /// Whether it is said now that a place is free again: if the last line says that all are taken.
+    /// Whether the log says now that a place is free again: if its last line says that all are taken.
     fn says_free(&mut self) -> bool {
         let was_full = self.is_full;
         self.is_full = false;
@@ -99,7 +99,7 @@ pub(crate) struct Place {
 pub(crate) struct Places {
     taken: Mutex<Taken>,
     said: Mutex<Said>,
-    /// Whether the log has a line where all are taken: not if there is a single place, which each stream takes.
+    /// Whether the log says that all places are taken: not if there is a single place and further clients wait for it.
     is_logged: bool,
 }
 
@@ -118,7 +118,7 @@ impl Display for All {
 }
 
 impl Places {
-    /// So many places, all free.
+    /// The places of a server: `most` places, all free.
     pub(crate) fn new(most: u64, is_logged: bool) -> Places {
         Places {
             taken: Mutex::new(Taken { most, taken: 0 }),
@@ -132,7 +132,7 @@ impl Places {
 
     /// Takes a place, if one is free.
     pub(crate) fn take<R: Wait + Clock, G: Log>(&self, rt: &R, log: &G) -> Option<Place> {
-        // Held until the line is written: the last line is what holds now.
+        // Held until the line is written, so that the last line says what is true now.
         let mut said = self.said.lock(rt);
         let mut taken = self.taken.lock(rt);
         let is_taken = taken.take();
@@ -161,7 +161,7 @@ impl Places {
         }
     }
 
-    /// Leaves so many places, since there are no threads for more.
+    /// Limits the places to `most`, because there are no threads for more.
     pub(crate) fn limit<R: Wait>(&self, rt: &R, most: u64) {
         self.taken.lock(rt).limit(most);
     }

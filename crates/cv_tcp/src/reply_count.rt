@@ -1,4 +1,4 @@
-//! Counting the replies of a stream, and no more.
+//! Counts the replies of a stream, for servers that count nothing else.
 ghost use Rattle.std.specs.Prelude.{◌≤◌, length};
 
 use crate::metered::Counts;
@@ -32,7 +32,7 @@ impl<'a, G: Log> ReplyCount<'a, G> {
     }
 }
 
-/// How many frames end in these bytes. It notes whether a reply says that an allocation failed.
+/// How many frames end in these bytes. It sets `has_lacked` if one says that an allocation failed.
 fn frames_in(scan: &mut Scan, bytes: &[u8], has_lacked: &mut bool) -> u64
     ensures { result ≤ length bytes.now }
 {

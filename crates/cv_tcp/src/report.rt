@@ -6,20 +6,21 @@ use log::{Level, Log, debug, info, log};
 use std::fmt::{self, Display, Formatter};
 use std::time::{Clock, Instant};
 
-/// What a stream came to.
+/// How a stream ended.
 #[derive(Clone, Copy, Debug, PartialEq, Eq)]
 pub(crate) struct Ended {
     /// Why it ended, unless its client ended it.
     pub(crate) fault: Option<StreamFault>,
     /// How many requests had their whole reply written.
     pub(crate) requests: u64,
-    /// How many bytes came.
+    /// How many bytes were read.
     pub(crate) read: u64,
-    /// How many bytes went.
+    /// How many bytes were written.
     pub(crate) written: u64,
 }
 
-/// How much a fault that ends a stream tells the operator: that a client was silent for too long is usual.
+/// The level at which the end of a stream by this fault is logged: info for an idle or a drained client, which is
+/// usual, else error.
 fn level_of(fault: StreamFault) -> Level {
     match fault {
         StreamFault::Idle | StreamFault::Drained => Level::Info,
@@ -39,7 +40,7 @@ impl Display for Requests {
     }
 }
 
-/// Says that an allocation failed for a client. Nothing that it sent is said.
+/// Logs that an allocation failed for a client. It logs nothing of what the client sent.
 #[inline(never)]
 pub(crate) fn report_lack<G: Log>(log: &G, peer: Peer) {
     info!(log; peer:% = peer; "memory refused to {peer}");
@@ -53,7 +54,7 @@ pub(crate) struct Report {
 }
 
 impl Report {
-    /// A stream begins.
+    /// Notes when a stream begins, and logs it.
     pub(crate) fn begin<R: Clock, G: Log>(rt: &R, log: &G, stream: &Connection) -> Report {
         let report = Report {
             peer: stream.peer(),
@@ -63,13 +64,13 @@ impl Report {
         report
     }
 
-    /// For how many seconds the stream has been there, if the clock can be read.
+    /// How many seconds ago the stream began, if the clock can be read.
     fn seconds<R: Clock>(&self, rt: &R) -> Option<f64> {
         let lasted = self.begun?.elapsed(rt).ok()?;
         Some(lasted.as_secs_f64())
     }
 
-    /// The stream has ended: one record, an error if it ended by a fault.
+    /// Logs the end of the stream as one record, at the level of its fault; without a fault at level info.
     pub(crate) fn end<R: Clock, G: Log>(&self, rt: &R, log: &G, ended: Ended) {
         let seconds = self.seconds(rt);
         let Ended {

@@ -1,4 +1,4 @@
-//! Listening wherever an address is.
+//! Listens at an address of any kind.
 ghost use Rattle.std.specs.Prelude.{◌≡◌, ◌≤◌, IfOk, IfErr};
 ghost use Rattle.cv_commands.specs.declared.fault.RunFault.TheVariants as RunFault;
 ghost use Rattle.cv_tcp.specs.Faults.{IsOfListening};
@@ -25,7 +25,7 @@ use std::sync::Wait;
 use std::thread::Threads;
 use std::time::Clock;
 
-/// Prints where the program listens, in one write, and logs it.
+/// Prints the address at which the program listens, in one write, and logs it.
 fn announce<R: Print, G: Log, D: Display + Drop>(
     rt: &R,
     alloc: Global,
@@ -40,7 +40,7 @@ fn announce<R: Print, G: Log, D: Display + Drop>(
     Ok(())
 }
 
-/// Prints where the admin pages are, if they are anywhere, and logs it.
+/// Prints the address of the admin pages, if there are any, and logs it.
 fn announce_admin<R: Print, G: Log>(site: &Site<'_, R, G>) -> Result<(), RunFault>
     ensures { IfErr result IsOfListening }
 {
@@ -54,7 +54,7 @@ fn announce_admin<R: Print, G: Log>(site: &Site<'_, R, G>) -> Result<(), RunFaul
     Ok(())
 }
 
-/// Logs why nobody can listen at an address.
+/// Logs why the program cannot listen at an address, and returns the fault.
 pub(crate) fn refuse<G: Log, D: Display + Drop>(
     log: &G,
     address: D,
@@ -66,7 +66,7 @@ pub(crate) fn refuse<G: Log, D: Display + Drop>(
     RunFault::CannotListen
 }
 
-/// What listening needs, wherever it listens.
+/// What listening needs at an address of any kind.
 #[derive(Drop)]
 pub(crate) struct Site<'a, R, G> {
     pub(crate) rt: &'a R,
@@ -74,11 +74,11 @@ pub(crate) struct Site<'a, R, G> {
     pub(crate) log: &'a G,
     pub(crate) terms: Terms,
     pub(crate) operation: &'a Operation,
-    /// Where the admin pages are, if they are anywhere.
+    /// The listener of the admin pages, if there are any.
     pub(crate) admin: &'a Option<AdminInlet>,
 }
 
-/// Prints where the program listens, and serves the streams that come in there.
+/// Prints the address at which the program listens, and serves the streams that come in there.
 fn serve_at<R, G, L, D>(site: &Site<'_, R, G>, inlet: &L, address: D) -> Result<Listened, RunFault>
 where
     R: Print + Clock + RandomSource + Threads + Wait + Sync,
@@ -190,7 +190,8 @@ fn given(number: Option<u16>) -> io::Result<Inherited> {
     }
 }
 
-/// Looks whether an address that names a descriptor names a listener. Once other files are opened, one of them may have that number.
+/// Checks that an address which names a descriptor names a listener. It is called before other files are opened,
+/// because one of them could get that number.
 pub(crate) fn check_given(address: &str) -> io::Result<()> {
     match Address::of(address) {
         Address::Given(number) => {
@@ -201,7 +202,7 @@ pub(crate) fn check_given(address: &str) -> io::Result<()> {
     }
 }
 
-/// Listens by a listener that the process was given and serves the streams that come in there. The listener stays as it is.
+/// Serves the streams that come in at a listener that the process was given. The listener is not shut.
 pub(crate) fn listen_given<R, G>(
     site: &Site<'_, R, G>,
     address: &str,
@@ -221,7 +222,7 @@ where
     }
 }
 
-/// Listens wherever the address is.
+/// Listens at an address of any kind, and serves the streams that come in there.
 pub(crate) fn listen_at<R, G>(site: &Site<'_, R, G>, address: &str) -> Result<Listened, RunFault>
 where
     R: Net<Listener = TcpListener, Stream = TcpStream>

@@ -17,7 +17,7 @@ impl Display for SocketAt<'_> {
     }
 }
 
-/// Whether the path names the socket of a server that is dead: a socket to which nobody listens.
+/// Whether the path names the socket of a dead server: a socket file at which no process listens.
 fn is_stale<R: Files + Net>(rt: &R, path: &str) -> bool {
     let is_socket = match fs::symlink_metadata(rt, path) {
         Ok(metadata) => metadata.file_type().is_socket(),
@@ -30,8 +30,8 @@ fn is_stale<R: Files + Net>(rt: &R, path: &str) -> bool {
         }
 }
 
-/// Listens at a path. The socket file that a dead server left is replaced; any other file that is there is a fault. Who may connect, the
-/// process's umask decides.
+/// Listens at a path. It replaces the socket file that a dead server left; any other file there is a fault. The
+/// process's umask decides who may connect.
 pub(crate) fn bind<R: Files + Net>(rt: &R, path: &str) -> io::Result<UnixListener> {
     if path.is_empty() {
         // The system would choose a name that no client knows.
@@ -46,14 +46,14 @@ pub(crate) fn bind<R: Files + Net>(rt: &R, path: &str) -> io::Result<UnixListene
     }
 }
 
-/// Which file is at a path, as the system numbers files. No other has these numbers while a descriptor of its socket is open.
+/// The numbers by which the system identifies a file. No other file has them while a descriptor of its socket is open.
 #[derive(Clone, Copy, Debug, PartialEq, Eq)]
 pub(crate) struct FileId {
     device: u64,
     number: u64,
 }
 
-/// Which file is at a path, if any is.
+/// The file at a path, if there is one.
 pub(crate) fn id_of<R: Files>(rt: &R, path: &str) -> Option<FileId> {
     let metadata = fs::symlink_metadata(rt, path).ok()?;
     Some(FileId {
@@ -62,7 +62,7 @@ pub(crate) fn id_of<R: Files>(rt: &R, path: &str) -> Option<FileId> {
     })
 }
 
-/// Removes the socket file of a server that has ended. It stays if it is no longer the one that this server made: while the last streams of a
+/// Removes the socket file of a server that has ended, unless another file has replaced it: while the last streams of a
 /// drain are served, the next server may listen at the same path.
 pub(crate) fn remove<R: Files>(rt: &R, path: &str, made: Option<FileId>) {
     if made.is_some() && id_of(rt, path) == made {

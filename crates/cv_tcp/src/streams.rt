@@ -1,4 +1,4 @@
-//! Serving streams, many at once.
+//! Serves streams, many at once.
 ghost use Rattle.std.specs.Prelude.{◌≡◌, ◌+◌, ◌≤◌, ◌⊎◌, IfOk, IfErr};
 ghost use Rattle.std.specs.Thread.{IsSync};
 ghost use Rattle.cv_tcp.specs.Listening.{IsEnd};
@@ -38,11 +38,11 @@ pub(crate) struct Service<'a, R, G, L> {
     pub(crate) inlet: &'a L,
     pub(crate) terms: Terms,
     pub(crate) operation: &'a Operation,
-    /// Where the admin pages are, if they are anywhere.
+    /// The listener of the admin pages, if there are any.
     pub(crate) admin: &'a Option<AdminInlet>,
 }
 
-/// Serves a stream by the thread of this number. It is counted, where the server counts.
+/// Serves a stream in the thread with this number, and counts it if the server counts.
 fn serve_one<R, G, L>(
     service: &Service<'_, R, G, L>,
     cached: &Cached,
@@ -76,7 +76,7 @@ where
     serve_connection(rt, alloc, cached, stream, limits, log)
 }
 
-/// Serves streams, one after the other, for as long as there are turns. What became of each goes to the log.
+/// Serves streams, one after the other, as long as there are turns. It logs how each ended.
 fn serve_turns<R, G, L, J>(
     service: &Service<'_, R, G, L>,
     cached: &Cached,
@@ -117,20 +117,21 @@ where
             slot.note_cut();
         }
         begun.end(rt, service.log, ended);
-        // Before the stream's end: a client that has seen it finds a place.
+        // Before the stream is closed, so that a client that sees its end finds a free place.
         service.operation.places.free(rt, service.log, place);
         drop(stream);
     }
 }
 
-/// Leaves as many places as so many threads can fill, since no more can be started.
+/// Limits the places to what `threads` threads can fill, because no more can be started.
 fn limit_places<R: Wait, G: Log, L>(service: &Service<'_, R, G, L>, threads: usize) {
     let most = service.terms.places_of(threads as u64);
     error!(service.log; "only {most} streams at once: cannot start more threads");
     service.operation.places.limit(service.rt, most);
 }
 
-/// Serves by a thread for each slot, of which this one is the first. With fewer threads than slots it goes on.
+/// Serves with a thread for each slot; the calling thread has the first. If a thread cannot be started, it goes on with
+/// fewer.
 pub(crate) fn serve_slots<R, G, L, J>(
     service: &Service<'_, R, G, L>,
     cached: &Cached,
@@ -171,7 +172,7 @@ where
     );
 }
 
-/// Serves the streams of one job, by as many threads as its terms say.
+/// Serves the streams of one job with `threads` threads.
 fn serve_job<R, G, L, J>(
     service: &Service<'_, R, G, L>,
     blank: Blank,
@@ -209,8 +210,8 @@ where
     }
 }
 
-/// Serves the next streams of an inlet, until there were as many as there are to be or a drain has begun. What became of each goes to the
-/// log.
+/// Serves the streams that come in at a listener, until there were as many as the terms say or a drain has begun. It
+/// logs how each ended.
 pub(crate) fn serve_until_drained<R, G, L>(
     service: &Service<'_, R, G, L>,
 ) -> Result<Listened, RunFault>
@@ -221,10 +222,10 @@ where
     requires at_once { 1 ≤ service.now.terms.at_once }
     requires workers { (1 ≤ service.now.terms.workers) × (service.now.terms.workers ≤ 16) }
 
-    // All threads together took a turn for each stream that there was to be; or for fewer, and a drain had begun.
+    // All threads together took a turn for each wanted stream. Or a drain had begun, and they took at most as many.
     ensures end { IfOk result (λ listened. IsEnd service.now.terms.streams listened) }
 
-    // The fault of a stream ends that stream, and nothing else.
+    // The fault of a stream ends only that stream.
     ensures err { IfErr result (λ fault. (fault ≡ RunFault.AcceptFailed) ⊎ (fault ≡ RunFault.Memory)) }
 {
     let threads = service.terms.threads();

@@ -1,11 +1,11 @@
-//! A record of the log as a sentence.
+//! A record of the log as text.
 
 use log::Record;
 use log::kv::{self, VisitSource};
 use log::span::Spans;
 use std::fmt::{self, Display, Formatter};
 
-/// Shows a record: its message, and unless it is to be short its pairs.
+/// Shows a record: its message, and its pairs unless it has to be short.
 #[derive(Drop)]
 pub(crate) struct TextLine<'a, 'r, D, K, S> {
     pub(crate) record: &'a Record<'r, D, K, S>,

@@ -1,4 +1,4 @@
-//! Calls on a stream that a drain ends.
+//! Calls on a stream that a drain may end.
 ghost use Rattle.std.specs.Prelude.{◌≡◌};
 ghost use Rattle.std.specs.Io.{ReadsAtMost, WritesAtMost};
 ghost use Rattle.std.specs.Io.KnownBytes.{WriteAppends};
@@ -9,7 +9,7 @@ use crate::retrying::{TimeFrom, late};
 use std::io::{self, ErrorKind, Read, Write};
 use std::time::{Clock, Duration};
 
-/// For how many seconds a call on a stream waits before it looks whether a drain has begun. Limits are counted in ticks.
+/// How many seconds a call on a stream waits before it checks whether a drain has begun. Limits are counted in ticks.
 const TICK: u64 = 1;
 
 /// Who ended a stream.
@@ -23,17 +23,17 @@ pub(crate) enum EndedBy {
     Deadline,
 }
 
-/// For how long the calls on a stream wait, and what ends them.
+/// How long the calls on a stream wait, and what ends them.
 #[derive(Clone, Copy)]
 pub(crate) struct Patience<'a> {
-    /// For how many seconds a call waits, if there is a limit.
+    /// How many seconds a call waits, if there is a limit.
     pub(crate) limit: Option<u32>,
-    /// What ends a call, where a drain is possible.
+    /// The drain that may end a call, if one is possible.
     pub(crate) draining: Option<&'a Draining>,
 }
 
 impl Patience<'_> {
-    /// How long one call of the system waits: a tick where a drain is possible, else the whole limit.
+    /// How long one system call waits: a tick if a drain is possible, else the whole limit.
     pub(crate) fn longest_call(&self) -> Option<Duration> {
         match self.draining {
             Some(_) => Some(Duration::from_secs(TICK)),
@@ -43,7 +43,8 @@ impl Patience<'_> {
         }
     }
 
-    /// From when on the time of one call of the system counts. A tick is too short for two readings of the clock for each request.
+    /// Says from when on the time of one system call counts. A tick is too short for two readings of the clock for each
+    /// request.
     pub(crate) fn time_from(&self) -> TimeFrom {
         match self.draining {
             Some(_) => TimeFrom::Interruption,
@@ -51,7 +52,8 @@ impl Patience<'_> {
         }
     }
 
-    /// Whether a call that waited for so many ticks gives up. Without a drain there was only one call, of the whole limit.
+    /// Whether a call that has waited `ticks` ticks gives up. If no drain is possible, the one system call waited for
+    /// the whole limit.
     fn is_over(&self, ticks: u64) -> bool {
         match (self.draining, self.limit) {
             (Some(_), Some(limit)) => ticks >= u64::from(limit),
@@ -77,7 +79,8 @@ impl Patience<'_> {
     }
 }
 
-/// A reader or a writer of a stream that a drain may end. Where a drain is possible, each call of what is inside gives up after a tick.
+/// A reader or a writer of a stream that a drain may end. If a drain is possible, each call of `inner` gives up after a
+/// tick.
 #[derive(Drop)]
 pub(crate) struct Ticking<'a, R, T> {
     rt: &'a R,
@@ -99,7 +102,7 @@ impl<'a, R, T> Ticking<'a, R, T> {
         }
     }
 
-    /// What is inside.
+    /// The reader or writer inside.
     pub(crate) fn inner(&self) -> &T
         ensures { result.now ≡ self.now.inner }
     {
@@ -114,13 +117,14 @@ impl<'a, R, T> Ticking<'a, R, T> {
     }
 }
 
-/// Whether a call gave up for want of time.
+/// Whether a call timed out.
 fn is_late(failure: &io::Error) -> bool {
     failure.kind() == ErrorKind::WouldBlock
 }
 
 impl<R: Clock, T: Read> Ticking<'_, R, T> {
-    /// Reads, tick by tick. A drain ends a stream that is silent for a tick, and its end every stream.
+    /// Reads, tick by tick. A drain ends a stream that is silent for a tick. The end of the drain's time ends every
+    /// stream.
     fn read_on(&mut self, buf: &mut [u8]) -> io::Result<usize>
         ensures bound { ReadsAtMost result buf.new }
         ensures bytes { ReadsOn (T.remaining self.old.inner) (T.remaining self.new.inner) result buf.new self.new.ended_by }

@@ -1,12 +1,12 @@
-//! Readers and writers that have so long in all.
+//! Readers and writers that have a deadline.
 ghost use Rattle.std.specs.Prelude.{◌≡◌};
 
 use crate::retrying::{Deadline, Waits, late};
 use std::io::{self, Read, Write};
 use std::time::{Clock, Duration};
 
-/// A reader or a writer that waits for its peer until a deadline, however many calls there are. After it each call gives up as a socket
-/// with a limit does.
+/// A reader or a writer that waits for its peer until a deadline, however many calls there are. After the deadline each
+/// call fails like that of a socket with a time limit (`WouldBlock`).
 #[derive(Drop)]
 pub(crate) struct Timed<'a, R, T> {
     rt: &'a R,
@@ -27,7 +27,7 @@ impl<'a, R, T> Timed<'a, R, T> {
 }
 
 impl<R: Clock, T: Waits> Timed<'_, R, T> {
-    /// Has the next call wait for what is left of the time, if any is.
+    /// Limits the next call to the time that is left, and returns whether any is left.
     fn is_in_time(&self) -> bool {
         match self.deadline.left(self.rt) {
             Some(left) => {

@@ -1,4 +1,4 @@
-//! Turns at streams, which many threads take one after the other.
+//! Turns: the rights to serve one stream each, which many threads take.
 ghost use Rattle.std.specs.Prelude.{◌≡◌, ℕ, ◌+◌, ◌^◌, ◌<◌, ◌≤◌, true, false, IfOk, OnOk, vec_len};
 ghost use Rattle.std.specs.IoError.{raw_os_error};
 ghost use Rattle.cv_tcp.specs.Accepting.{is_lasting};
@@ -10,7 +10,7 @@ use std::marker::Brand;
 use std::sync::Mutex;
 use std::sync::ledger::{Book, Ledger, Share};
 
-/// How many streams there are to be. Nothing at run time: a name for the turns of one call.
+/// A name for the turns of one call, which says in proofs how many streams are wanted. It is nothing at run time.
 pub(crate) trait Job: Ledger {
     ghost streams: { ℕ };
 }
@@ -19,7 +19,7 @@ impl Job for Brand {
     ghost streams = { 0 };
 }
 
-/// The turns that are left, for all threads. Those that were taken are counted with those who took them.
+/// The turns that are left, for all threads. Each thread counts those that it took.
 #[derive(Drop)]
 pub(crate) struct Turns<J: Job> {
     left: u64,
@@ -41,7 +41,7 @@ pub(crate) struct Slot<J: Job> {
 }
 
 impl<J: Job> Slot<J> {
-    /// The stream of the last turn was cut.
+    /// Notes that the stream of the last turn was cut.
     pub(crate) fn note_cut(&mut self)
         requires { self.old.cut < self.old.served }
         ensures cut { self.new.cut ≡ self.old.cut + 1 }
@@ -51,10 +51,10 @@ impl<J: Job> Slot<J> {
     }
 }
 
-/// What all slots took.
+/// The turns that all slots took.
 #[derive(Clone, Copy, Debug, PartialEq, Eq)]
 pub(crate) struct Total {
-    /// How many turns.
+    /// How many turns were taken.
     pub(crate) served: u64,
     /// How many of their streams were cut.
     pub(crate) cut: u64,
@@ -63,7 +63,7 @@ pub(crate) struct Total {
 }
 
 impl<J: Job> Turns<J> {
-    /// As many turns as there are to be streams.
+    /// One turn for each wanted stream.
     pub(crate) fn new(streams: u64, taken: Book<J>) -> Turns<J>
         requires streams { streams ≡ J.streams }
         requires none { taken.total ≡ 0 }
@@ -75,7 +75,7 @@ impl<J: Job> Turns<J> {
         }
     }
 
-    /// Takes a turn, where one is to be had.
+    /// Takes a turn, if one is left and the turns are not closed. It returns whether it did.
     pub(crate) fn take(&mut self, slot: &mut Slot<J>) -> bool
         ensures yes { result ≡ true → slot.new.served ≡ slot.old.served + 1 }
         ensures no { result ≡ false → slot.new.served ≡ slot.old.served }
@@ -102,7 +102,7 @@ impl<J: Job> Turns<J> {
         true
     }
 
-    /// Gives a turn back, and lets nobody take another.
+    /// Gives a turn back, and closes the turns: no thread takes another.
     fn give_back(&mut self, slot: &mut Slot<J>)
         requires taken { slot.old.cut < slot.old.served }
         ensures { slot.new.served + 1 ≡ slot.old.served }
@@ -124,7 +124,7 @@ impl<J: Job> Turns<J> {
         *served -= 1;
     }
 
-    /// Gives a turn back, and lets nobody take another: an accept has failed, and every other will.
+    /// Gives a turn back, and closes the turns: an accept has failed, and every later one will.
     pub(crate) fn close(&mut self, slot: &mut Slot<J>, failure: &io::Error)
         requires taken { slot.old.cut < slot.old.served }
         requires lasting { is_lasting (raw_os_error failure.now) ≡ true }
@@ -133,7 +133,7 @@ impl<J: Job> Turns<J> {
         self.give_back(slot);
     }
 
-    /// Gives a turn back, and lets nobody take another: a drain has begun.
+    /// Gives a turn back, and closes the turns: a drain has begun.
     pub(crate) fn drain(&mut self, slot: &mut Slot<J>, _begun: Begun)
         requires taken { slot.old.cut < slot.old.served }
         ensures { slot.new.served + 1 ≡ slot.old.served }
@@ -141,7 +141,7 @@ impl<J: Job> Turns<J> {
         self.give_back(slot);
     }
 
-    /// What all slots took.
+    /// The turns that all slots took.
     pub(crate) fn total(&mut self, mut slots: Vec<Mutex<Slot<J>>>, all: &mut Share<J>) -> Total
         requires parts { all.old.parts + vec_len slots ≡ J.parts }
         requires none { all.old.amount ≡ 0 }
@@ -167,7 +167,7 @@ impl<J: Job> Turns<J> {
     }
 }
 
-/// So many slots, which took no turn yet.
+/// `count` slots that have taken no turn yet.
 pub(crate) fn new_slots<J: Job>(
     alloc: Global,
     count: u64,

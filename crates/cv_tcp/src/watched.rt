@@ -1,10 +1,10 @@
-//! Readers and writers that remember how much passed, and whether they gave up for want of time.
+//! Readers and writers that remember how many bytes passed, and whether their last call timed out.
 ghost use Rattle.std.specs.Prelude.{◌≡◌, ◌≢◌, true, false, IfErr, IsErrAnd};
 ghost use Rattle.std.specs.IoError.{error_kind};
 
 use std::io::{self, ErrorKind, Read, Write};
 
-/// A reader or a writer, how many bytes passed, and whether its last call gave up for want of time.
+/// A reader or a writer, how many bytes passed, and whether its last call timed out.
 #[derive(Drop)]
 pub(crate) struct Watched<T> {
     inner: T,
@@ -33,14 +33,14 @@ impl<T> Watched<T> {
         self.bytes
     }
 
-    /// Whether the last call gave up for want of time.
+    /// Whether the last call timed out.
     pub(crate) fn is_late(&self) -> bool
         ensures { result ≡ self.now.is_late }
     {
         self.is_late
     }
 
-    /// What is watched.
+    /// The reader or writer that is watched.
     pub(crate) fn inner(&self) -> &T
         ensures { result.now ≡ self.now.inner }
     {
@@ -58,7 +58,7 @@ impl<T> Watched<T> {
     }
 }
 
-/// Whether a call gave up for want of time: a socket with a limit says so as one that doesn't wait.
+/// Whether a call timed out. A socket with a time limit then gives the error of a non-blocking one.
 fn gave_up(done: &io::Result<usize>) -> bool
     ensures yes { result ≡ true → IsErrAnd done.now (λ e. error_kind e ≡ ErrorKind.WouldBlock) }
     ensures no { result ≡ false → IfErr done.now (λ e. error_kind e ≢ ErrorKind.WouldBlock) }

@@ -1,4 +1,4 @@
-//! Answers as bytes, and what is read of them.
+//! Answers as bytes, and what is read from them.
 use crate::asking::{Answer, read_answer, request_for};
 use crate::routes::Page;
 use std::test::Fail;

@@ -7,7 +7,7 @@ use std::io::{self, Read};
 use std::sync::atomic::Ordering;
 use std::test::Fail;
 
-/// Gives at most so many bytes at a read.
+/// A reader that gives at most `step` bytes at a time.
 #[derive(Drop)]
 struct Slow<'a> {
     left: &'a [u8],
@@ -23,7 +23,7 @@ impl Read for Slow<'_> {
     }
 }
 
-/// What a server answers to these bytes, cut into reads of so many.
+/// What a server answers to these bytes, which come in reads of at most `step` bytes.
 fn answer(rt: &HostRuntime, server: &Still, sent: &[u8], step: usize) -> Result<Vec<u8>, Fail> {
     let mut answered = Vec::new(rt.alloc());
     let mut reader = Slow { left: sent, step };
@@ -32,7 +32,7 @@ fn answer(rt: &HostRuntime, server: &Still, sent: &[u8], step: usize) -> Result<
     Ok(answered)
 }
 
-/// What a request is, and its whole answer.
+/// A request, and its whole answer or its status.
 type Row = (&'static [u8], &'static [u8]);
 
 const PAGES: [Row; 8] = [
@@ -117,7 +117,7 @@ fn drain_drains(rt: HostRuntime) -> Result<(), Fail> {
     Ok(())
 }
 
-/// What is no request or too large, and the status of its answer.
+/// Bytes that are not a request, or one that is too large or not supported, and the status of the answer.
 const REFUSED: [Row; 6] = [
     (b"GET /health HTTP/1.1\r\n\r\n", b"400"),
     (b"\x00\x00\x00\x1d\x00\x00\x00\x07\r\n\r\n", b"400"),

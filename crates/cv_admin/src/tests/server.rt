@@ -1,9 +1,9 @@
-//! A server for the tests, which has nothing to serve.
+//! A server for the tests. It serves nothing.
 use crate::operated::{Health, Operated};
 use std::alloc::{AllocError, Global};
 use std::sync::atomic::{AtomicU32, Ordering};
 
-/// It says what it was made to say, and counts how often it was told to drain.
+/// It reports the health that it was given, and counts calls of `drain`.
 #[derive(Drop)]
 pub(crate) struct Still {
     pub(crate) health: Health,

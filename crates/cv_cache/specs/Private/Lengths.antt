@@ -1,6 +1,6 @@
--- How long a text may be that is held.
+-- How long a text in a cache may be.
 use Rattle.std.specs.Prelude.{ℕ}
 
--- The most bytes of a text that is held: those of the body of the longest frame.
+-- How many bytes a text in a cache may have: as many as the body of the longest frame.
 abbrev pub longest_text : ℕ
 longest_text = 1_048_567

@@ -10,38 +10,38 @@ use Rattle.cv_caller.specs.declared.place.Place.{Place}
 use Rattle.cv_caller.specs.declared.store.Store.{Store}
 use Rattle.cv_caller.specs.declared.weighed.Weighed.{Weighed}
 
--- a charmap that is held; who else shares it does not count
+-- a charmap that is held, whether it is shared or not
 abbrev pub weighed_value : Weighed → Charmap
 weighed_value held = arc_value held.charmap
 
--- how many bytes what is at a place is counted for
+-- how many bytes the charmap in a slot counts for; 0 without one
 abbrev pub weighed_bytes : Option Weighed → ℕ
 weighed_bytes (Some held) = held.bytes
 weighed_bytes None = 0
 
--- charmaps at their places
+-- charmaps by slot
 abbrev pub charmaps_of : List (Option Weighed) → Charmaps
 charmaps_of places = map (option_map weighed_value) places
 
--- the part of an upload; none is as good as an empty one
+-- the part of an upload; empty without one
 abbrev pub part_of : Option (Vec ℕ) → List ℕ
 part_of (Some bytes) = bytes.items
 part_of None = []
 
--- what is in a store
+-- what a store has
 abbrev pub stored_in : Store → Uploaded
 stored_in store = record { charmaps = charmaps_of store.charmaps; part = part_of store.part; bytes = sum_by weighed_bytes store.charmaps }
 
--- uploads, by their storage; no store is as good as an empty one
+-- uploads, by their storage; without a store there are none
 abbrev pub uploaded_of : Option (Box Store) → Uploaded
 uploaded_of (Some store) = stored_in store.value
 uploaded_of None = no_uploads
 
--- how many bytes the charmap at a place is counted for
+-- how many bytes the charmap in a slot counts for; 0 without a store
 abbrev pub bytes_at : Option (Box Store) → ℕ → ℕ
 bytes_at (Some store) place = weighed_bytes (slice_index_or store.value.charmaps place None)
 bytes_at None place = 0
 
--- a table, by what was uploaded and what its numbers stand for
+-- a table, by its uploads and what its descriptor numbers stand for
 abbrev pub keyed_of : Uploaded → List (Option Place) → Keyed
 keyed_of uploaded places = record { charmaps = uploaded.charmaps; places = places; part = uploaded.part; bytes = uploaded.bytes }

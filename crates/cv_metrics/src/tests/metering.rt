@@ -19,7 +19,7 @@ fn ops_and_statuses_are_paired(rt: HostRuntime) -> Result<(), Fail> {
     meter.begin_batch(3_000);
     meter.went(&frame(alloc, &[OK, EBADF])?, true);
     assert!(rt; !meter.is_waiting());
-    // The rest of the third, which is answered by no status that there is.
+    // The rest of the third, whose reply has an unknown status.
     meter.came(last, 4_000);
     assert!(rt; meter.is_waiting());
     meter.begin_batch(5_000);
@@ -50,7 +50,8 @@ fn a_batch_shares_its_time(rt: HostRuntime) -> Result<(), Fail> {
     let mut meter = Meter::new(alloc, place);
     meter.came(&frame(alloc, &[CONV, OPEN, CONV, CONV])?, 1_000);
     assert!(rt; meter.begins_batch());
-    // A quarter each of 40,004 nanoseconds is above the first bound. The write takes half of the bytes, and then the rest.
+    // Each reply took a quarter of 40,004 nanoseconds, which is above the first bound. One write takes half of the
+    // bytes, the next the rest.
     meter.begin_batch(41_004);
     let replies = frame(alloc, &[OK, OK, OK, OK])?;
     let (first, last) = parted(&replies, 26);

@@ -5,14 +5,14 @@ use std::alloc::{AllocError, Global};
 use std::process::Abort;
 use std::test::Fail;
 
-/// A CONV with no input, an op that there is none of with no body, and a CLOSE.
+/// A CONV without input, an unknown op without a body, and a CLOSE.
 const FRAMES: &[u8] =
     b"\0\0\0\x11\0\0\0\x07\0\0\0\x01\x04\0\0\0\0\0\0\0\x09\0\0\0\x09\0\0\0\x07\0\0\0\x02\xff\0\0\0\x0d\0\0\0\x07\0\0\0\x03\x06\0\0\0\0";
 
 /// The codes of the frames that end in these bytes.
 fn codes_in(scan: &mut Scan, bytes: &[u8], codes: &mut Vec<u8>) -> Result<(), AllocError> {
     let mut rest = bytes;
-    // Each frame takes a byte at least, and the last call finds none.
+    // Each frame takes at least one byte, and the last call finds none.
     for _call in 0..=bytes.len() {
         let Some(seen) = scan.next(rest) else {
             break;
@@ -58,7 +58,7 @@ fn the_cut_changes_nothing(rt: HostRuntime) -> Result<(), Fail> {
     Ok(())
 }
 
-/// Whether of two frames with such a length between them only the first is seen, however they come.
+/// Checks that no frame is seen after this bad length, wherever the bytes are cut.
 fn ends_at<R: Abort>(rt: &R, alloc: Global, length: &[u8]) -> Result<(), Fail> {
     let mut bytes = Vec::from_slice(alloc, &FRAMES[..21])?;
     bytes.extend_from_slice(length)?;

@@ -50,7 +50,7 @@ fn listening_ends_when_the_listener_is_gone(rt: HostRuntime) -> Result<(), Fail>
     Ok(())
 }
 
-/// A listener whose first accepts fail: no descriptor is left, no memory, or the client has gone.
+/// A listener whose first three accepts fail: no descriptor is left, no memory is left, the client has gone.
 #[derive(Drop)]
 struct Short {
     inlet: Bound,
@@ -107,7 +107,7 @@ fn an_accept_that_fails_is_tried_again(rt: HostRuntime) -> Result<(), Fail> {
     Ok(())
 }
 
-/// One thread is shut out while others wait.
+/// One thread shuts the listener while others may wait for clients.
 #[test]
 fn an_inlet_that_is_shut_ends_all_accepts(rt: HostRuntime) -> Result<(), Fail> {
     let (listener, _address) = bound(&rt)?;

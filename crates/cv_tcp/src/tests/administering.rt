@@ -15,7 +15,7 @@ use std::test::Fail;
 use std::time::Clock;
 use std::{io, thread};
 
-/// Which pages are asked for, one after the other, and what is printed of each.
+/// The pages that are asked for, one after the other, whether the status of each is good, and its text.
 const ASKED: [(Page, bool, &[u8]); 3] = [
     (Page::Health, true, b"ok\n"),
     (Page::Streams, true, b"[]\n"),
@@ -51,7 +51,7 @@ where
     Ok(false)
 }
 
-/// Has a stream served, and asks for the pages, of which the last ends the server.
+/// Has a stream served, then asks for the pages. The last page ends the server.
 fn ask_all<R>(rt: &R, alloc: Global, place: &str, address: SocketAddr) -> io::Result<bool>
 where
     R: Net<Listener = TcpListener, Stream = TcpStream> + Clock,

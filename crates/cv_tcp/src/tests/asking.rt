@@ -1,4 +1,4 @@
-//! Asking: replies that come, and peers that end.
+//! Asks peers that reply, and peers that end.
 use super::kept::Kept;
 use super::{alone, bound, connected, terms};
 use crate::calling::{call, call_connection};
@@ -54,7 +54,7 @@ fn a_script_is_served_and_asked(rt: HostRuntime) -> Result<(), Fail> {
     Ok(())
 }
 
-/// What asking comes to where the peer sends bytes and ends.
+/// The result of asking a peer that sends these bytes and ends, and the reply lines.
 fn answered<R>(rt: &R, bytes: &[u8]) -> io::Result<(Result<(), CallFault>, Vec<u8>)>
 where
     R: AllocGlobal + Clock + Net<Listener = TcpListener, Stream = TcpStream>,

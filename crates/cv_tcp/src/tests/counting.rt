@@ -1,4 +1,4 @@
-//! Counting streams over sockets.
+//! Counts streams over sockets.
 use super::kept::Kept;
 use super::{OPEN, OPENED, alone, bound, connected, gives};
 use crate::connection::Connection;
@@ -16,7 +16,7 @@ use std::test::Fail;
 use std::thread::Threads;
 use std::time::Clock;
 
-/// What the server tells besides what is counted.
+/// Example values of what the board does not count.
 const TOLD: Told<'static> = Told {
     version: "1",
     start_time: 0,
@@ -35,7 +35,7 @@ fn has_line(text: &String, line: &str) -> bool {
     text.as_str().lines().any(|there| there == line)
 }
 
-/// Serves what a client sends who asks to open, then these bytes, and ends.
+/// Serves a client that sends `OPEN` and these bytes, and ends.
 fn serve_one<R>(rt: &R, counters: &Counters, more: &[u8]) -> Result<(), Fail>
 where
     R: Net<Listener = TcpListener, Stream = TcpStream>

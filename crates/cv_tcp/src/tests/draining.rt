@@ -21,7 +21,7 @@ use std::test::Fail;
 use std::thread;
 use std::time::{Clock, Duration, Instant};
 
-/// A drain of these streams is over after two seconds.
+/// Terms by which a drain is over after two seconds.
 fn hurried() -> Terms
     ensures at_once { result.at_once ≡ 2 }
     ensures workers { result.workers ≡ 1 }
@@ -32,7 +32,7 @@ fn hurried() -> Terms
     }
 }
 
-/// A stream that has asked once.
+/// A stream over which one request was sent and answered.
 fn opened<N>(rt: &N, address: SocketAddr) -> io::Result<TcpStream>
 where
     N: Net<Listener = TcpListener, Stream = TcpStream>,
@@ -42,13 +42,13 @@ where
     Ok(stream)
 }
 
-/// Caller 7 leaves.
+/// A request: the BYE of caller 7.
 const BYE: &[u8] = b"\0\0\0\x09\0\0\0\x07\0\0\0\x01\x07";
 
-/// It has left.
+/// The reply to `BYE`: OK.
 const GONE: &[u8] = b"\0\0\0\x09\0\0\0\x07\0\0\0\x01\0";
 
-/// Whether a request has its reply.
+/// Whether a request gets its reply.
 fn asks(stream: &TcpStream) -> io::Result<bool> {
     let mut stream = stream;
     stream.write_all(BYE)?;
@@ -138,7 +138,7 @@ fn a_drain_ends_streams_that_are_silent(rt: HostRuntime) -> Result<(), Fail> {
     Ok(())
 }
 
-/// A stream that asks again and again until it is ended. Its last request may have no reply.
+/// A client that asks again and again until its stream is ended. Its last request may get no reply.
 fn restless_client<R>(rt: &R, address: SocketAddr, operation: &Operation) -> io::Result<bool>
 where
     R: Net<Listener = TcpListener, Stream = TcpStream> + Wait + Clock,
@@ -188,13 +188,13 @@ fn the_end_of_a_drain_cuts_a_busy_stream(rt: HostRuntime) -> Result<(), Fail> {
     assert_eq!(rt; lines_about(&said, "ERROR stream from ", " requests"), 1);
     let cut = b": cut by a drain, after ".as_slice();
     assert!(rt; said.windows(cut.len()).any(|part| part == cut));
-    // The listener is as it was.
+    // The listener was not shut.
     drop(connected(rt, address)?);
     listener.accept()?;
     Ok(())
 }
 
-/// A client that reads nothing of what it asked for.
+/// A client that reads none of its replies.
 fn stalled_client<R>(
     rt: &R,
     address: SocketAddr,
@@ -206,10 +206,10 @@ where
 {
     let mut stream = connected(rt, address)?;
     stream.set_write_timeout(Some(Duration::from_secs(1)))?;
-    // It ends when the server reads no more.
+    // The write ends when the server reads no more.
     let _ = stream.write_all(much);
     operation.drain(rt);
-    // It is there until the server has ended its stream.
+    // The client stays until the server has ended its stream.
     for _look in 0..1_000 {
         if operation.streams(rt) == 0 {
             break;

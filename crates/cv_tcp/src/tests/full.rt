@@ -28,7 +28,7 @@ where
     }
 }
 
-/// A client that has a place, two that are closed meanwhile, and one that comes after the first has ended.
+/// A client that has a place, two that are closed meanwhile, and one that connects after the first has ended.
 fn four_clients<R>(rt: &R, address: SocketAddr, operation: &Operation) -> io::Result<bool>
 where
     R: Net<Listener = TcpListener, Stream = TcpStream> + Wait,
@@ -45,7 +45,7 @@ where
     Ok(was_full && were_closed && has_ended && is_free && is_served(rt, address)?)
 }
 
-/// Two streams, one after the other. Clients that come meanwhile are closed.
+/// Terms for two streams, one after the other. Clients that connect meanwhile are closed.
 fn closing() -> Terms
     ensures at_once { result.at_once ≡ 1 }
     ensures workers { result.workers ≡ 1 }
@@ -81,20 +81,20 @@ fn clients_are_closed_while_all_places_are_taken(rt: HostRuntime) -> Result<(), 
         },
         move || four_clients(rt, address, &asked),
     );
-    // The turns are those of the first and the last.
+    // The first and the last client took the two turns.
     assert_eq!(rt; served, Ok(Listened::Served { streams: 2 }));
     assert!(rt; answered?);
     let said = log.into_bytes();
     assert_eq!(rt; lines_like(&said, "DEBUG client refused"), 2);
     assert_eq!(rt; lines_like(&said, "INFO client ended"), 2);
-    // The second time is within the same second, so the log may be silent on it.
+    // The second time may be within the same second, and then the log does not say it.
     let taken = lines_like(&said, "INFO the place is taken");
     assert!(rt; taken == 1 || taken == 2);
     assert_eq!(rt; lines_like(&said, "INFO a place is free again"), taken);
     Ok(())
 }
 
-/// Two clients at the same time, and then another.
+/// Two clients at the same time, then another.
 fn three_clients<N>(rt: &N, address: SocketAddr) -> io::Result<bool>
 where
     N: Net<Listener = TcpListener, Stream = TcpStream>,

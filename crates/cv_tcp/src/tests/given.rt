@@ -1,4 +1,4 @@
-//! Listening by what the process was given.
+//! Listens at what the process was given.
 use super::kept::Kept;
 use super::{bound, connected, lines_like, terms};
 use crate::listening::listen_until_drained;

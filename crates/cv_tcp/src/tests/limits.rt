@@ -1,4 +1,4 @@
-//! How many faults of a second are written, and how much of a line.
+//! The limits of the log: how many faults of a second, and how much of a line.
 use crate::cut::cut;
 use crate::dropped_lines::DroppedLines;
 use crate::fault_limit::FaultLimit;
@@ -7,7 +7,7 @@ use std::test::Fail;
 /// A second, in nanoseconds.
 const SECOND: u64 = 1_000_000_000;
 
-/// How many of so many faults are written, all at this time.
+/// How many of `faults` faults at this time are written, and how many earlier ones are reported.
 fn admitted(limit: &mut FaultLimit, now: u64, faults: u64) -> (u64, u64) {
     let (mut written, mut told): (u64, u64) = (0, 0);
     for _fault in 0..faults {
@@ -19,7 +19,8 @@ fn admitted(limit: &mut FaultLimit, now: u64, faults: u64) -> (u64, u64) {
     (written, told)
 }
 
-/// Faults at a time in nanoseconds: how many are written, and how many of earlier ones are told.
+/// Each row: a time in nanoseconds, how many faults there are, and how many of them are written and how many earlier
+/// ones reported.
 #[test]
 fn a_hundred_faults_of_a_second_are_written(rt: HostRuntime) -> Result<(), Fail> {
     let mut limit = FaultLimit::new();
@@ -60,7 +61,7 @@ fn dropped_lines_are_counted_until_they_are_reported(rt: HostRuntime) -> Result<
     Ok(())
 }
 
-/// A text, the most bytes of it, and what is shown.
+/// Each row: a text, how many bytes are shown at most, and what is shown.
 #[test]
 fn a_long_text_is_cut_at_a_character(rt: HostRuntime) -> Result<(), Fail> {
     for (text, most, wanted) in [
@@ -76,7 +77,7 @@ fn a_long_text_is_cut_at_a_character(rt: HostRuntime) -> Result<(), Fail> {
         let shown = format!(in rt.alloc(); "{}", cut(text, most))?;
         assert_eq!(rt; shown.as_str(), wanted, "{most} bytes of {text}");
     }
-    // No part after the cut is shown, however short.
+    // No text after the cut is shown, however short.
     let shown = format!(in rt.alloc(); "{}", cut(format_args!("{}{}{}", "ab", "cde", "f"), 4))?;
     assert_eq!(rt; shown.as_str(), "abcd…");
     Ok(())

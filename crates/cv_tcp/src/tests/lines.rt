@@ -12,7 +12,7 @@ use std::sync::atomic::{AtomicU64, Ordering};
 use std::test::Fail;
 use std::time::{Clock, Duration};
 
-/// A clock and an outlet of a test: both are as it says.
+/// The clock and the outlet of a test, which sets the time and the room for lines.
 #[derive(Drop)]
 struct Booth<'a, R> {
     kept: Kept<'a, R>,
@@ -21,7 +21,7 @@ struct Booth<'a, R> {
 }
 
 impl<'a, R: AllocGlobal> Booth<'a, R> {
-    /// At a time in milliseconds, with room for so many lines.
+    /// At a time in milliseconds, with room for `room` lines.
     fn new(rt: &'a R, milliseconds: u64, room: u64) -> Booth<'a, R> {
         Booth {
             kept: Kept::new(rt),
@@ -64,7 +64,7 @@ impl<'a, R: Wait> Outlet for Booth<'a, R> {
     }
 }
 
-/// So many faults.
+/// Logs `faults` faults.
 fn fail<L: Log>(log: &L, faults: u64) {
     for _fault in 0..faults {
         error!(log; peer = 7u64; "bad");
@@ -121,7 +121,7 @@ fn lines_that_nobody_takes_are_dropped_and_reported(rt: HostRuntime) -> Result<(
         info!(log; "{number}");
     }
     assert_eq!(rt; log.dropped(), 3);
-    // There is room for the report, and for no line after it.
+    // There is room for the report, but for no line after it.
     booth.set(0, 1);
     info!(log; "5");
     assert_eq!(rt; log.dropped(), 4);
@@ -193,7 +193,7 @@ fn a_long_json_line_is_an_object_all_the_same(rt: HostRuntime) -> Result<(), Fai
     assert!(rt; said.starts_with(begin));
     let end = "\\\"…\",\"time\":\"1970-01-01T00:00:00.000Z\"}\n";
     assert!(rt; said.ends_with(end.as_bytes()));
-    // 600 quotes, of which three are in those two.
+    // 600 quotes are shown, three of them in `begin` and `end`.
     assert_eq!(rt; said.len(), begin.len() + 2 * 597 + end.len());
     Ok(())
 }

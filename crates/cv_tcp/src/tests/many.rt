@@ -17,7 +17,7 @@ use std::net::{Net, Shutdown, SocketAddr, TcpListener, TcpStream};
 use std::test::Fail;
 use std::thread;
 
-/// Three streams that are there at the same time, each answered while the others go on; a fourth waits for its turn.
+/// Three streams at the same time, each answered while the others go on. A fourth waits for its turn.
 fn four_clients<N>(rt: &N, address: SocketAddr) -> io::Result<bool>
 where
     N: Net<Listener = TcpListener, Stream = TcpStream>,
@@ -73,7 +73,7 @@ fn streams_are_served_at_once(rt: HostRuntime) -> Result<(), Fail> {
     Ok(())
 }
 
-/// Clients that come one after the other. How many had their reply.
+/// Serves `clients` clients one after the other, and returns how many got their reply.
 fn served_in_turn<N>(rt: &N, address: SocketAddr, clients: u64) -> io::Result<u64>
 where
     N: Net<Listener = TcpListener, Stream = TcpStream>,
@@ -118,10 +118,10 @@ fn it_ends_after_the_last_stream(rt: HostRuntime) -> Result<(), Fail> {
     Ok(())
 }
 
-/// Requests that are more than the sockets between two processes hold, and so are their replies: 16 MB.
+/// Requests of 16 MB in all, more than the sockets between two processes hold. Their replies are still longer.
 pub(super) fn much_to_answer(alloc: Global) -> Result<Vec<u8>, Fail> {
     let open = ask_script(alloc, b"7 1 open UTF-32BE ISO-8859-1\n").map_err(|_| "no script")?;
-    // Op 4 of caller 7 on descriptor 0, with room for 262,144 bytes, and 60,000 bytes of text.
+    // A CONV of caller 7 on descriptor 0, with room for 262,144 bytes, and 60,000 bytes of text.
     let mut conv = vec![in alloc; 0xe9u8; 60_021]?;
     conv[..21].copy_from_slice(b"\0\0\xea\x71\0\0\0\x07\0\0\0\x02\x04\0\0\0\0\0\x04\0\0");
     let mut much = open;
@@ -131,7 +131,8 @@ pub(super) fn much_to_answer(alloc: Global) -> Result<Vec<u8>, Fail> {
     Ok(much)
 }
 
-/// A client that says nothing, one that stops within a frame, one that reads no reply, and two that are served while these are ended.
+/// A client that sends nothing, one that stops within a frame, one that reads no reply, and two that are served
+/// meanwhile.
 fn five_clients<N>(rt: &N, address: SocketAddr, much: &[u8]) -> io::Result<bool>
 where
     N: Net<Listener = TcpListener, Stream = TcpStream>,
@@ -140,7 +141,7 @@ where
     let mut half = connected(rt, address)?;
     half.write_all(&OPEN[..9])?;
     let mut stalled = connected(rt, address)?;
-    // It ends when the server has given the stream up, which then has not read all.
+    // The write ends when the server has ended the stream, without having read all.
     let _ = stalled.write_all(much);
     let both = is_served(rt, address)? && is_served(rt, address)?;
     drop((idle, half, stalled));

@@ -1,4 +1,4 @@
-//! Serving streams one after the other.
+//! Serves streams one after the other.
 use super::kept::{Desk, Kept};
 use super::{OPEN, OPENED, bound, connected, gives, terms};
 use crate::address::{is_address, is_admin_address};
@@ -19,7 +19,8 @@ use std::test::Fail;
 use std::thread::Threads;
 use std::time::Clock;
 
-/// Two streams to an address that each ask to open. Then the first has a length that no frame has, and the second ends.
+/// Two streams to an address, each with an `OPEN`. Then the first sends a length that no frame has, and the second
+/// ends.
 fn two_clients<N>(rt: &N, address: SocketAddr) -> io::Result<(TcpStream, TcpStream)>
 where
     N: Net<Listener = TcpListener, Stream = TcpStream>,
@@ -66,7 +67,7 @@ fn the_next_stream_has_a_new_server(rt: HostRuntime) -> Result<(), Fail> {
     Ok(())
 }
 
-/// How a server ends whose log has errors alone.
+/// How a server with a log of level error ends.
 fn heard<R>(
     desk: &Desk<'_, R>,
     errors: &Kept<'_, R>,

@@ -17,7 +17,7 @@ use std::time::{Clock, SystemTime};
 
 const SCRIPT: &[u8] = b"7 1 open US-ASCII ISO-8859-1\n";
 
-/// An address at which no other test is.
+/// An address that no other test uses.
 fn new_address<R: Clock>(rt: &R, alloc: Global, name: &str) -> Result<String, Fail> {
     let now = SystemTime::now(rt)?;
     let since = now
@@ -32,14 +32,14 @@ fn a_socket_is_served_and_removed(rt: HostRuntime) -> Result<(), Fail> {
     let address = new_address(&rt, alloc, "served")?;
     let path = address.strip_prefix("unix:").unwrap_or("");
     let listener = socket_file::bind(&rt, path)?;
-    // Somebody listens there.
+    // Another listener is there.
     let log = Kept::new(&rt);
     assert_eq!(rt;
         listen(&rt, alloc, &log, &address, terms(1, 1)),
         Err(RunFault::CannotListen)
     );
     drop(listener);
-    // Nobody listens there any more, and the file is still there.
+    // No process listens there any more, but the file is still there.
     assert!(rt; fs::symlink_metadata(&rt, path).is_ok());
     let listener = socket_file::bind(&rt, path)?;
     let made = socket_file::id_of(&rt, path);

@@ -1,4 +1,4 @@
--- The route is that of the arm.
+-- In each arm the route is the arm's pattern.
 use Rattle.cv_admin.proofs.pages.Pages.answer.Goals as goal
 
 pub returns-in-NotAllowed : goal.returns-in-NotAllowed

@@ -6,7 +6,7 @@ use Rattle.cv_cache.proofs.Entries.{Entry, right_taken, apart_taken}
 use Rattle.cv_cache.proofs.Sizes.{cut, freed}
 use Rattle.cv_cache.proofs.maps.Maps.drop_last.Goals as goal
 
--- the last one goes, as contracts see it
+-- the entries without the last one, as contracts see them
 less : (es : List Entry) (h : Held) → map shown es ≡ h.entries → map shown (take (length es - 1) es) ≡ take (length h.entries - 1) h.entries
 less es h is = subst (λ xs. map shown (take (length es - 1) es) ≡ take (length xs - 1) xs) is
     (rw (length-map es shown) (sym (take-map shown (length es - 1) es)))

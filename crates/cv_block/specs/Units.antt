@@ -6,7 +6,7 @@ use Rattle.cv_base.specs.Units.{unit_of, unit_size, unit_limit}
 use Rattle.cv_base.specs.declared.ascii_form.AsciiForm.{AsciiForm}
 use Rattle.cv_block.specs.Spelled.{BytesOf}
 
--- The unit of a number is at a place of a text.
+-- The unit of a number is at index `at` of a text.
 pub record IsUnitAt (form : AsciiForm) (text : List ℕ) (at number : ℕ) : Type 0 where
   pub few : number < unit_limit form
   pub stands : Begins (unit_of form number) (drop at text)

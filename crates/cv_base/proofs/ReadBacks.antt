@@ -69,7 +69,7 @@ state_in None = write.Start
 abbrev pub wrote : List ℕ → WriteState → Option (List ℕ × WriteState)
 wrote bytes next = Some (bytes, next)
 
--- what two equal answers have in common
+-- what holds of one of two equal results holds of the other
 pub same_written : (P : List ℕ → WriteState → Type 0) (a b : List ℕ) (t u : WriteState) → P a t → wrote a t ≡ wrote b u → P b u
 unfolding bytes_in state_in
 same_written P a b t u p e =

@@ -111,7 +111,7 @@ unit_fits form k n h =
     let m : unit_size form * (k + 1) ≤ unit_size form * n = mul-le-mul_left (unit_size form) (omega arith) in
     omega (arith, m, unit_more form k)
 
--- what is in the buffer, once n units of a run were written at a place
+-- what is in the buffer, once n units of a run were written at an index
 abbrev pub put_run : AsciiForm → AsciiForm → List ℕ → List ℕ → ℕ → ℕ → List ℕ
 put_run form target text before at n = take at before ++ units_of target (characters_in form text n) ++ drop (at + unit_size target * n) before
 
@@ -190,7 +190,7 @@ length-characters form text (suc n) = omega (arith, length-append (characters_in
 pub bytes_run : (limit : ℕ) (text : List ℕ) (n : ℕ) → n ≤ length text → ((k : ℕ) → k < n → get_or text k 0 < limit) → IsRunBelow limit Byte text n
 bytes_run limit text n l p k h = let e : 1 * k ≡ k = omega arith in rw e (record { c = get_or text k 0; small = p k h; stands = rw (drop-cons text k 0 (omega arith)) (refl, tt) })
 
--- small bytes at a place are units of one byte each
+-- small bytes at an index are units of one byte each
 pub bytes_at : (limit : ℕ) (form : AsciiForm) (text : List ℕ) (at n : ℕ) → form ≡ Byte → at + unit_size form * n ≤ length text → ((k : ℕ) → at ≤ k → k < at + n → get_or text k 0 < limit) → (k : ℕ) → k < n → IsBelowAt limit form text (at + unit_size form * k)
 bytes_at limit form text at n is fits p k h =
     let place : at + unit_size form * k ≡ at + k = rw is (omega arith) in

@@ -29,7 +29,7 @@ direct_more {characters = characters} {from = from} {before = before} {now = now
     subst (λ (x : ℕ). WritesOn characters from before (place write.Start (m + 1) (end + 1)) (set now end x)) (sym e)
     (writes_more p (writes_direct_one characters m end now h l (sym (ap is_direct e) ∙ d)))
 
--- each is written as itself
+-- each character is written as itself
 abbrev pub AreDirect : List ℕ → Type 0
 AreDirect [] = Unit {0}
 AreDirect (c ∷ characters) = (is_direct c ≡ true) × AreDirect characters

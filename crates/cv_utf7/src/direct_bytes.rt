@@ -20,7 +20,7 @@ const STANDS: [u8; 16] = [
     0xAC, 0xF8, 0xF8, 0xF8, 0xF8, 0xF8, 0xF8, 0xFC, 0xFC, 0xFD, 0xF9, 0x50, 0x54, 0x55, 0x54, 0x5C,
 ];
 
-/// How many bytes from a place of a text that is read on may be direct, sixteen at most.
+/// How many bytes of a text that is read may be direct from index `from` on, at most sixteen.
 #[inline(always)]
 pub(crate) fn direct_run(input: &[u8], from: usize) -> usize
     requires many { 16 ≤ length input.now }
@@ -32,7 +32,7 @@ pub(crate) fn direct_run(input: &[u8], from: usize) -> usize
     run_in(MAY_STAND, input, from)
 }
 
-/// How many bytes at the start are written as themselves, sixteen at most.
+/// How many bytes at the start are written as themselves, at most sixteen.
 #[inline(always)]
 pub(crate) fn written_run(bytes: &[u8]) -> usize
     requires many { 16 ≤ length bytes.now }

@@ -24,7 +24,7 @@ pub(crate) fn closing(pending: Bits) -> Piece
     Piece::two(closing_digit(pending), b'-')
 }
 
-/// The digit of pending bits, followed by zero bits.
+/// The digit of pending bits, which are filled up with zero bits.
 #[inline(always)]
 #[tactic(auto, using(crate::proofs::Cuts::closing_digits))]
 fn closing_digit(pending: Bits) -> u8

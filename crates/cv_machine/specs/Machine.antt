@@ -1,5 +1,5 @@
--- A machine with one private table for each caller. What one request does is a parameter, the turn, so what is stated here of
--- runs holds of every set of operations. The machine is this project's own.
+-- A machine with one private table for each caller. What one request does is a parameter, the turn, so what is stated
+-- here of runs holds for every set of operations. The machine is this project's own: no standard defines it.
 use Rattle.std.specs.Prelude.{filter, ◌≡◌, ◌≢◌, ℕ, List, [], ◌∷◌, ◌++◌, ◌==◌, map, Bool, true, false, if◌then◌else◌}
 use Rattle.cv_frame.specs.Message.{Message, joined, FitsFrame}
 use Rattle.cv_frame.specs.Cut.{messages_of}
@@ -15,7 +15,7 @@ pub record Outcome (Table : Type 0) : Type 0 where
 abbrev pub no_memory : ℕ
 no_memory = 6
 
--- An allocation failed: the table is unchanged, and the body is empty.
+-- The outcome if an allocation failed: the table is unchanged, and the body is empty.
 abbrev pub lacking : {Table : Type 0} → Table → Outcome Table
 lacking table = record { next = table; code = no_memory; body = [] }
 
@@ -28,7 +28,7 @@ abbrev pub When : Bool → Type 0 → Type 0 → Type 0
 When true Then Else = Then
 When false Then Else = Else
 
--- Of a claim about outcomes: at most one outcome meets it besides an allocation failure, and that leaves the table as it was.
+-- At most one outcome meets a claim, besides an allocation failure, which leaves the table as it was and has no body.
 pub record HasOneAnswer {Table : Type 0} (table : Table) (May : Outcome Table → Type 0) : Type 0 where
   pub one : (a b : Outcome Table) → May a → May b → a.code ≢ no_memory → b.code ≢ no_memory → a ≡ b
   pub lacks : (a : Outcome Table) → May a → a.code ≡ no_memory → a ≡ lacking table
@@ -124,7 +124,7 @@ pub record Answers {Table : Type 0} (turn : Turn Table) (tables : ℕ → Table)
   pub fits : AllByRecursion FitsFrame (replies_of events)
   pub writes : written ≡ joined (replies_of events)
 
--- They answer them, and no reply says that an allocation failed.
+-- The written bytes answer the given ones, and no reply says that an allocation failed.
 abbrev pub IsServed : {Table : Type 0} → Turn Table → (ℕ → Table) → List ℕ → List ℕ → Type 0
 IsServed turn tables given written = Answers turn tables given written × NoneLacks (messages_of written)
 

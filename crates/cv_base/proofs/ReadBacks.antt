@@ -26,7 +26,8 @@ pub record IsReadFrom (reads : ItemRelation) (s : ReadState) (bytes characters :
   pub gives : characters_of chain ≡ characters
   pub after : IsAfter (read_state s chain)
 
--- What is written for a character is read as it from a state that corresponds to the writing state, and the states after it correspond too.
+-- What is written for a character is read as that character, from each state that corresponds to the writing state. The
+-- states after it correspond too.
 abbrev pub EachReadsBack : ItemRelation → Writing → Together → Type 0
 EachReadsBack reads writes Go = (t : WriteState) (s : ReadState) (c : ℕ) (bytes : List ℕ) (next : WriteState) → Go t s → IsScalar c → writes t c ≡ Some (bytes, next) → IsReadFrom reads s bytes (c ∷ []) (Go next)
 

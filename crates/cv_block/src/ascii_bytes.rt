@@ -47,7 +47,8 @@ fn copy_sixteen(rest: &[u8], from: usize, out: &mut [u8], at: usize)
     lanes.copy_to_slice(&mut out[at..]);
 }
 
-/// Copies as many bytes as `are_ascii` tests. Sixteen are loaded before they are stored: LLVM does not know that the slices are disjoint.
+/// Copies as many bytes as `are_ascii` tests. Sixteen are loaded before they are stored: LLVM does not know that the
+/// slices are disjoint.
 #[inline(always)]
 fn copy_block<const BYTES: usize>(rest: &[u8], from: usize, out: &mut [u8], at: usize)
     requires stand { from + BYTES ≤ length rest.now }

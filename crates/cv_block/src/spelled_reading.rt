@@ -75,8 +75,8 @@ fn read_front<S: Spelling>(input: &[u8], buffer: &mut [Scalar]) -> Spelled
     Spelled { n, used }
 }
 
-/// Reads characters from the start of a text into the start of a buffer, in a state that keeps the spelling. It may
-/// read fewer than possible, even none.
+/// Reads characters in a spelling from the start of a text into the start of a buffer. The state stays. It may read
+/// fewer than possible, even none.
 #[inline(always)]
 pub fn read_spelled<S: Spelling>(state: ReadState, input: &[u8], buffer: &mut [Scalar]) -> ReadBlock
     ensures block { IsSpelledRead S.bytes_of state input.now buffer.old result buffer.new }

@@ -85,8 +85,8 @@ fn write_front<S: Spelling>(characters: &[Scalar], out: &mut [u8]) -> usize
     used
 }
 
-/// Writes a block of characters, in a state that keeps the spelling, through a buffer of `BYTES` bytes, which it clears
-/// first.
+/// Writes a block of characters in a spelling through a buffer of `BYTES` bytes, which it clears first. The state
+/// stays.
 #[inline(always)]
 fn write_by<S: Spelling, const BYTES: usize>(
     state: WriteState,
@@ -109,9 +109,9 @@ fn write_by<S: Spelling, const BYTES: usize>(
     }
 }
 
-/// Writes at most 256 characters into a slice from index `at` on, in a state that keeps the spelling. The slice needs
-/// room for 4 bytes for each. All other bytes of the slice stay. Few characters go through a small buffer, which costs
-/// less to clear.
+/// Writes at most 256 characters in a spelling into a slice from index `at` on. The state stays. The slice needs room
+/// for 4 bytes for each. All other bytes of the slice stay. Few characters go through a small buffer, which costs less
+/// to clear.
 #[inline(always)]
 pub fn write_spelled<S: Spelling>(
     state: WriteState,

@@ -83,7 +83,8 @@ pub fn read_units<U: Unit>(input: &[u8], at: usize, buffer: &mut [Scalar], n: us
     Spelled { n: MANY, used }
 }
 
-/// The numbers of many characters, from the `n`th on. All are read before any is written, so that LLVM vectorizes the writing.
+/// The numbers of sixteen characters, from the `n`th on. All are read before any is written, so that LLVM vectorizes
+/// the writing.
 #[inline(always)]
 pub(crate) fn values_of(characters: &[Scalar], n: usize) -> [u32; MANY]
     requires { n + 16 ≤ length characters.now }

@@ -5,7 +5,7 @@ ghost use Rattle.cv_lead.specs.Cuts.{place_of, AreCut, AreMarked};
 use crate::tables::{PATTERNS, PLACES, SIZES};
 use std::simd::prelude::*;
 
-/// How many bytes of a text `cut_eight` looks at. Eight characters have at most 16 of them.
+/// How many bytes of a text `cut_eight` needs to look at. Eight characters have at most 16 of them.
 pub const WINDOW: usize = 24;
 
 /// How many characters one row of a table cuts.
@@ -71,7 +71,7 @@ fn joined(first: &[u8; 16], second: &[u8; 16]) -> [u8; 16]
 
 /// Cuts eight characters from index `at` on: a byte of 128 or above and the next byte are one character, and a byte
 /// below 128 is one by itself. It looks up one row of a table for the first four characters, and another for the four
-/// after them. It tests the high bits of all bytes at once, because otherwise each look-up would wait for them.
+/// after them. It tests the high bits of sixteen bytes at once, because otherwise each look-up would wait for them.
 #[inline(always)]
 pub fn cut_eight(text: &[u8], at: usize) -> Cut
     requires { at + 24 ≤ length text.now }

@@ -1,4 +1,5 @@
--- Four times four bytes, of which a table finds the first of each, and the second and the third of those whose bits are set.
+-- Four groups of four bytes, of which a table finds the first byte of each, and the second and the third of those whose
+-- bits are set.
 use Rattle.std.proofs.Common.{◌≡◌, ℕ, ◌+◌, ◌/◌, ◌<◌, Bool, true, cond, ◌&&◌, List, [], ◌∷◌, ◌++◌, length, take, drop, get_or, refl, ◌∙◌, ap, ap₂, arith, suc, w8}
 use Rattle.std.specs.Prelude.{count_ones}
 use Rattle.std.specs.Simd.Lanes.{Each1}

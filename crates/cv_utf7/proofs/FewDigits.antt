@@ -1,4 +1,4 @@
--- What is next in a shifted sequence if too few digits for a code unit are next: its end, or nothing that is well-formed.
+-- What is next in a shifted sequence if too few digits for a code unit are next: its end, or ill-formed bytes.
 use Rattle.std.proofs.Common.{◌≡◌, ℕ, zero, suc, ◌+◌, ◌-◌, ◌*◌, ◌/◌, ◌%◌, ◌^◌, ◌<◌, ◌≤◌, Bool, true, false, List, [], ◌∷◌, ◌++◌, length, take, drop, get_or, replicate, refl, sym, ◌∙◌, ap, subst, arith, inl, inr, Some, None, zero-mul}
 use Rattle.std.proofs.lemmas.Bool.{true≢false, cases_lt, cases_order}
 use Rattle.std.proofs.lemmas.List.{append_assoc, length-take-le, take-take, take_more, get_or-take}

@@ -1,5 +1,6 @@
 -- UTF-7 (RFC 2152, "UTF-7 Definition", rules 1 to 3).
--- `pending_of` makes pending bits from two or four bits, or from none: they are the bits that it is given (`laws::pending_bits`).
+-- `pending_of` makes pending bits from two or four bits, or from none. They are the bits that it is given
+-- (`laws::pending_bits`).
 use Rattle.std.specs.Prelude.{◌≡◌, ℕ, ◌<◌, Bool, true, false, ◌⊎◌, List, [], ◌∷◌, ◌++◌, length, Option, Some, None, ◌==◌, if◌then◌else◌, replicate}
 use Rattle.cv_base.specs.Scalars.{IsScalar}
 use Rattle.cv_base.specs.Items.{Taken, taken}
@@ -20,7 +21,8 @@ plus = 43
 abbrev pub minus : ℕ
 minus = 45
 
--- Outside a shifted sequence a direct byte is its character (rules 1 and 3), `+-` is U+002B, and `+` before a digit begins a sequence (rule 2).
+-- Outside a shifted sequence a direct byte is its character (rules 1 and 3), `+-` is U+002B, and `+` before a digit
+-- begins a sequence (rule 2).
 abbrev pub ReadsAtStart : List ℕ → Taken → Type 0
 ReadsAtStart (b ∷ []) item = (may_be_direct b ≡ true) × (item ≡ taken 1 (Some b) read.Start)
 ReadsAtStart (b ∷ d ∷ []) item =

@@ -4,9 +4,9 @@ ghost use Rattle.cv_utf7.specs.Sets.{may_be_direct, is_direct};
 
 use cv_byte_sets::{front_in, run_in};
 
-// A set has sixteen entries, one for each lower half of a byte, with a bit for each higher half. So entry 9 of `MAY_STAND`, 0xFD, has the
-// tab (09), `)` (29), `9`, `I`, `Y`, `i` and `y`, but not 19, a control; entry 11, 0xF8, has `;`, `K`, `[`, `k` and `{`, and lacks
-// `+` (2B).
+// A set has sixteen entries, one for each lower half of a byte, and an entry has a bit for each higher half. For
+// example, entry 9 of `MAY_STAND`, 0xFD, has the tab (09), `)` (29), `9`, `I`, `Y`, `i` and `y`, but not 19, a control.
+// Entry 11, 0xF8, has `;`, `K`, `[`, `k` and `{`, but not `+` (2B).
 
 // What may be direct in a text that is read.
 #[rattlefmt::skip]

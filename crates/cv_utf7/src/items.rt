@@ -82,7 +82,8 @@ pub(crate) fn item_in_shift(pending: Bits, input: &[u8]) -> Item
     }
 }
 
-/// What is next if no digit is: the end of the sequence if the pending bits are zero, and otherwise ill-formed bytes.
+/// What is next if no digit is: the end of the sequence if the pending bits are zero and the byte may end it, and
+/// otherwise ill-formed bytes.
 #[inline(always)]
 #[tactic(auto, using(crate::proofs::FewDigits::stops))]
 fn item_of_end(pending: Bits, input: &[u8]) -> Item

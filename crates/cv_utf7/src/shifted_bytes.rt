@@ -70,7 +70,8 @@ fn put_digits(cut: Cut, out: &mut [u8], at: usize) -> Put
     wrote
 }
 
-/// Writes the digits of a code unit. Each count of pending bits has a branch of its own, in which the count of digits is known.
+/// Writes the digits of a code unit. Each count of pending bits has a branch of its own, in which the count of digits
+/// is known.
 #[inline(always)]
 fn put_unit(pending: Bits, unit: u32, out: &mut [u8], at: usize) -> Put
     requires place { at ≤ length out.old }

@@ -30,7 +30,8 @@ reads_first form bytes item =
     ⊎ (((bytes ≡ form Little mark) × (item ≡ taken (length bytes) None read.Little))
     ⊎ ((bytes ≡ form Big mark → ⊥) × (bytes ≡ form Little mark → ⊥) × gives (form Big) read.Big bytes item))
 
--- The whole byte string is one scalar in the state's order, or a mark. A state that the order doesn't use means `Start`.
+-- The whole byte string is one scalar in the state's order, or a mark. A state that the order doesn't use means
+-- `Start`.
 abbrev pub reads_in : Form → Order → ItemRelation
 reads_in form Be s = gives (form Big) read.Start
 reads_in form Le s = gives (form Little) read.Start

@@ -15,7 +15,7 @@ use Rattle.cv_utf7.specs.declared.units.Unit.{Unit}
 abbrev pub place : ReadState → ℕ → ℕ → ReadBlock
 place state used n = record { n = n; used = used; next = state }
 
--- Items of a text were read from one place to another: their characters are in the buffer, after those that were there.
+-- Items of a text were read from one place to another. Their characters are in the buffer, after those that were there.
 pub record ReadsOn (text : List ℕ) (from : ReadBlock) (before : List ℕ) (to : ReadBlock) (after : List ℕ) : Type 0 where
   pub chain : List Taken
   pub is_chain : IsChain utf7_reads from.next (drop from.used text) chain

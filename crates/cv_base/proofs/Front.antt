@@ -14,7 +14,7 @@ Begins-trans (x ∷ a) [] c p q = absurd p
 Begins-trans (x ∷ a) (y ∷ b) [] p q = absurd q
 Begins-trans (x ∷ a) (y ∷ b) (z ∷ c) p q = (p.0 ∙ q.0, Begins-trans a b c p.1 q.1)
 
--- of two lists that begin one text, one begins the other
+-- of two lists that begin one text, the shorter begins the longer
 pub Begins-meet : (a b c : List ℕ) → Begins a c → Begins b c → length a ≤ length b → Begins a b
 Begins-meet [] b c p q l = tt
 Begins-meet (x ∷ a) [] c p q l = absurd (omega arith)
@@ -48,7 +48,7 @@ Begins-take zero text = tt
 Begins-take (suc n) [] = tt
 Begins-take (suc n) (t ∷ text) = (refl, Begins-take n text)
 
--- what begins a text, and then what begins the rest
+-- what begins a text, joined with what begins the rest, begins the text
 pub Begins-join : (a b text : List ℕ) → Begins a text → Begins b (drop (length a) text) → Begins (a ++ b) text
 Begins-join [] b text p q = q
 Begins-join (x ∷ a) b [] p q = absurd p

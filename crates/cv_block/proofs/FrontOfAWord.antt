@@ -1,4 +1,4 @@
--- A word that is written, of which only a prefix is wanted.
+-- A word that is written, although only a prefix of it is wanted.
 use Rattle.std.proofs.Common.{◌≡◌, ℕ, ◌+◌, ◌≤◌, List, ◌++◌, length, take, drop, ◌∙◌, ap, arith, length-append, length-take, append_assoc}
 use Rattle.std.proofs.lemmas.List.{take_at}
 use borrow.Rule.Slice.PartMut.{put_mid, post_of}

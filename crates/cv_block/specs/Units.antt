@@ -23,6 +23,6 @@ AreScalarsBelow numbers n = (k : ℕ) → k < n → IsScalar (get_or numbers k 0
 abbrev pub AreSingle : AsciiForm → List ℕ → ℕ → Type 0
 AreSingle form numbers n = (k : ℕ) → k < n → get_or numbers k 0 < unit_limit form
 
--- A character that is one unit has its bytes.
+-- A character of one unit has the bytes of that unit.
 abbrev pub SpellsUnits : AsciiForm → BytesOf → Type 0
 SpellsUnits form bytes_of = (c : ℕ) → c < unit_limit form → bytes_of c ≡ unit_of form c

@@ -8,7 +8,7 @@ use crate::repertoire::{OfAscii, OfLatin};
 use cv_base::AsciiForm;
 
 /// Writes the ASCII characters at the start of a text, whose units have this form, in the target form into a slice from
-/// index `at` on, and returns how many it wrote. It stops before the first other unit, or where there is no room. It
+/// index `at` on, and returns how many it wrote. It stops before the first other unit, and when the slice is full. It
 /// may write none if fewer than sixteen of them are there and the text has sixteen units or more. All other bytes of
 /// the slice stay.
 #[inline(always)]
@@ -32,7 +32,7 @@ pub fn take_ascii_run(
 }
 
 /// Writes the characters below 256 at the start of a text, whose units have this form, in the target form into a slice
-/// from index `at` on, and returns how many it wrote. It stops before the first other unit, or where there is no room.
+/// from index `at` on, and returns how many it wrote. It stops before the first other unit, and when the slice is full.
 /// It may write none if fewer than sixteen of them are there and the text has sixteen units or more. All other bytes of
 /// the slice stay.
 #[inline(always)]

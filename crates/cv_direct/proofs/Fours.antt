@@ -62,7 +62,7 @@ fronts_are zero (v ∷ vs) e p = absurd (omega arith)
 fronts_are (suc n) [] e p = absurd (omega arith)
 fronts_are (suc n) (v ∷ vs) e p = ap₂ (λ (x : ℕ) (l : List ℕ). x ∷ l) (front_is v (p 0 (omega arith))) (fronts_are n vs (omega arith) (behind_first v vs p))
 
--- the second numbers
+-- the second numbers of some lanes
 pub lasts_are : (n : ℕ) (vs : List ℕ) → length vs ≡ n → last_words n vs ≡ map last_of vs
 lasts_are zero [] e = refl
 lasts_are zero (v ∷ vs) e = absurd (omega arith)
@@ -123,11 +123,11 @@ tests_are limit t is (suc n) (v ∷ vs) e = ap₂ (λ (b : Bool) (l : List Bool)
 bits_are : (limit : ℕ) (t : ℕ → Bool) → ((v : ℕ) → top 15 (cond (leb limit v) 0xffff 0) ≡ t v) → (vs : List ℕ) → length vs ≡ 8 → mask_l (tests 8 limit vs) % 2 ^ 64 ≡ mask_l (map t vs)
 bits_are limit t is vs long = ap (λ l. mask_l l % 2 ^ 64) (tests_are limit t is 8 vs long) ∙ mask_l-mod (map t vs) 64 (omega (arith, length-map vs t, long))
 
--- the bits of those of two bytes
+-- the bits of units of two bytes or more
 pub twos_are : (vs : List ℕ) → length vs ≡ 8 → mask_l (tests 8 0x80 vs) % 2 ^ 64 ≡ mask_l (map has_two vs)
 twos_are vs long = bits_are 0x80 has_two two_is vs long
 
--- the bits of those of three
+-- the bits of units of three bytes
 pub threes_are : (vs : List ℕ) → length vs ≡ 8 → mask_l (tests 8 0x800 vs) % 2 ^ 64 ≡ mask_l (map has_three vs)
 threes_are vs long = bits_are 0x800 has_three three_is vs long
 

@@ -29,7 +29,7 @@ none_converted_exactly from to text before at h =
       put = record { wrote = refl; fits = omega arith; out = sym (take-append-drop at before) ∙ ap₂ (λ (x y : List ℕ). x ++ y) (sym (append-nil (take at before))) (ap (λ (i : ℕ). drop i before) (sym end)) };
     }
 
--- a run, and then another from where it ended
+-- a run is converted, and then another that begins at its end
 pub joined : (from to : BytesOf) (text before : List ℕ) (at : ℕ) (r1 r2 : Direct) (mid after : List ℕ) → IsConverted from to text before at r1 mid → IsConverted from to (drop r1.used text) mid (at + r1.wrote) r2 after
     → IsConverted from to text before at (record { used = r1.used + r2.used; wrote = r1.wrote + r2.wrote }) after
 joined from to text before at r1 r2 mid after p q =

@@ -33,7 +33,7 @@ big_are zero (v ∷ vs) e p = absurd (omega arith)
 big_are (suc n) [] e p = absurd (omega arith)
 big_are (suc n) (v ∷ vs) e p = ap₂ (λ (x : ℕ) (l : List ℕ). x ∷ l) (swapped_is v (p 0 (omega arith))) (big_are n vs (omega arith) (behind_first v vs p))
 
--- in little-endian order they are as they are
+-- in little-endian order units stay as they are
 pub little_are : (vs : List ℕ) → vs ≡ map (in_order Little) vs
 little_are [] = refl
 little_are (v ∷ vs) = ap (λ (l : List ℕ). v ∷ l) (little_are vs)

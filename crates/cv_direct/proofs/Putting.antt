@@ -29,7 +29,7 @@ put_more xs ys before at n first m loose place mid after p e q enough =
       size = q.size ∙ p.size;
     }
 
--- a vector of which the first bytes are wanted, and how many more it has
+-- the first bytes of a vector are put, and the others may be anything
 pub put_part : (bytes lanes out : List ℕ) (at n wide loose : ℕ) → length lanes ≡ wide → at + wide ≤ length out → n ≤ wide → wide ≤ n + loose → take n lanes ≡ bytes → IsPutLoosely bytes out at n loose (put_chunk at out lanes)
 put_part bytes lanes out at n wide loose long room few most front =
     let rest : List ℕ = drop (length lanes) (drop at out) in
@@ -49,7 +49,7 @@ put_part bytes lanes out at n wide loose long room few most front =
       size = length-put_chunk at out lanes;
     }
 
--- a vector of which the first bytes are wanted
+-- the first bytes of a vector are put, and at most sixteen others may be anything
 pub put_front : (bytes lanes out : List ℕ) (at n wide : ℕ) → length lanes ≡ wide → at + wide ≤ length out → n ≤ wide → wide ≤ n + 16 → take n lanes ≡ bytes → IsPutLoosely bytes out at n 16 (put_chunk at out lanes)
 put_front bytes lanes out at n wide long room few most front = put_part bytes lanes out at n wide 16 long room few most front
 

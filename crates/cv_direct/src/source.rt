@@ -45,8 +45,8 @@ pub(crate) trait Source {
     /// speed only.
     fn is_dense(marks: u64) -> bool;
 
-    /// Returns how many bytes the parts of mixed text have at least on average if windows are faster than blocks. In
-    /// the target U+0000 has `zero_size` bytes. It affects speed only.
+    /// Returns the least average size of the parts of mixed text, in bytes, for which windows are faster than blocks,
+    /// if U+0000 has `zero_size` bytes in the target. It affects speed only.
     fn part_size(zero_size: usize) -> usize
         ensures { 0 < result };
 }

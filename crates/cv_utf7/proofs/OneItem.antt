@@ -111,7 +111,7 @@ leads_stop p a b u rest j h k g =
     let f = k.last in
     cc
 
--- both ends are the same
+-- two ends after one byte are the same
 same_end : (used b : ℕ) (i j : Taken) → EndsAt used b i → EndsAt used b j → i ≡ j
 same_end used b i j x y = elim x [
   | inl p ↦ elim y [ inl q ↦ p.1 ∙ sym q.1 | inr q ↦ absurd (q.2 p.0) ]

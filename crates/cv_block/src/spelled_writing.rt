@@ -38,8 +38,9 @@ fn behind(many: usize) -> usize
     if many == 0 { MANY } else { 1 }
 }
 
-/// Writes some characters from the `n`th on: many at once. If it could write only some of them at once, it writes one
-/// more, and if none, many one by one.
+/// Writes some characters from the `n`th on. If fewer than sixteen are left, it writes them one by one. Otherwise it
+/// writes many at once. If these were only some of sixteen, it writes one more, and if they were none, sixteen one by
+/// one.
 #[inline(always)]
 fn write_some<S: Spelling>(characters: &[Scalar], n: usize, out: &mut [u8], at: usize) -> Spelled
     requires within { n ≤ length characters.now }

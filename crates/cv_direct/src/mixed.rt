@@ -14,7 +14,7 @@ use std::simd::prelude::*;
 /// The size of the buffer for mixed text, in bytes.
 const BUFFER: usize = 512;
 
-/// How many parts of mixed text are converted before it is tested whether they are too small.
+/// How many parts of mixed text are converted at least, however small they are.
 const FEW: usize = 4;
 
 /// After so many bytes of ASCII, which are eight windows, mixed text from UTF-32 to UTF-8 ends. The buffer has room for

@@ -61,7 +61,8 @@ fn put_joined(numbers: &[u32; MANY], buffer: &mut [Scalar], n: usize) -> usize
     more
 }
 
-/// Reads the characters of sixteen units from index `at` on, if their surrogates are in pairs, and otherwise none.
+/// Reads the characters of sixteen units from index `at` on, if their surrogates are in pairs, and otherwise none. If
+/// the last unit is a high surrogate, it reads the low one after it too.
 #[inline(always)]
 pub(crate) fn read_joined<O: ByteOrder>(
     input: &[u8],

@@ -42,7 +42,7 @@ every_allowed writes p policy t characters = none_allowed policy (output_for wri
 pub below_written : (limit c : ℕ) → c < limit → written (byte_writes limit) write.Start (Some c) ≡ output (c ∷ []) 0 write.Start
 below_written limit c h = rw (lt-ltb c limit h) refl
 
--- one more character is no larger than the joined bits of all
+-- no character before, nor one more, is greater than the bitwise OR of all
 pub joined_more : (characters : List ℕ) (k joined c : ℕ) → ((j : ℕ) → j < k → get_or characters j 0 ≤ joined) → c ≡ get_or characters k c → k < length characters
     → (j : ℕ) → j < k + 1 → get_or characters j 0 ≤ bit_or joined c
 joined_more characters k joined c p e l j h = elim (cases_lt j k) [

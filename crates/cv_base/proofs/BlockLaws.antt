@@ -17,7 +17,7 @@ abbrev pub items_for : ReadState → (ℕ → List ℕ) → List ℕ → List Ta
 items_for s bytes_of [] = []
 items_for s bytes_of (c ∷ characters) = taken (length (bytes_of c)) (Some c) s ∷ items_for s bytes_of characters
 
--- the bytes of each read as it
+-- the bytes of each character read as it, and the state stays
 abbrev pub AreRead : ItemRelation → ReadState → (ℕ → List ℕ) → List ℕ → Type 0
 AreRead reads s bytes_of [] = Unit {0}
 AreRead reads s bytes_of (c ∷ characters) = reads s (bytes_of c) (taken (length (bytes_of c)) (Some c) s) × AreRead reads s bytes_of characters
@@ -43,7 +43,7 @@ characters_for : (s : ReadState) (bytes_of : ℕ → List ℕ) (characters : Lis
 characters_for s bytes_of [] = refl
 characters_for s bytes_of (c ∷ characters) = ap (λ (x : List ℕ). c ∷ x) (characters_for s bytes_of characters)
 
--- characters whose bytes begin a text, in a buffer
+-- characters whose bytes begin a text are a block, once they are in a buffer
 pub read_block_of : (reads : ItemRelation) (s : ReadState) (bytes_of : ℕ → List ℕ) (text characters buffer : List ℕ) (n used : ℕ) → AreRead reads s bytes_of characters → Begins (flat_map bytes_of characters) text
     → used ≡ length (flat_map bytes_of characters) → take n buffer ≡ characters → n ≤ length buffer → IsReadBlock reads s text (record { n = n; used = used; next = s }) buffer
 read_block_of reads s bytes_of text characters buffer n used p q e f h = record {
@@ -64,12 +64,12 @@ pub bytes_are_read : (limit : ℕ) (bytes : List ℕ) → ((k : ℕ) → k < len
 bytes_are_read limit [] h = tt
 bytes_are_read limit (b ∷ bytes) h = ((h 0 (omega arith), refl), bytes_are_read limit bytes (λ k l. h (suc k) (omega arith)))
 
--- bytes, one by one, are the bytes
+-- the lists of one byte each, joined, are the bytes
 pub each_byte : (bytes : List ℕ) → flat_map (λ (c : ℕ). c ∷ []) bytes ≡ bytes
 each_byte [] = refl
 each_byte (b ∷ bytes) = ap (λ (x : List ℕ). b ∷ x) (each_byte bytes)
 
--- bytes below the limit, in a buffer
+-- bytes below the limit at the start of a text are a block, once they are in a buffer
 pub bytes_read : (limit n : ℕ) (text buffer : List ℕ) → n ≤ length text → n ≤ length buffer → take n buffer ≡ take n text → ((k : ℕ) → k < n → get_or text k 0 < limit)
     → IsReadBlock (byte_reads limit) read.Start text (record { n = n; used = n; next = read.Start }) buffer
 bytes_read limit n text buffer h l e below =
@@ -80,7 +80,7 @@ bytes_read limit n text buffer h l e below =
     (rw (each_byte front) (omega (arith, length-take n text)))
     e l
 
--- no unit is written
+-- a run of no units is written
 pub no_run : (writes : Writing) (t : WriteState) (form : AsciiForm) (text before : List ℕ) (at : ℕ) → at ≤ length before → IsWrittenRun writes t form text before at 0 before
 no_run writes t form text before at h = record {
   characters = [];

@@ -27,7 +27,7 @@ characters_of-append (i ∷ a) b = ap (λ (x : List ℕ). option_to_list i.gives
 pub followed_assoc : (x y z : Output) → followed (followed x y) z ≡ followed x (followed y z)
 followed_assoc x y z = ap (λ (p : List ℕ × ℕ). output p.0 p.1 z.next) (let e : ◌≡◌ {A = List ℕ × ℕ} ((x.bytes ++ y.bytes) ++ z.bytes, (x.count + y.count) + z.count) (x.bytes ++ (y.bytes ++ z.bytes), x.count + (y.count + z.count)) = (cc (append_assoc x.bytes y.bytes z.bytes, add_assoc x.count y.count z.count)) in e)
 
--- nothing, and then something
+-- an empty output, and then another, is the other
 followed_none : (t : WriteState) (x : Output) → followed (output [] 0 t) x ≡ x
 followed_none t x = ap (λ n. output x.bytes n x.next) (zero-add x.count)
 

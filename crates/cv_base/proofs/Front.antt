@@ -14,7 +14,7 @@ Begins-trans (x ∷ a) [] c p q = absurd p
 Begins-trans (x ∷ a) (y ∷ b) [] p q = absurd q
 Begins-trans (x ∷ a) (y ∷ b) (z ∷ c) p q = (p.0 ∙ q.0, Begins-trans a b c p.1 q.1)
 
--- of two lists that begin one text, one begins the other
+-- of two lists that begin one text, the shorter begins the longer
 pub Begins-meet : (a b c : List ℕ) → Begins a c → Begins b c → length a ≤ length b → Begins a b
 Begins-meet [] b c p q l = tt
 Begins-meet (x ∷ a) [] c p q l = absurd (omega arith)
@@ -48,19 +48,19 @@ Begins-take zero text = tt
 Begins-take (suc n) [] = tt
 Begins-take (suc n) (t ∷ text) = (refl, Begins-take n text)
 
--- what begins a text, and then what begins the rest
+-- what begins a text, joined with what begins the rest, begins the text
 pub Begins-join : (a b text : List ℕ) → Begins a text → Begins b (drop (length a) text) → Begins (a ++ b) text
 Begins-join [] b text p q = q
 Begins-join (x ∷ a) b [] p q = absurd p
 Begins-join (x ∷ a) b (t ∷ text) p q = (p.0, Begins-join a b text p.1 q)
 
--- a prefix of what begins a text, and what follows it
+-- a prefix of what begins a text begins it too
 pub Begins-front : (a b text : List ℕ) → Begins (a ++ b) text → Begins a text
 Begins-front [] b text p = tt
 Begins-front (x ∷ a) b [] p = absurd p
 Begins-front (x ∷ a) b (t ∷ text) p = (p.0, Begins-front a b text p.1)
 
--- what follows the prefix is after it
+-- what follows that prefix begins the rest of the text
 pub Begins-back : (a b text : List ℕ) → Begins (a ++ b) text → Begins b (drop (length a) text)
 Begins-back [] b text p = p
 Begins-back (x ∷ a) b [] p = absurd p
@@ -82,7 +82,7 @@ pub Begins-append : (a b : List ℕ) → Begins a (a ++ b)
 Begins-append [] b = tt
 Begins-append (x ∷ a) b = (refl, Begins-append a b)
 
--- `&text[used..]`
+-- the slice `&text[used..]` is what follows the first used bytes
 pub rest_is : (used : ℕ) (text : List ℕ) → take (length text - used) (drop used text) ≡ drop used text
 rest_is used text = take_all (length text - used) (drop used text) (omega (arith, length-drop used text))
 
@@ -127,7 +127,7 @@ same_item reads r s text i j p q = r.one_item s text p.bytes q.bytes i j p.is_it
 pub stands_within : (reads : ItemRelation) → IsReadable reads → UsesSome reads
 stands_within reads r s text i p = let u = r.uses s p.bytes i p.is_item in let l = Begins-length p.bytes text p.front in (u.0, omega (arith, u.1, l))
 
--- one thing is next
+-- only one thing is next
 pub one_next : (reads : ItemRelation) → IsReadable reads → OneIsNext reads
 one_next reads r s text (item.Char c n next) (item.Char d m then) p q = let e = same_item reads r s text _ _ p q in cc (ap (λ (t : Taken). t.used) e, ap (λ (t : Taken). t.gives) e, ap (λ (t : Taken). t.next) e)
 one_next reads r s text (item.Char c n next) (item.Shift m then) p q = let e = same_item reads r s text _ _ p q in cc (ap (λ (t : Taken). t.used) e, ap (λ (t : Taken). t.gives) e, ap (λ (t : Taken). t.next) e)

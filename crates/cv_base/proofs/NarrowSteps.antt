@@ -7,7 +7,7 @@ use Rattle.cv_base.specs.declared.state.WriteState.TheVariants as write
 use Rattle.cv_base.proofs.SingleByteItems.{byte_writes_one}
 use Rattle.cv_base.proofs.WrittenEach.{WrittenSoFar, one_more_written}
 
--- one byte more
+-- one byte more is written
 pub one_byte_more : (limit : ℕ) (characters before : List ℕ) (at k count : ℕ) (out : List ℕ) → WrittenSoFar (byte_writes limit) write.Start characters before at k (at + k) count write.Start out → k < length characters → at + k < length before
     → (c byte m : ℕ) → c ≡ get_or characters k c → written (byte_writes limit) write.Start (Some c) ≡ output (byte ∷ []) m write.Start
     → WrittenSoFar (byte_writes limit) write.Start characters before at (k + 1) (at + (k + 1)) (count + m) write.Start (slice_set out (at + k) byte)

@@ -26,7 +26,8 @@ pub record IsReadFrom (reads : ItemRelation) (s : ReadState) (bytes characters :
   pub gives : characters_of chain ≡ characters
   pub after : IsAfter (read_state s chain)
 
--- What is written for a character is read as it from a state that corresponds to the writing state, and the states after it correspond too.
+-- What is written for a character is read as that character, from each state that corresponds to the writing state. The
+-- states after it correspond too.
 abbrev pub EachReadsBack : ItemRelation → Writing → Together → Type 0
 EachReadsBack reads writes Go = (t : WriteState) (s : ReadState) (c : ℕ) (bytes : List ℕ) (next : WriteState) → Go t s → IsScalar c → writes t c ≡ Some (bytes, next) → IsReadFrom reads s bytes (c ∷ []) (Go next)
 
@@ -69,7 +70,7 @@ state_in None = write.Start
 abbrev pub wrote : List ℕ → WriteState → Option (List ℕ × WriteState)
 wrote bytes next = Some (bytes, next)
 
--- what two equal answers have in common
+-- what holds of one of two equal results holds of the other
 pub same_written : (P : List ℕ → WriteState → Type 0) (a b : List ℕ) (t u : WriteState) → P a t → wrote a t ≡ wrote b u → P b u
 unfolding bytes_in state_in
 same_written P a b t u p e =

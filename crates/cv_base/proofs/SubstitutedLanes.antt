@@ -19,7 +19,7 @@ use Rattle.cv_base.specs.declared.state.WriteState.TheVariants as write
 abbrev byte_for : ℕ → ℕ → ℕ
 byte_for limit c = cond (leb limit c) question c
 
--- for how many characters it is `?`
+-- for how many characters `?` is written
 abbrev lacking : ℕ → List ℕ → ℕ
 lacking limit characters = count_by (leb limit) characters
 
@@ -36,11 +36,11 @@ narrowed limit q [] = refl
 narrowed limit q (c ∷ characters) =
     rw (one_written limit c q, narrowed limit q characters) (ap (λ n. output (byte_for limit c ∷ map (byte_for limit) characters) n write.Start) (sym (sum_by-cons (λ x. cond (leb limit x) 1 0) c characters)))
 
--- the lanes that are below a limit, all bits set
+-- a mask: the lanes that are below a limit have all bits set
 abbrev below_all : ℕ → ℕ → List ℕ → List ℕ
 below_all n limit xs = zip2 (λ a b. cond (ltb a b) 0xffffffff 0) xs (replicate n limit)
 
--- the same, when a mask is read again before its lanes become bytes
+-- the same mask, made from the sign of each of its lanes: it is tested again before its lanes become bytes
 abbrev pub small_all : ℕ → ℕ → List ℕ → List ℕ
 small_all n limit xs = zip2 (λ a b. cond (lt_z (to_z w32 a) (to_z w32 b)) 0xffffffff 0) (below_all n limit xs) (replicate n 0)
 
@@ -48,7 +48,7 @@ small_all n limit xs = zip2 (λ a b. cond (lt_z (to_z w32 a) (to_z w32 b)) 0xfff
 abbrev pub marks : ℕ → ℕ → List ℕ → List Bool
 marks n limit xs = map (top 7) (map (λ a. of_z w8 (to_z w32 a)) (small_all n limit xs))
 
--- the lesser of each lane and another number
+-- the minimum of each lane and another number
 abbrev pub least_all : ℕ → ℕ → List ℕ → List ℕ
 least_all n other xs = sel_l (map (top 31) (below_all n other xs)) xs (replicate n other)
 
@@ -56,7 +56,7 @@ least_all n other xs = sel_l (map (top 31) (below_all n other xs)) xs (replicate
 abbrev pub bytes_in : ℕ → ℕ → List ℕ → List ℕ
 bytes_in n limit xs = sel_l (marks n limit xs) (map (λ a. a) (least_all n (limit - 1) xs)) (replicate n question)
 
--- the lane of a mask that is read again, by whether it is set
+-- a lane of the mask that is made from signs, by whether it is set
 abbrev small : Bool → ℕ
 small b = cond (lt_z (to_z w32 (cond b 0xffffffff 0)) (to_z w32 0)) 0xffffffff 0
 
@@ -72,7 +72,7 @@ all_small zero limit (x ∷ xs) e = absurd (omega (arith, e))
 all_small (suc n) limit [] e = absurd (omega (arith, e))
 all_small (suc n) limit (x ∷ xs) e = (small_fits (ltb x limit), all_small n limit xs (omega (arith, e)))
 
--- and as a byte it tells whether it is set
+-- as a byte it tells whether it is set
 small_is : (b : Bool) → top 7 (of_z w8 (to_z w32 (small b))) ≡ b
 small_is true = refl
 small_is false = refl
@@ -84,7 +84,7 @@ marks_are zero limit (x ∷ xs) e = absurd (omega (arith, e))
 marks_are (suc n) limit [] e = absurd (omega (arith, e))
 marks_are (suc n) limit (x ∷ xs) e = let head = small_is (ltb x limit) in let tail = marks_are n limit xs (omega (arith, e)) in (cc)
 
--- the lesser of two numbers, as a lane has it
+-- the minimum of two numbers, as vectors compute it
 abbrev least : ℕ → ℕ → ℕ
 least x other = cond (top 31 (cond (ltb x other) 0xffffffff 0)) x other
 
@@ -95,7 +95,7 @@ least_le x other = elim (cases_lt x other) [
   | inr l ↦ rw (le-ltb x other l) (omega arith)
 ]
 
--- the lesser of each lane and the last number below a limit is a byte
+-- the minimum of each lane and the last number below a limit is a byte
 pub all_bytes : (n limit : ℕ) (xs : List ℕ) → question < limit → limit ≤ 256 → length xs ≡ n → Each1 (Fits w8) (least_all n (limit - 1) xs)
 all_bytes zero limit [] q h e = tt
 all_bytes zero limit (x ∷ xs) q h e = absurd (omega (arith, e))
@@ -123,7 +123,7 @@ bytes_are zero limit (x ∷ xs) e = absurd (omega (arith, e))
 bytes_are (suc n) limit [] e = absurd (omega (arith, e))
 bytes_are (suc n) limit (x ∷ xs) e = let head = byte_is x limit in let tail = bytes_are n limit xs (omega (arith, e)) in (cc)
 
--- a character is below the limit, or lacking
+-- each character is below the limit, or `?` is written for it
 counted : (limit : ℕ) (xs : List ℕ) → count_by (λ x. ltb x limit) xs + lacking limit xs ≡ length xs
 counted limit [] = refl
 counted limit (x ∷ xs) = elim (cases_lt x limit) [
@@ -131,7 +131,7 @@ counted limit (x ∷ xs) = elim (cases_lt x limit) [
   | inr l ↦ rw (sum_by-cons (λ x. cond (ltb x limit) 1 0) x xs, sum_by-cons (λ x. cond (leb limit x) 1 0) x xs, le-ltb x limit l, le-leb limit x l) (omega (arith, counted limit xs))
 ]
 
--- what is not marked is lacking
+-- `?` is written for each character that is not marked
 marks_count : (limit : ℕ) (xs : List ℕ) → length xs ≡ 16 → count_ones (mask_l (marks 16 limit xs) % 2 ^ 64) + lacking limit xs ≡ 16
 marks_count limit xs long =
     let ones : count_ones (mask_l (marks 16 limit xs) % 2 ^ 64) ≡ count_by (λ x. ltb x limit) xs = ap (λ (ms : List Bool). count_ones (mask_l ms % 2 ^ 64)) (marks_are 16 limit xs long) ∙ ap count_ones (mask_l-mod (map (λ x. ltb x limit) xs) 64 (simp length-map (omega arith))) ∙ ones-mask_l (λ x. ltb x limit) xs in
@@ -141,7 +141,7 @@ marks_count limit xs long =
 pub marks_few : (limit : ℕ) (xs : List ℕ) → length xs ≡ 16 → count_ones (mask_l (marks 16 limit xs) % 2 ^ 64) ≤ 16
 marks_few limit xs long = omega (arith, marks_count limit xs long)
 
--- sixteen lanes that are put at a place are what is written for their characters
+-- sixteen lanes that are put at an index are what is written for their characters
 put_lanes : (limit : ℕ) (xs before : List ℕ) (at : ℕ) → question < limit → length xs ≡ 16 → at + 16 ≤ length before
     → IsOutput (output_for (byte_writes limit) write.Start xs) before at 16 (16 - count_ones (mask_l (marks 16 limit xs) % 2 ^ 64)) write.Start (put_chunk at before (bytes_in 16 limit xs))
 put_lanes limit xs before at q long room =

@@ -15,7 +15,7 @@ use Rattle.cv_base.specs.declared.state.WriteState.TheVariants as write
 use Rattle.cv_base.proofs.Front.{Begins-take}
 use Rattle.cv_base.proofs.BlockLaws.{AreRead, items_for, chain_for, used_for, state_for, bytes_are_read, each_byte}
 
--- each is written as its bytes, and the state stays
+-- each character is written as its bytes, and the state stays
 abbrev pub AreWrittenAs : Writing → WriteState → (ℕ → List ℕ) → List ℕ → Type 0
 AreWrittenAs writes t bytes_of [] = Unit {0}
 AreWrittenAs writes t bytes_of (c ∷ characters) = (writes t c ≡ Some (bytes_of c, t)) × AreWrittenAs writes t bytes_of characters
@@ -24,7 +24,7 @@ written_back : (writes : Writing) (s : ReadState) (t : WriteState) (bytes_of : �
 written_back writes s t bytes_of [] p = refl
 written_back writes s t bytes_of (c ∷ characters) p = rw p.0 (rw (written_back writes s t bytes_of characters p.1) refl)
 
--- characters whose bytes are a prefix of a text, and that are written as them
+-- characters whose bytes begin a text, and which are written as these bytes, stay unchanged
 pub unchanged_of : (reads : ItemRelation) (writes : Writing) (s : ReadState) (t : WriteState) (bytes_of : ℕ → List ℕ) (characters text : List ℕ) (n : ℕ) → AreRead reads s bytes_of characters → AreWrittenAs writes t bytes_of characters
     → flat_map bytes_of characters ≡ take n text → n ≤ length text → IsUnchanged reads writes s t text n
 unchanged_of reads writes s t bytes_of characters text n p q e h = record {
@@ -36,7 +36,7 @@ unchanged_of reads writes s t bytes_of characters text n p q e h = record {
   output = written_back writes s t bytes_of characters q ∙ ap (λ (x : List ℕ). output x 0 t) e;
 }
 
--- no byte
+-- the first 0 bytes of a text stay unchanged
 pub none_unchanged : (reads : ItemRelation) (writes : Writing) (s : ReadState) (t : WriteState) (text : List ℕ) → IsUnchanged reads writes s t text 0
 none_unchanged reads writes s t text = record { chain = []; is_chain = tt; within = omega arith; uses = refl; stays = refl; output = refl }
 
@@ -44,7 +44,7 @@ bytes_are_written : (limit : ℕ) (bytes : List ℕ) → ((k : ℕ) → k < leng
 bytes_are_written limit [] h = tt
 bytes_are_written limit (b ∷ bytes) h = (rw (lt-ltb b limit (h 0 (omega arith))) refl, bytes_are_written limit bytes (λ k l. h (suc k) (omega arith)))
 
--- a text of bytes below the limit
+-- a text of bytes below the limit stays unchanged
 pub bytes_unchanged : (limit : ℕ) (text : List ℕ) → ((k : ℕ) → k < length text → get_or text k 0 < limit) → IsUnchanged (byte_reads limit) (byte_writes limit) read.Start write.Start text (length text)
 bytes_unchanged limit text below =
     unchanged_of (byte_reads limit) (byte_writes limit) read.Start write.Start (λ c. c ∷ []) text text (length text)

@@ -30,14 +30,14 @@ put_or-most most t None None p q = omega arith
 pub written-most : (most : ℕ) (writes : Writing) → WritesAtMost most writes → (t : WriteState) (c : ℕ) → length (written writes t (Some c)).bytes ≤ most
 written-most most writes m t c = put_or-most most t (writes t question) (writes t c) (m t question) (m t c)
 
--- what follows the output, after a write after it
+-- what follows the output stays when more is written after it
 pub out_more : (b w before : List ℕ) (at : ℕ) → at ≡ length b → take at (b ++ drop at before) ++ w ++ drop (at + length w) (b ++ drop at before) ≡ (b ++ w) ++ drop (at + length w) before
 out_more b w before at e =
     let front : take at (b ++ drop at before) ≡ b = ap (λ k. take k (b ++ drop at before)) e ∙ take-append_seam b (drop at before) in
     let back : drop (at + length w) (b ++ drop at before) ≡ drop (at + length w) before = ap (λ k. drop (k + length w) (b ++ drop at before)) e ∙ drop-append-add b (drop at before) (length w) ∙ drop-drop (length w) at before in
     cc
 
--- The first characters are written after a place.
+-- The first k characters are written from index `at` on, and their bytes end at `end`.
 pub record WrittenSoFar (writes : Writing) (t : WriteState) (characters before : List ℕ) (at k end count : ℕ) (now : WriteState) (out : List ℕ) : Type 0 where
   pub wrote : end ≡ at + length (output_for writes t (take k characters)).bytes
   pub counts : count ≡ (output_for writes t (take k characters)).count
@@ -48,7 +48,7 @@ pub record WrittenSoFar (writes : Writing) (t : WriteState) (characters before :
   pub holds : out ≡ (take at before ++ (output_for writes t (take k characters)).bytes) ++ drop end before
   pub size : length out ≡ length before
 
--- no character is written at first
+-- at first no character is written
 pub none_written : (writes : Writing) (t : WriteState) (characters before : List ℕ) (at : ℕ) → at ≤ length before → WrittenSoFar writes t characters before at 0 at 0 t before
 none_written writes t characters before at h = record {
   wrote = omega arith;
@@ -61,7 +61,7 @@ none_written writes t characters before at h = record {
   size = refl;
 }
 
--- some more
+-- more characters are written
 pub more_written : (writes : Writing) (t : WriteState) (characters before : List ℕ) (at k end count : ℕ) (now : WriteState) (out : List ℕ) → WrittenSoFar writes t characters before at k end count now out
     → (more n m : ℕ) (next : WriteState) (after : List ℕ) → IsOutput (output_for writes now (take more (drop k characters))) out end n m next after → n ≤ 8 * more → m ≤ more
     → WrittenSoFar writes t characters before at (k + more) (end + n) (count + m) next after
@@ -84,7 +84,7 @@ more_written writes t characters before at k end count now out p more n m next a
       size = ap length put.bytes.out ∙ simp (length-append, length-take, length-drop) (omega (arith, put.bytes.wrote, put.bytes.fits, p.size));
     }
 
--- one more
+-- one more character is written
 pub one_more_written : (most : ℕ) (writes : Writing) (t : WriteState) (characters before : List ℕ) (at k end count : ℕ) (now : WriteState) (out : List ℕ) → WrittenSoFar writes t characters before at k end count now out
     → most ≤ 8 → WritesAtMost most writes → k < length characters → (n m : ℕ) (next : WriteState) (after : List ℕ) → (c : ℕ) → c ≡ get_or characters k c → IsOutput (written writes now (Some c)) out end n m next after
     → WrittenSoFar writes t characters before at (k + 1) (end + n) (count + m) next after

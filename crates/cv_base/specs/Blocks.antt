@@ -1,4 +1,5 @@
--- Blocks: characters that are read or written many at once. They exist for speed: no contract of a conversion cites them.
+-- Blocks: characters that are read or written many at once. They exist for speed: no contract of a conversion cites
+-- them.
 use Rattle.std.specs.Prelude.{◌≡◌, ℕ, ◌≤◌, List, take, length, Option, Some, None}
 use Rattle.std.specs.List.{flat_map}
 use Rattle.cv_base.specs.Ascii.{AreBelow}
@@ -15,7 +16,8 @@ use Rattle.cv_base.specs.declared.policy.Policy.{Policy}
 use Rattle.cv_base.specs.declared.state.ReadState.{ReadState}
 use Rattle.cv_base.specs.declared.state.WriteState.{WriteState}
 
--- Items at the start of a text use the block's bytes and give its characters, which are first in the buffer.
+-- A chain of items at the start of a text uses the block's bytes and gives its characters, which are at the start of
+-- the buffer. The block has the state after the chain.
 pub record IsReadBlock (reads : ItemRelation) (s : ReadState) (text : List ℕ) (block : ReadBlock) (buffer : List ℕ) : Type 0 where
   pub chain : List Taken
   pub is_chain : IsChain reads s text chain
@@ -24,12 +26,13 @@ pub record IsReadBlock (reads : ItemRelation) (s : ReadState) (text : List ℕ) 
   pub uses : block.used ≡ used_bytes chain
   pub next : block.next ≡ read_state s chain
 
--- What is written for characters was put at a place.
+-- The output for these characters was written into a slice from index `at` on.
 abbrev pub IsWrittenBlock : Writing → WriteState → List ℕ → List ℕ → ℕ → WrittenBlock → List ℕ → Type 0
 IsWrittenBlock writes t characters before at block after =
     IsOutput (output_for writes t characters) before at block.wrote block.count block.next after
 
--- The result of writing characters at a place under a policy: a block that the policy allows, or nothing.
+-- The result of writing characters into a slice under a policy: a block that the policy allows, or nothing, and then
+-- the slice stays.
 abbrev pub MayWriteBlock : Policy → Writing → WriteState → List ℕ → List ℕ → ℕ → Option WrittenBlock → List ℕ → Type 0
 MayWriteBlock policy writes t characters before at None after = after ≡ before
 MayWriteBlock policy writes t characters before at (Some block) after =
@@ -44,8 +47,8 @@ pub record IsUnchanged (reads : ItemRelation) (writes : Writing) (s : ReadState)
   pub stays : read_state s chain ≡ s
   pub output : output_of writes t chain ≡ output (take n text) 0 t
 
--- Units of one form at the start of a text are those of ASCII characters. Each is written as the byte of its number in a state that stays, and these bytes
--- were put at a place.
+-- Units of one form at the start of a text are those of ASCII characters. Each is written as the byte of its number and
+-- keeps the state. These n bytes were written into a slice from index `at` on.
 pub record IsWrittenRun (writes : Writing) (t : WriteState) (form : AsciiForm) (text before : List ℕ) (at n : ℕ) (after : List ℕ) : Type 0 where
   pub characters : List ℕ
   pub small : AreBelow 128 characters

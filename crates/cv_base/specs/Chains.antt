@@ -36,17 +36,17 @@ pub record Output : Type 0 where
 abbrev pub output : List ℕ → ℕ → WriteState → Output
 output bytes count next = record { bytes = bytes; count = count; next = next }
 
--- for `?` in the place of a character
+-- the output for a character that the target lacks: `?`, which is counted
 abbrev pub substituted : WriteState → Option (List ℕ × WriteState) → Output
 substituted t (Some (bytes, next)) = output bytes 1 next
 substituted t None = output [] 1 t
 
--- for a character, or the other output if the target lacks it
+-- the output for a character, or the other output if the target lacks the character
 abbrev pub put_or : Output → Option (List ℕ × WriteState) → Output
 put_or other (Some (bytes, next)) = output bytes 0 next
 put_or other None = other
 
--- for what an item gives: nothing for a mark or a shift
+-- the output for what an item gives: nothing for a mark or a shift
 abbrev pub written : Writing → WriteState → Option ℕ → Output
 written writes t None = output [] 0 t
 written writes t (Some c) = put_or (substituted t (writes t question)) (writes t c)
@@ -55,13 +55,13 @@ written writes t (Some c) = put_or (substituted t (writes t question)) (writes t
 abbrev pub followed : Output → Output → Output
 followed first then = output (first.bytes ++ then.bytes) (first.count + then.count) then.next
 
--- for the items of a chain
+-- the output for the items of a chain
 abbrev pub output_of : Writing → WriteState → List Taken → Output
 output_of writes t [] = output [] 0 t
 output_of writes t (item ∷ items) =
     let first : Output = written writes t item.gives in followed first (output_of writes first.next items)
 
--- for characters
+-- the output for characters
 abbrev pub output_for : Writing → WriteState → List ℕ → Output
 output_for writes t [] = output [] 0 t
 output_for writes t (c ∷ characters) =

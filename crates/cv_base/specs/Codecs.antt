@@ -11,25 +11,26 @@ use Rattle.cv_base.specs.declared.state.WriteState.{WriteState}
 abbrev pub Writing : Type 0
 Writing = WriteState → ℕ → Option (List ℕ × WriteState)
 
--- Two items that begin one text are the same, and an item uses some of its bytes.
+-- In each state at most one item is at the start of a text. An item uses at least one byte, and no more than its byte
+-- string has.
 pub record IsReadable (reads : ItemRelation) : Type 0 where
   pub one_item : (s : ReadState) (text a b : List ℕ) (i j : Taken) → reads s a i → reads s b j → Begins a text → Begins b text → i ≡ j
   pub uses : (s : ReadState) (a : List ℕ) (i : Taken) → reads s a i → (0 < i.used) × (i.used ≤ length a)
 
--- The substitute can always be written.
+-- `?` can be written in every state.
 abbrev pub CanSubstitute : Writing → Type 0
 CanSubstitute writes = (t : WriteState) → IsSome (writes t question)
 
--- A character is written as at most this many bytes.
+-- Each character that can be written has at most this many bytes.
 abbrev pub WritesAtMost : ℕ → Writing → Type 0
 WritesAtMost most writes = (t : WriteState) (c : ℕ) → IfSome (writes t c) (λ p. length p.0 ≤ most)
 
--- What is next stays when bytes follow, unless more bytes could change it.
+-- An item that is next stays next when bytes follow, and ill-formed bytes stay ill-formed.
 pub record StaysWhenBytesFollow (reads : ItemRelation) : Type 0 where
   pub item : (s : ReadState) (text more : List ℕ) (i : Taken) → Begins text more → Stands reads s text i → Stands reads s more i
   pub ill : (s : ReadState) (text more : List ℕ) → Begins text more → IsNext reads s text Ill → IsNext reads s more Ill
 
--- What is next uses some bytes, and no more than there are.
+-- An item that is next uses at least one byte, and no more than the text has.
 abbrev pub UsesSome : ItemRelation → Type 0
 UsesSome reads = (s : ReadState) (text : List ℕ) (i : Taken) → Stands reads s text i → (0 < i.used) × (i.used ≤ length text)
 

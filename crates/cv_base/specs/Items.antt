@@ -4,7 +4,8 @@ use Rattle.cv_base.specs.declared.state.ReadState.{ReadState}
 use Rattle.cv_base.specs.declared.item.Item.{Item}
 use Rattle.cv_base.specs.declared.item.Item.TheVariants.{Char, Shift, Incomplete, Ill, End}
 
--- What an item is: how many bytes it uses, the character that it gives (a mark or a shift gives none), the state after it.
+-- What an item is: how many bytes it uses, the character that it gives (a mark or a shift gives none), and the state
+-- after it.
 pub record Taken : Type 0 where
   pub used : ℕ
   pub gives : Option ℕ
@@ -18,7 +19,7 @@ taken used gives next = record { used = used; gives = gives; next = next }
 abbrev pub ItemRelation : Type 1
 ItemRelation = ReadState → List ℕ → Taken → Type 0
 
--- the first list begins the second
+-- the first list is a prefix of the second
 abbrev pub Begins : List ℕ → List ℕ → Type 0
 Begins [] text = Unit {0}
 Begins (b ∷ bytes) [] = ⊥
@@ -34,7 +35,7 @@ pub record Stands (reads : ItemRelation) (s : ReadState) (text : List ℕ) (item
 abbrev pub NoneStands : ItemRelation → ReadState → List ℕ → Type 0
 NoneStands reads s text = (item : Taken) → Stands reads s text item → ⊥
 
--- More bytes can make an item of the text.
+-- The text is a prefix of an item.
 pub record CanGrow (reads : ItemRelation) (s : ReadState) (text : List ℕ) : Type 0 where
   pub bytes : List ℕ
   pub item : Taken

@@ -1,4 +1,4 @@
--- Names of encodings are compared without the case of ASCII letters.
+-- Names of encodings are compared without regard to the case of ASCII letters.
 use Rattle.std.specs.Prelude.{ℕ, Bool, List, map}
 use Rattle.std.specs.Char.{to_ascii_lowercase}
 use Rattle.std.specs.Str.{bytes_eq}

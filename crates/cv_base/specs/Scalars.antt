@@ -1,7 +1,7 @@
 -- Characters (Unicode Standard, section 3.9, D76).
 use Rattle.std.specs.Prelude.{ℕ, ◌<◌, ◌≤◌, List, [], ◌∷◌}
 
--- A Unicode scalar value: a number to 0x10FFFF that is no surrogate.
+-- A Unicode scalar value: a number up to 0x10FFFF that is no surrogate.
 abbrev pub IsScalar : ℕ → Type 0
 IsScalar n = (n < 0x110000) × (0xD800 ≤ n → 0xE000 ≤ n)
 

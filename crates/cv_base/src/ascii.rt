@@ -15,7 +15,7 @@ use crate::policy::Policy;
 use crate::scalar::Scalar;
 use crate::state::{ReadState, WriteState};
 
-/// US-ASCII: the bytes below 128 are the characters of their numbers.
+/// US-ASCII (ISO/IEC 646): a byte below 128 is the character with its value. Bytes from 128 on are ill-formed.
 #[derive(Clone, Copy, Debug, PartialEq, Eq)]
 pub struct Ascii;
 

@@ -1,13 +1,14 @@
-//! How an encoding spells ASCII.
+//! The form of a code unit.
 use crate::endian::Endian;
 
-/// The unit in which an encoding spells each ASCII character.
+/// The form of the code unit that an encoding uses for each ASCII character. The unit's number is that of the
+/// character.
 #[derive(Clone, Copy, Debug, PartialEq, Eq)]
 pub enum AsciiForm {
-    /// The byte of its number.
+    /// One byte.
     Byte,
-    /// Two bytes in an order.
+    /// Two bytes in a byte order.
     Two(Endian),
-    /// Four bytes in an order.
+    /// Four bytes in a byte order.
     Four(Endian),
 }

@@ -26,7 +26,7 @@ pub struct WrittenBlock {
 }
 
 impl ReadBlock {
-    /// Nothing was read.
+    /// Returns a block without characters: nothing was read, and the state is still this one.
     pub fn nothing(state: ReadState) -> ReadBlock
         ensures { result ≡ record { n = 0; used = 0; next = state } }
     {

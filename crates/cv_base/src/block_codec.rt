@@ -1,4 +1,4 @@
-//! What an encoding offers for speed.
+//! Reading and writing many characters in one call, for speed.
 ghost use Rattle.std.specs.Prelude.{◌≡◌, ◌≤◌, ◌+◌, ◌*◌, length, IfSome};
 ghost use Rattle.cv_base.specs.Ascii.{ReadsBelow, WritesBelow};
 ghost use Rattle.cv_base.specs.Blocks.{IsReadBlock, IsUnchanged, IsWrittenRun, MayWriteBlock};
@@ -12,15 +12,16 @@ use crate::state::{ReadState, WriteState};
 
 /// An encoding that reads and writes by blocks: several characters in one call.
 pub trait BlockCodec: Codec {
-    /// Reads characters at the start of a text to the start of a buffer, as many as fit one call. It may read none even if one
-    /// is next: `item` reads that one.
+    /// Reads characters from the start of a text into the start of a buffer. It may read fewer than possible, even
+    /// none: then `item` reads the next one.
     fn read_block(&self, state: ReadState, input: &[u8], buffer: &mut [Scalar]) -> ReadBlock
         ensures block { IsReadBlock (Self.reads self.now) state input.now result buffer.new }
         ensures size { length buffer.new ≡ length buffer.old };
 
-    /// Writes at most 256 characters at a place of a slice, or `?` for each that the encoding lacks, if the policy allows it.
-    /// Bytes of the slice around them stay. It may write none even if the policy allows all: then the characters are put one by
-    /// one.
+    /// Writes these characters, at most 256, into a slice from index `at` on. The slice needs room for 8 bytes for
+    /// each. For a character that the encoding lacks it writes `?`, if the policy allows it. All other bytes of the
+    /// slice stay. If the policy does not allow it, it writes nothing and returns `None`. It may do so even if the
+    /// policy allows it: then the caller writes the characters one by one.
     fn write_block(
         &self,
         policy: Policy,
@@ -34,8 +35,8 @@ pub trait BlockCodec: Codec {
         ensures { MayWriteBlock policy (Self.writes self.now) state characters.now
             out.old at result out.new };
 
-    /// How many bytes at the start of a text stay unchanged if it is converted to the encoding itself. It may be
-    /// fewer than possible: what follows them is converted by blocks, or one by one.
+    /// Returns how many bytes at the start of a text stay unchanged if the text is converted from this encoding to
+    /// itself. It may return fewer than possible: the caller converts the rest by blocks, or one by one.
     #[inline]
     #[tactic(auto, using(crate::proofs::UnchangedLaws::none_unchanged))]
     fn unchanged(&self, _reading: ReadState, _writing: WriteState, _input: &[u8]) -> usize
@@ -45,9 +46,10 @@ pub trait BlockCodec: Codec {
         0
     }
 
-    /// Writes ASCII characters at the start of a text at a place of a slice. The text's units have this form. It writes each as the byte of
-    /// its number, up to one that is not written so in this state, which stays. Answers how many characters they are. Bytes of the slice
-    /// around them stay. It may be fewer than possible: what follows them is converted by blocks, or one by one.
+    /// Writes the ASCII characters at the start of a text, whose units have this form, into a slice from index `at` on,
+    /// each as one byte, and returns their number. It stops at the end of the slice, and before a character that this
+    /// encoding does not write as that byte in this state, or that changes the state. It may write fewer than possible:
+    /// the caller converts the rest by blocks, or one by one. All other bytes of the slice stay.
     #[inline]
     fn write_ascii_run(
         &self,
@@ -64,7 +66,8 @@ pub trait BlockCodec: Codec {
         0
     }
 
-    /// The form in which each character below 256 is read in this state, if it is one and the state stays.
+    /// Returns a form if each character below 256 is read from one unit of that form in this state, and the state
+    /// stays. `None` says nothing about the encoding.
     #[inline]
     fn reads_latin(&self, _state: ReadState) -> Option<AsciiForm>
         ensures { IfSome result (λ form. ReadsBelow 256 (Self.reads self.now) _state form) }
@@ -72,7 +75,8 @@ pub trait BlockCodec: Codec {
         None
     }
 
-    /// The form in which each character below 256 is written in this state, if it is one and the state stays.
+    /// Returns a form if each character below 256 is written as one unit of that form in this state, and the state
+    /// stays. `None` says nothing about the encoding.
     #[inline]
     fn writes_latin(&self, _state: WriteState) -> Option<AsciiForm>
         ensures { IfSome result (λ form. WritesBelow 256 (Self.writes self.now) _state form) }

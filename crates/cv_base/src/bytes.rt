@@ -1,4 +1,4 @@
-//! Blocks of the encodings in which each character is the byte of its number.
+//! Blocks of the encodings in which each character is the byte with its value.
 ghost use Rattle.std.specs.Prelude.{◌≡◌, ◌≤◌, ◌<◌, ◌+◌, [], ◌∷◌, ℕ, length, take, slice_index, Some, IsTrue};
 ghost use Rattle.cv_base.specs.Scalars.{question};
 ghost use Rattle.cv_base.specs.Chains.{output, written};
@@ -13,7 +13,8 @@ use crate::scalar::Scalar;
 use crate::state::{ReadState, WriteState};
 use crate::substituting::{MANY, write_blocks};
 
-/// Puts the first bytes of a text into a buffer as the characters of their numbers. No byte is tested, so that LLVM vectorizes the loop.
+/// Puts the first `n` bytes of a text into a buffer, each as the character with its value. No byte is tested, so that
+/// LLVM vectorizes the loop.
 #[inline(always)]
 fn widen(input: &[u8], n: usize, buffer: &mut [Scalar])
     requires text { n ≤ length input.now }
@@ -26,7 +27,8 @@ fn widen(input: &[u8], n: usize, buffer: &mut [Scalar])
     }
 }
 
-/// How many of the first `most` bytes of a text are below a limit, up to one that isn't. A text that is all US-ASCII is tested in one pass.
+/// How many of the first `most` bytes of a text are below a limit, up to the first that is not. A text that is all
+/// US-ASCII is tested in one pass.
 #[inline(always)]
 fn below(limit: u32, input: &[u8], most: usize) -> usize
     requires { most ≤ length input.now }
@@ -43,7 +45,7 @@ fn below(limit: u32, input: &[u8], most: usize) -> usize
     n
 }
 
-/// Reads the bytes below a limit.
+/// Reads the bytes at the start of a text that are below a limit, as many as the buffer has room for.
 #[inline(always)]
 pub(crate) fn read_bytes(limit: u32, input: &[u8], buffer: &mut [Scalar]) -> ReadBlock
     ensures block { IsReadBlock (byte_reads limit) ReadState.Start input.now result buffer.new }
@@ -59,7 +61,7 @@ pub(crate) fn read_bytes(limit: u32, input: &[u8], buffer: &mut [Scalar]) -> Rea
     }
 }
 
-/// The byte of a character below a limit, or else `?`, and for how many characters it is `?`.
+/// The byte of a character and 0 if it is below a limit, and otherwise `?` and 1.
 #[inline(always)]
 fn byte_of(limit: u32, c: Scalar) -> (u8, u32)
     requires from { question < limit }
@@ -76,8 +78,8 @@ fn byte_of(limit: u32, c: Scalar) -> (u8, u32)
     }
 }
 
-/// Whether all characters are below a limit, which is a power of two. The bits of all are joined, so that LLVM vectorizes
-/// the loop.
+/// Whether all characters are below a limit, which is a power of two. It tests the bitwise OR of their numbers, so that
+/// LLVM vectorizes the loop.
 #[inline(always)]
 fn are_below(limit: u32, characters: &[Scalar]) -> bool
     ensures { IsTrue result → (k : ℕ) → k < length characters.now
@@ -110,8 +112,8 @@ fn narrow(_limit: u32, characters: &[Scalar], out: &mut [u8], at: usize) -> Writ
     }
 }
 
-/// Writes characters below a limit, and `?` for others. Bytes of the slice around them stay. All but the last few are written by blocks
-/// of sixteen, and those one by one.
+/// Writes characters below a limit, and `?` for others. All other bytes of the slice stay. It writes blocks of sixteen,
+/// and the rest one by one.
 #[inline(always)]
 fn narrow_or_substitute(
     limit: u32,
@@ -140,7 +142,8 @@ fn narrow_or_substitute(
     }
 }
 
-/// Writes characters below a limit, and what the policy says for others. Bytes of the slice around them stay.
+/// Writes characters below a limit as one byte each. If others are among them, it writes `?` for each under
+/// `Substitute`. Under `Strict` it then writes nothing and returns `None`. All other bytes of the slice stay.
 #[inline(always)]
 pub(crate) fn write_bytes(
     limit: u32,

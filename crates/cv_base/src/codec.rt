@@ -15,30 +15,31 @@ use crate::state::{ReadState, WriteState};
 
 /// An encoding that can be read and written.
 pub trait Codec {
-    /// The item relation.
+    /// The item relation: which byte strings are items in a state, and what these give.
     ghost reads: { Self → ItemRelation };
 
-    /// The bytes of each character.
+    /// How each character is written: its bytes and the state after them.
     ghost writes: { Self → Writing };
 
-    /// The bytes that close a shift.
+    /// The bytes that close a shifted sequence at the end of a text.
     ghost closes: { Self → WriteState → List ℕ };
 
-    /// States that the value keeps what its type promises, for callers that need a law of the codec. It does nothing.
+    /// Does nothing. Its contract states that the codec keeps what its type promises, for callers that need these laws.
     fn assert_valid(&self)
         ensures readable { IsReadable (reads self.now) }
         ensures substitutable { CanSubstitute (writes self.now) };
 
-    /// The next item of the input.
+    /// Returns what is next in the input in this state.
     fn item(&self, state: ReadState, input: &[u8]) -> Item
         ensures { IsNext (reads self.now) state input.now result };
 
-    /// Writes a character at a place of a slice. Bytes of the slice around it stay.
+    /// Writes a character into a slice from index `at` on. All other bytes of the slice stay. If the slice has no room
+    /// for it, or the encoding lacks it, nothing is written.
     fn put_at(&self, state: WriteState, c: Scalar, out: &mut [u8], at: usize) -> Put
         requires { at ≤ length out.old }
         ensures { PutsAt (writes self.now state c) out.old at result out.new };
 
-    /// The bytes of a character and the state after them, or `None` if the encoding lacks the character.
+    /// Returns the bytes of a character and the state after them, or `None` if the encoding lacks the character.
     fn put(&self, state: WriteState, c: Scalar) -> Option<(Piece, WriteState)>
         ensures { result ≡ writes self.now state c }
     {
@@ -52,16 +53,17 @@ pub trait Codec {
         }
     }
 
-    /// The bytes that close a shift.
+    /// Returns the bytes that close a shifted sequence at the end of a text.
     fn close(&self, state: WriteState) -> Piece
         ensures { result ≡ closes self.now state };
 
-    /// The most bytes that one character is written as, at most 8.
+    /// Returns how many bytes one character has at most when it is written. It is at most 8.
     fn most_bytes(&self) -> usize
         ensures few { result ≤ 8 }
         ensures most { WritesAtMost result (writes self.now) };
 
-    /// The form in which each ASCII character is read in this state, if it is one and the state stays.
+    /// Returns a form if each ASCII character is read from one unit of that form in this state, and the state stays.
+    /// `None` says nothing about the encoding.
     #[inline]
     fn reads_ascii(&self, _state: ReadState) -> Option<AsciiForm>
         ensures { IfSome result (λ form. ReadsAscii (reads self.now) _state form) }
@@ -69,7 +71,8 @@ pub trait Codec {
         None
     }
 
-    /// The form in which each ASCII character is written in this state, if it is one and the state stays.
+    /// Returns a form if each ASCII character is written as one unit of that form in this state, and the state stays.
+    /// `None` says nothing about the encoding.
     #[inline]
     fn writes_ascii(&self, _state: WriteState) -> Option<AsciiForm>
         ensures { IfSome result (λ form. WritesAscii (writes self.now) _state form) }

@@ -1,6 +1,6 @@
-//! The byte order of a unit.
+//! The byte order of a code unit.
 
-/// Which byte of a unit is first.
+/// Which byte of a code unit is first.
 #[derive(Clone, Copy, Debug, PartialEq, Eq)]
 pub enum Endian {
     /// The highest.

@@ -8,26 +8,26 @@ use crate::state::ReadState;
 /// What a text begins with in a reading state.
 #[derive(Clone, Copy, Debug, PartialEq, Eq)]
 pub enum Item {
-    /// The character `c`, which uses `n` bytes.
+    /// The character `c`, which uses `n` bytes, and the state after it.
     Char {
         c: Scalar,
         n: usize,
         next: ReadState,
     },
-    /// A mark or a shift: it uses `n` bytes and gives no character.
+    /// A byte order mark or a shift, which uses `n` bytes and gives no character, and the state after it.
     Shift {
         n: usize,
         next: ReadState,
     },
-    /// A prefix of an item, whose other bytes have not arrived (POSIX: EINVAL).
+    /// A prefix of an item, which needs more bytes (POSIX: EINVAL).
     Incomplete,
     /// Bytes that begin no item, whatever follows (POSIX: EILSEQ).
     Ill,
-    /// No bytes.
+    /// The text is empty.
     End,
 }
 
-/// An item of one character, from its number.
+/// Returns the item of one character, given the character's number.
 #[inline]
 pub fn character(value: u32, n: usize, next: ReadState) -> Item
     requires { IsScalar value }

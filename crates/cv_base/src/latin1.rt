@@ -15,7 +15,7 @@ use crate::policy::Policy;
 use crate::scalar::Scalar;
 use crate::state::{ReadState, WriteState};
 
-/// ISO-8859-1: each byte is the character of its number.
+/// ISO-8859-1 (ISO/IEC 8859-1): each byte is the character with its value.
 #[derive(Clone, Copy, Debug, PartialEq, Eq)]
 pub struct Latin1;
 

@@ -3,7 +3,8 @@ ghost use Rattle.cv_base.specs.Codecs.{CanSubstitute, OneIsNext, StaysWhenBytesF
 
 use crate::codec::Codec;
 
-/// What is next stays when bytes follow, nothing else is next, and it uses some of the bytes; `?` can be written.
+/// States laws of what is next in a text. An item, or ill-formed bytes, stay next when bytes follow. Only one thing is
+/// next. An item uses at least one byte, and no more than there are. `?` can be written in every state.
 #[tactic(auto, using(crate::proofs::Front::stays, crate::proofs::Front::one_next))]
 pub fn next<C: Codec>(codec: &C)
     ensures stays { StaysWhenBytesFollow (C.reads codec.now) }

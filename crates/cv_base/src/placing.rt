@@ -13,22 +13,23 @@ use crate::policy::Policy;
 use crate::scalar::Scalar;
 use crate::state::WriteState;
 
-/// The result of writing what an item gives at a place.
+/// The result of writing a character into a slice under a policy.
 #[derive(Clone, Copy, Debug, PartialEq, Eq)]
 pub enum Placed {
-    /// This many bytes, and 1 if `?` was written for another character.
+    /// `n` bytes were written. The count is 1 if they are `?` for another character, and otherwise 0.
     Wrote {
         n: usize,
         count: usize,
         next: WriteState,
     },
-    /// There was no room for them.
+    /// The slice has no room for the bytes.
     NoRoom,
-    /// The target lacks the character, and the policy is strict. The room does not matter.
+    /// The target lacks the character, and the policy is strict, whatever the room.
     Lacks,
 }
 
-/// Writes a character at a place. If the target lacks it, writes what the policy says: `?` or nothing.
+/// Writes a character into a slice from index `at` on. If the target lacks it, writes `?` under `Substitute`, and
+/// nothing under `Strict`. All other bytes of the slice stay.
 #[inline(always)]
 pub fn place_character<T: Codec>(
     to: &T,
@@ -52,7 +53,7 @@ pub fn place_character<T: Codec>(
     }
 }
 
-/// Writes `?` at a place.
+/// Writes `?` into a slice from index `at` on.
 #[cold]
 #[inline(never)]
 fn put_substitute<T: Codec>(to: &T, state: WriteState, out: &mut [u8], at: usize) -> Placed
@@ -68,7 +69,8 @@ fn put_substitute<T: Codec>(to: &T, state: WriteState, out: &mut [u8], at: usize
     }
 }
 
-/// Writes characters at a place one by one, or `?` for each that the encoding lacks. Bytes of the slice around them stay.
+/// Writes characters one by one into a slice from index `at` on, with `?` for each that the encoding lacks. The slice
+/// needs room for 8 bytes for each. All other bytes of the slice stay.
 #[inline]
 pub fn write_each<C: Codec>(
     codec: &C,

@@ -13,7 +13,7 @@ pub enum Policy {
 }
 
 impl Policy {
-    /// Whether it allows an output in which `?` replaces `count` characters.
+    /// Returns whether it allows an output in which `?` replaces `count` characters.
     #[inline]
     pub fn allows(self, count: usize) -> bool
         ensures { (o : Output) → o.count ≡ count → (IsTrue result ↔ Allows self o) }

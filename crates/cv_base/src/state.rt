@@ -16,9 +16,10 @@ pub struct Bits {
 /// The state of a reader. An encoding treats a state that it does not use as `Start`.
 #[derive(Clone, Copy, Debug, PartialEq, Eq)]
 pub enum ReadState {
-    /// At the start of the text.
+    /// At the start of the text, or between two items of an encoding that needs no other state. In UTF-7 outside a
+    /// shifted sequence.
     Start,
-    /// After a big-endian mark, or a first character read without one.
+    /// After a big-endian mark, or after a first character that has no mark before it.
     Big,
     /// After a little-endian mark.
     Little,
@@ -29,7 +30,8 @@ pub enum ReadState {
 /// The state of a writer. An encoding treats a state that it does not use as `Start`.
 #[derive(Clone, Copy, Debug, PartialEq, Eq)]
 pub enum WriteState {
-    /// At the start of the text.
+    /// At the start of the text, or between two characters of an encoding that needs no other state. In UTF-7 outside a
+    /// shifted sequence.
     Start,
     /// After the byte order mark.
     Marked,

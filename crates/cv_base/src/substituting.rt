@@ -12,7 +12,7 @@ use std::simd::prelude::*;
 /// How many characters are written at once.
 pub(crate) const MANY: usize = 16;
 
-/// The numbers of sixteen characters. LLVM turns the loop into four loads.
+/// The numbers of sixteen characters, from the `n`th on. LLVM turns the loop into four loads.
 #[inline(always)]
 fn numbers_of(characters: &[Scalar], n: usize) -> [u32; MANY]
     requires { n + 16 ≤ length characters.now }
@@ -25,8 +25,9 @@ fn numbers_of(characters: &[Scalar], n: usize) -> [u32; MANY]
     numbers
 }
 
-/// Writes sixteen characters, those below a limit as the bytes of their numbers and `?` for others, and answers how many others there
-/// are. The numbers become bytes before one of the two is chosen: sixteen bytes are one vector, and sixteen numbers are four.
+/// Writes sixteen characters, those below a limit as the bytes of their numbers and `?` for others, and returns how
+/// many others there are. The numbers become bytes before one of the two is chosen: sixteen bytes are one vector, and
+/// sixteen numbers are four.
 #[inline(always)]
 fn write_block(limit: u32, characters: &[Scalar], n: usize, out: &mut [u8], at: usize) -> u32
     requires stand { n + 16 ≤ length characters.now }
@@ -47,8 +48,8 @@ fn write_block(limit: u32, characters: &[Scalar], n: usize, out: &mut [u8], at: 
     MANY as u32 - small.to_bitmask().count_ones()
 }
 
-/// Writes `blocks` blocks of sixteen characters, those below a limit as the bytes of their numbers and `?` for others, and answers how
-/// many others there are. Bytes of the slice around them stay.
+/// Writes `blocks` blocks of sixteen characters, those below a limit as the bytes of their numbers and `?` for others,
+/// and returns how many others there are. All other bytes of the slice stay.
 #[inline(always)]
 pub(crate) fn write_blocks(
     limit: u32,

@@ -17,7 +17,7 @@ use Rattle.cv_block.specs.Units.{IsUnitAt}
 use Rattle.cv_block.proofs.UnitBytes.{length-unit_of, low_byte, byte_fits, below_at}
 use Rattle.cv_base.proofs.WrittenEach.{out_more}
 
--- one unit more
+-- the units of one character more
 pub units_of-more : (form : AsciiForm) (characters : List ℕ) (c : ℕ) → units_of form (characters ++ c ∷ []) ≡ units_of form characters ++ unit_of form c
 units_of-more form characters c = flat_map-append (unit_of form) characters (c ∷ []) ∙ ap (λ (x : List ℕ). units_of form characters ++ x) (append-nil (unit_of form c))
 
@@ -30,7 +30,7 @@ length-run form target text (suc n) =
     let more = ap length (units_of-more target (characters_in form text n) c) in
     omega (arith, more, length-append (units_of target (characters_in form text n)) (unit_of target c), length-unit_of target c, length-run form target text n, mul-suc (unit_size target) n)
 
--- a unit that is at a place is that of its lowest byte
+-- the unit of a character below 256 is that of its lowest byte
 unit_at : (limit : ℕ) → limit ≤ 0x100 → (form : AsciiForm) (text : List ℕ) (at : ℕ) → IsBelowAt limit form text at → Begins (unit_of form (get_or text (at + offset form) 0)) (drop at text)
 unit_at limit few form text at p =
     let low = low_byte form text at p.c (record { few = byte_fits form p.c (omega (arith, p.small)); stands = p.stands }) in
@@ -62,7 +62,7 @@ run_begins limit few form text (suc n) h p =
     let last = unit_at limit few form text (unit_size form * n) (p n (omega arith)) in
     rw units_of-more (Begins-join (units_of form (characters_in form text n)) _ text before (rw length-run last))
 
--- units of small characters from a place on, and one more
+-- units of small characters from an index on, and one more
 pub below_more : (limit : ℕ) (form : AsciiForm) (text : List ℕ) (at n place : ℕ) → place ≡ at + unit_size form * n → ((k : ℕ) → k < n → IsBelowAt limit form text (at + unit_size form * k)) → IsBelowAt limit form text place → (k : ℕ) → k < n + 1 → IsBelowAt limit form text (at + unit_size form * k)
 below_more limit form text at n place e p q k h = elim (cases_lt k n) [
   | inl l ↦ p k l
@@ -73,7 +73,7 @@ below_more limit form text at n place e p q k h = elim (cases_lt k n) [
 pub below_weaker : (limit larger : ℕ) (form : AsciiForm) (text : List ℕ) (at : ℕ) → limit ≤ larger → IsBelowAt limit form text at → IsBelowAt larger form text at
 below_weaker limit larger form text at h p = record { c = p.c; small = omega (arith, p.small); stands = p.stands }
 
--- no unit from a place on has more bits than all of them joined, and those of one more
+-- no unit from an index on, nor the one after them, is greater than the bitwise OR of them all
 pub joined_more : (form : AsciiForm) (text : List ℕ) (at n place joined u : ℕ) → place ≡ at + unit_size form * n → ((k : ℕ) → k < n → IsBelowAt (joined + 1) form text (at + unit_size form * k)) → IsUnitAt form text place u
     → (k : ℕ) → k < n + 1 → IsBelowAt (bit_or joined u + 1) form text (at + unit_size form * k)
 joined_more form text at n place joined u e p q =
@@ -97,11 +97,11 @@ runs_join limit form text at n m e p q k h = elim (cases_lt k n) [
       subst (λ (j : ℕ). IsBelowAt limit form text j) place (q (k - n) (omega arith)))
 ]
 
--- the places of one unit more
+-- how many bytes one unit more has
 pub unit_more : (form : AsciiForm) (n : ℕ) → unit_size form * (n + 1) ≡ unit_size form * n + unit_size form
 unit_more form n = ap (λ (k : ℕ). unit_size form * k) (omega arith) ∙ mul-suc (unit_size form) n ∙ omega arith
 
--- the places of one block more
+-- how many bytes one block more has
 pub block_more : (form : AsciiForm) (n : ℕ) → unit_size form * (16 * (n + 1)) ≡ unit_size form * (16 * n) + unit_size form * 16
 block_more form n = ap (λ (k : ℕ). unit_size form * k) (omega arith) ∙ mul-add (unit_size form) (16 * n) 16
 
@@ -111,7 +111,7 @@ unit_fits form k n h =
     let m : unit_size form * (k + 1) ≤ unit_size form * n = mul-le-mul_left (unit_size form) (omega arith) in
     omega (arith, m, unit_more form k)
 
--- what is in the buffer, once n units of a run were written at a place
+-- what is in the buffer, once n units of a run were written at an index
 abbrev pub put_run : AsciiForm → AsciiForm → List ℕ → List ℕ → ℕ → ℕ → List ℕ
 put_run form target text before at n = take at before ++ units_of target (characters_in form text n) ++ drop (at + unit_size target * n) before
 
@@ -145,7 +145,7 @@ characters_join form text n (suc m) =
     let byte : get_or behind (unit_size form * m + offset form) 0 ≡ get_or text (unit_size form * (n + m) + offset form) 0 = get_or-drop (unit_size form * n) text (unit_size form * m + offset form) 0 ∙ ap (λ (k : ℕ). get_or text k 0) there in
     rw (add-suc, byte, characters_join form text n m) (append_assoc (characters_in form text n) (characters_in form behind m) _)
 
--- units more are written
+-- more units are written
 pub put_join : (form target : AsciiForm) (text before : List ℕ) (at n m place end : ℕ) (now after : List ℕ) → at + unit_size target * (n + m) ≤ length before → place ≡ unit_size form * n → end ≡ at + unit_size target * n
     → now ≡ put_run form target text before at n → after ≡ put_run form target (drop place text) now end m
     → after ≡ put_run form target text before at (n + m)
@@ -170,11 +170,11 @@ bytes_are text (suc n) h =
     let place : 1 * n + 0 ≡ n = omega arith in
     ap (λ (x : List ℕ). x ++ get_or text (1 * n + 0) 0 ∷ []) (bytes_are text n (omega arith)) ∙ rw place (sym (take-suc text n 0 h))
 
--- sixteen bytes are their lowest bytes
+-- sixteen bytes, as units of one byte, are their lowest bytes
 pub sixteen_are : (text : List ℕ) → length text ≡ 16 → characters_in Byte text 16 ≡ text
 sixteen_are text h = bytes_are text 16 (omega (arith, h)) ∙ take_all 16 text (omega (arith, h))
 
--- a run after a place is one of the whole text
+-- the units of a run after an index are below the limit in the whole text
 pub run_behind : (limit : ℕ) (form : AsciiForm) (text : List ℕ) (place m : ℕ) → IsRunBelow limit form (drop place text) m → (k : ℕ) → k < m → IsBelowAt limit form text (place + unit_size form * k)
 run_behind limit form text place m p k h =
     let q = p k h in
@@ -190,7 +190,7 @@ length-characters form text (suc n) = omega (arith, length-append (characters_in
 pub bytes_run : (limit : ℕ) (text : List ℕ) (n : ℕ) → n ≤ length text → ((k : ℕ) → k < n → get_or text k 0 < limit) → IsRunBelow limit Byte text n
 bytes_run limit text n l p k h = let e : 1 * k ≡ k = omega arith in rw e (record { c = get_or text k 0; small = p k h; stands = rw (drop-cons text k 0 (omega arith)) (refl, tt) })
 
--- small bytes at a place are units of one byte each
+-- small bytes at an index are units of one byte each
 pub bytes_at : (limit : ℕ) (form : AsciiForm) (text : List ℕ) (at n : ℕ) → form ≡ Byte → at + unit_size form * n ≤ length text → ((k : ℕ) → at ≤ k → k < at + n → get_or text k 0 < limit) → (k : ℕ) → k < n → IsBelowAt limit form text (at + unit_size form * k)
 bytes_at limit form text at n is fits p k h =
     let place : at + unit_size form * k ≡ at + k = rw is (omega arith) in

@@ -1,11 +1,11 @@
--- A word that is put at a place, of which only a prefix is wanted.
+-- A word that is written, although only a prefix of it is wanted.
 use Rattle.std.proofs.Common.{◌≡◌, ℕ, ◌+◌, ◌≤◌, List, ◌++◌, length, take, drop, ◌∙◌, ap, arith, length-append, length-take, append_assoc}
 use Rattle.std.proofs.lemmas.List.{take_at}
 use borrow.Rule.Slice.PartMut.{put_mid, post_of}
 use Rattle.cv_base.specs.Items.{Begins}
 use Rattle.cv_base.proofs.Front.{Begins-split}
 
--- What was put at a place begins with this, and what follows it may be anything.
+-- What was written begins with this prefix, and what follows it may be anything.
 pub front_stands : (out word spelling : List ℕ) (at n k : ℕ) → at ≤ length out → Begins spelling word → n ≡ length spelling → take (at + n) (put_mid at k out word) ≡ take at out ++ spelling
 front_stands out word spelling at n k h p e =
     let rest : List ℕ = drop (length spelling) word in

@@ -1,4 +1,4 @@
--- How much of a text is characters, and that it stays if they are written as they were read.
+-- A prefix of a text that is characters, and which stays if they are written as they were read.
 use Rattle.std.proofs.Common.{◌≡◌, ℕ, ◌+◌, ◌*◌, List, [], ◌∷◌, ◌++◌, length, take, drop, refl, sym, ◌∙◌, ap, arith, length-append}
 use Rattle.std.proofs.lemmas.List.{take_all}
 use Rattle.std.proofs.lemmas.List.Concat.{flat_map-append}
@@ -24,11 +24,11 @@ begins_is_front [] text p = refl
 begins_is_front (x ∷ a) [] p = absurd p
 begins_is_front (x ∷ a) (t ∷ text) p = cc (p.0, begins_is_front a text p.1)
 
--- at first none
+-- at first the prefix has no characters
 pub none_spelled : (bytes_of : BytesOf) (text : List ℕ) → IsSpelledFront bytes_of text 0
 none_spelled bytes_of text = record { characters = []; scalars = tt; begins = tt; uses = refl }
 
--- more, after those before
+-- a prefix of characters, and more after it, is one
 pub front_more : (bytes_of : BytesOf) (text : List ℕ) (n k : ℕ) → IsSpelledFront bytes_of text n → IsSpelledFront bytes_of (drop n text) k → IsSpelledFront bytes_of text (n + k)
 front_more bytes_of text n k p q =
     let all : flat_map bytes_of (p.characters ++ q.characters) ≡ flat_map bytes_of p.characters ++ flat_map bytes_of q.characters = flat_map-append bytes_of p.characters q.characters in
@@ -39,7 +39,7 @@ front_more bytes_of text n k p q =
       uses = rw all (omega (arith, length-append (flat_map bytes_of p.characters) (flat_map bytes_of q.characters), p.uses, q.uses));
     }
 
--- sixteen units that are characters
+-- sixteen units that are characters are such a prefix
 pub units_spelled : (bytes_of : BytesOf) (form : AsciiForm) → SpellsUnits form bytes_of → (text numbers : List ℕ) → length numbers ≡ 16 → AreUnits form text numbers 16 → AreScalarsBelow numbers 16 → IsSpelledFront bytes_of text (unit_size form * 16)
 units_spelled bytes_of form spells text numbers long units scalars =
     let b = begun bytes_of form spells text numbers 16 (omega arith) units in

@@ -18,11 +18,11 @@ pub AreScalars-append : (a b : List ℕ) → AreScalars a → AreScalars b → A
 AreScalars-append [] b p q = q
 AreScalars-append (c ∷ a) b p q = (p.0, AreScalars-append a b p.1 q)
 
--- bytes that are read are there
+-- the bytes that are read are within the text
 pub read_within : (bytes_of : BytesOf) (text : List ℕ) (at : ℕ) (before : List ℕ) (n : ℕ) (run : Spelled) (after : List ℕ) → IsReadSpelled bytes_of text at before n run after → at ≤ length text → at + run.used ≤ length text
 read_within bytes_of text at before n run after p h = omega (arith, p.uses, Begins-length _ _ p.begins, length-drop at text)
 
--- more, after what was read
+-- more characters are read after others
 pub read_more : (bytes_of : BytesOf) (text : List ℕ) (at : ℕ) (before : List ℕ) (n m u : ℕ) (mid : List ℕ) (k v place behind : ℕ) (after : List ℕ) → IsReadSpelled bytes_of text at before n (spelled m u) mid
     → place ≡ at + u → behind ≡ n + m → IsReadSpelled bytes_of text place mid behind (spelled k v) after → IsReadSpelled bytes_of text at before n (spelled (m + k) (u + v)) after
 read_more bytes_of text at before n m u mid k v place behind after p e f q =
@@ -42,7 +42,7 @@ read_more bytes_of text at before n m u mid k v place behind after p e f q =
       size = q.size ∙ p.size;
     }
 
--- some, if none was read before them
+-- characters are read if none was read before them
 pub read_after_none : (bytes_of : BytesOf) (text : List ℕ) (at : ℕ) (before : List ℕ) (n : ℕ) (none : Spelled) (mid : List ℕ) (run : Spelled) (after : List ℕ) → none.n ≡ 0
     → IsReadSpelled bytes_of text at before n none mid → IsReadSpelled bytes_of text at mid n run after → IsReadSpelled bytes_of text at before n run after
 read_after_none bytes_of text at before n none mid run after z p q =
@@ -58,7 +58,7 @@ read_after_none bytes_of text at before n none mid run after z p q =
       size = q.size ∙ p.size;
     }
 
--- one more, after what was read
+-- one more character is read after others
 pub read_one_more : (bytes_of : BytesOf) (text : List ℕ) (at : ℕ) (before : List ℕ) (n m u : ℕ) (mid : List ℕ) (c k : ℕ) → IsReadSpelled bytes_of text at before n (spelled m u) mid
     → n + m < length before → IsSpelledAt bytes_of text (at + u) c k → IsReadSpelled bytes_of text at before n (spelled (m + 1) (u + k)) (slice_set mid (n + m) c)
 read_one_more bytes_of text at before n m u mid c k p h q =
@@ -78,13 +78,13 @@ pub short_all : (bytes_of : BytesOf) → HasFourAtMost bytes_of → (characters 
 short_all bytes_of short [] = omega arith
 short_all bytes_of short (c ∷ characters) = omega (arith, length-append (bytes_of c) (flat_map bytes_of characters), short c, short_all bytes_of short characters)
 
--- no more than four bytes a character
+-- what is written has at most four bytes for each character
 pub written_few : (bytes_of : BytesOf) → HasFourAtMost bytes_of → (characters : List ℕ) (n : ℕ) (before : List ℕ) (at : ℕ) (run : Spelled) (after : List ℕ) → IsWrittenSpelled bytes_of characters n before at run after → run.used ≤ 4 * run.n
 written_few bytes_of short characters n before at run after p =
     let front : List ℕ = take run.n (drop n characters) in
     omega (arith, p.uses, p.within, short_all bytes_of short front, length-take run.n (drop n characters), length-drop n characters)
 
--- more, after what was written
+-- more characters are written after others
 pub written_more : (bytes_of : BytesOf) (characters : List ℕ) (n : ℕ) (before : List ℕ) (at m u : ℕ) (mid : List ℕ) (k v place behind : ℕ) (after : List ℕ) → IsWrittenSpelled bytes_of characters n before at (spelled m u) mid
     → place ≡ at + u → behind ≡ n + m → IsWrittenSpelled bytes_of characters behind mid place (spelled k v) after → IsWrittenSpelled bytes_of characters n before at (spelled (m + k) (u + v)) after
 written_more bytes_of characters n before at m u mid k v place behind after p e f q =
@@ -101,7 +101,7 @@ written_more bytes_of characters n before at m u mid k v place behind after p e 
       size = q.size ∙ p.size;
     }
 
--- some, if none was written before them
+-- characters are written if none was written before them
 pub written_after_none : (bytes_of : BytesOf) (characters : List ℕ) (n : ℕ) (before : List ℕ) (at : ℕ) (none : Spelled) (mid : List ℕ) (run : Spelled) (after : List ℕ) → none.n ≡ 0
     → IsWrittenSpelled bytes_of characters n before at none mid → IsWrittenSpelled bytes_of characters n mid at run after → IsWrittenSpelled bytes_of characters n before at run after
 written_after_none bytes_of characters n before at none mid run after z p q =

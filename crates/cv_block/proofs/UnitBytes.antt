@@ -47,7 +47,7 @@ same_bytes form text u v p q k h =
     let b = length-unit_of form v in
     x.1 k (omega (arith, a)) (omega (arith, a, x.0)) ∙ sym (y.1 k (omega (arith, b)) (omega (arith, b, y.0)))
 
--- the bytes at a place are the unit of one number
+-- the bytes at an index are the unit of one number only
 pub one_number : (form : AsciiForm) (text : List ℕ) (u v : ℕ) → Begins (unit_of form u) text → Begins (unit_of form v) text → u ≡ v
 one_number Byte text u v p q = same_bytes Byte text u v p q 0 (omega arith)
 one_number (Two Big) text u v p q = let at = same_bytes (Two Big) text u v p q in omega (arith, at 0 (omega arith), at 1 (omega arith))
@@ -58,7 +58,7 @@ one_number (Four Little) text u v p q = let at = same_bytes (Four Little) text u
 byte_at : (bytes text : List ℕ) (at k : ℕ) → Begins bytes (drop at text) → k < length bytes → get_or bytes k 0 ≡ get_or text (at + k) 0
 byte_at bytes text at k p h = let a = Begins-agree bytes (drop at text) p in rw get_or-drop at (a.1 k h (omega (arith, a.0)))
 
--- the lowest byte of a unit at a place
+-- the lowest byte of a unit at an index
 pub low_byte : (form : AsciiForm) (text : List ℕ) (at u : ℕ) → IsUnitAt form text at u → u % 0x100 ≡ get_or text (at + offset form) 0
 low_byte Byte text at u p = (let e : u % 0x100 ≡ u = omega (arith, p.few) in e) ∙ byte_at (unit_of Byte u) text at 0 p.stands (omega arith)
 low_byte (Two Big) text at u p = byte_at (unit_of (Two Big) u) text at 1 p.stands (omega arith)

@@ -14,7 +14,7 @@ use Rattle.cv_block.specs.Spelled.{BytesOf, IsReadSpelled, IsWrittenSpelled}
 use Rattle.cv_block.specs.Units.{AreUnits, AreScalarsBelow, AreSingle, SpellsUnits}
 use Rattle.cv_block.proofs.UnitBytes.{length-unit_of}
 
--- one character more
+-- the bytes of characters and of one more
 pub flat_map-more : (bytes_of : BytesOf) (characters : List ℕ) (c : ℕ) → flat_map bytes_of (characters ++ c ∷ []) ≡ flat_map bytes_of characters ++ bytes_of c
 flat_map-more bytes_of characters c = flat_map-append bytes_of characters (c ∷ []) ∙ ap (λ (x : List ℕ). flat_map bytes_of characters ++ x) (append-nil (bytes_of c))
 

@@ -1,4 +1,5 @@
--- Spellings: encodings, or states of them, in which each character has its bytes whatever is around it. Blocks use them.
+-- Spellings: encodings, or states of them, in which the bytes of a character do not depend on its context. Blocks use
+-- them.
 use Rattle.std.specs.Prelude.{◌≡◌, ℕ, ◌+◌, ◌≤◌, List, ◌++◌, take, drop, length}
 use Rattle.std.specs.List.{flat_map}
 use Rattle.cv_base.specs.Scalars.{IsScalar, AreScalars}
@@ -19,11 +20,12 @@ BytesOf = ℕ → List ℕ
 abbrev pub HasFourAtMost : BytesOf → Type 0
 HasFourAtMost bytes_of = (c : ℕ) → length (bytes_of c) ≤ 4
 
--- The bytes of a character are at a place of a text.
+-- The n bytes of a character are at index `at` of a text.
 abbrev pub IsSpelledAt : BytesOf → List ℕ → ℕ → ℕ → ℕ → Type 0
 IsSpelledAt bytes_of text at c n = IsScalar c × Begins (bytes_of c) (drop at text) × (n ≡ length (bytes_of c))
 
--- Characters whose bytes are at a place of a text were put into a buffer after its first n; what follows them may be anything.
+-- Characters whose bytes are at index `at` of a text were put into a buffer after its first n; what follows them in the
+-- buffer may be anything.
 pub record IsReadSpelled (bytes_of : BytesOf) (text : List ℕ) (at : ℕ) (before : List ℕ) (n : ℕ) (run : Spelled) (after : List ℕ) : Type 0 where
   pub characters : List ℕ
   pub scalars : AreScalars characters
@@ -41,7 +43,8 @@ pub record IsSpelledFront (bytes_of : BytesOf) (text : List ℕ) (n : ℕ) : Typ
   pub begins : Begins (flat_map bytes_of characters) text
   pub uses : n ≡ length (flat_map bytes_of characters)
 
--- The bytes of some characters after the first n were put at a place; what follows them may be anything.
+-- The bytes of some characters after the first n were written from index `at` on; what follows these bytes may be
+-- anything.
 pub record IsWrittenSpelled (bytes_of : BytesOf) (characters : List ℕ) (n : ℕ) (before : List ℕ) (at : ℕ) (run : Spelled) (after : List ℕ) : Type 0 where
   pub within : n + run.n ≤ length characters
   pub uses : run.used ≡ length (flat_map bytes_of (take run.n (drop n characters)))
@@ -49,12 +52,12 @@ pub record IsWrittenSpelled (bytes_of : BytesOf) (characters : List ℕ) (n : �
   pub stand : take (at + run.used) after ≡ take at before ++ flat_map bytes_of (take run.n (drop n characters))
   pub size : length after ≡ length before
 
--- A block of characters that are spelled was read in a state that it keeps.
+-- A block of characters was read in a spelling, and the state stayed.
 abbrev pub IsSpelledRead : BytesOf → ReadState → List ℕ → List ℕ → ReadBlock → List ℕ → Type 0
 IsSpelledRead bytes_of s text before block after =
     IsReadSpelled bytes_of text 0 before 0 (record { n = block.n; used = block.used }) after × (block.next ≡ s)
 
--- The bytes of a block of characters were put at a place in a state that they keep.
+-- The bytes of a block of characters were written from index `at` on, and the state stayed.
 abbrev pub IsSpelledWritten : BytesOf → WriteState → List ℕ → List ℕ → ℕ → WrittenBlock → List ℕ → Type 0
 IsSpelledWritten bytes_of t characters before at block after =
     IsOutput (output (flat_map bytes_of characters) 0 t) before at block.wrote block.count block.next after

@@ -2,7 +2,7 @@
 use Rattle.std.specs.Prelude.{◌≡◌, ℕ, ◌/◌, ◌≤◌, ◌<◌}
 use Rattle.cv_base.specs.Units.{high_unit, low_unit}
 
--- the unit is one of a pair
+-- the unit is a surrogate, high or low
 abbrev pub IsSurrogate : ℕ → Type 0
 IsSurrogate unit = (0xD800 ≤ unit) × (unit < 0xE000)
 

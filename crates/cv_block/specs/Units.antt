@@ -6,7 +6,7 @@ use Rattle.cv_base.specs.Units.{unit_of, unit_size, unit_limit}
 use Rattle.cv_base.specs.declared.ascii_form.AsciiForm.{AsciiForm}
 use Rattle.cv_block.specs.Spelled.{BytesOf}
 
--- The unit of a number is at a place of a text.
+-- The unit of a number is at index `at` of a text.
 pub record IsUnitAt (form : AsciiForm) (text : List ℕ) (at number : ℕ) : Type 0 where
   pub few : number < unit_limit form
   pub stands : Begins (unit_of form number) (drop at text)
@@ -23,6 +23,6 @@ AreScalarsBelow numbers n = (k : ℕ) → k < n → IsScalar (get_or numbers k 0
 abbrev pub AreSingle : AsciiForm → List ℕ → ℕ → Type 0
 AreSingle form numbers n = (k : ℕ) → k < n → get_or numbers k 0 < unit_limit form
 
--- A character that is one unit has its bytes.
+-- A character of one unit has the bytes of that unit.
 abbrev pub SpellsUnits : AsciiForm → BytesOf → Type 0
 SpellsUnits form bytes_of = (c : ℕ) → c < unit_limit form → bytes_of c ≡ unit_of form c

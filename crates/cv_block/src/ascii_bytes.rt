@@ -11,7 +11,7 @@ const BLOCK: usize = 16;
 /// How many bytes are tested and copied at once while a run has that many left: four blocks with one branch.
 const LONG_BLOCK: usize = 64;
 
-/// Whether sixteen bytes are below 128.
+/// Returns whether the sixteen bytes from index `at` on are below 128.
 #[inline(always)]
 pub fn is_ascii_block(bytes: &[u8], at: usize) -> bool
     requires { at + 16 ≤ length bytes.now }
@@ -21,8 +21,8 @@ pub fn is_ascii_block(bytes: &[u8], at: usize) -> bool
     lanes.simd_ge(u8x16::splat(128)).to_bitmask() == 0
 }
 
-/// Whether `BYTES` bytes are below 128, a multiple of sixteen that is known at compile time. All are tested, so that one branch
-/// decides for all.
+/// Whether the `BYTES` bytes from index `at` on are below 128. `BYTES` is a multiple of sixteen and known at compile
+/// time. All are tested, so that one branch decides for all.
 #[inline(always)]
 fn are_ascii<const BYTES: usize>(bytes: &[u8], at: usize) -> bool
     requires { at + BYTES ≤ length bytes.now }
@@ -47,7 +47,8 @@ fn copy_sixteen(rest: &[u8], from: usize, out: &mut [u8], at: usize)
     lanes.copy_to_slice(&mut out[at..]);
 }
 
-/// Copies as many bytes as `are_ascii` tests. Sixteen are loaded before they are stored: LLVM does not know that the slices are disjoint.
+/// Copies as many bytes as `are_ascii` tests. Sixteen are loaded before they are stored: LLVM does not know that the
+/// slices are disjoint.
 #[inline(always)]
 fn copy_block<const BYTES: usize>(rest: &[u8], from: usize, out: &mut [u8], at: usize)
     requires stand { from + BYTES ≤ length rest.now }
@@ -61,7 +62,8 @@ fn copy_block<const BYTES: usize>(rest: &[u8], from: usize, out: &mut [u8], at: 
     }
 }
 
-/// Copies the blocks of ASCII of this many bytes at the start of a text, and answers how many bytes they are.
+/// Copies blocks of `BYTES` bytes at the start of a text while they are ASCII, `most` bytes at most, and returns how
+/// many bytes it copied.
 #[inline(always)]
 fn copy_blocks<const BYTES: usize>(rest: &[u8], most: usize, out: &mut [u8], at: usize) -> usize
     requires some { 0 < BYTES }
@@ -80,7 +82,7 @@ fn copy_blocks<const BYTES: usize>(rest: &[u8], most: usize, out: &mut [u8], at:
     n
 }
 
-/// Copies the bytes of ASCII at the start of a text one by one, and answers how many they are.
+/// Copies the ASCII bytes at the start of a text one by one, `most` at most, and returns how many it copied.
 #[inline(always)]
 fn copy_few(rest: &[u8], most: usize, out: &mut [u8], at: usize) -> usize
     requires stand { most ≤ length rest.now }
@@ -97,7 +99,8 @@ fn copy_few(rest: &[u8], most: usize, out: &mut [u8], at: usize) -> usize
     n
 }
 
-/// Copies the blocks of ASCII at the start of a text, the long ones first, and answers how many bytes they are.
+/// Copies blocks at the start of a text while they are ASCII, the long ones first, and returns how many bytes it
+/// copied.
 #[inline(always)]
 fn copy_all_blocks(rest: &[u8], most: usize, out: &mut [u8], at: usize) -> usize
     requires stand { most ≤ length rest.now }
@@ -110,8 +113,8 @@ fn copy_all_blocks(rest: &[u8], most: usize, out: &mut [u8], at: usize) -> usize
     n + copy_blocks::<BLOCK>(&rest[n..], most - n, out, at + n)
 }
 
-/// Copies the bytes of ASCII at the start of a text, and answers how many they are. It may copy none if they are fewer than a block and
-/// bytes for a block are there.
+/// Copies the ASCII bytes at the start of a text, as far as there is room, and returns how many it copied. It copies
+/// none if they are fewer than a block and both the text and the room are a block or longer.
 #[inline(never)]
 pub(crate) fn copy_run(rest: &[u8], out: &mut [u8], at: usize) -> usize
     requires { at ≤ length out.old }

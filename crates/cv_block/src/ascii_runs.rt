@@ -1,4 +1,4 @@
-//! Runs of small characters: units of one form that are written in another.
+//! Runs of small characters: units of one form, written as units of another.
 ghost use Rattle.std.specs.Prelude.{◌≡◌, ◌≤◌, ◌+◌, ◌*◌, ◌++◌, length, take, drop};
 ghost use Rattle.cv_base.specs.Units.{unit_size};
 ghost use Rattle.cv_base.specs.declared.ascii_form.AsciiForm.{AsciiForm};
@@ -11,7 +11,8 @@ use crate::unit::{Byte, Four, Two, Unit};
 use crate::unit_blocks::{character, take_all_blocks};
 use cv_base::{AsciiForm, Endian};
 
-/// Writes the units of a run at the start of a text in another form one by one, `most` at most, and answers how many they are.
+/// Writes the units of a run at the start of a text in another form one by one, `most` at most, and returns how many it
+/// wrote.
 #[inline(always)]
 fn take_few<R: Repertoire, From: Unit, To: Unit>(
     rest: &[u8],
@@ -39,7 +40,7 @@ fn take_few<R: Repertoire, From: Unit, To: Unit>(
     n
 }
 
-/// How many bytes a unit of a form has.
+/// Returns how many bytes a unit of a form has: 1, 2 or 4.
 #[inline(always)]
 pub fn unit_bytes(form: AsciiForm) -> usize
     ensures { result ≡ unit_size form }
@@ -51,8 +52,8 @@ pub fn unit_bytes(form: AsciiForm) -> usize
     }
 }
 
-/// Writes the run of units at the start in another form, as far as there is room, and answers how many they are. It may be
-/// none if the run is shorter than a block and units for a block are there.
+/// Writes the run at the start of a text in another form, as far as there is room, and returns how many units it wrote.
+/// It may write none if the run is shorter than a block and the text is not.
 #[inline(always)]
 fn take_in<R: Repertoire, From: Unit, To: Unit>(rest: &[u8], out: &mut [u8], at: usize) -> usize
     requires { at ≤ length out.old }
@@ -73,7 +74,7 @@ fn take_in<R: Repertoire, From: Unit, To: Unit>(rest: &[u8], out: &mut [u8], at:
     n + take_few::<R, From, To>(behind, most - n, out, at + To::size() * n)
 }
 
-/// Writes the run of units at the start in a form, as `take_in`.
+/// Writes the run at the start of a text in the target form, as `take_in` does.
 #[inline(always)]
 fn take_units<R: Repertoire, From: Unit>(
     target: AsciiForm,
@@ -99,7 +100,8 @@ fn take_units<R: Repertoire, From: Unit>(
     }
 }
 
-/// Writes the run at the start in a form in another, as `take_run`. Kept out of line, so that the callers' loops stay small.
+/// Writes the run at the start of a text in another form, as `take_run` does. Kept out of line, so that the callers'
+/// loops stay small.
 #[inline(never)]
 fn take_form<R: Repertoire>(
     form: AsciiForm,
@@ -128,8 +130,8 @@ fn take_form<R: Repertoire>(
     }
 }
 
-/// Writes the run at the start in a form in another, as far as there is room, and answers how many units it has.
-/// It may be none if the run is shorter than a block and units for a block are there.
+/// Writes the run of units of a form at the start of a text in the target form, as far as there is room, and returns
+/// how many units it wrote. It may write none if the run is shorter than a block and the text is not.
 #[inline(always)]
 pub(crate) fn take_run<R: Repertoire>(
     form: AsciiForm,

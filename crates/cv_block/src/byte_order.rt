@@ -9,32 +9,32 @@ ghost use Rattle.cv_block.specs.Units.{IsUnitAt};
 use cv_base::Endian;
 use cv_base::place::write_slice;
 
-/// A byte order of a unit.
+/// A byte order that is known at compile time.
 pub trait ByteOrder {
     ghost endian: { Endian };
 
-    /// Which order it is.
+    /// Returns the byte order.
     fn order() -> Endian
         ensures { result ≡ endian };
 
-    /// The number of the two bytes here.
+    /// Returns the number of the two bytes from index `at` on.
     fn two(bytes: &[u8], at: usize) -> u32
         requires { at + 2 ≤ length bytes.now }
         ensures { IsUnitAt (Two endian) bytes.now at result };
 
-    /// The number of the four bytes here.
+    /// Returns the number of the four bytes from index `at` on.
     fn four(bytes: &[u8], at: usize) -> u32
         requires { at + 4 ≤ length bytes.now }
         ensures { IsUnitAt (Four endian) bytes.now at result };
 
-    /// Writes a number as two bytes here.
+    /// Writes a number below 0x10000 as two bytes from index `at` on. All other bytes stay.
     fn write_two(out: &mut [u8], at: usize, number: u32)
         requires few { number < 0x10000 }
         requires room { at + 2 ≤ length out.old }
         ensures { out.new
             ≡ take at out.old ++ unit_of (Two endian) number ++ drop (at + 2) out.old };
 
-    /// Writes a number as four bytes here.
+    /// Writes a number as four bytes from index `at` on. All other bytes stay.
     fn write_four(out: &mut [u8], at: usize, number: u32)
         requires { at + 4 ≤ length out.old }
         ensures { out.new
@@ -52,7 +52,7 @@ impl ByteOrder for BigEndian {
         Endian::Big
     }
 
-    // Both are read with the lowest byte first and swapped, so that LLVM loads all bytes at once.
+    // This and the next function read the lowest byte first and swap, so that LLVM loads all bytes at once.
     #[inline(always)]
     fn two(bytes: &[u8], at: usize) -> u32 {
         u16::from_le_bytes([bytes[at], bytes[at + 1]]).swap_bytes() as u32
@@ -94,7 +94,8 @@ impl ByteOrder for LittleEndian {
         Endian::Little
     }
 
-    // Both are inlined late, so that LLVM loads all bytes at once before it sees which of them are tested.
+    // This and the next function are inlined late, so that LLVM loads all bytes at once before it sees which of them
+    // are tested.
     #[inline]
     fn two(bytes: &[u8], at: usize) -> u32 {
         u16::from_le_bytes([bytes[at], bytes[at + 1]]) as u32

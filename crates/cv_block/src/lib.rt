@@ -1,5 +1,5 @@
-//! How encodings read and write many characters at once: spellings and their loops, units and byte orders, surrogates, words
-//! and runs of small characters.
+//! How encodings read and write many characters at once: spellings and their loops, code units and byte orders,
+//! surrogates, words, and runs of small characters.
 #![tactic(auto)]
 
 mod ascii_bytes;

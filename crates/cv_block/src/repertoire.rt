@@ -10,20 +10,21 @@ use crate::ascii_bytes::is_ascii_block;
 pub(crate) trait Repertoire {
     ghost limit: { ℕ };
 
-    /// The limit that they are below. Each is one byte.
+    /// Returns the limit that they are below. It is at most 256.
     fn limit() -> u32
         ensures value { result ≡ limit }
         ensures few { limit ≤ 0x100 };
 
-    /// Whether many units are tested faster by their joined bits than one by one. It affects speed only.
+    /// Whether it is faster to test the bitwise OR of many units than each of them. It affects speed only.
     const JOINS: bool;
 
-    /// Whether sixteen bytes are of characters of the run.
+    /// Returns whether the sixteen bytes from index `at` on are characters of the run.
     fn are_bytes(bytes: &[u8], at: usize) -> bool
         requires { at + 16 ≤ length bytes.now }
         ensures { IsTrue result → (k : ℕ) → at ≤ k → k < at + 16 → slice_index bytes.now k < limit };
 
-    /// Copies the bytes of a run at the start of a text, and answers how many they are. It may be none if they are few.
+    /// Copies the bytes of a run at the start of a text, as far as there is room, and returns how many it copied. It
+    /// may copy none if they are few.
     fn copy_run(rest: &[u8], out: &mut [u8], at: usize) -> usize
         requires { at ≤ length out.old }
         ensures stand { result ≤ length rest.now }

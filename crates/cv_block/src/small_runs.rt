@@ -7,7 +7,10 @@ use crate::ascii_runs::take_run;
 use crate::repertoire::{OfAscii, OfLatin};
 use cv_base::AsciiForm;
 
-/// Writes the run of ASCII at the start, as `take_run`.
+/// Writes the ASCII characters at the start of a text, whose units have this form, in the target form into a slice from
+/// index `at` on, and returns how many it wrote. It stops before the first other unit, and when the slice is full. It
+/// may write none if fewer than sixteen of them are there and the text has sixteen units or more. All other bytes of
+/// the slice stay.
 #[inline(always)]
 pub fn take_ascii_run(
     form: AsciiForm,
@@ -28,7 +31,10 @@ pub fn take_ascii_run(
     take_run::<OfAscii>(form, target, rest, out, at)
 }
 
-/// Writes the run of characters below 256 at the start, as `take_run`.
+/// Writes the characters below 256 at the start of a text, whose units have this form, in the target form into a slice
+/// from index `at` on, and returns how many it wrote. It stops before the first other unit, and when the slice is full.
+/// It may write none if fewer than sixteen of them are there and the text has sixteen units or more. All other bytes of
+/// the slice stay.
 #[inline(always)]
 pub fn take_latin_run(
     form: AsciiForm,

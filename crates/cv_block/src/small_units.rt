@@ -1,4 +1,4 @@
-//! Which units are of a run's characters.
+//! Tests whether units are characters of a run.
 ghost use Rattle.std.specs.Prelude.{◌≡◌, ◌≤◌, ◌<◌, ◌+◌, ◌*◌, ℕ, length, IsTrue};
 ghost use Rattle.cv_base.specs.Units.{unit_size};
 ghost use Rattle.cv_block.specs.AsciiRuns.{IsBelowAt, IsRunBelow};
@@ -11,7 +11,7 @@ use cv_base::{AsciiForm, Endian};
 /// How many units are tested at once.
 pub(crate) const BLOCK: usize = 16;
 
-/// Whether the unit here is that of a character of the run.
+/// Whether the unit at index `at` is a character of the run.
 #[inline(always)]
 #[tactic(auto, using(crate::proofs::UnitBytes::below_at))]
 pub(crate) fn is_below<R: Repertoire, U: Unit>(bytes: &[u8], at: usize) -> bool
@@ -21,7 +21,7 @@ pub(crate) fn is_below<R: Repertoire, U: Unit>(bytes: &[u8], at: usize) -> bool
     U::number(bytes, at) < R::limit()
 }
 
-/// Whether `n` units are of characters of the run. No early exit, so that LLVM vectorizes the loop.
+/// Whether `n` units are characters of the run. No early exit, so that LLVM vectorizes the loop.
 #[inline(always)]
 fn each_below<R: Repertoire, U: Unit>(bytes: &[u8], at: usize, n: usize) -> bool
     requires { at + unit_size U.form * n ≤ length bytes.now }
@@ -37,7 +37,7 @@ fn each_below<R: Repertoire, U: Unit>(bytes: &[u8], at: usize, n: usize) -> bool
     all
 }
 
-/// Whether `n` units are of characters of the run. The bits of all are joined, and those are tested once.
+/// Whether `n` units are characters of the run, by one test of the bitwise OR of all.
 #[inline(always)]
 fn joined_below<R: Repertoire, U: Unit>(bytes: &[u8], at: usize, n: usize) -> bool
     requires { at + unit_size U.form * n ≤ length bytes.now }
@@ -53,7 +53,7 @@ fn joined_below<R: Repertoire, U: Unit>(bytes: &[u8], at: usize, n: usize) -> bo
     joined < R::limit()
 }
 
-/// Whether a block of units is of characters of the run.
+/// Whether each of a block of units is a character of the run.
 #[inline(always)]
 pub(crate) fn are_below<R: Repertoire, U: Unit>(bytes: &[u8], at: usize) -> bool
     requires { at + unit_size U.form * 16 ≤ length bytes.now }
@@ -69,7 +69,8 @@ pub(crate) fn are_below<R: Repertoire, U: Unit>(bytes: &[u8], at: usize) -> bool
     }
 }
 
-/// Whether the first `BLOCKS` blocks of units are of characters of the run. All are tested, so that one branch decides for all.
+/// Whether each unit of the first `BLOCKS` blocks is a character of the run. All are tested, so that one branch decides
+/// for all.
 #[inline(always)]
 pub(crate) fn are_blocks_below<R: Repertoire, U: Unit, const BLOCKS: usize>(units: &[u8]) -> bool
     requires { unit_size U.form * (16 * BLOCKS) ≤ length units.now }
@@ -84,8 +85,8 @@ pub(crate) fn are_blocks_below<R: Repertoire, U: Unit, const BLOCKS: usize>(unit
     all
 }
 
-/// Whether a run may be at the start: a block of its units, or in a text shorter than a block its first unit. It affects speed
-/// only: in longer texts a test of fewer units would often look for a run when there is none.
+/// Whether a run may be at the start of a text: it tests the first block, or in a text shorter than a block the first
+/// unit. It affects speed only: in longer texts a test of fewer units would often look for a run when there is none.
 #[inline(always)]
 fn begins<R: Repertoire, U: Unit>(rest: &[u8]) -> bool {
     if rest.len() >= U::size() * BLOCK {

@@ -5,7 +5,8 @@ ghost use Rattle.cv_block.specs.Spelled.{IsReadSpelled, IsSpelledRead};
 use crate::spelling::{MANY, Spelled, Spelling};
 use cv_base::{ReadBlock, ReadState, Scalar};
 
-/// Reads up to `most` characters one by one into a buffer, after its first `n`, up to one of `last` bytes.
+/// Reads up to `most` characters one by one into a buffer, after its first `n`. It stops after a character of `last`
+/// bytes.
 #[inline(always)]
 fn read_few<S: Spelling>(
     input: &[u8],
@@ -35,8 +36,9 @@ fn read_few<S: Spelling>(
     Spelled { n: more, used }
 }
 
-/// Reads some characters into a buffer, after its first `n`: many at once, or else a few one by one, up to one after which many may follow.
-/// If there is no room for many, no character has that size.
+/// Reads some characters into a buffer, after its first `n`: many at once, or else one by one, up to a character of
+/// `MANY_SIZE` bytes, after which many may follow. If there is no room for many, it reads one by one until the buffer
+/// is full: no character has 0 bytes.
 #[inline(always)]
 fn read_some<S: Spelling>(input: &[u8], at: usize, buffer: &mut [Scalar], n: usize) -> Spelled
     requires within { at ≤ length input.now }
@@ -54,8 +56,8 @@ fn read_some<S: Spelling>(input: &[u8], at: usize, buffer: &mut [Scalar], n: usi
     read_few::<S>(input, at, buffer, n, MANY, S::MANY_SIZE)
 }
 
-/// Reads the characters at the start of a text to the start of a buffer. After some it reads no more if there is no room for
-/// many: the few are left to the next buffer, which takes them with many others.
+/// Reads the characters at the start of a text into the start of a buffer. After the first ones it stops if there is no
+/// room for many: the next buffer takes the rest, many at once.
 #[inline(never)]
 fn read_front<S: Spelling>(input: &[u8], buffer: &mut [Scalar]) -> Spelled
     ensures { IsReadSpelled S.bytes_of input.now 0 buffer.old 0 result buffer.new }
@@ -73,7 +75,8 @@ fn read_front<S: Spelling>(input: &[u8], buffer: &mut [Scalar]) -> Spelled
     Spelled { n, used }
 }
 
-/// Reads a block of characters in a spelling that the state keeps.
+/// Reads characters in a spelling from the start of a text into the start of a buffer. The state stays. It may read
+/// fewer than possible, even none.
 #[inline(always)]
 pub fn read_spelled<S: Spelling>(state: ReadState, input: &[u8], buffer: &mut [Scalar]) -> ReadBlock
     ensures block { IsSpelledRead S.bytes_of state input.now buffer.old result buffer.new }

@@ -6,7 +6,7 @@ ghost use Rattle.cv_block.specs.Spelled.{IsWrittenSpelled, IsSpelledWritten};
 use crate::spelling::{MANY, Spelled, Spelling};
 use cv_base::{Scalar, WriteState, WrittenBlock};
 
-/// Writes characters one by one, from the `n`th on.
+/// Writes `few` characters one by one, from the `n`th on, and returns how many bytes they have.
 #[inline(always)]
 fn write_few<S: Spelling>(
     characters: &[Scalar],
@@ -38,8 +38,9 @@ fn behind(many: usize) -> usize
     if many == 0 { MANY } else { 1 }
 }
 
-/// Writes some characters from the `n`th on: many at once, and if they are fewer than many, the one after them; or else many
-/// one by one.
+/// Writes some characters from the `n`th on. If fewer than sixteen are left, it writes them one by one. Otherwise it
+/// writes many at once. If these were only some of sixteen, it writes one more, and if they were none, sixteen one by
+/// one.
 #[inline(always)]
 fn write_some<S: Spelling>(characters: &[Scalar], n: usize, out: &mut [u8], at: usize) -> Spelled
     requires within { n ≤ length characters.now }
@@ -65,7 +66,8 @@ fn write_some<S: Spelling>(characters: &[Scalar], n: usize, out: &mut [u8], at: 
     }
 }
 
-/// Writes characters at the start of a slice, and answers how many bytes they have. It is compiled once for buffers of all sizes.
+/// Writes characters into the start of a slice, and returns how many bytes they have. It is compiled once for buffers
+/// of all sizes.
 #[inline(never)]
 fn write_front<S: Spelling>(characters: &[Scalar], out: &mut [u8]) -> usize
     requires { 4 * length characters.now ≤ length out.old }
@@ -84,7 +86,8 @@ fn write_front<S: Spelling>(characters: &[Scalar], out: &mut [u8]) -> usize
     used
 }
 
-/// Writes a block of characters in a spelling that the state keeps, by a buffer of `BYTES` bytes, which are cleared.
+/// Writes a block of characters in a spelling through a buffer of `BYTES` bytes, which it clears first. The state
+/// stays.
 #[inline(always)]
 fn write_by<S: Spelling, const BYTES: usize>(
     state: WriteState,
@@ -107,8 +110,9 @@ fn write_by<S: Spelling, const BYTES: usize>(
     }
 }
 
-/// Writes a block of at most 256 characters in a spelling that the state keeps. Bytes of the slice around it stay. Few characters are
-/// written by a small buffer, which costs less to clear.
+/// Writes at most 256 characters in a spelling into a slice from index `at` on. The state stays. The slice needs room
+/// for 4 bytes for each. All other bytes of the slice stay. Few characters go through a small buffer, which costs less
+/// to clear.
 #[inline(always)]
 pub fn write_spelled<S: Spelling>(
     state: WriteState,

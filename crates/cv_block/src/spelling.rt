@@ -1,4 +1,4 @@
-//! Spellings: encodings, or states of them, in which each character has its bytes whatever is around it.
+//! Spellings: encodings, or states of them, in which the bytes of a character do not depend on its context.
 ghost use Rattle.std.specs.Prelude.{◌≡◌, ◌≤◌, ◌+◌, ◌++◌, length, take, IfSome};
 ghost use Rattle.cv_block.specs.Spelled.{BytesOf, HasFourAtMost, IsSpelledAt, IsReadSpelled, IsWrittenSpelled};
 
@@ -10,9 +10,9 @@ pub const MANY: usize = 16;
 /// Characters that were read or written.
 #[derive(Clone, Copy, Debug, PartialEq, Eq)]
 pub struct Spelled {
-    /// How many characters they are.
+    /// How many characters.
     pub n: usize,
-    /// How many bytes they have.
+    /// How many bytes these characters have.
     pub used: usize,
 }
 
@@ -20,33 +20,36 @@ pub struct Spelled {
 pub trait Spelling {
     ghost bytes_of: { BytesOf };
 
-    /// States how many bytes a character has, for callers that need it. It does nothing.
+    /// Does nothing. Its contract states how many bytes a character has at most, for callers that need it.
     fn assert_short()
         ensures { HasFourAtMost bytes_of };
 
-    /// How many bytes a character has that may be followed by many that are read at once, or 0. It affects speed only.
+    /// The size in bytes of a character after which many may be read at once again, or 0 if none is such. It affects
+    /// speed only.
     const MANY_SIZE: usize;
 
-    /// The character whose bytes are at a place, and how many they are. `None` says nothing about the text.
+    /// Returns the character whose bytes begin at index `at`, and their number. `None` says nothing about the text.
     fn read_at(input: &[u8], at: usize) -> Option<(Scalar, usize)>
         requires { at ≤ length input.now }
         ensures { IfSome result (λ read. IsSpelledAt bytes_of input.now at read.0 read.1) };
 
-    /// Reads up to 16 characters at once into a buffer, after its first `n`. It may read none.
+    /// Reads up to 16 characters at once, from index `at` on, into a buffer after its first `n`. It may read none.
     fn read_many(input: &[u8], at: usize, buffer: &mut [Scalar], n: usize) -> Spelled
         requires within { at ≤ length input.now }
         requires room { n + 16 ≤ length buffer.old }
         ensures many { result.n ≤ 16 }
         ensures read { IsReadSpelled bytes_of input.now at buffer.old n result buffer.new };
 
-    /// Writes a character at a place, and answers how many bytes it has. What follows them may be anything.
+    /// Writes a character from index `at` on, and returns how many bytes it has. It may also change the bytes after
+    /// them.
     fn write_at(c: Scalar, out: &mut [u8], at: usize) -> usize
         requires { at + 4 ≤ length out.old }
         ensures bytes { result ≡ length (bytes_of c) }
         ensures stand { take (at + result) out.new ≡ take at out.old ++ bytes_of c }
         ensures size { length out.new ≡ length out.old };
 
-    /// Writes up to 16 characters at once, from the `n`th on. It may write none. What follows them may be anything.
+    /// Writes up to 16 characters at once, from the `n`th on. It may write none. It may also change the bytes after
+    /// them.
     fn write_many(characters: &[Scalar], n: usize, out: &mut [u8], at: usize) -> Spelled
         requires within { n + 16 ≤ length characters.now }
         requires room { at + 64 ≤ length out.old }

@@ -3,7 +3,7 @@ ghost use Rattle.std.specs.Prelude.{◌≡◌, ◌≤◌, ◌<◌, ◌↔◌, Is
 ghost use Rattle.cv_base.specs.Units.{high_unit, low_unit};
 ghost use Rattle.cv_block.specs.Surrogates.{IsSurrogate, IsHighUnit, IsLowUnit, IsPair};
 
-/// Whether a unit is one of a pair.
+/// Returns whether a code unit is a surrogate, high or low.
 #[inline(always)]
 pub fn is_surrogate(unit: u32) -> bool
     ensures { IsTrue result ↔ IsSurrogate unit }
@@ -11,7 +11,7 @@ pub fn is_surrogate(unit: u32) -> bool
     unit >= 0xd800 && unit < 0xe000
 }
 
-/// Whether a unit is a high surrogate.
+/// Returns whether a code unit is a high surrogate.
 #[inline(always)]
 pub fn is_high(unit: u32) -> bool
     ensures { IsTrue result ↔ IsHighUnit unit }
@@ -19,7 +19,7 @@ pub fn is_high(unit: u32) -> bool
     unit / 0x400 == 0x36
 }
 
-/// Whether a unit is a low surrogate.
+/// Returns whether a code unit is a low surrogate.
 #[inline(always)]
 pub fn is_low(unit: u32) -> bool
     ensures { IsTrue result ↔ IsLowUnit unit }
@@ -27,7 +27,7 @@ pub fn is_low(unit: u32) -> bool
     unit / 0x400 == 0x37
 }
 
-/// The character of a high and a low surrogate. For other units it is any number.
+/// Returns the character of a high and a low surrogate. For other units the result has no meaning.
 #[inline(always)]
 pub fn joined(high: u32, low: u32) -> u32
     ensures { IsHighUnit high → IsLowUnit low → IsPair high low result }
@@ -35,7 +35,8 @@ pub fn joined(high: u32, low: u32) -> u32
     0x1_0000 + (high % 0x400) * 0x400 + low % 0x400
 }
 
-/// The first unit of a character. Computed without a branch.
+/// Returns the first code unit of a character: its high surrogate, or below U+10000 the character itself. It is
+/// computed without a branch.
 #[inline(always)]
 pub fn first_of(value: u32) -> u32
     requires { value < 0x110000 }
@@ -50,7 +51,7 @@ pub fn first_of(value: u32) -> u32
     }
 }
 
-/// The second unit of a character, if it has two.
+/// Returns the low surrogate of a character from U+10000 on. For other characters the result has no meaning.
 #[inline(always)]
 pub fn second_of(value: u32) -> u32
     ensures low { 0x10000 ≤ value → result ≡ low_unit value }

@@ -1,4 +1,4 @@
-//! Units whose form is known at compile time, so that each loop over units is written once and compiled for each.
+//! Code units whose form is known at compile time, so that each loop over units is written once and compiled for each.
 ghost use Rattle.std.specs.Prelude.{◌↔◌, ◌≡◌, ◌≤◌, ◌<◌, ◌+◌, ◌++◌, length, take, drop, IsTrue};
 ghost use Rattle.cv_base.specs.Units.{unit_of, unit_size, unit_limit};
 ghost use Rattle.cv_base.specs.declared.ascii_form.AsciiForm.{AsciiForm};
@@ -9,31 +9,31 @@ use cv_base::Endian;
 use cv_base::place::write_slice;
 use std::marker::PhantomData;
 
-/// A unit.
+/// A code unit.
 pub trait Unit {
     ghost form: { AsciiForm };
 
-    /// How many bytes it has.
+    /// Returns how many bytes it has.
     fn size() -> usize
         ensures { result ≡ unit_size form };
 
-    /// Whether it is one byte.
+    /// Returns whether it is one byte.
     fn is_byte() -> bool
         ensures { IsTrue result → form ≡ AsciiForm.Byte };
 
-    /// Whether many blocks of it are taken faster at once than one by one. It affects speed only.
+    /// Returns whether it is faster to take many blocks of such units at once than one by one. It affects speed only.
     fn takes_many() -> bool;
 
-    /// The number of the unit here.
+    /// Returns the number of the unit at index `at`.
     fn number(bytes: &[u8], at: usize) -> u32
         requires { at + unit_size form ≤ length bytes.now }
         ensures { IsUnitAt form bytes.now at result };
 
-    /// Whether a number is one unit.
+    /// Returns whether a number fits in one unit.
     fn fits(number: u32) -> bool
         ensures { IsTrue result ↔ (number < unit_limit form) };
 
-    /// Writes a number of one unit here.
+    /// Writes a number that fits in one unit at index `at`. All other bytes stay.
     fn write(out: &mut [u8], at: usize, number: u32)
         requires few { number < unit_limit form }
         requires room { at + unit_size form ≤ length out.old }
@@ -78,7 +78,8 @@ impl Unit for Byte {
     }
 }
 
-/// Whether many blocks of units in an order are taken faster at once. LLVM reads many blocks of big-endian ones byte by byte.
+/// Whether it is faster to take many blocks of units in a byte order at once. If they are big-endian, LLVM reads many
+/// blocks byte by byte.
 #[inline(always)]
 fn many_pay<O: ByteOrder>() -> bool {
     match O::order() {
@@ -87,7 +88,7 @@ fn many_pay<O: ByteOrder>() -> bool {
     }
 }
 
-/// Two bytes in an order.
+/// Two bytes in a byte order.
 pub struct Two<O> {
     order: PhantomData<O>,
 }
@@ -126,7 +127,7 @@ impl<O: ByteOrder> Unit for Two<O> {
     }
 }
 
-/// Four bytes in an order.
+/// Four bytes in a byte order.
 pub struct Four<O> {
     order: PhantomData<O>,
 }

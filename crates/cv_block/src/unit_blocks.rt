@@ -1,4 +1,4 @@
-//! Blocks of small characters: many units of one form at once that are written in another.
+//! Blocks of small characters: many units of one form, written at once as units of another.
 ghost use Rattle.std.specs.Prelude.{◌≡◌, ◌≤◌, ◌<◌, ◌+◌, ◌*◌, ◌++◌, length, take, drop, get_or};
 ghost use Rattle.cv_base.specs.Units.{unit_size};
 ghost use Rattle.cv_block.specs.AsciiRuns.{IsRunBelow, characters_in, offset, units_of};
@@ -10,7 +10,7 @@ use crate::unit::{Byte, Unit};
 /// How many blocks are tested and written at once while a run has that many left: 64 units with one branch.
 const AT_ONCE: usize = 4;
 
-/// The character of the unit here if it is one byte, and otherwise its lowest byte.
+/// The lowest byte of the unit at index `at`. If the unit is a character below 256, this is the character.
 #[inline(always)]
 #[tactic(auto, using(crate::proofs::UnitBytes::low_byte))]
 pub(crate) fn character<U: Unit>(bytes: &[u8], at: usize) -> u32
@@ -54,7 +54,7 @@ fn low_bytes<U: Unit>(units: &[u8]) -> [u8; BLOCK]
     low
 }
 
-/// Writes the characters of a block of units of one form in another. They are copied into an array of their own before the first is
+/// Writes the characters of a block of units of one form in another. They are copied into an array before the first is
 /// written: LLVM does not know that the slices are disjoint, and would process them one by one.
 #[inline(always)]
 fn write_block<From: Unit, To: Unit>(units: &[u8], out: &mut [u8], at: usize)
@@ -86,8 +86,9 @@ fn write_blocks<From: Unit, To: Unit, const BLOCKS: usize>(units: &[u8], out: &m
     }
 }
 
-/// Writes the units of a run at the start in another form while `BLOCKS` blocks of them are left, of `most` units at most, and answers
-/// how many units they are. So many are tested with one branch, and written in the same pass.
+/// Writes the units of a run at the start of a text in another form, `BLOCKS` blocks at a time while they are left,
+/// `most` units at most, and returns how many units it wrote. One branch tests `BLOCKS` blocks, and the same pass
+/// writes them.
 #[inline(always)]
 fn take_blocks<R: Repertoire, From: Unit, To: Unit, const BLOCKS: usize>(
     rest: &[u8],
@@ -118,8 +119,8 @@ fn take_blocks<R: Repertoire, From: Unit, To: Unit, const BLOCKS: usize>(
     n
 }
 
-/// Writes the blocks of a run's units at the start in another form, as `take_blocks`: many at once where that is faster, and then one
-/// by one.
+/// Writes the blocks of a run's units at the start of a text in another form, as `take_blocks` does: many at once if
+/// that is faster, and then one by one.
 #[inline(always)]
 pub(crate) fn take_all_blocks<R: Repertoire, From: Unit, To: Unit>(
     rest: &[u8],

@@ -1,4 +1,4 @@
-//! How much of a text is characters of one unit each.
+//! How long the prefix of a text is that has only characters of one unit each.
 ghost use Rattle.std.specs.Prelude.{◌*◌, ◌+◌, ◌≤◌, IsTrue, length, drop};
 ghost use Rattle.cv_base.specs.Units.{unit_size};
 ghost use Rattle.cv_block.specs.Spelled.{BytesOf, IsSpelledFront};
@@ -8,7 +8,7 @@ use crate::spelling::MANY;
 use crate::unit::Unit;
 use crate::unit_runs::{are_scalars, numbers_of};
 
-/// Whether many units here are characters by themselves.
+/// Whether the sixteen units from index `at` on are characters by themselves.
 #[inline(always)]
 fn are_characters<U: Unit>(input: &[u8], at: usize) -> bool
     requires { at + unit_size U.form * 16 ≤ length input.now }
@@ -18,8 +18,9 @@ fn are_characters<U: Unit>(input: &[u8], at: usize) -> bool
     are_scalars(&numbers_of::<U>(&input[at..]))
 }
 
-/// How many bytes at the start are characters of one unit each, by blocks of many, up to a block in which one isn't. It serves every
-/// encoding in which such a character has the bytes of its unit.
+/// Returns how many bytes at the start of a text are characters of one unit each. It tests blocks of sixteen units, and
+/// stops before a block in which a unit is no character by itself. It serves every encoding in which a character of one
+/// unit has the bytes of its unit.
 #[inline(never)]
 pub fn unit_front<U: Unit>(input: &[u8]) -> usize
     ensures within { result ≤ length input.now }

@@ -60,8 +60,8 @@ fn put_characters(numbers: &[u32; MANY], buffer: &mut [Scalar], n: usize)
     }
 }
 
-/// Reads many units if all of them are characters by themselves, and otherwise none. It serves every encoding in which such a
-/// character has the bytes of its unit.
+/// Reads sixteen units from index `at` on into a buffer after its first `n`, if all of them are characters by
+/// themselves, and otherwise none. It serves every encoding in which a character of one unit has the bytes of its unit.
 #[inline(always)]
 pub fn read_units<U: Unit>(input: &[u8], at: usize, buffer: &mut [Scalar], n: usize) -> Spelled
     requires within { at ≤ length input.now }
@@ -83,7 +83,8 @@ pub fn read_units<U: Unit>(input: &[u8], at: usize, buffer: &mut [Scalar], n: us
     Spelled { n: MANY, used }
 }
 
-/// The numbers of many characters, from the `n`th on. All are read before any is written, so that LLVM vectorizes the writing.
+/// The numbers of sixteen characters, from the `n`th on. All are read before any is written, so that LLVM vectorizes
+/// the writing.
 #[inline(always)]
 pub(crate) fn values_of(characters: &[Scalar], n: usize) -> [u32; MANY]
     requires { n + 16 ≤ length characters.now }
@@ -126,8 +127,8 @@ fn put_units<U: Unit>(values: &[u32; MANY], out: &mut [u8], at: usize)
     }
 }
 
-/// Writes many characters if each is one unit, and otherwise none. It serves every encoding in which such a character has the
-/// bytes of its unit.
+/// Writes sixteen characters from the `n`th on, if each is one unit, and otherwise none. It may also change the bytes
+/// after them. It serves every encoding in which a character of one unit has the bytes of its unit.
 #[inline(always)]
 pub fn write_units<U: Unit>(characters: &[Scalar], n: usize, out: &mut [u8], at: usize) -> Spelled
     requires within { n + 16 ≤ length characters.now }

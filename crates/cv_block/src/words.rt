@@ -1,4 +1,4 @@
-//! Characters whose bytes are a prefix of a word, many at once, whatever their sizes.
+//! Writing sixteen characters at once by words: the bytes of each character are a prefix of its word.
 ghost use Rattle.std.specs.Prelude.{◌≡◌, ℕ, ◌+◌, ◌≤◌, ◌++◌, length, take};
 ghost use Rattle.std.specs.Int.{to_le_bytes, w32};
 ghost use Rattle.std.specs.List.{flat_map};
@@ -12,26 +12,27 @@ use crate::spelling::{MANY, Spelled};
 use crate::unit_runs::values_of;
 use cv_base::Scalar;
 
-/// A spelling of at most four bytes whose words are computed many at once.
+/// A spelling of at most four bytes for each character, whose words are computed many at once.
 pub trait Words {
     ghost bytes_of: { BytesOf };
 
-    /// The bytes of each character, as a number whose lowest byte is the first. What follows them may be anything.
+    /// Returns a word for each character: a number whose bytes, the lowest first, begin with those of the character.
+    /// The others may be anything.
     fn words(values: &[u32; MANY]) -> [u32; MANY]
         requires long { length values.now ≡ 16 }
         requires scalars { AreScalarsBelow values.now 16 }
         ensures long { length result ≡ 16 }
         ensures words { AreWords bytes_of values.now result 16 };
 
-    /// How many bytes each character has.
+    /// Returns how many bytes each character has.
     fn sizes(values: &[u32; MANY]) -> [u32; MANY]
         requires { length values.now ≡ 16 }
         ensures long { length result ≡ 16 }
         ensures sizes { AreSizes bytes_of values.now result 16 };
 }
 
-/// Writes words one after the other, each by its size, and answers how many bytes they have together. What follows them may be
-/// anything.
+/// Writes words one after the other, of each as many bytes as its size, and returns how many bytes these are together.
+/// It may also change the bytes after them.
 #[inline(always)]
 fn put_words<W: Words>(
     values: &[u32; MANY],
@@ -61,7 +62,8 @@ fn put_words<W: Words>(
     used
 }
 
-/// Writes many characters.
+/// Writes sixteen characters from the `n`th on into a slice from index `at` on. It may also change the bytes after
+/// them.
 #[inline(always)]
 pub fn write_words<W: Words>(characters: &[Scalar], n: usize, out: &mut [u8], at: usize) -> Spelled
     requires within { n + 16 ≤ length characters.now }

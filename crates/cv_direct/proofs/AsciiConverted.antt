@@ -22,7 +22,7 @@ ascii_bytes : (form : AsciiForm) (bytes_of : BytesOf) → SpellsAscii form bytes
 ascii_bytes form bytes_of spells [] h = refl
 ascii_bytes form bytes_of spells (c ∷ characters) h = ap₂ (λ (x y : List ℕ). x ++ y) (spells c h.0) (ascii_bytes form bytes_of spells characters h.1)
 
--- the first n units of a text are ASCII, and were written in another form
+-- the first n units of a text, which are ASCII and were written in another form, are converted
 pub ascii_converted : (form target : AsciiForm) (from to : BytesOf) → SpellsAscii form from → SpellsAscii target to → (text before : List ℕ) (at n : ℕ) (after : List ℕ) → unit_size form * n ≤ length text → at + unit_size target * n ≤ length before
     → IsRunBelow 128 form text n → after ≡ take at before ++ units_of target (characters_in form text n) ++ drop (at + unit_size target * n) before
     → IsConverted from to text before at (record { used = unit_size form * n; wrote = unit_size target * n }) after

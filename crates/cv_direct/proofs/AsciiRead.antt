@@ -13,7 +13,7 @@ halves text first second at f g =
     let b : take 8 second ≡ drop 8 (take 16 rest) = ap (take 8) g ∙ take-take 8 8 (drop (at + 8) text) (lit≤ tt) ∙ ap (take 8) (sym (drop-drop 8 at text)) ∙ sym (drop-take 8 8 rest) in
     ap₂ (λ (x y : List ℕ). x ++ y) a b ∙ take-append-drop 8 (take 16 rest)
 
--- both parts
+-- sixteen bytes of ASCII are read as the units of both halves
 pub ascii_read : (text first second : List ℕ) (at : ℕ) → at + 16 ≤ length text → ((k : ℕ) → k < 16 → get_or text (at + k) 0 < 128) → first ≡ take 8 (drop at text) → second ≡ take 8 (drop (at + 8) text)
     → AreRead text at (record { first = first; firsts = 8; second = second; seconds = 8; used = 16 })
 ascii_read text first second at within ascii f g =

@@ -22,7 +22,7 @@ none_converted from to text before at loose h = record {
   put = record { wrote = refl; fits = omega arith; stand = ap (λ i. take i before) (let e : at + 0 ≡ at = omega arith in e) ∙ sym (append-nil (take at before)); behind = refl; size = refl };
 }
 
--- characters more
+-- more characters are converted
 pub part_more : (from to : BytesOf) (text before : List ℕ) (at used size n m first loose place : ℕ) (mid after units : List ℕ) → IsConvertedLoosely from to text before at used n first mid → place ≡ at + n → AreScalars units → Begins (flat_map from units) (drop used text) → size ≡ length (flat_map from units)
     → IsPutLoosely (flat_map to units) mid place m loose after → first ≤ m + loose → IsConvertedLoosely from to text before at (used + size) (n + m) loose after
 part_more from to text before at used size n m first loose place mid after units p place_is scalars begins uses put enough =
@@ -38,12 +38,12 @@ part_more from to text before at used size n m first loose place mid after units
       put = rw out (put_more (flat_map to c) (flat_map to units) before at n first m loose place mid after p.put place_is put enough);
     }
 
--- a window more
+-- one window more is converted
 pub window_more : (from to : BytesOf) (text before : List ℕ) (at used size n m loose place : ℕ) (mid after units : List ℕ) → IsConvertedLoosely from to text before at used n 16 mid → place ≡ at + n → IsWindow from size (drop used text) units
     → IsPutLoosely (flat_map to units) mid place m loose after → 16 ≤ m → IsConvertedLoosely from to text before at (used + size) (n + m) loose after
 window_more from to text before at used size n m loose place mid after units p place_is w put enough = part_more from to text before at used size n m 16 loose place mid after units p place_is w.scalars w.begins w.uses put (omega (arith, enough))
 
--- with nothing loose behind, the text is converted
+-- the text is converted if no bytes after the result may be anything
 pub all_converted : (from to : BytesOf) (text before : List ℕ) (at used n : ℕ) (after : List ℕ) → IsConvertedLoosely from to text before at used n 0 after → IsConverted from to text before at (record { used = used; wrote = n }) after
 all_converted from to text before at used n after p = record {
   characters = p.characters;

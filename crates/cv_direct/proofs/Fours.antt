@@ -30,7 +30,7 @@ rem_all n k xs = splat (λ a b. a % b) n k xs
 abbrev mul_all : ℕ → ℕ → List ℕ → List ℕ
 mul_all n k xs = splat (λ a b. (a * b) % 2 ^ 16) n k xs
 
--- one of two numbers, by whether a lane is a limit at least
+-- one of two numbers, by whether a lane is at least a limit
 abbrev least : ℕ → ℕ → ℕ → ℕ → ℕ
 least k v a b = cond (top 15 (cond (leb k v) 0xffff 0)) a b
 
@@ -62,7 +62,7 @@ fronts_are zero (v ∷ vs) e p = absurd (omega arith)
 fronts_are (suc n) [] e p = absurd (omega arith)
 fronts_are (suc n) (v ∷ vs) e p = ap₂ (λ (x : ℕ) (l : List ℕ). x ∷ l) (front_is v (p 0 (omega arith))) (fronts_are n vs (omega arith) (behind_first v vs p))
 
--- the second numbers
+-- the second numbers of some lanes
 pub lasts_are : (n : ℕ) (vs : List ℕ) → length vs ≡ n → last_words n vs ≡ map last_of vs
 lasts_are zero [] e = refl
 lasts_are zero (v ∷ vs) e = absurd (omega arith)
@@ -123,15 +123,15 @@ tests_are limit t is (suc n) (v ∷ vs) e = ap₂ (λ (b : Bool) (l : List Bool)
 bits_are : (limit : ℕ) (t : ℕ → Bool) → ((v : ℕ) → top 15 (cond (leb limit v) 0xffff 0) ≡ t v) → (vs : List ℕ) → length vs ≡ 8 → mask_l (tests 8 limit vs) % 2 ^ 64 ≡ mask_l (map t vs)
 bits_are limit t is vs long = ap (λ l. mask_l l % 2 ^ 64) (tests_are limit t is 8 vs long) ∙ mask_l-mod (map t vs) 64 (omega (arith, length-map vs t, long))
 
--- the bits of those of two bytes
+-- the bits of units of two bytes or more
 pub twos_are : (vs : List ℕ) → length vs ≡ 8 → mask_l (tests 8 0x80 vs) % 2 ^ 64 ≡ mask_l (map has_two vs)
 twos_are vs long = bits_are 0x80 has_two two_is vs long
 
--- the bits of those of three
+-- the bits of units of three bytes
 pub threes_are : (vs : List ℕ) → length vs ≡ 8 → mask_l (tests 8 0x800 vs) % 2 ^ 64 ≡ mask_l (map has_three vs)
 threes_are vs long = bits_are 0x800 has_three three_is vs long
 
--- eight bits
+-- the mask of eight units has eight bits
 pub mask_lt : (t : ℕ → Bool) (vs : List ℕ) → length vs ≡ 8 → mask_l (map t vs) < 256
 mask_lt t vs long =
     let eight : length (map t vs) ≡ 8 = length-map vs t ∙ long in
@@ -171,17 +171,17 @@ low_middle vs long p k h =
     let few : k < 4 = omega (arith, h, length-take 4 vs) in
     rw get_or-take (p k (omega arith))
 
--- the other four too
+-- so have the other four
 pub high_middle : (vs : List ℕ) → length vs ≡ 8 → ((k : ℕ) → k < 8 → get_or vs k 0 < 0x10000) → AreMiddle (drop 4 vs)
 high_middle vs long p k h =
     let few : k < 4 = omega (arith, h, length-drop 4 vs, long) in
     rw get_or-drop (p (4 + k) (omega arith))
 
--- there are four
+-- the first four are four
 pub low_long : (vs : List ℕ) → length vs ≡ 8 → length (take 4 vs) ≡ 4
 low_long vs long = omega (arith, length-take 4 vs, long)
 
--- and four others
+-- the others are four
 pub high_long : (vs : List ℕ) → length vs ≡ 8 → length (drop 4 vs) ≡ 4
 high_long vs long = omega (arith, length-drop 4 vs, long)
 

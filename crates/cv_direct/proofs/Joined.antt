@@ -29,7 +29,7 @@ none_converted_exactly from to text before at h =
       put = record { wrote = refl; fits = omega arith; out = sym (take-append-drop at before) ∙ ap₂ (λ (x y : List ℕ). x ++ y) (sym (append-nil (take at before))) (ap (λ (i : ℕ). drop i before) (sym end)) };
     }
 
--- a run, and then another from where it ended
+-- a run is converted, and then another that begins at its end
 pub joined : (from to : BytesOf) (text before : List ℕ) (at : ℕ) (r1 r2 : Direct) (mid after : List ℕ) → IsConverted from to text before at r1 mid → IsConverted from to (drop r1.used text) mid (at + r1.wrote) r2 after
     → IsConverted from to text before at (record { used = r1.used + r2.used; wrote = r1.wrote + r2.wrote }) after
 joined from to text before at r1 r2 mid after p q =
@@ -46,20 +46,20 @@ joined from to text before at r1 r2 mid after p q =
       put = rw out (put_both (flat_map to a) (flat_map to b) before mid after at r1.wrote r2.wrote (at + r1.wrote) refl p.put q.put);
     }
 
--- the length of what bytes were put into
+-- a slice keeps its length when bytes are put into it
 pub put_size : (bytes before : List ℕ) (at n : ℕ) (after : List ℕ) → IsPut bytes before at n after → length after ≡ length before
 put_size bytes before at n after p =
     let front : List ℕ = take at before ++ bytes in
     omega (arith, ap length p.out, length-append front (drop (at + n) before), length-append (take at before) bytes, length-take at before, length-drop (at + n) before, p.fits, p.wrote)
 
--- the characters of a window more
+-- the characters of one window more are converted
 pub units_more : (to : BytesOf) (text before : List ℕ) (at used n m total place : ℕ) (mid after : List ℕ) (units : Units) → IsConverted utf8_bytes to text before at (record { used = used; wrote = n }) mid → place ≡ at + n → n + m ≡ total → AreRead text used units
     → IsPut (flat_map to (characters_of units)) mid place m after → IsConverted utf8_bytes to text before at (record { used = used + units.used; wrote = total }) after
 units_more to text before at used n m total place mid after units p place_is total_is read put =
     let window : IsConverted utf8_bytes to (drop used text) mid (at + n) (record { used = units.used; wrote = m }) after = record { characters = characters_of units; scalars = read.scalars; begins = read.begins; uses = read.uses; put = subst (λ (i : ℕ). IsPut (flat_map to (characters_of units)) mid i m after) place_is put } in
     subst (λ (i : ℕ). IsConverted utf8_bytes to text before at (record { used = used + units.used; wrote = i }) after) total_is (joined utf8_bytes to text before at (record { used = used; wrote = n }) (record { used = units.used; wrote = m }) mid after p window)
 
--- a character of four bytes more
+-- one character of four bytes more is converted
 pub high_more : (to : BytesOf) (text before : List ℕ) (at used c : ℕ) (mid after : List ℕ) → IsConverted utf8_bytes to text before at (record { used = used; wrote = used }) mid → IsHigh utf8_bytes (drop used text) c
     → IsPut (to c) mid (at + used) 4 after → IsConverted utf8_bytes to text before at (record { used = used + 4; wrote = used + 4 }) after
 high_more to text before at used c mid after p is put =
@@ -68,7 +68,7 @@ high_more to text before at used c mid after p is put =
     let one : IsConverted utf8_bytes to (drop used text) mid (at + used) (record { used = 4; wrote = 4 }) after = record { characters = c ∷ []; scalars = (is.scalar, tt); begins = rw from (is.begins); uses = sym (ap length from ∙ is.size); put = rw out put } in
     joined utf8_bytes to text before at (record { used = used; wrote = used }) (record { used = 4; wrote = 4 }) mid after p one
 
--- a run more, whose text is given as a slice
+-- one run more is converted, whose text is given as a slice
 pub run_more : (to : BytesOf) (text before : List ℕ) (at used n high total place : ℕ) (mid after : List ℕ) → IsConverted utf8_bytes to text before at (record { used = used; wrote = n }) mid → place ≡ at + n → n + high ≡ total
     → IsConverted utf8_bytes to (take (length text - used) (drop used text)) mid place (record { used = high; wrote = high }) after → IsConverted utf8_bytes to text before at (record { used = used + high; wrote = total }) after
 run_more to text before at used n high total place mid after p place_is total_is q =

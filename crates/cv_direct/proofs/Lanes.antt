@@ -12,7 +12,7 @@ use Rattle.cv_base.specs.Scalars.{IsScalar}
 pub none_pass : (p : ℕ → Bool) (xs : List ℕ) → length xs ≡ 16 → mask_l (map p xs) ≡ 0 → (k : ℕ) → k < 16 → p (get_or xs k 0) ≡ false
 none_pass p xs long e k h = none_from_empty_mask p xs 0 16 0 (omega arith) (ap (λ (l : List ℕ). mask_l (map p l)) (take_all 16 xs (omega arith)) ∙ e) k (omega arith) (omega arith)
 
--- if no lane is a limit at least, all are below it
+-- if no lane is at least a limit, all are below it
 pub all_below : (limit : ℕ) (xs : List ℕ) → length xs ≡ 16 → mask_l (map (top 15) (zip2 (λ a b. cond (leb a b) 0xffff 0) (replicate 16 limit) xs)) % 2 ^ 64 ≡ 0 → (k : ℕ) → k < 16 → get_or xs k 0 < limit
 all_below limit xs long e k h =
     let is : mask_l (map (top 15) (zip2 (λ a b. cond (leb a b) 0xffff 0) (replicate 16 limit) xs)) % 2 ^ 64 ≡ mask_l (map (leb limit) xs) = ap (λ ms. mask_l ms % 2 ^ 64) (tops_compared w16 leb (replicate 16 limit) xs ∙ zip2_splat_left leb limit 16 xs long) ∙ mask_l-mod (map (leb limit) xs) 64 (simp length-map (omega arith)) in

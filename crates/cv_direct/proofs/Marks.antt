@@ -66,7 +66,7 @@ kept (x ∷ xs) k n (suc m) e = elim (cases_lt k n) [
 kept [] k n (suc m) e = absurd (omega arith)
 kept (x ∷ xs) k n zero e = absurd (omega arith)
 
--- the first units, and zeros
+-- selecting by index gives the first units, and zeros after them
 pub first_are : (units : List ℕ) (n : ℕ) → length units ≡ 16 → sel_l (map (top 15) (zip2 (λ a b. cond (ltb a b) 0xffff 0) (places 0 16) (replicate 16 n))) units (replicate 16 0) ≡ take n units ++ replicate (16 - n) 0
 first_are units n long =
     let start : n - 0 ≡ n = omega arith in

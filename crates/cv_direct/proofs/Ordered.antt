@@ -26,14 +26,14 @@ all_swapped n vs = zip2 (λ a b. (a + b) % 2 ^ 16) (zip2 (λ a b. a / b) vs (rep
 swapped_is : (v : ℕ) → v < 0x10000 → swapped v ≡ in_order Big v
 swapped_is v h = omega (arith, h)
 
--- the units with their bytes swapped
+-- in big-endian order the units have their bytes swapped
 pub big_are : (n : ℕ) (vs : List ℕ) → length vs ≡ n → AreMiddle vs → all_swapped n vs ≡ map (in_order Big) vs
 big_are zero [] e p = refl
 big_are zero (v ∷ vs) e p = absurd (omega arith)
 big_are (suc n) [] e p = absurd (omega arith)
 big_are (suc n) (v ∷ vs) e p = ap₂ (λ (x : ℕ) (l : List ℕ). x ∷ l) (swapped_is v (p 0 (omega arith))) (big_are n vs (omega arith) (behind_first v vs p))
 
--- or not
+-- in little-endian order units stay as they are
 pub little_are : (vs : List ℕ) → vs ≡ map (in_order Little) vs
 little_are [] = refl
 little_are (v ∷ vs) = ap (λ (l : List ℕ). v ∷ l) (little_are vs)
@@ -68,7 +68,7 @@ pub bytes_are : (e : Endian) (units ordered : List ℕ) → length units ≡ 16 
 bytes_are e units ordered long p is =
     ap (λ (l : List ℕ). digits_l 256 32 (number_l 65536 l)) is ∙ ap (λ n. digits_l 256 (twice n) (number_l 65536 (map (in_order e) units))) (sym long) ∙ bytes_of_units e units (λ k h. p k (omega (arith, long, h)))
 
--- the bytes of eight
+-- the bytes of eight units
 pub eight_bytes : (e : Endian) (units ordered : List ℕ) → length units ≡ 8 → ((k : ℕ) → k < 8 → get_or units k 0 < 0x10000) → ordered ≡ map (in_order e) units → digits_l 256 16 (number_l 65536 ordered) ≡ flat_map (utf16 e) units
 eight_bytes e units ordered long p is =
     ap (λ (l : List ℕ). digits_l 256 16 (number_l 65536 l)) is ∙ ap (λ n. digits_l 256 (twice n) (number_l 65536 (map (in_order e) units))) (sym long) ∙ bytes_of_units e units (λ k h. p k (omega (arith, long, h)))
@@ -84,12 +84,12 @@ first_bytes e (v ∷ vs) (suc n) p =
     let there : 2 * suc n ≡ length (utf16 e v) + 2 * n = omega (arith, size) in
     ap (λ m. take m (utf16 e v ++ flat_map (utf16 e) vs)) there ∙ take-append-add (utf16 e v) (flat_map (utf16 e) vs) (2 * n) ∙ ap (λ (x : List ℕ). utf16 e v ++ x) (first_bytes e vs n (behind_first v vs p))
 
--- eight lanes are below 10000
+-- lanes of sixteen bits are below 0x10000
 pub eight_few : (units : List ℕ) → Each1 (Fits w16) units → AreMiddle units
 eight_few [] p k h = absurd (omega arith)
 eight_few (v ∷ vs) p zero h = p.0.fits
 eight_few (v ∷ vs) p (suc k) h = eight_few vs p.1 k (omega arith)
 
--- each of eight
+-- each of eight units is below 0x10000
 pub few_lanes : (units : List ℕ) → length units ≡ 8 → AreMiddle units → (k : ℕ) → k < 8 → get_or units k 0 < 0x10000
 few_lanes units long p k h = p k (omega (arith, long, h))

@@ -15,7 +15,7 @@ use Rattle.cv_direct.specs.Private.Windows.{AreFirst, IsHigh, IsWindow}
 use Rattle.cv_direct.proofs.Converting.{all_converted, part_more}
 use Rattle.cv_direct.proofs.Putting.{further, put_copied, put_exactly}
 
--- more of what follows may be anything
+-- if some bytes after the result may be anything, so may more of them
 pub looser : (bytes before : List ℕ) (at n loose more : ℕ) (after : List ℕ) → IsPutLoosely bytes before at n loose after → loose ≤ more → IsPutLoosely bytes before at n more after
 looser bytes before at n loose more after p h = record {
   wrote = p.wrote;
@@ -29,7 +29,7 @@ zeros_long : (to : BytesOf) (k z : ℕ) → z ≡ length (to 0) → length (flat
 zeros_long to zero z e = omega arith
 zeros_long to (suc k) z e = omega (arith, length-append (to 0) (flat_map to (replicate k 0)), zeros_long to k z e)
 
--- What was written of some units and zeros, without the zeros.
+-- What was written for some units and for zeros after them, without the zeros.
 pub record IsCut (to : BytesOf) (units before : List ℕ) (at n cut : ℕ) (after : List ℕ) : Type 0 where
   pub enough : cut ≤ n
   pub put : IsPutLoosely (flat_map to units) before at (n - cut) 48 after
@@ -58,14 +58,14 @@ zeros_cut to units before k z at n after e few h p =
       };
     }
 
--- a character from U+10000 on more
+-- one character from U+10000 on more is converted
 pub high_more : (from to : BytesOf) (text before : List ℕ) (at used c : ℕ) (mid after : List ℕ) → IsConvertedLoosely from to text before at used used 0 mid → IsHigh from (drop used text) c → IsPut (to c) mid (at + used) 4 after → IsConvertedLoosely from to text before at (used + 4) (used + 4) 0 after
 high_more from to text before at used c mid after p high put =
     let read : flat_map from (c ∷ []) ≡ from c = append-nil (from c) in
     let written : flat_map to (c ∷ []) ≡ to c = append-nil (to c) in
     part_more from to text before at used 4 used 4 0 0 (at + used) mid after (c ∷ []) p refl (high.scalar, tt) (rw read high.begins) (rw read (sym high.size)) (rw written (put_exactly (to c) mid (at + used) 4 after put.wrote put.fits put.out)) (omega arith)
 
--- the first characters of a window
+-- the first characters of a window are converted
 pub first_converted : (from to : BytesOf) (text before : List ℕ) (at used n loose : ℕ) (after units : List ℕ) → AreFirst from used text units → IsPutLoosely (flat_map to units) before at n loose after → IsConvertedLoosely from to text before at used n loose after
 first_converted from to text before at used n loose after units first put = record {
   characters = units;
@@ -75,7 +75,7 @@ first_converted from to text before at used n loose after units first put = reco
   put = put;
 }
 
--- the characters of a whole window
+-- the characters of a whole window are converted
 pub whole_converted : (from to : BytesOf) (text before : List ℕ) (at size n : ℕ) (after units : List ℕ) → IsWindow from size text units → IsPutLoosely (flat_map to units) before at n 16 after → IsConvertedLoosely from to text before at size n 48 after
 whole_converted from to text before at size n after units window put = record {
   characters = units;
@@ -85,7 +85,7 @@ whole_converted from to text before at size n after units window put = record {
   put = looser (flat_map to units) before at n 16 48 after put (omega arith);
 }
 
--- text that was converted, and then more of it
+-- text is converted, and then more of it
 pub converted_more : (from to : BytesOf) (text before : List ℕ) (at used n first size m loose more place : ℕ) (mid after : List ℕ) → IsConvertedLoosely from to text before at used n first mid → place ≡ at + n → IsConvertedLoosely from to (drop used text) mid place size m loose after → loose ≤ more → first ≤ m + more
     → IsConvertedLoosely from to text before at (used + size) (n + m) more after
 converted_more from to text before at used n first size m loose more place mid after p e q wider enough =
@@ -95,7 +95,7 @@ converted_more from to text before at used n first size m loose more place mid a
 pub loosely_within : (from to : BytesOf) (text before : List ℕ) (at used n loose : ℕ) (after : List ℕ) → IsConvertedLoosely from to text before at used n loose after → used ≤ length text
 loosely_within from to text before at used n loose after p = omega (arith, p.uses, Begins-length (flat_map from p.characters) text p.begins)
 
--- the same of a run
+-- what a run converted is within the text
 pub converted_within : (from to : BytesOf) (text before : List ℕ) (at : ℕ) (run : Direct) (after : List ℕ) → IsConverted from to text before at run after → run.used ≤ length text
 converted_within from to text before at run after p = omega (arith, p.uses, Begins-length (flat_map from p.characters) text p.begins)
 

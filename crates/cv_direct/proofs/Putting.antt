@@ -1,4 +1,4 @@
--- Writing by more bytes than are wanted, piece by piece.
+-- Writes that may also change some bytes after those that are wanted, piece by piece.
 use Rattle.std.proofs.Common.{◌≡◌, ℕ, ◌+◌, ◌-◌, ◌<◌, ◌≤◌, List, [], ◌∷◌, ◌++◌, length, take, drop, map, get_or, get_or-take, get_or-drop, refl, sym, ◌∙◌, ap, ap₂, subst, suc, arith, length-append, length-take, length-drop, append_assoc, take-append-drop}
 use Rattle.std.specs.List.{flat_map}
 use Rattle.std.specs.Simd.Lanes.{put_chunk}
@@ -10,13 +10,13 @@ use Rattle.cv_base.specs.Places.{IsPut}
 use Rattle.cv_utf8.specs.Utf8.{utf8_bytes}
 use Rattle.cv_direct.specs.Private.Loose.{IsPutLoosely}
 
--- bytes behind that stay, further on
+-- bytes that stay from an index on stay from a later one on
 pub further : (before after : List ℕ) (i j : ℕ) → i ≤ j → drop i after ≡ drop i before → drop j after ≡ drop j before
 further before after i j h e =
     let there : i + (j - i) ≡ j = omega arith in
     ap (λ n. drop n after) (sym there) ∙ sym (drop-drop (j - i) i after) ∙ ap (drop (j - i)) e ∙ drop-drop (j - i) i before ∙ ap (λ n. drop n before) there
 
--- bytes, and then others behind them
+-- bytes are put, and then others after them
 pub put_more : (xs ys before : List ℕ) (at n first m loose place : ℕ) (mid after : List ℕ) → IsPutLoosely xs before at n first mid → place ≡ at + n → IsPutLoosely ys mid place m loose after → first ≤ m + loose → IsPutLoosely (xs ++ ys) before at (n + m) loose after
 put_more xs ys before at n first m loose place mid after p e q enough =
     let there : at + (n + m) ≡ place + m = omega (arith, e) in
@@ -29,7 +29,7 @@ put_more xs ys before at n first m loose place mid after p e q enough =
       size = q.size ∙ p.size;
     }
 
--- a vector whose first bytes are wanted, and how many more it has
+-- the first bytes of a vector are put, and the others may be anything
 pub put_part : (bytes lanes out : List ℕ) (at n wide loose : ℕ) → length lanes ≡ wide → at + wide ≤ length out → n ≤ wide → wide ≤ n + loose → take n lanes ≡ bytes → IsPutLoosely bytes out at n loose (put_chunk at out lanes)
 put_part bytes lanes out at n wide loose long room few most front =
     let rest : List ℕ = drop (length lanes) (drop at out) in
@@ -49,11 +49,11 @@ put_part bytes lanes out at n wide loose long room few most front =
       size = length-put_chunk at out lanes;
     }
 
--- a vector whose first bytes are wanted
+-- the first bytes of a vector are put, and at most sixteen others may be anything
 pub put_front : (bytes lanes out : List ℕ) (at n wide : ℕ) → length lanes ≡ wide → at + wide ≤ length out → n ≤ wide → wide ≤ n + 16 → take n lanes ≡ bytes → IsPutLoosely bytes out at n 16 (put_chunk at out lanes)
 put_front bytes lanes out at n wide long room few most front = put_part bytes lanes out at n wide 16 long room few most front
 
--- bytes that were put and nothing else
+-- bytes were put, and nothing else changed
 pub put_exactly : (bytes before : List ℕ) (at n : ℕ) (after : List ℕ) → n ≡ length bytes → at + n ≤ length before → after ≡ take at before ++ bytes ++ drop (at + n) before → IsPutLoosely bytes before at n 0 after
 put_exactly bytes before at n after wrote fits out =
     let front : List ℕ = take at before ++ bytes in
@@ -74,7 +74,7 @@ put_copied bytes none front before at n loose after p fits out =
     let is : take n front ≡ bytes = ap (λ i. take i front) (sym start) ∙ p.stand in
     put_exactly bytes before at n after p.wrote fits (out ∙ ap (λ (x : List ℕ). take at before ++ x ++ drop (at + n) before) is)
 
--- with nothing loose behind they were put at the place
+-- bytes were put if no bytes after them may be anything
 pub put_whole : (bytes before : List ℕ) (at n : ℕ) (after : List ℕ) → IsPutLoosely bytes before at n 0 after → IsPut bytes before at n after
 put_whole bytes before at n after p =
     let end : at + n + 0 ≡ at + n = omega arith in
@@ -84,7 +84,7 @@ put_whole bytes before at n after p =
       out = sym (take-append-drop (at + n) after) ∙ ap (λ (x : List ℕ). x ++ drop (at + n) after) p.stand ∙ ap (λ (x : List ℕ). (take at before ++ bytes) ++ x) (ap (λ i. drop i after) (sym end) ∙ p.behind ∙ ap (λ i. drop i before) end);
     }
 
--- the bytes of the first of some units, and of the others
+-- the bytes of the first units are put, and then those of the others
 pub put_both : (bytes_of : ℕ → List ℕ) (units first second before : List ℕ) (k at n m : ℕ) (mid after : List ℕ) → first ≡ take k units → second ≡ drop k units → IsPutLoosely (flat_map bytes_of first) before at n 16 mid → IsPutLoosely (flat_map bytes_of second) mid (at + n) m 16 after → IsPutLoosely (flat_map bytes_of units) before at (n + m) 16 after
 put_both bytes_of units first second before k at n m mid after e f p q =
     let bytes : flat_map bytes_of first ++ flat_map bytes_of second ≡ flat_map bytes_of units = sym (flat_map-append bytes_of first second) ∙ ap (flat_map bytes_of) (ap₂ (λ (x y : List ℕ). x ++ y) e f ∙ take-append-drop k units) in
@@ -101,6 +101,6 @@ ascii_are (u ∷ units) p =
 pub first_below : (limit : ℕ) (units part : List ℕ) → part ≡ take 8 units → ((k : ℕ) → k < 16 → get_or units k 0 < limit) → (k : ℕ) → k < 8 → get_or part k 0 < limit
 first_below limit units part e p k h = rw (e, get_or-take) (p k (omega arith))
 
--- the last eight too
+-- so are the last eight
 pub second_below : (limit : ℕ) (units part : List ℕ) → part ≡ drop 8 units → ((k : ℕ) → k < 16 → get_or units k 0 < limit) → (k : ℕ) → k < 8 → get_or part k 0 < limit
 second_below limit units part e p k h = rw (e, get_or-drop) (p (8 + k) (omega arith))

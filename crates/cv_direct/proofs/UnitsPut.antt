@@ -14,7 +14,7 @@ use Rattle.cv_utf8.specs.Units.{characters_of, AreRead}
 use Rattle.cv_utf8.specs.Utf8.{utf8_bytes}
 use Rattle.cv_utf8.specs.declared.utf8_units.Units.{Units}
 
--- the characters of both parts
+-- the characters of both parts are put
 pub parts_put : (to : BytesOf) (units : Units) (before : List ℕ) (at : ℕ) (mid after : List ℕ) → IsPutLoosely (flat_map to (take units.firsts units.first)) before at (2 * units.firsts) 16 mid
     → IsPutLoosely (flat_map to (take units.seconds units.second)) mid (at + 2 * units.firsts) (2 * units.seconds) 16 after → IsPutLoosely (flat_map to (characters_of units)) before at (2 * (units.firsts + units.seconds)) 16 after
 parts_put to units before at mid after p q =
@@ -24,7 +24,7 @@ parts_put to units before at mid after p q =
     let both = put_more (flat_map to first) (flat_map to second) before at (2 * units.firsts) 16 (2 * units.seconds) 16 (at + 2 * units.firsts) mid after p refl q (omega arith) in
     rw (flat_map-append to first second) (subst (λ n. IsPutLoosely (flat_map to first ++ flat_map to second) before at n 16 after) size both)
 
--- bytes that were put, with the sixteen behind them put back
+-- bytes are put, and the sixteen bytes after them are restored
 pub put_back : (bytes before lanes : List ℕ) (at n : ℕ) (mid after : List ℕ) → IsPutLoosely bytes before at n 16 mid → at + n + 16 ≤ length before → lanes ≡ take 16 (drop (at + n) before) → after ≡ put_chunk (at + n) mid lanes → IsPut bytes before at n after
 put_back bytes before lanes at n mid after p room same back =
     let rest : List ℕ = drop (at + n) before in

@@ -35,7 +35,7 @@ units_front e text units n long are h scalars =
     let b = begun (utf16 e) (Two e) (λ c h. one_unit e c h) text units n (omega arith) (λ k l. are k (omega arith)) in
     record { scalars = front_scalars units n (omega arith) scalars; begins = b.begins; uses = omega (arith, b.uses) }
 
--- units at the start of a text
+-- units at the start of a text are a window
 pub units_read : (e : Endian) (text units : List ℕ) → length units ≡ 16 → AreUnits (Two e) text units 16 → AreSixteen (utf16 e) 32 text units
 units_read e text units long are = record { few = λ k h. (are k h).few; window = units_window e text units long are; front = λ n h scalars. units_front e text units n long are h scalars }
 
@@ -58,7 +58,7 @@ narrow_front e text numbers units n long are narrow h scalars =
     let b = begun (utf32 e) (Four e) (λ c h. refl) text units n (omega arith) here in
     record { scalars = front_scalars units n (omega arith) scalars; begins = b.begins; uses = omega (arith, b.uses) }
 
--- units of four bytes at the start of a text, narrowed
+-- units of four bytes at the start of a text, narrowed, are a window
 pub narrow_read : (e : Endian) (text numbers units : List ℕ) → length units ≡ 16 → AreUnits (Four e) text numbers 16 → AreNarrow numbers units 16 → AreSixteen (utf32 e) 64 text units
 narrow_read e text numbers units long are narrow = record { few = λ k h. (narrow k h).few; window = narrow_window e text numbers units long are narrow; front = λ n h scalars. narrow_front e text numbers units n long are narrow h scalars }
 
@@ -98,7 +98,7 @@ bytes_front text bytes n is room p h =
       uses = omega (arith, ap length (ones_are (take n bytes)), few);
     }
 
--- bytes at the start of a text
+-- bytes at the start of a text are a window
 pub bytes_window : (text : List ℕ) → 16 ≤ length text → ((k : ℕ) → get_or text k 0 < 256) → AreSixteen one 16 text (map (λ (b : ℕ). b) (take 16 text))
 bytes_window text room p =
     let w = bytes_are text _ (map-id (take 16 text)) room p in

@@ -7,7 +7,7 @@ use Rattle.cv_base.specs.Places.{IsPut}
 use Rattle.cv_block.specs.Spelled.{BytesOf}
 use Rattle.cv_direct.specs.declared.direct.Direct.{Direct}
 
--- The characters at the start of a text, as one spelling has them, were put at a place in another.
+-- The characters at the start of a text in one spelling were written in another, into a slice from index `at` on.
 pub record IsConverted (from to : BytesOf) (text before : List ℕ) (at : ℕ) (run : Direct) (after : List ℕ) : Type 0 where
   pub characters : List ℕ
   pub scalars : AreScalars characters

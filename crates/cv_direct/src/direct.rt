@@ -15,22 +15,24 @@ use crate::utf32::Utf32In;
 use cv_block::{ByteOrder, MANY};
 use std::simd::prelude::*;
 
-/// What was converted.
+/// How much was converted.
 #[derive(Clone, Copy, Debug, PartialEq, Eq)]
 pub struct Direct {
-    /// How many bytes of the text are used.
+    /// How many bytes of the text were converted.
     pub used: usize,
     /// How many bytes were written.
     pub wrote: usize,
 }
 
-/// Behind so many windows of ASCII in a row a loop ends: runs of it have a faster way, but to end costs as much as a few windows.
+/// After so many windows of ASCII in a row a loop ends: its caller has a faster way for runs of ASCII, but to end costs
+/// as much as a few windows.
 const MANY_ASCII: usize = 12;
 
-/// Behind so many windows to UTF-16, where ASCII has the size of other text, it is looked at whether the next two are ASCII.
+/// After so many windows to UTF-16, in which ASCII has the size of other text, a loop tests whether the next two are
+/// ASCII.
 const MANY_WINDOWS: usize = 32;
 
-/// Behind so many windows in a row that may be ASCII a loop asks whether it ends. It affects speed only.
+/// After how many windows in a row that may be ASCII a loop tests whether to end. It affects speed only.
 #[inline(always)]
 fn many_windows<T: Target>() -> usize
     ensures { result ≤ MANY_WINDOWS }
@@ -42,7 +44,8 @@ fn many_windows<T: Target>() -> usize
     }
 }
 
-/// Up to where windows go on if all of them may be ASCII, behind one that wrote so many bytes.
+/// The index in the text up to which windows go on if all of them may be ASCII, after a window that wrote `wrote`
+/// bytes. A window that is known not to be ASCII starts the count again.
 #[inline(always)]
 fn next_stop<T: Target>(wrote: usize, used: usize, many: usize, stop: usize) -> usize
     requires { used + many < 2 ^ 64 }
@@ -53,16 +56,17 @@ fn next_stop<T: Target>(wrote: usize, used: usize, many: usize, stop: usize) -> 
     used + many
 }
 
-/// Whether a run of ASCII is likely to follow, behind many windows that may be ASCII, if these are the units of the next two. It affects
-/// speed only.
+/// Whether a run of ASCII is likely to follow many windows that may be ASCII. These are the units of the next two
+/// windows. It affects speed only.
 #[inline(always)]
 fn is_run_likely<T: Target>(units: u16x16, next: u16x16) -> bool {
     T::zero_size() == 1 || are_below(units, 0x80) && are_below(next, 0x80)
 }
 
-/// Converts the windows at the start of a text, up to one that has a surrogate, or that is not whole, or for which there might be
-/// no room. Each is written over what was put behind the one before, and the last one by a buffer. It ends too behind many
-/// windows in a row that are ASCII, or may be: the caller looks for a run of it, for which it has a faster way.
+/// Converts the windows at the start of a text, up to the first that has a surrogate, is not whole, or might not have
+/// room. A window may also change the bytes after its own, which the next window overwrites. The last window goes
+/// through a buffer. It also ends after many windows in a row that are ASCII, or may be: the caller then looks for a
+/// run of ASCII, for which it has a faster way. Returns `None` if no window was converted.
 #[inline(always)]
 pub(crate) fn convert<S: Source, T: Target>(
     text: &[u8],
@@ -110,7 +114,9 @@ pub(crate) fn convert<S: Source, T: Target>(
     })
 }
 
-/// Converts characters at the start of a text by windows of sixteen units, if it has one, from UTF-16 to UTF-8.
+/// Converts characters at the start of a text from UTF-16 to UTF-8, by windows of sixteen units, into a slice from
+/// index `at` on. It may convert fewer than possible. All other bytes of the slice stay. Returns `None` if it converted
+/// none.
 #[inline(never)]
 pub fn utf16_to_utf8<O: ByteOrder>(text: &[u8], out: &mut [u8], at: usize) -> Option<Direct>
     requires { at ≤ length out.old }
@@ -121,7 +127,9 @@ pub fn utf16_to_utf8<O: ByteOrder>(text: &[u8], out: &mut [u8], at: usize) -> Op
     convert_all::<Utf16In<O>, Utf8Bytes>(text, out, at)
 }
 
-/// Converts characters at the start of a text by windows of sixteen units, if it has one, from one byte order of UTF-16 to another.
+/// Converts characters at the start of a text from one byte order of UTF-16 to another, by windows of sixteen units,
+/// into a slice from index `at` on. It may convert fewer than possible. All other bytes of the slice stay. Returns
+/// `None` if it converted none.
 #[inline(never)]
 pub fn utf16_swapped<O: ByteOrder, P: ByteOrder>(
     text: &[u8],
@@ -136,7 +144,9 @@ pub fn utf16_swapped<O: ByteOrder, P: ByteOrder>(
     convert_all::<Utf16In<O>, Utf16In<P>>(text, out, at)
 }
 
-/// Converts characters at the start of a text by windows of sixteen units, if it has one, from UTF-32 to UTF-8.
+/// Converts characters at the start of a text from UTF-32 to UTF-8, by windows of sixteen units, into a slice from
+/// index `at` on. It may convert fewer than possible. All other bytes of the slice stay. Returns `None` if it converted
+/// none.
 #[inline(never)]
 pub fn utf32_to_utf8<O: ByteOrder>(text: &[u8], out: &mut [u8], at: usize) -> Option<Direct>
     requires { at ≤ length out.old }
@@ -147,7 +157,9 @@ pub fn utf32_to_utf8<O: ByteOrder>(text: &[u8], out: &mut [u8], at: usize) -> Op
     convert_all::<Utf32In<O>, Utf8Bytes>(text, out, at)
 }
 
-/// Converts characters at the start of a text by windows of sixteen units, if it has one, from UTF-32 to UTF-16.
+/// Converts characters at the start of a text from UTF-32 to UTF-16, by windows of sixteen units, into a slice from
+/// index `at` on. It may convert fewer than possible. All other bytes of the slice stay. Returns `None` if it converted
+/// none.
 #[inline(never)]
 pub fn utf32_to_utf16<O: ByteOrder, P: ByteOrder>(
     text: &[u8],
@@ -162,7 +174,8 @@ pub fn utf32_to_utf16<O: ByteOrder, P: ByteOrder>(
     convert_all::<Utf32In<O>, Utf16In<P>>(text, out, at)
 }
 
-/// Converts the characters at the start of a text, if there are sixteen, from ISO-8859-1 to UTF-8.
+/// Converts characters at the start of a text from ISO-8859-1 to UTF-8, by windows of sixteen, into a slice from index
+/// `at` on. It may convert fewer than possible. All other bytes of the slice stay. Returns `None` if it converted none.
 #[inline(never)]
 pub fn latin1_to_utf8(text: &[u8], out: &mut [u8], at: usize) -> Option<Direct>
     requires { at ≤ length out.old }

@@ -17,33 +17,34 @@ use cv_block::{ByteOrder, MANY, is_ascii_block};
 use cv_utf8::{Units, read_units};
 use std::simd::prelude::*;
 
-/// How many bytes are looked at for a window.
+/// How many bytes of the text are looked at for a window: the sixteen of the window, and two after them.
 const WINDOW: usize = 18;
 
 /// How many lanes a part of a window has.
 const EIGHT: usize = 8;
 
-/// Behind so many bytes of ASCII the loop ends: the caller has a faster way for them, but to end costs as much as a few windows.
+/// After so many bytes of ASCII the loop ends: the caller has a faster way for them, but to end costs as much as a few
+/// windows.
 const MANY_ASCII: usize = 128;
 
-/// How many bytes of characters of four bytes are converted in a row.
+/// How many bytes of characters of four bytes are converted in a row at most.
 const MANY_HIGH: usize = 64;
 
-/// From this byte on a character that begins with it has four bytes.
+/// The least byte that may begin a character of four bytes.
 const FOUR_BYTES: u8 = 0xf0;
 
 /// How many bytes four such characters have.
 const FOUR_FOURS: usize = 16;
 
-/// Whether five characters of four bytes likely follow each other at the start of a text, by their first bytes. So many go by
-/// blocks, which read sixteen of them at once.
+/// Returns whether five characters of four bytes likely follow each other at the start of a text, to judge by their
+/// first bytes. So many are faster by blocks, which read sixteen of them at once.
 #[inline(always)]
 pub fn begins_with_fours(text: &[u8]) -> bool {
     text.len() > FOUR_FOURS
         && text[0] & text[4] & text[8] & text[12] & text[FOUR_FOURS] >= FOUR_BYTES
 }
 
-/// Eight units as numbers whose low bytes are the first.
+/// Eight units as numbers that are written with the low byte first: big-endian ones have their bytes swapped.
 #[inline(always)]
 fn ordered<O: ByteOrder>(units: u16x8) -> u16x8
     ensures { result ≡ map (in_order O.endian) units }
@@ -54,7 +55,7 @@ fn ordered<O: ByteOrder>(units: u16x8) -> u16x8
     }
 }
 
-/// Writes the first `n` of eight units. What follows them, as far as eight reach, may be anything.
+/// Writes the first `n` of eight units. It may also change the bytes after them, as far as eight units reach.
 #[inline(always)]
 fn put_eight<O: ByteOrder>(units: u16x8, n: usize, out: &mut [u8], at: usize)
     requires few { n ≤ 8 }
@@ -66,7 +67,7 @@ fn put_eight<O: ByteOrder>(units: u16x8, n: usize, out: &mut [u8], at: usize)
     bytes.copy_to_slice(&mut out[at..]);
 }
 
-/// Sixteen characters of ASCII.
+/// Sixteen characters of ASCII, as units in two parts.
 #[inline(always)]
 fn ascii_units(text: &[u8], at: usize) -> Units
     requires within { at + 16 ≤ length text.now }
@@ -96,7 +97,7 @@ fn next_units(text: &[u8], at: usize) -> Units
     read_units(text, at)
 }
 
-/// Whether the characters of a window have a byte each.
+/// Whether each character of a window has one byte.
 #[inline(always)]
 fn are_ascii(units: &Units) -> bool
     requires few { units.now.firsts ≤ 8 }
@@ -105,7 +106,7 @@ fn are_ascii(units: &Units) -> bool
     units.used == units.firsts + units.seconds
 }
 
-/// Writes the characters of a window, and answers how many bytes they have. What is written behind them is put back.
+/// Writes the characters of a window, and returns how many bytes they have. It restores the bytes after them.
 #[inline(always)]
 fn write_units<O: ByteOrder>(units: &Units, out: &mut [u8], at: usize) -> usize
     requires few { units.now.firsts ≤ 8 }
@@ -144,8 +145,8 @@ fn high(text: &[u8]) -> Option<u32>
     Some(number)
 }
 
-/// Converts the characters of four bytes at the start of a text, and answers how many bytes they have: as many as they have in
-/// UTF-16. If they are many, it leaves some of them.
+/// Converts the characters of four bytes at the start of a text, and returns how many bytes they have, which is the
+/// same in UTF-16. It converts at most `MANY_HIGH` bytes.
 #[inline(always)]
 fn convert_high<O: ByteOrder>(text: &[u8], out: &mut [u8], at: usize) -> usize
     requires { at ≤ length out.old }
@@ -166,7 +167,7 @@ fn convert_high<O: ByteOrder>(text: &[u8], out: &mut [u8], at: usize) -> usize
     used
 }
 
-/// Whether none of sixteen bytes begins a character of four.
+/// Whether none of sixteen bytes begins a character of four bytes.
 #[inline(always)]
 fn have_no_fours(text: &[u8]) -> bool
     requires { 16 ≤ length text.now }
@@ -177,8 +178,9 @@ fn have_no_fours(text: &[u8]) -> bool
         == 0
 }
 
-/// Whether the text before a row of characters of four bytes has no other near its end. To end for one row costs more than to
-/// convert it one by one, but rows one behind another go faster by blocks. It affects speed only.
+/// Whether there is no character of four bytes near the end of the text before a row of them. To end for a single row
+/// costs more than to convert its characters one by one, but rows close to each other are faster by blocks. It affects
+/// speed only.
 #[inline(always)]
 fn are_apart(before: &[u8]) -> bool {
     let n = before.len();
@@ -187,8 +189,8 @@ fn are_apart(before: &[u8]) -> bool {
         && (n < 2 * MANY || have_no_fours(&before[n - 2 * MANY..]))
 }
 
-/// Converts the characters of four bytes behind a window whose characters have so many bytes, if it ended early, and if they
-/// are few, or apart from others.
+/// Converts the characters of four bytes after a window that used `window` bytes, and returns how many bytes they have.
+/// It does so only if the window ended early, and if these characters are few, or apart from others.
 #[inline(always)]
 #[tactic(auto, using(crate::proofs::Joined::none_converted_exactly))]
 fn convert_behind<O: ByteOrder>(
@@ -210,7 +212,8 @@ fn convert_behind<O: ByteOrder>(
     convert_high::<O>(text, out, at)
 }
 
-/// Whether more may follow behind a window whose characters have so many bytes, and the characters of four bytes behind it.
+/// Whether the loop may go on after a window that used `window` bytes, and after `high` bytes of characters of four
+/// bytes.
 #[inline(always)]
 fn may_go_on(window: usize, high: usize) -> bool
     ensures { IsTrue result → 0 < window + high }
@@ -218,7 +221,8 @@ fn may_go_on(window: usize, high: usize) -> bool
     window >= MANY || (high > 0 && high < MANY_HIGH)
 }
 
-/// Where the last characters that are not ASCII ended: at `end`, if there are some in the window, or behind it.
+/// Where the last character that is not ASCII ended: at `end` if one is in the window or among the characters of four
+/// bytes after it, and otherwise still at `other`.
 #[inline(always)]
 fn last_other(units: &Units, high: usize, end: usize, other: usize) -> usize
     requires few { units.now.firsts ≤ 8 }
@@ -232,9 +236,10 @@ fn last_other(units: &Units, high: usize, end: usize, other: usize) -> usize
     end
 }
 
-/// Converts the characters at the start of a text from UTF-8 to UTF-16. It ends before one that is not well-formed, or for
-/// which there might be no room, and before the last few bytes. It ends too behind much ASCII, or before several characters
-/// of four bytes in a row that are near others: the caller has faster ways for them.
+/// Converts characters at the start of a text from UTF-8 to UTF-16, into a slice from index `at` on. It ends before a
+/// character that is ill-formed or might not have room, and before the last few bytes. It also ends after much ASCII,
+/// or before several characters of four bytes in a row that are near others: the caller has faster ways for them. All
+/// other bytes of the slice stay. Returns `None` if it converted none.
 #[inline(never)]
 pub fn utf8_to_utf16<O: ByteOrder>(text: &[u8], out: &mut [u8], at: usize) -> Option<Direct>
     requires { at ≤ length out.old }

@@ -6,7 +6,7 @@ use crate::source::Source;
 use cv_base::AsciiForm;
 use std::simd::prelude::*;
 
-/// ISO-8859-1: each byte is the character of its number.
+/// ISO-8859-1: each byte is the character with its value.
 pub(crate) struct Latin1Bytes;
 
 impl Source for Latin1Bytes {

@@ -1,4 +1,4 @@
-//! Conversions from one encoding to another that go without a buffer of characters between.
+//! Conversions from one encoding to another without a buffer of characters between them.
 #![tactic(auto)]
 
 mod direct;

@@ -13,7 +13,7 @@ use std::simd::prelude::*;
 /// How many units are packed at once.
 const FOUR: usize = 4;
 
-/// The first two bytes of each unit, the first as the low byte. If it has a single byte, the second is 0.
+/// The first two bytes of each unit in UTF-8, the first as the low byte. If it has a single byte, the second is 0.
 #[inline(always)]
 fn fronts(units: u16x8) -> u16x8
     requires { (k : ℕ) → k < 8 → get_or units k 0 < 0x10000 }
@@ -29,7 +29,7 @@ fn fronts(units: u16x8) -> u16x8
     units.simd_ge(u16x8::splat(0x800)).select(three, up_to_two)
 }
 
-/// The third byte of each unit, or 0 if it has none.
+/// The third byte of each unit in UTF-8, or 0 if it has none.
 #[inline(always)]
 fn lasts(units: u16x8) -> u16x8
     ensures { result ≡ map last_of units }
@@ -40,7 +40,8 @@ fn lasts(units: u16x8) -> u16x8
         .select(last, u16x8::splat(0))
 }
 
-/// Four bytes for each of eight units, for the first four and the others. After the bytes that a unit has they are 0.
+/// Four bytes for each of eight units: its bytes in UTF-8, and then zeros. The first result is for the first four
+/// units, the second for the others.
 #[inline(always)]
 fn fours(units: u16x8) -> (u8x16, u8x16)
     requires { (k : ℕ) → k < 8 → get_or units k 0 < 0x10000 }
@@ -51,7 +52,8 @@ fn fours(units: u16x8) -> (u8x16, u8x16)
     (first.to_le_bytes(), second.to_le_bytes())
 }
 
-/// Writes four units of up to three bytes, by four bytes for each and the marks of their sizes, and answers how many bytes they have.
+/// Writes four units of up to three bytes, given four bytes for each and bits for their sizes, and returns how many
+/// bytes they have.
 #[inline(always)]
 fn put_four(fours: u8x16, sizes: u64, out: &mut [u8], at: usize) -> usize
     requires room { at + 16 ≤ length out.old }
@@ -67,7 +69,7 @@ fn put_four(fours: u8x16, sizes: u64, out: &mut [u8], at: usize) -> usize
     FOUR + sizes.count_ones() as usize
 }
 
-/// Writes eight units of up to three bytes, and answers how many bytes they have.
+/// Writes eight units of up to three bytes, and returns how many bytes they have.
 #[inline(always)]
 pub(crate) fn write_middle(units: u16x8, out: &mut [u8], at: usize) -> usize
     requires room { at + 32 ≤ length out.old }

@@ -11,20 +11,21 @@ use crate::target::{ROOM, Target, copy_front};
 use cv_block::MANY;
 use std::simd::prelude::*;
 
-/// How many bytes of mixed text are written to a buffer, before they are copied.
+/// The size of the buffer for mixed text, in bytes.
 const BUFFER: usize = 512;
 
-/// How many parts of mixed text are converted at least, before it is asked whether they are too small.
+/// How many parts of mixed text are converted at least, however small they are.
 const FEW: usize = 4;
 
-/// Behind so many bytes of ASCII mixed text from UTF-32 to UTF-8 ends: eight windows. Its buffer would take 28.
+/// After so many bytes of ASCII, which are eight windows, mixed text from UTF-32 to UTF-8 ends. The buffer has room for
+/// 29 windows of ASCII.
 const MANY_ASCII: usize = 512;
 
 /// How many bytes a window of UTF-32 has.
 const WIDE: usize = 64;
 
-/// Converts the characters from U+10000 on at the start of a text, up to an end of the output, and answers how many bytes they have, which
-/// is the same in both.
+/// Converts the characters from U+10000 on at the start of a text, up to index `end` of the output, and returns how
+/// many bytes they have, which is the same in both encodings.
 #[inline(always)]
 fn convert_highs<S: Source, T: Target>(text: &[u8], out: &mut [u8], at: usize, end: usize) -> usize
     requires room { at ≤ end }
@@ -45,7 +46,8 @@ fn convert_highs<S: Source, T: Target>(text: &[u8], out: &mut [u8], at: usize, e
     used
 }
 
-/// Writes the first `n` of sixteen units, and answers how many bytes they have. What follows them, up to 48 bytes, may be anything.
+/// Writes the first `n` of sixteen units, and returns how many bytes they have. It may also change up to 48 bytes after
+/// them.
 #[inline(always)]
 fn write_first<T: Target>(units: u16x16, n: usize, out: &mut [u8], at: usize) -> usize
     requires few { n ≤ 16 }
@@ -58,8 +60,8 @@ fn write_first<T: Target>(units: u16x16, n: usize, out: &mut [u8], at: usize) ->
     wrote - (MANY - n) * T::zero_size()
 }
 
-/// Converts a window up to its first surrogate, and then the characters from U+10000 on, up to an end of the output. What follows what is
-/// written, up to 48 bytes, may be anything.
+/// Converts a window up to its first surrogate, and then the characters from U+10000 on, up to index `end` of the
+/// output. It may also change up to 48 bytes after what it writes.
 #[inline(always)]
 fn convert_window<S: Source, T: Target>(
     text: &[u8],
@@ -92,7 +94,7 @@ fn convert_window<S: Source, T: Target>(
     }
 }
 
-/// Whether a window at the start of a text may have characters from U+10000 on, and few. It affects speed only.
+/// Whether the window at the start of a text may have characters from U+10000 on, but only few. It affects speed only.
 #[inline(always)]
 fn is_mixed<S: Source>(text: &[u8]) -> bool
     ensures { IsTrue result → S.window_size ≤ length text.now }
@@ -104,8 +106,8 @@ fn is_mixed<S: Source>(text: &[u8]) -> bool
     marks != 0 && !S::is_dense(marks)
 }
 
-/// Where the last part ended that was not ASCII, behind one that wrote so many bytes. From UTF-16 a buffer is soon full of ASCII, and to
-/// UTF-16 it is not told from other text: there each part counts as another.
+/// Where the last part ended that was not ASCII, after a part that wrote `wrote` bytes. Only from UTF-32 to UTF-8 does
+/// any part count as ASCII: from UTF-16 ASCII soon fills the buffer, and in UTF-16 it has the size of other text.
 #[inline(always)]
 fn last_other<S: Source, T: Target>(wrote: usize, used: usize, other: usize) -> usize
     requires { other ≤ used }
@@ -117,8 +119,8 @@ fn last_other<S: Source, T: Target>(wrote: usize, used: usize, other: usize) -> 
     used
 }
 
-/// Converts windows into a buffer, up to an end, and answers what was converted. It ends too where they had many
-/// parts for their bytes.
+/// Converts windows into a buffer, up to its index `end`, and returns what was converted. It ends early if the windows
+/// have many parts for their bytes, or after much ASCII.
 #[inline(always)]
 fn fill<S: Source, T: Target>(text: &[u8], front: &mut [u8], end: usize) -> Direct
     requires { end ≤ length front.old }
@@ -149,8 +151,8 @@ fn fill<S: Source, T: Target>(text: &[u8], front: &mut [u8], end: usize) -> Dire
     Direct { used, wrote }
 }
 
-/// Converts the windows at the start of a text with their characters from U+10000 on, as many as a buffer takes, if there are any. Kept
-/// out of line, since a function clears its buffers on entry.
+/// Converts the windows at the start of a text with their characters from U+10000 on, as many as a buffer takes, if
+/// there are any. Kept out of line, since a function clears its buffers on entry.
 #[inline(never)]
 fn convert_mixed<S: Source, T: Target>(text: &[u8], out: &mut [u8], at: usize) -> Option<Direct>
     requires { at ≤ length out.old }
@@ -181,8 +183,8 @@ fn convert_plain<S: Source, T: Target>(text: &[u8], out: &mut [u8], at: usize) -
     }
 }
 
-/// Converts the windows at the start of a text, and then mixed text, and answers whether windows go on behind it: not if it ended before
-/// its buffer was full, because its parts were small, or ASCII follows.
+/// Converts the windows at the start of a text, and then mixed text. Returns what was converted, and whether windows go
+/// on after it. They do not if mixed text ended before its buffer was full: its parts were small, or ASCII follows.
 #[inline(always)]
 fn convert_both<S: Source, T: Target>(text: &[u8], out: &mut [u8], at: usize) -> (Direct, bool)
     requires { at ≤ length out.old }
@@ -206,7 +208,8 @@ fn convert_both<S: Source, T: Target>(text: &[u8], out: &mut [u8], at: usize) ->
     (run, is_full)
 }
 
-/// Converts what `convert_both` does, and then a run of ASCII if windows do not go on, and answers whether they go on behind it.
+/// Converts what `convert_both` does, and then a run of ASCII if windows do not go on. Returns what was converted, and
+/// whether windows go on after it.
 #[inline(always)]
 fn convert_some<S: Source, T: Target>(text: &[u8], out: &mut [u8], at: usize) -> (Direct, bool)
     requires { at ≤ length out.old }
@@ -226,8 +229,9 @@ fn convert_some<S: Source, T: Target>(text: &[u8], out: &mut [u8], at: usize) ->
     (run, ascii.used > 0)
 }
 
-/// Converts the text that windows take, with the characters from U+10000 on and the runs of ASCII among them. It ends where `convert` ends
-/// for another reason, or where characters from U+10000 on are many.
+/// Converts the text that windows take, with the characters from U+10000 on and the runs of ASCII among them. It ends
+/// if `convert` ends for another reason, or if characters from U+10000 on are many. Returns `None` if it converted
+/// none.
 #[inline(always)]
 pub(crate) fn convert_all<S: Source, T: Target>(
     text: &[u8],

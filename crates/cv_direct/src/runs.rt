@@ -7,7 +7,8 @@ use crate::source::Source;
 use crate::target::Target;
 use cv_block::{take_ascii_run, unit_bytes};
 
-/// Converts the run of ASCII at the start of a text, as far as there is room. It may be none if fewer than sixteen characters are in it.
+/// Converts the run of ASCII at the start of a text, as far as there is room. It may convert none if the run is shorter
+/// than sixteen characters.
 #[inline(always)]
 pub(crate) fn convert_ascii<S: Source, T: Target>(text: &[u8], out: &mut [u8], at: usize) -> Direct
     requires { at ≤ length out.old }

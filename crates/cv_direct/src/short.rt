@@ -12,7 +12,7 @@ use std::simd::prelude::*;
 /// How many units are packed at once.
 const EIGHT: usize = 8;
 
-/// Two bytes for each of eight units. If one has a single byte, the second is 0.
+/// Two bytes for each of eight units in UTF-8. If one has a single byte, the second is 0.
 #[inline(always)]
 fn pairs(units: u16x8) -> u8x16
     requires { (k : ℕ) → k < 8 → get_or units k 0 < 0x800 }
@@ -27,7 +27,7 @@ fn pairs(units: u16x8) -> u8x16
         .to_le_bytes()
 }
 
-/// Writes eight units of up to two bytes, and answers how many bytes they have.
+/// Writes eight units of up to two bytes, and returns how many bytes they have.
 #[inline(always)]
 pub(crate) fn write_short(units: u16x8, out: &mut [u8], at: usize) -> usize
     requires room { at + 16 ≤ length out.old }

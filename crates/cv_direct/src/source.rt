@@ -11,7 +11,7 @@ use cv_base::AsciiForm;
 use cv_block::MANY;
 use std::simd::prelude::*;
 
-/// An encoding in which sixteen characters below U+10000 have as many bytes, whatever they are.
+/// An encoding in which any sixteen of its characters below U+10000 have the same number of bytes.
 pub(crate) trait Source {
     ghost bytes_of: { BytesOf };
 
@@ -19,32 +19,34 @@ pub(crate) trait Source {
 
     ghost form: { AsciiForm };
 
-    /// How many bytes they have.
+    /// Returns how many bytes they have: the size of a window.
     fn window_size() -> usize
         ensures size { result ≡ window_size }
         ensures some { 0 < result }
         ensures few { result ≤ 64 };
 
-    /// The form of its ASCII characters.
+    /// Returns the form of the unit of its ASCII characters.
     fn form() -> AsciiForm
         ensures value { result ≡ form }
         ensures spells { (c : ℕ) → c < 128 → bytes_of c ≡ unit_of form c };
 
-    /// The numbers of the sixteen at the start of a text, if all of them are characters. None is tested.
+    /// Returns the sixteen units at the start of a text. They are its characters, unless a surrogate is among them:
+    /// then only those before it are. None is tested.
     fn window(text: &[u8]) -> u16x16
         requires { window_size ≤ length text.now }
         ensures { AreSixteen bytes_of window_size text.now result };
 
-    /// The character from U+10000 on at the start of a text, if there is one. It has four bytes.
+    /// Returns the character from U+10000 on at the start of a text, if there is one. It has four bytes.
     fn high(text: &[u8]) -> Option<u32>
         requires { 4 ≤ length text.now }
         ensures { IfSome result (λ c. IsHigh bytes_of text.now c) };
 
-    /// Whether so many of sixteen units are surrogates, or in so many places, that they go faster by blocks. It affects speed only.
+    /// Returns whether so many of sixteen units are surrogates, or in so many runs, that blocks are faster. It affects
+    /// speed only.
     fn is_dense(marks: u64) -> bool;
 
-    /// How many bytes each part of mixed text has at least, if it goes faster than by blocks to an encoding in which U+0000 has so many bytes.
-    /// It affects speed only.
+    /// Returns the least average size of the parts of mixed text, in bytes, for which windows are faster than blocks,
+    /// if U+0000 has `zero_size` bytes in the target. It affects speed only.
     fn part_size(zero_size: usize) -> usize
         ensures { 0 < result };
 }
@@ -78,7 +80,7 @@ pub(crate) fn count_characters(units: u16x16) -> usize
     MANY.min(surrogates(units).trailing_zeros() as usize)
 }
 
-/// The places of sixteen units.
+/// The indexes of sixteen units.
 const PLACES: [u16; 16] = [0, 1, 2, 3, 4, 5, 6, 7, 8, 9, 10, 11, 12, 13, 14, 15];
 
 /// The first `n` of sixteen units, and zeros in place of the others.

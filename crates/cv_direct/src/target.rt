@@ -11,7 +11,7 @@ ghost use Rattle.cv_direct.specs.Private.Loose.{IsPutLoosely};
 use cv_base::AsciiForm;
 use std::simd::prelude::*;
 
-/// How many bytes a window may overwrite.
+/// How many bytes of a slice may change when a window is written.
 pub(crate) const ROOM: usize = 64;
 
 /// An encoding that has all characters.
@@ -20,12 +20,13 @@ pub(crate) trait Target {
 
     ghost form: { AsciiForm };
 
-    /// The form of its ASCII characters.
+    /// Returns the form of the unit of its ASCII characters.
     fn form() -> AsciiForm
         ensures value { result ≡ form }
         ensures spells { (c : ℕ) → c < 128 → bytes_of c ≡ unit_of form c };
 
-    /// Writes sixteen characters, and answers how many bytes they have. What follows them, up to sixteen bytes, may be anything.
+    /// Writes sixteen characters, and returns how many bytes they have. It may also change up to sixteen bytes after
+    /// them.
     fn write_window(units: u16x16, out: &mut [u8], at: usize) -> usize
         requires room { at + 64 ≤ length out.old }
         requires middle { (k : ℕ) → k < 16 → get_or units k 0 < 0x10000 }
@@ -33,7 +34,7 @@ pub(crate) trait Target {
         ensures few { result ≤ 48 }
         ensures put { IsPutLoosely (flat_map bytes_of units) out.old at result 16 out.new };
 
-    /// How many bytes U+0000 has.
+    /// Returns how many bytes U+0000 has.
     fn zero_size() -> usize
         ensures size { result ≡ length (bytes_of 0) }
         ensures few { result ≤ 2 };
@@ -46,7 +47,7 @@ pub(crate) trait Target {
         ensures { IsPut (bytes_of value) out.old at 4 out.new };
 }
 
-/// Puts the first `n` bytes of a buffer at a place.
+/// Copies the first `n` bytes of a buffer into a slice from index `at` on.
 #[inline(always)]
 pub(crate) fn copy_front(front: &[u8], n: usize, out: &mut [u8], at: usize)
     requires stand { n ≤ length front.now }
@@ -56,7 +57,7 @@ pub(crate) fn copy_front(front: &[u8], n: usize, out: &mut [u8], at: usize)
     out[at..at + n].copy_from_slice(&front[..n]);
 }
 
-/// Writes sixteen characters, and answers how many bytes they have. They go by a buffer, so that what follows them stays.
+/// Writes sixteen characters through a buffer, so that the bytes after them stay. Returns how many bytes they have.
 #[inline(always)]
 pub(crate) fn write_last<T: Target>(units: u16x16, out: &mut [u8], at: usize) -> usize
     requires room { at + 48 ≤ length out.old }

@@ -38,7 +38,7 @@ fn swapped(units: u16x16) -> u16x16
     units / u16x16::splat(0x100) + units * u16x16::splat(0x100)
 }
 
-/// The units as numbers whose low bytes are the first.
+/// The units as numbers that are written with the low byte first: big-endian ones have their bytes swapped.
 #[inline(always)]
 fn ordered<O: ByteOrder>(units: u16x16) -> u16x16
     requires { (k : ℕ) → k < 16 → get_or units k 0 < 0x10000 }
@@ -50,13 +50,13 @@ fn ordered<O: ByteOrder>(units: u16x16) -> u16x16
     }
 }
 
-/// How many runs of surrogates a window has at most that goes by windows. With more of them blocks are faster.
+/// The most runs of surrogates in a window for which windows are faster than blocks.
 const MOST_RUNS: u32 = 4;
 
-/// How many bytes parts have at least on average that are faster by windows than by blocks.
+/// The least average size of parts, in bytes, for which windows are faster than blocks if the target is UTF-8.
 const PART: usize = 20;
 
-/// The same where a window is written as it is.
+/// The same if the target is UTF-16, to which a window is written as it is.
 const SHORT_PART: usize = 8;
 
 /// UTF-16 in a byte order.

@@ -11,7 +11,7 @@ use cv_block::{ByteOrder, MANY};
 use std::marker::PhantomData;
 use std::simd::prelude::*;
 
-/// The unit that stands for a number from U+10000 on: a surrogate, which is no character.
+/// The unit for every number from 0x10000 on: a surrogate, which is no character.
 const NONE: u16 = 0xd800;
 
 /// The numbers of the units at the start of a text. None is tested, so that LLVM loads all at once.
@@ -56,13 +56,13 @@ fn narrowed(numbers: &[u32; MANY]) -> u16x16
     u16x16::from_array(units)
 }
 
-/// How many characters from U+10000 on a window has at most that goes by windows. With more of them blocks are faster.
+/// The most characters from U+10000 on in a window for which windows are faster than blocks.
 const MOST_MARKS: u32 = 2;
 
-/// How many bytes parts have at least on average that are faster by windows than by blocks.
+/// The least average size of parts, in bytes, for which windows are faster than blocks if the target is UTF-8.
 const PART: usize = 48;
 
-/// The same where a window is written as it is.
+/// The same if the target is UTF-16, to which a window is written as it is.
 const SHORT_PART: usize = 40;
 
 /// UTF-32 in a byte order.

@@ -22,7 +22,7 @@ pub place_first : (text : List ℕ) (at : ℕ) → place_of text at 0 ≡ at
 unfolding place_of
 place_first text at = refl
 
--- a byte more, or none
+-- one more byte, or none, is at most one
 pub one_or_two : (b : Bool) → cond b 1 0 ≤ 1
 one_or_two true = omega arith
 one_or_two false = omega arith
@@ -91,7 +91,7 @@ low_bits m (suc (suc (suc (suc (suc (suc (suc (suc i)))))))) h = absurd (omega a
 pub marked_low : (text : List ℕ) (at marks : ℕ) → AreMarked text at 16 marks → AreMarked text at 8 (marks % 256)
 marked_low text at marks marked i h = low_bits marks i h ∙ marked i (omega arith)
 
--- those after some bytes, by the bits after theirs
+-- eight bytes after others are marked by the bits after those of the others
 pub marked_behind : (text : List ℕ) (at marks size : ℕ) → size ≤ 8 → AreMarked text at 16 marks → AreMarked text (at + size) 8 (marks / 2 ^ size % 256)
 marked_behind text at marks size few marked i h =
     let there : at + (size + i) ≡ at + size + i = omega arith in
@@ -99,14 +99,14 @@ marked_behind text at marks size few marked i h =
 
 -- ---- what a row finds
 
--- a place below sixteen is that of a byte
+-- an index below sixteen finds a byte
 found_at : (xs ps : List ℕ) (m : ℕ) → m < 16 → length ps ≡ 16 → get_or ps m 0 < 16 → get_or (swz_l w8 16 xs 0 ps) m 0 ≡ get_or xs (get_or ps m 0) 0
 found_at xs ps m h long low =
     let small : leb 128 (get_or ps m 0) ≡ false = grind arith in
     let place : 16 * ((0 + m) / 16) + get_or ps m 0 ≡ get_or ps m 0 = omega arith in
     get_or-swz_l w8 16 xs 0 ps m (omega arith) ∙ ap (λ (b : Bool). cond b 0 (get_or xs (16 * ((0 + m) / 16) + get_or ps m 0) 0)) small ∙ ap (λ (k : ℕ). get_or xs k 0) place
 
--- and index 128 gives a 0
+-- index 128 gives a 0
 none_at : (xs ps : List ℕ) (m : ℕ) → m < 16 → length ps ≡ 16 → get_or ps m 0 ≡ 128 → get_or (swz_l w8 16 xs 0 ps) m 0 ≡ 0
 none_at xs ps m h long is =
     let large : leb 128 (get_or ps m 0) ≡ true = rw is refl in

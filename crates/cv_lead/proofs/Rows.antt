@@ -7,7 +7,7 @@ use Rattle.std.proofs.lemmas.Simd.{SwzOk, SwzOk-from_Each1}
 use mir.Val.{zeroes}
 use Rattle.cv_lead.specs.declared.tables.TheConstants.{PATTERNS, PLACES, SIZES}
 
--- whether a bit is set
+-- one bit of a number
 abbrev pub bit : ℕ → ℕ → ℕ
 bit marks p = marks / 2 ^ p % 2
 

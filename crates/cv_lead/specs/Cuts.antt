@@ -1,11 +1,11 @@
 -- Where characters of one and two bytes begin, and which bytes they have.
 use Rattle.std.specs.Prelude.{◌≡◌, ℕ, zero, suc, ◌+◌, ◌*◌, ◌/◌, ◌%◌, ◌^◌, ◌<◌, Bool, nat_le, cond, List, slice_index}
 
--- A byte is the first of two.
+-- whether a byte is the first of two, if a character begins with it
 abbrev pub leads : ℕ → Bool
 leads byte = nat_le 128 byte
 
--- where a character begins, after k others, the first of which is at a place
+-- the index at which a character begins after k others, the first of which begins at index `at`
 unfoldable pub place_of : List ℕ → ℕ → ℕ → ℕ
 place_of text at zero = at
 place_of text at (suc k) = place_of text at k + (1 + cond (leads (slice_index text (place_of text at k))) 1 0)
@@ -14,11 +14,11 @@ place_of text at (suc k) = place_of text at k + (1 + cond (leads (slice_index te
 abbrev pub second_of : List ℕ → ℕ → ℕ
 second_of text place = cond (leads (slice_index text place)) (slice_index text (place + 1)) 0
 
--- These are the two bytes of each of n characters, the first of which is at a place.
+-- These are the two bytes of each of n characters, the first of which begins at index `at`.
 pub record AreCut (text : List ℕ) (at n : ℕ) (pairs : List ℕ) : Type 0 where
   pub first : (k : ℕ) → k < n → slice_index pairs (2 * k) ≡ slice_index text (place_of text at k)
   pub second : (k : ℕ) → k < n → slice_index pairs (2 * k + 1) ≡ second_of text (place_of text at k)
 
--- The bits of marks say which of n bytes from a place on are the first of two.
+-- The bits of `marks` say which of n bytes from index `at` on are the first of two, if a character begins with them.
 abbrev pub AreMarked : List ℕ → ℕ → ℕ → ℕ → Type 0
 AreMarked text at n marks = (i : ℕ) → i < n → marks / 2 ^ i % 2 ≡ cond (leads (slice_index text (at + i))) 1 0

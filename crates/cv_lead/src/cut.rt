@@ -5,22 +5,22 @@ ghost use Rattle.cv_lead.specs.Cuts.{place_of, AreCut, AreMarked};
 use crate::tables::{PATTERNS, PLACES, SIZES};
 use std::simd::prelude::*;
 
-/// How many bytes have to be there so that eight characters can be cut, which have at most 16.
+/// How many bytes of a text `cut_eight` needs to look at. Eight characters have at most 16 of them.
 pub const WINDOW: usize = 24;
 
-/// How many of them one row of a table cuts.
+/// How many characters one row of a table cuts.
 const FOUR: usize = 4;
 
 /// The bytes of eight characters.
 #[derive(Clone, Copy, Debug)]
 pub struct Cut {
-    /// The first and the second byte of each, or a 0 as the second if it has only one.
+    /// The first and the second byte of each, with a 0 as the second if it has only one.
     pub pairs: [u8; 16],
-    /// How many bytes the eight have.
+    /// How many bytes of the text the eight characters have.
     pub used: usize,
 }
 
-/// Which of sixteen bytes are the first of two, as bits, the lowest for the first byte.
+/// Which of sixteen bytes may be the first of two, as bits, the lowest for the first byte.
 #[inline(always)]
 fn marks_of(text: &[u8], at: usize) -> u64
     requires { at + 16 ≤ length text.now }
@@ -31,7 +31,7 @@ fn marks_of(text: &[u8], at: usize) -> u64
         .to_bitmask()
 }
 
-/// The bytes of four characters, given which bytes are the first of two. After them are zeros.
+/// The bytes of four characters as pairs, given which bytes may be the first of two. After them are zeros.
 #[inline(always)]
 fn cut_four(text: &[u8], at: usize, marks: u64) -> [u8; 16]
     requires within { at + 16 ≤ length text.now }
@@ -56,7 +56,7 @@ fn size_of_four(_text: &[u8], _at: usize, marks: u64) -> usize
     SIZES[marks as usize] as usize
 }
 
-/// The bytes of two times four characters.
+/// The bytes of four characters and of the four after them.
 #[inline(always)]
 fn joined(first: &[u8; 16], second: &[u8; 16]) -> [u8; 16]
     ensures first { (k : ℕ) → k < 8 → slice_index result k ≡ slice_index first.now k }
@@ -69,8 +69,9 @@ fn joined(first: &[u8; 16], second: &[u8; 16]) -> [u8; 16]
     pairs
 }
 
-/// Cuts eight characters. It uses two rows of a table, the second of which begins where the first ends. The high bits are taken once, because
-/// each row would wait for them.
+/// Cuts eight characters from index `at` on: a byte of 128 or above and the next byte are one character, and a byte
+/// below 128 is one by itself. It looks up one row of a table for the first four characters, and another for the four
+/// after them. It tests the high bits of sixteen bytes at once, because otherwise each look-up would wait for them.
 #[inline(always)]
 pub fn cut_eight(text: &[u8], at: usize) -> Cut
     requires { at + 24 ≤ length text.now }

@@ -1,4 +1,4 @@
-//! Cutting a text into single bytes and pairs, by the high bit of the first of them.
+//! Cutting a text into characters of one and two bytes, by the high bit of their first byte.
 #![tactic(auto)]
 
 mod cut;

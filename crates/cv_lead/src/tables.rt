@@ -1,7 +1,7 @@
 //! How four characters are cut, by the high bits of eight bytes.
 
-/// Which of four characters have two bytes, as bits, the lowest for the first. The index has the high bits of their bytes and of those
-/// after them, the lowest for the first byte.
+/// Which of four characters have two bytes, as bits, the lowest for the first character. The index has the high bits of
+/// eight bytes, the lowest for the first byte: those of the four characters, and of the bytes after them.
 #[rattlefmt::skip]
 pub(crate) static PATTERNS: [u8; 256] = [
     0, 1, 2, 1, 4, 3, 2, 3, 8, 5, 6, 5, 4, 3, 6, 3,
@@ -43,7 +43,8 @@ pub(crate) static SIZES: [u8; 256] = [
     4, 6, 6, 6, 6, 8, 6, 8, 5, 7, 7, 7, 6, 8, 7, 8,
 ];
 
-/// The index of the first and of the second byte of each of four characters, by which of them have two. Index 128 gives a 0.
+/// The index of the first and of the second byte of each of four characters. The index of the row says which of them
+/// have two bytes, as bits. For a second byte that is not there the entry is 128, at which a look-up gives a 0.
 #[rattlefmt::skip]
 pub(crate) static PLACES: [[u8; 16]; 16] = [
     [0, 128, 1, 128, 2, 128, 3, 128, 128, 128, 128, 128, 128, 128, 128, 128],

@@ -1,5 +1,5 @@
--- A machine with one private table for each caller. What one request does is a parameter, the turn, so what is stated here of
--- runs holds of every set of operations. The machine is this project's own.
+-- A machine with one private table for each caller. What one request does is a parameter, the turn, so what is stated
+-- here of runs holds for every set of operations. The machine is this project's own: no standard defines it.
 use Rattle.std.specs.Prelude.{filter, ◌≡◌, ◌≢◌, ℕ, List, [], ◌∷◌, ◌++◌, ◌==◌, map, Bool, true, false, if◌then◌else◌}
 use Rattle.cv_frame.specs.Message.{Message, joined, FitsFrame}
 use Rattle.cv_frame.specs.Cut.{messages_of}
@@ -15,11 +15,12 @@ pub record Outcome (Table : Type 0) : Type 0 where
 abbrev pub no_memory : ℕ
 no_memory = 6
 
--- An allocation failed: the table is unchanged, and the body is empty.
+-- The outcome if an allocation failed: the table is unchanged, and the body is empty.
 abbrev pub lacking : {Table : Type 0} → Table → Outcome Table
 lacking table = record { next = table; code = no_memory; body = [] }
 
--- Which outcomes a request may have, by its caller's table, its op and its body. If it takes memory, an allocation failure is one of them.
+-- Which outcomes a request may have, given its caller's table, its op and its body. If it takes memory, an allocation
+-- failure is one of them.
 abbrev pub Turn : Type 0 → Type 1
 Turn Table = Table → ℕ → List ℕ → Outcome Table → Type 0
 
@@ -28,7 +29,7 @@ abbrev pub When : Bool → Type 0 → Type 0 → Type 0
 When true Then Else = Then
 When false Then Else = Else
 
--- Of a claim about outcomes: at most one outcome meets it besides an allocation failure, and that leaves the table as it was.
+-- At most one outcome meets a claim, besides an allocation failure, which leaves the table as it was and has no body.
 pub record HasOneAnswer {Table : Type 0} (table : Table) (May : Outcome Table → Type 0) : Type 0 where
   pub one : (a b : Outcome Table) → May a → May b → a.code ≢ no_memory → b.code ≢ no_memory → a ≡ b
   pub lacks : (a : Outcome Table) → May a → a.code ≡ no_memory → a ≡ lacking table
@@ -81,8 +82,9 @@ module _ {Table : Type 0} where
   abbrev pub events_of : ℕ → List (Event Table) → List (Event Table)
   events_of caller events = filter (λ e. e.request.caller == caller) events
 
-  -- One request at tables old may be answered by this reply and leave tables new: the reply has its caller and its tag, and fits a frame, the turn may have
-  -- this outcome at the caller's table, and no other caller's table changes.
+  -- One request at tables `old` may be answered by this reply and leave tables `new`. The reply has the request's
+  -- caller and tag, and fits a frame. The turn may have this outcome at the caller's table, and no other caller's table
+  -- changes.
   pub record Steps (turn : Turn Table) (old : ℕ → Table) (request reply : Message) (new : ℕ → Table) : Type 0 where
     pub caller : reply.caller ≡ request.caller
     pub tag : reply.tag ≡ request.tag
@@ -90,7 +92,7 @@ module _ {Table : Type 0} where
     pub turns : turn (old request.caller) request.code request.body (record { next = new request.caller; code = reply.code; body = reply.body })
     pub leaves : new ≡ with_table old request.caller (new request.caller)
 
-  -- From tables old these requests may be answered by these replies, in order, and leave tables new.
+  -- From tables `old` these requests may be answered by these replies, in order, and leave tables `new`.
   pub record Runs (turn : Turn Table) (old : ℕ → Table) (asked told : List Message) (new : ℕ → Table) : Type 0 where
     pub events : List (Event Table)
     pub is_run : IsRun turn old events
@@ -99,7 +101,8 @@ module _ {Table : Type 0} where
     pub fits : AllByRecursion FitsFrame told
     pub leaves : new ≡ after_all old events
 
-  -- Of the requests that were asked, all but the later ones ran, from tables old to new. Their spelled replies are the written bytes and then the unwritten.
+  -- Of the requests that were asked, all but the later ones ran, from tables `old` to `new`. Their spelled replies are
+  -- the written bytes and then the unwritten.
   pub record Progress (turn : Turn Table) (old : ℕ → Table) (asked later : List Message) (written unwritten : List ℕ) (new : ℕ → Table) : Type 0 where
     pub events : List (Event Table)
     pub is_run : IsRun turn old events
@@ -124,12 +127,13 @@ pub record Answers {Table : Type 0} (turn : Turn Table) (tables : ℕ → Table)
   pub fits : AllByRecursion FitsFrame (replies_of events)
   pub writes : written ≡ joined (replies_of events)
 
--- They answer them, and no reply says that an allocation failed.
+-- The written bytes answer the given ones, and no reply says that an allocation failed.
 abbrev pub IsServed : {Table : Type 0} → Turn Table → (ℕ → Table) → List ℕ → List ℕ → Type 0
 IsServed turn tables given written = Answers turn tables given written × NoneLacks (messages_of written)
 
--- The written bytes begin an answer to the given ones. There is a run of all whole frames that were given: its spelled replies are the written bytes and then
--- the unwritten ones, and its replies are the whole frames of the written bytes and then the untold ones.
+-- The written bytes begin an answer to the given ones. There is a run of all whole frames that were given. Its spelled
+-- replies are the written bytes and then the unwritten ones. Its replies are the whole frames of the written bytes and
+-- then the untold ones.
 pub record BeginsAnswer {Table : Type 0} (turn : Turn Table) (tables : ℕ → Table) (given written : List ℕ) : Type 0 where
   pub events : List (Event Table)
   pub is_run : IsRun turn tables events

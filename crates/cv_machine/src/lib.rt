@@ -1,4 +1,4 @@
-//! A machine with one private table for each caller, and what holds of its runs whatever its requests do.
+//! A machine with one private table for each caller, and laws of its runs that hold whatever its requests do.
 #![tactic(auto)]
 
 pub mod laws;

@@ -5,7 +5,7 @@ ghost use Rattle.cv_machine.specs.Machine.{Turn, IsOneAnswer, IsSomeAnswer};
 
 /// A machine that answers requests, each by its caller's table alone.
 pub trait Machine {
-    /// What is kept for one caller.
+    /// What the machine keeps for one caller.
     ghost Table: { Type 0 };
 
     /// The outcomes that a request may have.
@@ -14,7 +14,8 @@ pub trait Machine {
     /// The table of each caller.
     ghost tables: { Self → ℕ → Table };
 
-    /// States that each request has some answer, and one at most besides an allocation failure, for callers that need it. It does nothing.
+    /// Does nothing. Its contract states that each request has some answer, and besides an allocation failure at most
+    /// one, for callers that need it.
     fn assert_valid(&self)
         ensures some { IsSomeAnswer turn }
         ensures one { IsOneAnswer turn };

@@ -1,4 +1,5 @@
--- Four times four bytes, of which a table finds the first of each, and the second and the third of those whose bits are set.
+-- Four groups of four bytes, of which a table finds the first byte of each, and the second and the third of those whose
+-- bits are set.
 use Rattle.std.proofs.Common.{◌≡◌, ℕ, ◌+◌, ◌/◌, ◌<◌, Bool, true, cond, ◌&&◌, List, [], ◌∷◌, ◌++◌, length, take, drop, get_or, refl, ◌∙◌, ap, ap₂, arith, suc, w8}
 use Rattle.std.specs.Prelude.{count_ones}
 use Rattle.std.specs.Simd.Lanes.{Each1}
@@ -10,7 +11,7 @@ use Rattle.cv_pack.specs.Packed.{flags, from_fours}
 use Rattle.cv_pack.proofs.Rows.{same, same_is, all_below, below_is, at_all, looked_up, stands, behind, one}
 use Rattle.cv_pack.specs.declared.four_places.TheConstants.{FOUR_PLACES}
 
--- from a place on, the first of each four, and the second and the third if their flags are set
+-- the indexes, from one on, of the first of each four, and of the second and the third if their flags are set
 abbrev places : List Bool → List Bool → ℕ → List ℕ
 places [] cs i = []
 places (b ∷ bs) [] i = []
@@ -50,7 +51,7 @@ row_ok m h =
     let r = row_at m h in
     SwzOk-from_below w8 16 1 16 0 (row m) refl (omega (arith, r.sixteen)) r.below
 
--- the bytes at the places are those that are wanted
+-- the bytes at the indexes are those that are kept
 found : (bs cs : List Bool) (text : List ℕ) (i : ℕ) → at_all text (places bs cs i) ≡ from_fours bs cs (drop i text)
 found [] cs text i = refl
 found (b ∷ bs) [] text i = refl

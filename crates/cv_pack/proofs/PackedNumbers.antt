@@ -13,16 +13,16 @@ use Rattle.cv_pack.specs.declared.lanes.TheConstants.{LANES}
 
 -- ---- the table
 
--- the places of the bits of a number that are set
+-- the indexes of the bits of a number that are set
 abbrev set_bits : ℕ → ℕ → ℕ → List ℕ
 set_bits zero m i = []
 set_bits (suc n) m i = cond (eqb (m % 2) 1) (i ∷ set_bits n (m / 2) (suc i)) (set_bits n (m / 2) (suc i))
 
--- eight places, those of the bits at the start
+-- eight indexes, those of the set bits first
 abbrev lanes : ℕ → List ℕ
 lanes m = take 8 (set_bits 8 m 0 ++ replicate 8 0)
 
--- the places of two bytes
+-- the indexes of the two bytes of a number
 abbrev two : ℕ → List ℕ
 two l = (2 * l) ∷ (2 * l + 1) ∷ []
 
@@ -68,7 +68,7 @@ row_ok m h =
 
 -- ---- what a row finds
 
--- the numbers at the places of bits are those that are kept
+-- the numbers at the indexes of the set bits are those that are kept
 bits_find : (vs text : List ℕ) (m i : ℕ) → drop i text ≡ vs → at_all text (set_bits (length vs) m i) ≡ kept m vs
 bits_find [] text m i e = refl
 bits_find (v ∷ vs) text m i e =
@@ -113,7 +113,7 @@ joined vs (l ∷ ls) small long low =
     let left : (v % 256 + 256 * (v / 256 + 256 * rest)) / 65536 ≡ rest = omega (arith, fits) in
     ap₂ (λ (a : ℕ) (b : List ℕ). a ∷ b) here (ap (digits_l 65536 (length ls)) left ∙ joined vs ls small long low.1)
 
--- the numbers at the places of a row
+-- the numbers that a row finds are those at its indexes
 packed_are : (vs : List ℕ) (m : ℕ) → m < 256 → Each1 (λ x. x < 65536) vs → length vs ≡ 8 → digits_l 65536 8 (number_l 256 (swz_l w8 16 (bytes vs) 0 (row m))) ≡ at_all vs (lanes m)
 packed_are vs m h small long =
     let r = row_at m h in

@@ -10,7 +10,7 @@ use Rattle.cv_pack.specs.Packed.{flags, from_pairs}
 use Rattle.cv_pack.proofs.Rows.{same, same_is, all_below, below_is, at_all, looked_up, stands, behind, one}
 use Rattle.cv_pack.specs.declared.pair_places.TheConstants.{PAIR_PLACES}
 
--- from a place on, the first of each two, and the second if its flag is set
+-- the indexes, from one on, of the first of each two, and of the second if its flag is set
 abbrev places : List Bool → ℕ → List ℕ
 places [] i = []
 places (b ∷ bs) i = i ∷ (cond b (suc i ∷ []) [] ++ places bs (suc (suc i)))
@@ -38,7 +38,7 @@ row_ok m h =
     let facts = row_facts m h in
     SwzOk-from_below w8 16 1 16 0 (row m) refl (omega (arith, facts.1.1)) facts.1.0
 
--- the bytes at the places are those that are wanted
+-- the bytes at the indexes are those that are kept
 found : (bs : List Bool) (text : List ℕ) (i : ℕ) → at_all text (places bs i) ≡ from_pairs bs (drop i text)
 found [] text i = refl
 found (b ∷ bs) text i =

@@ -1,7 +1,7 @@
--- What is packed: those of some bytes or numbers that are wanted, one after the other.
+-- What is packed: those of some bytes or numbers that are kept, one after the other.
 use Rattle.std.specs.Prelude.{◌≡◌, ℕ, zero, suc, ◌/◌, ◌%◌, ◌<◌, Bool, cond, nat_eq, List, [], ◌∷◌, ◌++◌, length, drop, get_or}
 
--- the lowest bits of a number, the lowest first
+-- the lowest n bits of a number, the lowest first
 abbrev pub flags : ℕ → ℕ → List Bool
 flags zero m = []
 flags (suc n) m = nat_eq (m % 2) 1 ∷ flags n (m / 2)

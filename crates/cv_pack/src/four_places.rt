@@ -1,7 +1,8 @@
-//! The indexes of the bytes that are wanted of four groups of four.
+//! The indexes of the bytes that are kept of four groups of four.
 
-/// A row for each eight bits: the lowest four are one set of the groups, the others another. Group by group, it has the index of the first
-/// byte, then of the second if the group is in the one set, and of the third if it is in the other. What follows them is 0.
+/// A row for each value of eight bits: the lowest four are one subset of the groups, the others another, the lowest bit
+/// of each for the first group. Group by group, the row has the index of the first byte, then of the second if the
+/// group is in the one subset, and of the third if it is in the other. All entries after these are 0.
 #[rattlefmt::skip]
 pub(crate) static FOUR_PLACES: [[u8; 16]; 256] = [
     [0, 4, 8, 12, 0, 0, 0, 0, 0, 0, 0, 0, 0, 0, 0, 0],

@@ -5,8 +5,9 @@ ghost use Rattle.cv_pack.specs.Packed.{flags, from_fours};
 use crate::four_places::FOUR_PLACES;
 use std::simd::prelude::*;
 
-/// Packs four groups of four bytes, group by group: the first byte of each, the second if the group's bit among the four lowest is set, and
-/// the third if its bit among the next four is set. What follows them is the first byte of all.
+/// Packs four groups of four bytes, one after the other. Of each group it keeps the first byte, the second if the
+/// group's bit among the four lowest bits of `sizes` is set, and the third if its bit among the next four is set. All
+/// bytes of the result after these are the first byte of the first group.
 #[inline(always)]
 pub fn packed_fours(fours: u8x16, sizes: u64) -> u8x16
     requires { sizes < 256 }

@@ -1,7 +1,7 @@
-//! The indexes of those of eight numbers that are kept.
+//! The indexes of the bytes of those of eight numbers that are kept.
 
-/// A row for each set of eight numbers, as bits, the lowest for the first. It has the indexes of the two bytes of each number in the set.
-/// What follows them are the indexes of the bytes of the first of the eight.
+/// A row for each subset of eight numbers, which is given as bits, the lowest for the first number. The row has the
+/// indexes of the two bytes of each number in the subset, and after them those of the first of the eight.
 #[rattlefmt::skip]
 pub(crate) static LANES: [[u8; 16]; 256] = [
     [0, 1, 0, 1, 0, 1, 0, 1, 0, 1, 0, 1, 0, 1, 0, 1],

@@ -1,4 +1,4 @@
-//! Packing bytes and numbers by look-ups in a vector.
+//! Packing bytes and numbers: a table tells which lanes of a vector to keep.
 #![tactic(auto)]
 
 mod four_places;

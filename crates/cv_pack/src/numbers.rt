@@ -1,12 +1,12 @@
-//! Packing those of some numbers that are kept.
+//! Packing the numbers of a vector that are kept.
 ghost use Rattle.std.specs.Prelude.{◌≡◌, ◌<◌, ℕ, take, get_or, count_ones};
 ghost use Rattle.cv_pack.specs.Packed.{kept, IsOneOf};
 
 use crate::lanes::LANES;
 use std::simd::prelude::*;
 
-/// Those of eight numbers whose bit is set, one after the other, the lowest bit for the first. What follows them is the first of
-/// the eight.
+/// Returns those of eight numbers whose bit in `marks` is set, one after the other. The lowest bit is that of the first
+/// number. All numbers of the result after these are the first of the eight.
 #[inline(always)]
 pub fn packed_numbers(numbers: u16x8, marks: u64) -> u16x8
     requires { marks < 256 }

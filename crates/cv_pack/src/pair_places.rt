@@ -1,7 +1,7 @@
-//! The indexes of the bytes that are wanted of eight pairs.
+//! The indexes of the bytes that are kept of eight pairs.
 
-/// A row for each set of eight pairs, as bits, the lowest for the first. It has the index of each pair's first byte, and of its second if
-/// the pair is in the set, pair by pair. What follows them is 0.
+/// A row for each subset of eight pairs, which is given as bits, the lowest for the first pair. Pair by pair, the row
+/// has the index of the first byte, and of the second if the pair is in the subset. All entries after these are 0.
 #[rattlefmt::skip]
 pub(crate) static PAIR_PLACES: [[u8; 16]; 256] = [
     [0, 2, 4, 6, 8, 10, 12, 14, 0, 0, 0, 0, 0, 0, 0, 0],

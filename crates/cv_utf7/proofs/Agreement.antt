@@ -15,7 +15,7 @@ agree-both a b x p q k l m =
     let g = Begins-agree b x q in
     f.1 k l (omega (arith, f.0)) ∙ sym (g.1 k m (omega (arith, g.0)))
 
--- their prefixes of one length are the same
+-- prefixes of one length of two lists that agree are the same
 pub agree-take : (w x : List ℕ) → Agree w x → (n : ℕ) → n ≤ length w → n ≤ length x → take n w ≡ take n x
 agree-take w x a n h k =
     let l : length (take n w) ≡ n = length-take-le n w h in

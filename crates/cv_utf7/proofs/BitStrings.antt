@@ -7,19 +7,19 @@ use Rattle.std.proofs.lemmas.Nat.{pow_pos, pow-add, mod-pow-add}
 use Rattle.std.proofs.Math.Nat.{mod-eq_of_lt, pow-suc}
 use Rattle.cv_utf7.specs.BitLists.{bits, number}
 
--- the low count bits of a number are count bits
+-- the lowest bits of a number are as many as the count
 pub length-bits : (count n : ℕ) → length (bits count n) ≡ count
 unfolding bits
 length-bits zero n = refl
 length-bits (suc count) n = simp length-append (omega (arith, length-bits count (n / 2)))
 
--- bits spell a number that is in range
+-- n bits spell a number below 2 ^ n
 pub number_lt : (bits : List Bool) → number bits < 2 ^ length bits
 number_lt [] = omega arith
 number_lt (true ∷ bits) = omega (arith, number_lt bits, pow-suc 2 (length bits))
 number_lt (false ∷ bits) = omega (arith, number_lt bits, pow-suc 2 (length bits))
 
--- the number of bits after others
+-- the number that bits and bits after them spell
 pub number-append : (a b : List Bool) → number (a ++ b) ≡ number a * 2 ^ length b + number b
 number-append [] b = omega arith
 number-append (true ∷ a) b =
@@ -63,7 +63,7 @@ bits-split m n v =
     (rw length-append (omega (arith, length-bits (m + n) v, length-bits m (v / 2 ^ n), length-bits n v)))
     (number-bits (m + n) v ∙ mod-pow-add v m n ∙ sym (rw (number-append (bits m (v / 2 ^ n)) (bits n v), number-bits, number-bits, length-bits) refl))
 
--- two lists with parts of one length
+-- two lists that are the same have the same parts, if their first parts have one length
 pub append-same : (a b x y : List Bool) → a ++ x ≡ b ++ y → length a ≡ length b → (a ≡ b) × (x ≡ y)
 append-same [] [] x y e l = (refl, e)
 append-same [] (d ∷ b) x y e l = absurd (omega arith)

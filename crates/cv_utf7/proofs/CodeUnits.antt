@@ -23,7 +23,7 @@ leads-long pending w u rest h =
     let e : length (bits_of pending ++ digit_bits w) ≡ length (bits 16 u ++ rest) = ap length h.same in
     omega (arith, simp length-append at e, length-bits pending.count pending.value, length-bits 16 u, length-digits w)
 
--- if the unit of the first digits is known
+-- if the first digits hold a code unit, the digits begin with it
 pub leads-unit : (pending : Bits) (w : List ℕ) (u v n : ℕ) (rest after : List Bool) → Leads pending w u rest → bits_of pending ++ digit_bits (take n w) ≡ bits 16 v ++ after → (u % 65536 ≡ v % 65536) × (rest ≡ after ++ digit_bits (drop n w))
 leads-unit pending w u v n rest after h e =
     let f : bits 16 v ++ (after ++ digit_bits (drop n w)) ≡ bits 16 u ++ rest =
@@ -31,7 +31,7 @@ leads-unit pending w u v n rest after h e =
     let g = append-same (bits 16 v) (bits 16 u) (after ++ digit_bits (drop n w)) rest f (length-bits 16 v ∙ sym (length-bits 16 u)) in
     (sym (mod-bits 16 v u g.0), sym g.1)
 
--- if fewer bits than a unit's are known
+-- the first bits of the digits are those of the code unit that they begin with, also if they are fewer than sixteen
 pub leads-front : (pending : Bits) (w : List ℕ) (u n count value : ℕ) (rest : List Bool) → Leads pending w u rest → bits_of pending ++ digit_bits (take n w) ≡ bits count value → count ≤ 16 → (u / 2 ^ (16 - count)) % 2 ^ count ≡ value % 2 ^ count
 leads-front pending w u n count value rest h e l =
     let s : bits 16 u ≡ bits count (u / 2 ^ (16 - count)) ++ bits (16 - count) u = (let k : count + (16 - count) ≡ 16 = omega arith in ap (λ (m : ℕ). bits m u) (sym k) ∙ bits-split count (16 - count) u) in

@@ -121,7 +121,7 @@ pub cut_pair : (pending : Bits) (c : ℕ) (cut : Cut) → 0x10000 ≤ c → c < 
     → written_bits (bits_of pending ++ character_bits c) ≡ (digits (bits (6 * cut.n) cut.value), write.Shifted cut.next)
 cut_pair pending c cut h k e v w = cut_is _ cut.n cut.next.count (pending.value * 4294967296 + (high_unit c * 65536 + low_unit c)) cut.value cut.next (pair_behind pending c h k ∙ ap (λ (m : ℕ). bits m (pending.value * 4294967296 + (high_unit c * 65536 + low_unit c))) e) refl v w
 
--- pending values are small
+-- the value of pending bits is below 16
 pub value_below : (pending : Bits) → pending.value < 16
 value_below pending = let e : 2 ^ pending.count ≤ 2 ^ 4 = pow-le-pow_right {n = 2} (omega arith) {i = pending.count} {j = 4} pending.few in omega (arith, pending.in_range)
 
@@ -155,7 +155,7 @@ closing_of pending k d e h f =
     let n : number (bits_of pending) ≡ pending.value = number-bits pending.count pending.value ∙ mod-eq_of_lt pending.in_range in
     last_digit_is (bits_of pending) k (omega (arith, length-bits pending.count pending.value)) (omega (arith, length-bits pending.count pending.value)) ∙ ap (λ (m : ℕ). digit_of (m * 2 ^ k) ∷ []) n ∙ ap (λ (m : ℕ). m ∷ []) (sym f)
 
--- the closing digit of two bits, and of four
+-- the closing digit of two bits
 pub closing_two : (pending : Bits) (d : ℕ) → pending.count ≡ 2 → d ≡ digit_of (pending.value * 16) → last_digit (bits_of pending) ≡ d ∷ []
 closing_two pending d e f = closing_of pending 4 d (omega arith) (omega arith) f
 
@@ -167,7 +167,7 @@ closing_four pending d h e f = let g : pending.count ≡ 4 = omega (arith, pendi
 pub closing_some : (pending : Bits) (d : ℕ) → last_digit (bits_of pending) ≡ d ∷ [] → utf7_closes (write.Shifted pending) ≡ d ∷ minus ∷ []
 closing_some pending d e = ap (λ (w : List ℕ). w ++ minus ∷ []) e
 
--- the digits of a cut, one by one
+-- the digits of a cut of two
 pub spell_2 : (cut : Cut) → cut.n ≡ 2 → digits (bits (6 * cut.n) cut.value) ≡ digit_of (cut.value / 64 % 64) ∷ digit_of (cut.value / 1 % 64) ∷ []
 spell_2 cut e = ap (λ (n : ℕ). digits (bits (6 * n) cut.value)) e ∙ digits_2 cut.value
 
@@ -179,7 +179,7 @@ spell_3 cut e = ap (λ (n : ℕ). digits (bits (6 * n) cut.value)) e ∙ digits_
 pub spell_5 : (cut : Cut) → cut.n ≡ 5 → digits (bits (6 * cut.n) cut.value) ≡ digit_of (cut.value / 16777216 % 64) ∷ digit_of (cut.value / 262144 % 64) ∷ digit_of (cut.value / 4096 % 64) ∷ digit_of (cut.value / 64 % 64) ∷ digit_of (cut.value / 1 % 64) ∷ []
 spell_5 cut e = ap (λ (n : ℕ). digits (bits (6 * n) cut.value)) e ∙ digits_5 cut.value
 
--- a cut that is of no other number is of six, and its digits
+-- a cut whose number is none of these is of six digits
 pub spell_6 : (cut : Cut) → (cut.n ≡ 2) ⊎ (cut.n ≡ 3) ⊎ (cut.n ≡ 5) ⊎ (cut.n ≡ 6) → (cut.n ≡ 2 → ⊥) → (cut.n ≡ 3 → ⊥) → (cut.n ≡ 5 → ⊥)
     → (cut.n ≡ 6) × (digits (bits (6 * cut.n) cut.value) ≡ digit_of (cut.value / 1073741824 % 64) ∷ digit_of (cut.value / 16777216 % 64) ∷ digit_of (cut.value / 262144 % 64) ∷ digit_of (cut.value / 4096 % 64) ∷ digit_of (cut.value / 64 % 64) ∷ digit_of (cut.value / 1 % 64) ∷ [])
 spell_6 cut o a b c = let e : cut.n ≡ 6 = elim o [ inl p ↦ absurd (a p) | inr o ↦ elim o [ inl p ↦ absurd (b p) | inr o ↦ elim o [ inl p ↦ absurd (c p) | inr p ↦ p ] ] ] in (e, ap (λ (n : ℕ). digits (bits (6 * n) cut.value)) e ∙ digits_6 cut.value)

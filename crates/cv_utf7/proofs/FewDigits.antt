@@ -1,4 +1,4 @@
--- What is next in a shifted sequence if too few digits for a code unit are next: its end, or nothing that is well-formed.
+-- What is next in a shifted sequence if too few digits for a code unit are next: its end, or ill-formed bytes.
 use Rattle.std.proofs.Common.{◌≡◌, ℕ, zero, suc, ◌+◌, ◌-◌, ◌*◌, ◌/◌, ◌%◌, ◌^◌, ◌<◌, ◌≤◌, Bool, true, false, List, [], ◌∷◌, ◌++◌, length, take, drop, get_or, replicate, refl, sym, ◌∙◌, ap, subst, arith, inl, inr, Some, None, zero-mul}
 use Rattle.std.proofs.lemmas.Bool.{true≢false, cases_lt, cases_order}
 use Rattle.std.proofs.lemmas.List.{append_assoc, length-take-le, take-take, take_more, get_or-take}
@@ -24,7 +24,7 @@ use Rattle.cv_utf7.proofs.FrontDigits.{front_none}
 use Rattle.cv_utf7.proofs.Digits.{digit_bits-cut, AreDigits-at}
 use Rattle.cv_utf7.proofs.ShiftItems.{ill_from}
 
--- the digits that are too few for a unit
+-- the first bits of a code unit spell a number below 2 ^ count
 quotient_lt : (f count : ℕ) → count ≤ 16 → f < 65536 → f / 2 ^ (16 - count) < 2 ^ count
 quotient_lt f count l s = elim (cases_lt (f / 2 ^ (16 - count)) (2 ^ count)) [
   | inl k ↦ k
@@ -55,7 +55,7 @@ front_of p x n count value w f rest h k a s =
     let r : value * 2 ^ (16 - count) + f % 2 ^ (16 - count) ≡ f = ap (λ (q : ℕ). q * 2 ^ (16 - count) + f % 2 ^ (16 - count)) (sym g) ∙ shr_split f (16 - count) in
     (omega arith, omega (arith, mod-lt f (pow_pos (16 - count))))
 
--- a byte that is no digit follows them
+-- digits that are too few for a code unit, and then a byte that is no digit, begin with no code unit
 pub stop_leads : (p : Bits) (x : List ℕ) (n count value : ℕ) (w : List ℕ) (f : ℕ) (rest : List Bool) → IsFront p x n count value → n < length x → is_digit (get_or x n 0) ≡ false → Leads p w f rest → Agree w x → ⊥
 stop_leads p x n count value w f rest h l d k a =
     let m : n < length w = omega (arith, leads-long p w f rest k, h.counts, h.few) in
@@ -93,7 +93,7 @@ zero_front [] b m e = refl
 zero_front (x ∷ a) b zero e = absurd (omega (arith, ap length e))
 zero_front (x ∷ a) b (suc m) e = let f : x ≡ false = cc in let g : a ++ b ≡ replicate m false = cc in rw f (omega (arith, zero_front a b m g))
 
--- zero bits begin with zero
+-- the first of some zero bits spell 0
 pub stop_zero : (p : Bits) (x : List ℕ) (n count value : ℕ) (w : List ℕ) (i : Taken) → IsFront p x n count value → (s : IsStop p w i) → Agree w x → n ≤ s.n → value ≡ 0
 stop_zero p x n count value w i h s a l =
     let t : take n (take s.n w) ≡ take n x = take-take n s.n w l ∙ agree-take w x a n (omega (arith, s.long)) h.within in
@@ -160,11 +160,11 @@ few_low p x n count value from to h l some e f a b = ill_from p x some
           omega arith)
     ])
 
--- no digit is at the start
+-- a byte that is no digit is ill-formed if the pending bits are not zero
 pub stop_ill : (p : Bits) (x : List ℕ) → 0 < length x → is_digit (get_or x 0 0) ≡ false → (p.value ≡ 0 → ⊥) → IsNext utf7_reads (read.Shifted p) x item.Ill
 stop_ill p x some d z = few_ill p x 0 p.count p.value (front_none p x p.count p.value refl refl) some d z
 
--- what is next if no digit is and no bits are pending
+-- what is next if no digit is and the pending bits are zero
 pub stop_ends : (p : Bits) (x : List ℕ) (r : Item) → 0 < length x → is_digit (get_or x 0 0) ≡ false → p.value ≡ 0 → IsEnding (get_or x 0 0) 1 r → IsNext utf7_reads (read.Shifted p) x r
 stop_ends p x r some d z e = few_ends p x 0 p.count p.value 1 r (front_none p x p.count p.value refl refl) some d z (omega arith) e
 

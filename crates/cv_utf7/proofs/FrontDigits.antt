@@ -29,7 +29,7 @@ three_digits p v a b c d e f =
     ∙ bits-digit (p + 12) ((v * 64 + value_of a) * 64 + value_of b) (value_of c) (value_lt c f)
     ∙ (let e : p + 12 + 6 ≡ p + 18 = omega arith in ap (λ (n : ℕ). bits n (((v * 64 + value_of a) * 64 + value_of b) * 64 + value_of c)) e))
 
--- the unit's bits and those over
+-- some bits are those of a code unit and those left over
 cut_unit : (p n q total value over : ℕ) → p + n ≡ 16 + q → total / 2 ^ q ≡ value → total % 2 ^ q ≡ over % 2 ^ q → bits (p + n) total ≡ bits 16 value ++ bits q over
 cut_unit p n q total value over e f g = rw e (bits-split 16 q total ∙ rw (f, bits-mod q total over g) refl)
 
@@ -81,7 +81,7 @@ unit_0 pending (x ∷ y ∷ z ∷ text) u p r l a b c n q e f =
       small = omega (arith, value_lt x a, value_lt y b, value_lt z c);
     }
 
--- too few digits
+-- fewer than two bytes hold no code unit
 pub none_short : (pending : Bits) (text : List ℕ) → length text < 2 → NoUnit pending text
 none_short pending text h n l k d = omega (arith, pending.few)
 
@@ -109,7 +109,7 @@ none_third pending text p h e = none_where pending text 2 (omega arith) e (omega
 
 pub ruleset units = (unit_0, unit_2, unit_4, none_short, none_shorter, none_first, none_second, none_third, value_lt)
 
--- the digits at the start
+-- at first no digits, and the pending bits
 pub front_none : (pending : Bits) (text : List ℕ) (count value : ℕ) → count ≡ pending.count → value ≡ pending.value → IsFront pending text 0 count value
 front_none pending text count value e f = record { within = omega arith; are_digits = no_digits; counts = omega arith; few = omega (arith, pending.few); small = rw (e, f) pending.in_range; same = rw (e, f) (append-nil (bits_of pending)) }
 

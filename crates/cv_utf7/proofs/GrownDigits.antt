@@ -80,7 +80,7 @@ grow_unit p x n count value u h l a b s o =
       ]
     ]
 
--- no item is next if all are digits
+-- no item is next if all bytes are digits, and too few for a code unit
 few_none : (p : Bits) (x : List ℕ) (n count value : ℕ) → IsFront p x n count value → length x ≤ n → NoneStands utf7_reads (read.Shifted p) x
 few_none p x n count value h l i q = by_kind p q.bytes i ⊥ q.is_item
     (λ m. omega (arith, leads-long p q.bytes m.c (bits_of m.next) m.leads, Begins-length q.bytes x q.front, h.counts, h.few))
@@ -107,7 +107,7 @@ few_above p x n count value to h l some e s a = (
   ],
 )
 
--- after a high surrogate
+-- a high surrogate is ill-formed if a byte that is no digit follows before a code unit is whole
 pub half_stop : (p : Bits) (x : List ℕ) (u : Unit) (n count value : ℕ) → IsUnit p x u → 0xD800 ≤ u.value → u.value < 0xDC00 → IsFront u.over (drop u.n x) n count value → n < length (drop u.n x) → is_digit (get_or (drop u.n x) n 0) ≡ false → IsNext utf7_reads (read.Shifted p) x item.Ill
 half_stop p x u n count value h a b k l d = surrogate_ill p x u h a (omega arith) (λ w c rest i j e m g. stop_leads u.over (drop u.n x) n count value w (low_unit c) rest k l d m g)
 

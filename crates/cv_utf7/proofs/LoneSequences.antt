@@ -27,7 +27,7 @@ lone_first text at c p h =
     let e : get_or (drop at text) 1 0 ≡ get_or (take p.unit.n (drop (at + 1) text)) 0 0 = rw (g, get_or-drop, get_or-drop) (ap (λ (k : ℕ). get_or text k 0) (omega arith)) in
     rw e d
 
--- the end of a sequence in which no bits are left
+-- the end of a sequence whose pending bits are zero
 end_at : (text : List ℕ) (at : ℕ) (over : Bits) (i : Taken) → at < length text → over.value ≡ 0 → EndsAt 1 (get_or text at 0) i → Stands utf7_reads (read.Shifted over) (drop at text) i
 end_at text at over i h z e =
     let g : get_or (drop at text) 0 0 ≡ get_or text at 0 = rw (get_or-drop, add-zero) refl in

@@ -4,7 +4,7 @@ use Rattle.std.proofs.lemmas.Bool.{cases_eq}
 use Rattle.std.proofs.lemmas.List.{get_or-set_same, get_or-set_other}
 use Rattle.cv_utf7.specs.Sets.{is_direct}
 
--- If a byte is direct, it is the character of a place.
+-- If a byte is direct, it is the character at an index.
 abbrev pub Stands : List ℕ → ℕ → ℕ → Type 0
 Stands characters n b = is_direct b ≡ true → b ≡ get_or characters n 0
 

@@ -20,7 +20,7 @@ use Rattle.cv_utf7.proofs.Agreement.{agree-sym, agree-both, agree-take, agree-wh
 use Rattle.cv_utf7.proofs.Digits.{AreDigits-at, length-digits}
 use Rattle.cv_utf7.proofs.PendingBits.{bits_of-same}
 
--- The end of a shifted sequence, by the place of the byte that is no digit.
+-- The end of a shifted sequence, by the index of the byte that is no digit.
 pub record IsStop (pending : Bits) (w : List ℕ) (i : Taken) : Type 0 where
   pub n : ℕ
   pub long : length w ≡ n + 1
@@ -62,7 +62,7 @@ leads-length pending w u rest h =
     let e : length (bits_of pending ++ digit_bits w) ≡ length (bits 16 u ++ rest) = ap length h.same in
     omega (arith, simp length-append at e, length-bits pending.count pending.value, length-bits 16 u, length-digits w)
 
--- both are the same
+-- two characters of one code unit whose bytes agree are the same
 one_one : (p : Bits) (a b : List ℕ) (i j : Taken) → IsOne p a i → IsOne p b j → Agree a b → i ≡ j
 one_one p a b i j h k g =
     let l : length a ≡ length b = omega (arith, leads-length p a h.c (bits_of h.next) h.leads, leads-length p b k.c (bits_of k.next) k.leads, length-bits h.next.count h.next.value, length-bits k.next.count k.next.value, h.next.few, k.next.few) in
@@ -111,7 +111,7 @@ leads_stop p a b u rest j h k g =
     let f = k.last in
     cc
 
--- both ends are the same
+-- two ends after one byte are the same
 same_end : (used b : ℕ) (i j : Taken) → EndsAt used b i → EndsAt used b j → i ≡ j
 same_end used b i j x y = elim x [
   | inl p ↦ elim y [ inl q ↦ p.1 ∙ sym q.1 | inr q ↦ absurd (q.2 p.0) ]
@@ -172,7 +172,7 @@ one_in_shift p text a b i j x y f g =
       ]
     ]
 
--- at the start
+-- at most one item is at the start of a text outside a shifted sequence
 one_at_start : (text a b : List ℕ) (i j : Taken) → ReadsAtStart a i → ReadsAtStart b j → Begins a text → Begins b text → i ≡ j
 one_at_start text [] b i j p q f g = absurd p
 one_at_start text (x ∷ y ∷ z ∷ a) b i j p q f g = absurd p

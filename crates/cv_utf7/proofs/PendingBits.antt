@@ -31,7 +31,7 @@ bits_of-same a b e =
     let n : a.value % 2 ^ a.count ≡ b.value % 2 ^ b.count = sym (number-bits a.count a.value) ∙ ap number e ∙ number-bits b.count b.value in
     same-pending a b c (sym (mod-eq_of_lt {n = a.value} {m = 2 ^ a.count} a.in_range) ∙ n ∙ mod-eq_of_lt {n = b.value} {m = 2 ^ b.count} b.in_range)
 
--- the bits of pending bits that are made of a list of as many and as great a number are these
+-- a list of as many bits as pending bits, which spells their value, makes them
 pub pending_is : (l : List Bool) (next : Bits) → length l ≡ next.count → number l ≡ next.value → pending_of l ≡ next
 unfolding pending_of
 pending_is [] next e f = same-pending _ next e f
@@ -45,7 +45,7 @@ pending_is (a ∷ b ∷ c ∷ d ∷ g ∷ l) next e f = absurd (omega (arith, ne
 pub no_value : (pending : Bits) → pending.count ≡ 0 → pending.value ≡ 0
 no_value pending e = let h : pending.value < 1 = subst (λ (k : ℕ). pending.value < 2 ^ k) e pending.in_range in omega arith
 
--- and they are made of no bits
+-- if no bits are pending, they are made of no bits
 pub none_pending : (next : Bits) → next.count ≡ 0 → next ≡ pending_of []
 none_pending next e = sym (pending_is [] next (sym e) (sym (no_value next e)))
 
@@ -54,7 +54,7 @@ pub no_bits : (pending : Bits) → pending.count ≡ 0 → bits_of pending ≡ [
 unfolding bits
 no_bits pending e = ap (λ (n : ℕ). bits n pending.value) e
 
--- the low bits of the number of as many bits are these
+-- the number of some bits has these as its lowest bits
 bits-number : (l : List Bool) → bits (length l) (number l % 2 ^ length l) ≡ l
 bits-number l =
     let low : number l % 2 ^ length l ≡ number l = mod-eq_of_lt (number_lt l) in

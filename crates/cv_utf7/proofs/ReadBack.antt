@@ -43,7 +43,7 @@ all_even (c ∷ os) = elim (character_length c) [
   | inr e ↦ rw length-append (omega (arith, all_even os))
 ]
 
--- if a list begins with a shorter one
+-- of two prefixes of one list, the longer one is the shorter one and more
 cut_list : (a b c d : List Bool) → a ++ b ≡ c ++ d → length c ≤ length a → (q : List Bool) × (a ≡ c ++ q) × (d ≡ q ++ b)
 cut_list a b [] d e l = (a, refl, sym e)
 cut_list [] b (y ∷ c) d e l = absurd (omega arith)
@@ -57,7 +57,7 @@ cut_list (x ∷ a) b (y ∷ c) d e l =
 abbrev IsRead : ReadState → List ℕ → List ℕ → Type 0
 IsRead s text characters = IsReadFrom utf7_reads s text characters (λ next. Unit {0})
 
--- nothing gives no characters
+-- no bytes are read as no characters
 nothing_read : (s : ReadState) → IsRead s [] []
 nothing_read s = record { chain = []; is_chain = tt; whole = refl; gives = refl; after = tt }
 
@@ -152,7 +152,7 @@ direct_front c rest characters e h = front_item read.Start (c ∷ []) rest (take
 none_bits : bits_of (pending_of []) ≡ []
 none_bits = pending_bits [] (omega arith) refl
 
--- `+` before digits
+-- `+` before a digit begins a shifted sequence
 plus_front : (d : ℕ) (rest characters : List ℕ) → is_digit d ≡ true → IsRead (read.Shifted (pending_of [])) (d ∷ rest) characters → IsRead read.Start (plus ∷ d ∷ rest) characters
 plus_front d rest characters e h = record {
   chain = taken 1 None (read.Shifted (pending_of [])) ∷ h.chain;
@@ -166,7 +166,7 @@ plus_digits : (w rest characters : List ℕ) → AreDigits w → 0 < length w �
 plus_digits [] rest characters d l h = absurd (omega arith)
 plus_digits (b ∷ w) rest characters d l h = plus_front b (w ++ rest) characters (AreDigits-at (b ∷ w) d 0 l) h
 
--- what is written of characters from a state, and closed
+-- what is written for characters from a state, and closed
 abbrev text_of : WriteState → List ℕ → List ℕ
 text_of t [] = utf7_closes t
 text_of t (c ∷ characters) = (written utf7_writes t (Some c)).bytes ++ text_of (written utf7_writes t (Some c)).next characters
@@ -178,7 +178,7 @@ text_is t (c ∷ characters) =
     let rest : Output = output_for utf7_writes first.next characters in
     append_assoc first.bytes rest.bytes (utf7_closes rest.next) ∙ ap (λ (x : List ℕ). first.bytes ++ x) (text_is first.next characters)
 
--- from either state of the writer
+-- What is written for characters outside a shifted sequence, and closed, is read as them.
 abbrev FromStart : List ℕ → Type 0
 FromStart cs = IsRead read.Start (text_of write.Start cs) cs
 

@@ -10,7 +10,7 @@ use Rattle.cv_utf7.specs.Sets.{may_be_direct}
 use Rattle.cv_utf7.specs.Utf7.{utf7_reads}
 use Rattle.cv_utf7.specs.Private.ReadSteps.{place, ReadsOn}
 
--- each is direct
+-- each byte may be direct
 abbrev pub AreDirect : List ℕ → Type 0
 AreDirect [] = Unit {0}
 AreDirect (b ∷ bytes) = (may_be_direct b ≡ true) × AreDirect bytes
@@ -72,7 +72,7 @@ pub reads_run : (text : List ℕ) (used n run most : ℕ) (before after : List �
 reads_run text used n run most before after h l size direct put m k s =
     reads_direct text used n m before after (omega arith) (omega arith) size (λ i p. direct i (omega arith)) (front_of_put n m most before after (drop used text) (omega arith) s put)
 
--- one more of many is put
+-- one more of many bytes is put
 pub put_more : (n i v : ℕ) (before now bytes : List ℕ) → n + i < length now → i < length bytes → v ≡ get_or bytes i 0 → take (n + i) now ≡ take n before ++ take i bytes → take (n + (i + 1)) (set now (n + i) v) ≡ take n before ++ take (i + 1) bytes
 put_more n i v before now bytes h l e p =
     let there : n + (i + 1) ≡ n + i + 1 = omega arith in

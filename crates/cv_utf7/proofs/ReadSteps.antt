@@ -40,7 +40,7 @@ reads_more {text = text} {from = from} {middle = middle} {before = before} p q =
       size = q.size ∙ p.size;
     }
 
--- the place to which was read, by its parts
+-- the place at which reading arrived, by its parts
 pub reads_to : {text : List ℕ} {from to : ReadBlock} {before after : List ℕ} → ReadsOn text from before to after → (s : ReadState) (used n : ℕ) → to.next ≡ s → to.used ≡ used → to.n ≡ n → ReadsOn text from before (place s used n) after
 reads_to {after = after} p s used n e f g = record {
   chain = p.chain;
@@ -107,12 +107,12 @@ is_block text s before block after p = record {
   next = p.next;
 }
 
--- one character more, if the item was looked for in `&text[at.used..]`
+-- one character more is read, if the item was looked for in `&text[at.used..]`
 pub character_more : {text : List ℕ} {from at : ReadBlock} {before now : List ℕ} → ReadsOn text from before at now → at.n < length now → (c k : ℕ) (next : ReadState) → Stands utf7_reads at.next (take (length text - at.used) (drop at.used text)) (taken k (Some c) next)
     → ReadsOn text from before (place next (at.used + k) (at.n + 1)) (set now at.n c)
 character_more {text = text} {at = at} {now = now} p l c k next q = reads_more p (reads_character text at now c k next p.within l (rw rest_is at q))
 
--- one shift more
+-- one shift more is read
 pub shift_more : {text : List ℕ} {from at : ReadBlock} {before now : List ℕ} → ReadsOn text from before at now → (k : ℕ) (next : ReadState) → Stands utf7_reads at.next (take (length text - at.used) (drop at.used text)) (taken k None next)
     → ReadsOn text from before (place next (at.used + k) at.n) now
 shift_more {text = text} {at = at} {now = now} p k next q = reads_more p (reads_shift text at now k next p.within p.fits (rw rest_is at q))

@@ -41,7 +41,7 @@ unit_leads p x u h = record { are_digits = h.are_digits; same = h.same }
 pub unit_length : (p : Bits) (x : List ℕ) (u : Unit) → IsUnit p x u → p.count + 6 * u.n ≡ 16 + u.over.count
 unit_length p x u h = omega (arith, leads-length p (take u.n x) u.value (bits_of u.over) (unit_leads p x u h), length-take-le u.n x h.within, length-bits u.over.count u.over.value)
 
--- if it is next, each character begins with it
+-- if a code unit is next, each character begins with it
 pub unit_of : (p : Bits) (x : List ℕ) (u : Unit) (w : List ℕ) (f : ℕ) (rest : List Bool) → IsUnit p x u → Leads p w f rest → Agree w x → (u.n ≤ length w) × (f % 65536 ≡ u.value % 65536) × (rest ≡ bits_of u.over ++ digit_bits (drop u.n w))
 unit_of p x u w f rest h k a =
     let l : u.n ≤ length w = omega (arith, leads-long p w f rest k, unit_length p x u h, u.over.few) in
@@ -49,7 +49,7 @@ unit_of p x u w f rest h k a =
     let e = leads-unit p w f u.value u.n rest (bits_of u.over) k (ap (λ (t : List ℕ). bits_of p ++ digit_bits t) t ∙ h.same) in
     (l, e.0, e.1)
 
--- and no sequence ends
+-- if a code unit is next, no sequence ends
 pub unit_no_stop : (p : Bits) (x : List ℕ) (u : Unit) (w : List ℕ) (i : Taken) → IsUnit p x u → IsStop p w i → Agree w x → ⊥
 unit_no_stop p x u w i h s a = leads_stop p (take u.n x) w u.value (bits_of u.over) i (unit_leads p x u h) s (agree-front w x a u.n)
 
@@ -83,7 +83,7 @@ char_stands p x u c n next h e f g s =
 pub scalar_unit : (p : Bits) (x : List ℕ) (u : Unit) → IsUnit p x u → ((0xD800 ≤ u.value) × (u.value < 0xE000) → ⊥) → IsScalar u.value
 scalar_unit p x u h s = (omega (arith, h.small), λ k. elim (cases_lt u.value 0xE000) [ inl m ↦ absurd (s (k, m)) | inr m ↦ m ])
 
--- surrogates
+-- a prefix is a shorter prefix and what follows it
 take-two : (a b : ℕ) (x : List ℕ) → take (a + b) x ≡ take a x ++ take b (drop a x)
 take-two zero b x = ap (λ (n : ℕ). take n x) (let e : 0 + b ≡ b = omega arith in e)
 take-two (suc a) zero [] = ap (λ (n : ℕ). let l : List ℕ = [] in take n l) (let e : suc a + 0 ≡ suc a = omega arith in e)

@@ -66,7 +66,7 @@ start_other x n e f g = ill_from x (omega arith) (λ w i r h. elim (fits w x i r
   | inr k ↦ elim (k.1 n) [ inl m ↦ f m | inr m ↦ true≢false (sym m ∙ g) ]
 ])
 
--- another state of the same items
+-- what is next is the same in a state with the same items
 same_next : (s t : ReadState) → ((w : List ℕ) (i : Taken) → utf7_reads s w i → utf7_reads t w i) → ((w : List ℕ) (i : Taken) → utf7_reads t w i → utf7_reads s w i) → (x : List ℕ) (r : Item) → IsNext utf7_reads s x r → IsNext utf7_reads t x r
 same_next s t to back x (item.Char c n next) h = record { bytes = h.bytes; is_item = to h.bytes _ h.is_item; front = h.front }
 same_next s t to back x (item.Shift n next) h = record { bytes = h.bytes; is_item = to h.bytes _ h.is_item; front = h.front }

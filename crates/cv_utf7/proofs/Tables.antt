@@ -28,17 +28,17 @@ digit_some b l h = let d : is_digit b ≡ true = sym (is_digit_at b l) ∙ lt-lt
 pub digit_none : (b : ℕ) → b < 256 → 64 ≤ get_or VALUES b 0 → is_digit b ≡ false
 digit_none b l h = sym (is_digit_at b l) ∙ le-ltb _ _ h
 
--- the table of digits
+-- the table of digits has the digit of each value
 pub digit_at : (v : ℕ) → v < 64 → get_or DIGITS v 0 ≡ digit_of v
 unfolding digit_of base64
 digit_at v l = eqb-true _ _ (agree_below_at (λ v. nat_eq (get_or DIGITS v 0) (digit_of v)) (λ v. true) 64 v refl l)
 
--- the table of what may be direct
+-- the table of direct characters marks what may be direct
 pub direct_at : (b : ℕ) → b < 128 → not (nat_eq (get_or DIRECT b 0) 0) ≡ may_be_direct b
 unfolding may_be_direct is_set_d is_set_o is_blank
 direct_at b l = agree_below_at (λ b. not (nat_eq (get_or DIRECT b 0) 0)) may_be_direct 128 b refl l
 
--- the table of what is written as itself
+-- the table of direct characters marks what is written as itself
 pub written_at : (b : ℕ) → b < 128 → nat_eq (get_or DIRECT b 0) 3 ≡ is_direct b
 unfolding is_direct is_set_d is_set_o is_blank
 written_at b l = agree_below_at (λ b. nat_eq (get_or DIRECT b 0) 3) is_direct 128 b refl l

@@ -23,13 +23,13 @@ writes_direct_one characters k at before h l d =
     put_one characters (place write.Start k at) 1 before write.Start (set before at (get_or characters k 0)) h (ap (λ (w : List ℕ × WriteState). length w.0) (sym e)) (ap (λ (w : List ℕ × WriteState). w.1) (sym e)) (omega arith)
     (set_split before at (get_or characters k 0) l ∙ (let there : suc at ≡ at + 1 = omega arith in ap (λ (i : ℕ). take at before ++ get_or characters k 0 ∷ drop i before) there ∙ append_one (take at before) (get_or characters k 0) (drop (at + 1) before)) ∙ ap (λ (w : List ℕ × WriteState). take at before ++ w.0 ++ drop (at + 1) before) (sym e))
 
--- one direct character more
+-- one direct character more is written
 pub direct_more : {characters : List ℕ} {from : Reached} {before now : List ℕ} (m end : ℕ) → WritesOn characters from before (place write.Start m end) now → m < length characters → end < length now → (c : ℕ) → c ≡ get_or characters m 0 → is_direct c ≡ true → WritesOn characters from before (place write.Start (m + 1) (end + 1)) (set now end c)
 direct_more {characters = characters} {from = from} {before = before} {now = now} m end p h l c e d =
     subst (λ (x : ℕ). WritesOn characters from before (place write.Start (m + 1) (end + 1)) (set now end x)) (sym e)
     (writes_more p (writes_direct_one characters m end now h l (sym (ap is_direct e) ∙ d)))
 
--- each is written as itself
+-- each character is written as itself
 abbrev pub AreDirect : List ℕ → Type 0
 AreDirect [] = Unit {0}
 AreDirect (c ∷ characters) = (is_direct c ≡ true) × AreDirect characters

@@ -35,7 +35,7 @@ all_written write.Start c = refl
 all_written write.Marked c = refl
 all_written (write.Shifted p) c = refl
 
--- they are six at most
+-- they are at most six bytes
 pub bytes_most : (t : WriteState) (c : ℕ) → length (bytes_in t c).0 ≤ 6
 unfolding bytes_in
 bytes_most write.Start c = starts_most c
@@ -54,7 +54,7 @@ shifts_some p c = elim (cases_Bool (is_direct c)) [
   | inr e ↦ rw e (some_digits (bits_of p ++ character_bits c) (rw length-append (omega (arith, character_length c))))
 ]
 
--- there is at least one
+-- they are at least one byte
 pub bytes_some : (t : WriteState) (c : ℕ) → 0 < length (bytes_in t c).0
 unfolding bytes_in
 bytes_some write.Start c = starts_some c
@@ -67,7 +67,7 @@ one_written t c =
     let e : written utf7_writes t (Some c) ≡ output (bytes_in t c).0 0 (bytes_in t c).1 = ap (put_or (substituted t (utf7_writes t question))) (all_written t c) in
     rw e (rw (append-nil, add-zero) refl)
 
--- what is the same from one place on is the same from a later one
+-- what is the same from one index on is the same from a later one
 pub later : (i j : ℕ) (a b : List ℕ) → i ≤ j → drop i a ≡ drop i b → drop j a ≡ drop j b
 later i j a b h e =
     let place : i + (j - i) ≡ j = omega arith in
@@ -96,7 +96,7 @@ writes_more {characters = characters} {from = from} {middle = middle} {to = to} 
       size = q.size ∙ p.size;
     }
 
--- the place to which was written, by its state
+-- the place at which writing arrived, by its state
 pub writes_to : {characters : List ℕ} {from to : Reached} {before after : List ℕ} → WritesOn characters from before to after → (t : WriteState) → to.next ≡ t → WritesOn characters from before (place t to.n to.end) after
 writes_to p t e = record {
   run = p.run;
@@ -144,7 +144,7 @@ writes_put characters from n before next after h p =
     let q = subst (λ (w : Option (List ℕ × WriteState)). PutsAt w before from.end (Wrote n next) after) (all_written from.next (get_or characters from.n 0)) p in
     put_one characters from n before next after h q.0.wrote q.1 q.0.fits q.0.out
 
--- there is room
+-- eight bytes are room for any character
 pub never_full : (t : WriteState) (c at : ℕ) (before after : List ℕ) → at + 8 ≤ length before → PutsAt (utf7_writes t c) before at NoRoom after → ⊥
 never_full t c at before after h p =
     let q = subst (λ (w : Option (List ℕ × WriteState)). PutsAt w before at NoRoom after) (all_written t c) p in

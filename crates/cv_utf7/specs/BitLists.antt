@@ -5,7 +5,7 @@ use Rattle.cv_base.specs.Units.{units_of}
 use Rattle.cv_base.specs.declared.state.Bits.{Bits}
 use Rattle.cv_utf7.specs.Sets.{is_digit, value_of, digit_of}
 
--- the lowest bits of a number, as many as given
+-- the lowest bits of a number, as many as the count
 unfoldable pub bits : ℕ → ℕ → List Bool
 bits zero n = []
 bits (suc count) n = bits count (n / 2) ++ (n % 2 == 1) ∷ []
@@ -31,12 +31,12 @@ AreDigits bytes = All (λ b. is_digit b ≡ true) bytes
 abbrev pub digit_bits : List ℕ → List Bool
 digit_bits digits = flat_map (λ b. bits 6 (value_of b)) digits
 
--- a digit for each six bits
+-- a digit for each six bits; bits that are too few for a digit have none
 abbrev pub digits : List Bool → List ℕ
 digits (a ∷ b ∷ c ∷ d ∷ e ∷ f ∷ rest) = digit_of (number (a ∷ b ∷ c ∷ d ∷ e ∷ f ∷ [])) ∷ digits rest
 digits few = []
 
--- the bits over, which are too few for a digit
+-- the bits left over, which are too few for a digit
 abbrev pub over : List Bool → List Bool
 over (a ∷ b ∷ c ∷ d ∷ e ∷ f ∷ rest) = over rest
 over few = few

@@ -1,4 +1,5 @@
--- Bits that are pending, as a value of the type `Bits`. A reviewer needs to believe only the contract of `laws::pending_bits`.
+-- Bits that are pending, as a value of the type `Bits`. A reviewer needs to believe only the contract of
+-- `laws::pending_bits`.
 use Rattle.std.proofs.Common.{refl, lit≤, lit<}
 use Rattle.std.proofs.Math.Nat.{mod-lt}
 use Rattle.std.specs.Prelude.{◌%◌, Bool, List, [], ◌∷◌}

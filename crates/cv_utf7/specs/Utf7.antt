@@ -1,5 +1,6 @@
 -- UTF-7 (RFC 2152, "UTF-7 Definition", rules 1 to 3).
--- `pending_of` makes pending bits from two or four bits, or from none: they are the bits that it is given (`laws::pending_bits`).
+-- `pending_of` makes pending bits from two or four bits, or from none. They are the bits that it is given
+-- (`laws::pending_bits`).
 use Rattle.std.specs.Prelude.{◌≡◌, ℕ, ◌<◌, Bool, true, false, ◌⊎◌, List, [], ◌∷◌, ◌++◌, length, Option, Some, None, ◌==◌, if◌then◌else◌, replicate}
 use Rattle.cv_base.specs.Scalars.{IsScalar}
 use Rattle.cv_base.specs.Items.{Taken, taken}
@@ -20,7 +21,8 @@ plus = 43
 abbrev pub minus : ℕ
 minus = 45
 
--- Outside a shifted sequence a direct byte is its character (rules 1 and 3), `+-` is U+002B, and `+` before a digit begins a sequence (rule 2).
+-- Outside a shifted sequence a direct byte is its character (rules 1 and 3), `+-` is U+002B, and `+` before a digit
+-- begins a sequence (rule 2).
 abbrev pub ReadsAtStart : List ℕ → Taken → Type 0
 ReadsAtStart (b ∷ []) item = (may_be_direct b ≡ true) × (item ≡ taken 1 (Some b) read.Start)
 ReadsAtStart (b ∷ d ∷ []) item =
@@ -28,7 +30,8 @@ ReadsAtStart (b ∷ d ∷ []) item =
     ⊎ ((b ≡ plus) × (is_digit d ≡ true) × (item ≡ taken 1 None (read.Shifted (pending_of []))))
 ReadsAtStart other item = ⊥
 
--- A character of a shifted sequence: the pending bits and those of the digits are those of the character and of the next pending ones, which are too few for a digit (rule 2).
+-- A character of a shifted sequence: the pending bits, and then those of the digits, are the bits of the character, and
+-- then the next pending bits, which are too few for a digit (rule 2).
 pub record ReadsCharacter (pending : Bits) (bytes : List ℕ) (item : Taken) : Type 0 where
   pub c : ℕ
   pub next : Bits
@@ -37,7 +40,8 @@ pub record ReadsCharacter (pending : Bits) (bytes : List ℕ) (item : Taken) : T
   pub same_bits : bits_of pending ++ digit_bits bytes ≡ character_bits c ++ bits_of next
   pub is : item ≡ taken (length bytes) (Some c) (read.Shifted next)
 
--- What ends a shifted sequence: `-`, which gives no character, or another direct byte that is not a digit, which is its character (rule 2).
+-- What ends a shifted sequence: `-`, which gives no character, or another direct byte that is not a digit, which gives
+-- itself (rule 2).
 abbrev pub EndsAt : ℕ → ℕ → Taken → Type 0
 EndsAt used b item =
     ((b ≡ minus) × (item ≡ taken used None read.Start))
@@ -59,7 +63,7 @@ abbrev pub utf7_reads : ReadState → List ℕ → Taken → Type 0
 utf7_reads (read.Shifted pending) bytes item = ReadsCharacter pending bytes item ⊎ ReadsEnd pending bytes item
 utf7_reads other bytes item = ReadsAtStart bytes item
 
--- the digits of bits; what is over is pending
+-- the digits of bits; the bits left over are pending
 abbrev pub written_bits : List Bool → List ℕ × WriteState
 written_bits all = (digits all, write.Shifted (pending_of (over all)))
 
@@ -72,14 +76,15 @@ abbrev pub utf7_closes : WriteState → List ℕ
 utf7_closes (write.Shifted pending) = last_digit (bits_of pending) ++ minus ∷ []
 utf7_closes other = []
 
--- a character outside a shifted sequence: itself, `+-`, or `+` and the digits of its bits
+-- how a character is written outside a shifted sequence: as itself, as `+-`, or as `+` and the digits of its bits
 abbrev pub writes_at_start : ℕ → List ℕ × WriteState
 writes_at_start c =
     if is_direct c then (c ∷ [], write.Start)
     else if c == plus then (plus ∷ minus ∷ [], write.Start)
     else (plus ∷ digits (character_bits c), write.Shifted (pending_of (over (character_bits c))))
 
--- a character in a shifted sequence: what closes it and itself, or the digits of the pending bits and its own
+-- how a character is written in a shifted sequence: as itself after what closes the sequence, or as the digits of the
+-- pending bits and its own
 abbrev pub writes_in_shift : Bits → ℕ → List ℕ × WriteState
 writes_in_shift pending c =
     if is_direct c then (utf7_closes (write.Shifted pending) ++ c ∷ [], write.Start)

@@ -6,7 +6,8 @@ use crate::sets::digit_for;
 use cv_base::{Bits, Scalar};
 use cv_block::{first_of, second_of};
 
-/// The digits of a character after pending bits: how many there are, the number that they spell, and the bits over.
+/// The digits of a character after pending bits: how many there are, the number that they spell, and the bits left
+/// over, which are pending next.
 #[derive(Clone, Copy)]
 pub(crate) struct Cut {
     pub(crate) n: usize,
@@ -36,7 +37,7 @@ impl Cut {
         }
     }
 
-    /// The digits of a number, as many as these, and the bits over.
+    /// Cuts a number into the bits of `n` digits and the `over` bits left over.
     #[inline(always)]
     fn of(n: usize, all: u64, over: u8) -> Cut
         requires few { over ≤ 4 }
@@ -56,7 +57,7 @@ impl Cut {
         }
     }
 
-    /// The digits of a code unit after pending bits, as many as these, and the bits over.
+    /// The `n` digits of a code unit after pending bits, and the `over` bits left over.
     #[inline(always)]
     #[tactic(auto, using(crate::proofs::Cuts::cut_unit))]
     pub(crate) fn of_unit(pending: Bits, unit: u32, n: usize, over: u8) -> Cut
@@ -70,7 +71,7 @@ impl Cut {
         Cut::of(n, pending.value as u64 * 0x1_0000 + unit as u64, over)
     }
 
-    /// The digits of a character that is two code units.
+    /// The digits of a character of two code units after pending bits.
     #[inline(always)]
     #[tactic(auto, using(crate::proofs::Cuts::pairs))]
     pub(crate) fn of_pair(pending: Bits, value: u32) -> Cut
@@ -90,7 +91,7 @@ impl Cut {
         }
     }
 
-    /// One of the digits, counted from the last.
+    /// One of the digits, by its index from the last, which has index 0.
     #[inline(always)]
     pub(crate) fn digit(self, place: u32) -> u8
         requires { place ≤ 5 }

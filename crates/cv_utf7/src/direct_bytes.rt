@@ -4,9 +4,9 @@ ghost use Rattle.cv_utf7.specs.Sets.{may_be_direct, is_direct};
 
 use cv_byte_sets::{front_in, run_in};
 
-// A set has sixteen entries, one for each lower half of a byte, with a bit for each higher half. So entry 9 of `MAY_STAND`, 0xFD, has the
-// tab (09), `)` (29), `9`, `I`, `Y`, `i` and `y`, but not 19, a control; entry 11, 0xF8, has `;`, `K`, `[`, `k` and `{`, and lacks
-// `+` (2B).
+// A set has sixteen entries, one for each lower half of a byte, and an entry has a bit for each higher half. For
+// example, entry 9 of `MAY_STAND`, 0xFD, has the tab (09), `)` (29), `9`, `I`, `Y`, `i` and `y`, but not 19, a control.
+// Entry 11, 0xF8, has `;`, `K`, `[`, `k` and `{`, but not `+` (2B).
 
 // What may be direct in a text that is read.
 #[rattlefmt::skip]
@@ -20,7 +20,7 @@ const STANDS: [u8; 16] = [
     0xAC, 0xF8, 0xF8, 0xF8, 0xF8, 0xF8, 0xF8, 0xFC, 0xFC, 0xFD, 0xF9, 0x50, 0x54, 0x55, 0x54, 0x5C,
 ];
 
-/// How many bytes from a place of a text that is read on may be direct, sixteen at most.
+/// How many bytes of a text that is read may be direct from index `from` on, at most sixteen.
 #[inline(always)]
 pub(crate) fn direct_run(input: &[u8], from: usize) -> usize
     requires many { 16 ≤ length input.now }
@@ -32,7 +32,7 @@ pub(crate) fn direct_run(input: &[u8], from: usize) -> usize
     run_in(MAY_STAND, input, from)
 }
 
-/// How many bytes at the start are written as themselves, sixteen at most.
+/// How many bytes at the start are written as themselves, at most sixteen.
 #[inline(always)]
 pub(crate) fn written_run(bytes: &[u8]) -> usize
     requires many { 16 ≤ length bytes.now }

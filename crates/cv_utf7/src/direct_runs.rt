@@ -14,7 +14,8 @@ use cv_byte_sets::SIXTEEN;
 /// How many units of more than one byte are converted to bytes at once.
 const MANY_UNITS: usize = 64;
 
-/// Writes the direct bytes at the start of a text, as far as there is room, and answers how many they are.
+/// Writes the direct bytes at the start of a text in whole blocks of sixteen, as far as there is room, and returns how
+/// many it wrote.
 #[inline(always)]
 fn write_direct_bytes(text: &[u8], out: &mut [u8], at: usize) -> usize
     requires { at ≤ length out.old }
@@ -31,8 +32,8 @@ fn write_direct_bytes(text: &[u8], out: &mut [u8], at: usize) -> usize
     run
 }
 
-/// Writes the direct characters at the start of a text whose ASCII has this form, as far as there is room, and answers how many they
-/// are.
+/// Writes the direct characters at the start of a text whose ASCII has this form, at most `MANY_UNITS` and as far as
+/// there is room. Returns how many it wrote: none if they are fewer than sixteen.
 #[inline(always)]
 fn write_direct_units(form: AsciiForm, text: &[u8], out: &mut [u8], at: usize) -> usize
     requires { at ≤ length out.old }
@@ -49,8 +50,8 @@ fn write_direct_units(form: AsciiForm, text: &[u8], out: &mut [u8], at: usize) -
     run
 }
 
-/// Writes the direct characters at the start of a text whose ASCII has this form, as far as there is room, and answers how many they
-/// are. It may write none if they are few.
+/// Writes the direct characters at the start of a text whose ASCII has this form, as far as there is room, and returns
+/// how many it wrote. It may write fewer than possible, and none if they are few.
 pub(crate) fn write_direct_run(form: AsciiForm, text: &[u8], out: &mut [u8], at: usize) -> usize
     requires { at ≤ length out.old }
     ensures { IsWrittenRun utf7_writes WriteState.Start form text.now out.old at result out.new }

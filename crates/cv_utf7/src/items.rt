@@ -82,7 +82,8 @@ pub(crate) fn item_in_shift(pending: Bits, input: &[u8]) -> Item
     }
 }
 
-/// What is next if no digit is: the end of the sequence, if no bits are left.
+/// What is next if no digit is: the end of the sequence if the pending bits are zero and the byte may end it, and
+/// otherwise ill-formed bytes.
 #[inline(always)]
 #[tactic(auto, using(crate::proofs::FewDigits::stops))]
 fn item_of_end(pending: Bits, input: &[u8]) -> Item
@@ -96,7 +97,7 @@ fn item_of_end(pending: Bits, input: &[u8]) -> Item
     ending(input[0], 1)
 }
 
-/// What is next if a surrogate is: a pair, if it is a high one and a low one follows.
+/// What is next if the code unit of a surrogate is: a character if it is a high surrogate and a low one follows.
 #[inline(always)]
 #[tactic(auto, using(crate::proofs::ShiftItems::pairs))]
 fn item_of_surrogate(pending: Bits, input: &[u8], high: Unit) -> Item
@@ -121,7 +122,7 @@ fn item_of_surrogate(pending: Bits, input: &[u8], high: Unit) -> Item
     }
 }
 
-/// What is next if a high surrogate is, and then too few digits for a code unit.
+/// What is next if a high surrogate is, and after it too few digits for a code unit.
 #[tactic(auto, using(crate::proofs::GrownDigits::halves))]
 fn item_of_front(pending: Bits, input: &[u8], high: Unit) -> Item
     requires unit { IsUnit pending input.now high }
@@ -144,7 +145,8 @@ fn item_of_front(pending: Bits, input: &[u8], high: Unit) -> Item
     Item::Incomplete
 }
 
-/// What is next if there are too few digits for a code unit: the end of the sequence, or a prefix of a character.
+/// What is next if there are too few digits for a code unit: the end of the sequence, a prefix of a character, or
+/// ill-formed bytes.
 #[tactic(auto, using(crate::proofs::GrownDigits::fews))]
 fn item_of_few(pending: Bits, input: &[u8]) -> Item
     requires few { NoUnit pending input.now }
@@ -168,7 +170,7 @@ fn item_of_few(pending: Bits, input: &[u8]) -> Item
     Item::Ill
 }
 
-/// What a byte ends, after bits that are zero.
+/// The item that a byte ends after bits that are zero, or `Ill` if it ends none.
 #[inline(always)]
 #[tactic(auto, using(crate::proofs::FewDigits::ends))]
 fn ending(last: u8, used: usize) -> Item

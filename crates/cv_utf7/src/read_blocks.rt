@@ -47,7 +47,7 @@ fn read_outside(input: &[u8], start: usize, buffer: &mut [Scalar], n: usize) -> 
     }
 }
 
-/// Continues a block, as far as one step goes.
+/// Continues a block by one step, outside a shifted sequence or in one.
 #[inline(always)]
 pub(crate) fn read_on(input: &[u8], buffer: &mut [Scalar], from: ReadBlock) -> ReadBlock
     requires within { from.used ≤ length input.now }
@@ -61,7 +61,7 @@ pub(crate) fn read_on(input: &[u8], buffer: &mut [Scalar], from: ReadBlock) -> R
     }
 }
 
-/// Reads the item that is next, if there is one and there is a place for its character.
+/// Reads the next item, if there is one and the buffer has room for its character. Otherwise returns `None`.
 #[inline(never)]
 pub(crate) fn read_one(input: &[u8], buffer: &mut [Scalar], from: ReadBlock) -> Option<ReadBlock>
     requires within { from.used ≤ length input.now }

@@ -8,10 +8,10 @@ use cv_base::{ReadState, Scalar};
 use cv_byte_sets::SIXTEEN;
 use std::simd::prelude::*;
 
-/// How many places in the buffer the character of a shifted sequence takes with the one after it.
+/// How many characters a shifted sequence of one character may add to the buffer: its own, and the one that ends it.
 pub(crate) const LONE_PLACES: usize = 2;
 
-/// Reads direct characters, and answers how many they are.
+/// Reads direct characters one by one, and returns how many it read.
 #[inline(always)]
 #[tactic(auto, using(crate::proofs::ReadRuns::reads_direct))]
 pub(crate) fn read_direct(input: &[u8], used: usize, buffer: &mut [Scalar], n: usize) -> usize
@@ -29,7 +29,7 @@ pub(crate) fn read_direct(input: &[u8], used: usize, buffer: &mut [Scalar], n: u
     run
 }
 
-/// Puts 16 bytes into the buffer.
+/// Puts sixteen bytes into the buffer as characters.
 #[inline(always)]
 fn put_many(input: &[u8], at: usize, buffer: &mut [Scalar], n: usize)
     requires within { at + 16 ≤ length input.now }
@@ -42,7 +42,7 @@ fn put_many(input: &[u8], at: usize, buffer: &mut [Scalar], n: usize)
     }
 }
 
-/// Puts this many bytes into the buffer.
+/// Puts `many` bytes into the buffer as characters.
 #[inline(always)]
 fn put_rest(input: &[u8], at: usize, many: usize, buffer: &mut [Scalar], n: usize)
     requires within { at + many ≤ length input.now }
@@ -54,7 +54,7 @@ fn put_rest(input: &[u8], at: usize, many: usize, buffer: &mut [Scalar], n: usiz
     }
 }
 
-/// Reads the direct characters of a run, as many as are put at once. Answers how many they are, and whether the run may continue.
+/// Reads the direct characters of a run, at most sixteen. Returns how many it read, and whether the run may go on.
 #[inline(always)]
 pub(crate) fn read_run(input: &[u8], used: usize, buffer: &mut [Scalar], n: usize) -> (usize, bool)
     requires many { 16 ≤ length input.now }

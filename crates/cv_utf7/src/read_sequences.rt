@@ -8,10 +8,10 @@ use crate::units::Unit;
 use cv_base::{Bits, Item, ReadBlock, ReadState, Scalar};
 use cv_block::is_surrogate;
 
-/// The bytes of a shifted sequence of one character, and the one that ends it.
+/// How many bytes a shifted sequence of one character has with the byte that ends it.
 const LONE: usize = 5;
 
-/// Whether a byte ends a shifted sequence in which no bits are left.
+/// Whether a byte ends a shifted sequence whose pending bits are zero.
 #[inline(always)]
 fn ends_sequence(b: u8) -> bool
     ensures { IsTrue result ↔ Ends b }
@@ -19,7 +19,8 @@ fn ends_sequence(b: u8) -> bool
     may_stand(b) && digit(b).is_none()
 }
 
-/// The character of a shifted sequence that has only one, if such a sequence is here with the byte that ends it.
+/// The character of a shifted sequence of one character, if such a sequence is at index `at` with the byte that ends
+/// it.
 #[inline(always)]
 fn lone(input: &[u8], at: usize) -> Option<Scalar>
     requires { at + 5 ≤ length input.now }
@@ -41,8 +42,8 @@ fn lone(input: &[u8], at: usize) -> Option<Scalar>
     Some(Scalar::known(unit.value))
 }
 
-/// Reads a shifted sequence of one character, and the direct character that ends it if `-` does not.
-/// Answers how many characters they are: none if no such sequence is here.
+/// Reads a shifted sequence of one character, and the direct character that ends it if `-` does not. Returns how many
+/// characters it read: none if no such sequence is next.
 #[inline(always)]
 #[tactic(auto, using(crate::proofs::LoneSequences::lone_reads))]
 pub(crate) fn read_lone(input: &[u8], used: usize, buffer: &mut [Scalar], n: usize) -> usize
@@ -115,7 +116,7 @@ pub(crate) fn read_inside(
     }
 }
 
-/// Reads the shifted sequence that begins here, or `+-`. It may read nothing.
+/// Reads the next shifted sequence, or `+-`. It may read nothing.
 #[inline(always)]
 pub(crate) fn read_sequence(input: &[u8], used: usize, buffer: &mut [Scalar], n: usize) -> ReadBlock
     requires within { used ≤ length input.now }

@@ -39,7 +39,7 @@ static DIRECT: [u8; 128] = [
     3, 3, 3, 3, 3, 3, 3, 3, 3, 3, 3, 1, 1, 1, 0, 0,
 ];
 
-/// The value of a digit.
+/// The value of a digit, or `None` for any other byte.
 #[inline(always)]
 pub(crate) fn digit(b: u8) -> Option<u32>
     ensures { MatchOption result (is_digit b ≡ false)
@@ -58,7 +58,7 @@ pub(crate) fn digit_for(value: u32) -> u8
     DIGITS[value as usize]
 }
 
-/// Whether the byte may be itself in a text that is read.
+/// Whether a byte may be direct in a text that is read: it is its own character.
 #[inline(always)]
 pub(crate) fn may_stand(b: u8) -> bool
     ensures { result ≡ may_be_direct b }
@@ -66,7 +66,7 @@ pub(crate) fn may_stand(b: u8) -> bool
     b < 128 && DIRECT[b as usize] != 0
 }
 
-/// Whether the character is written as itself.
+/// Whether a character is written as itself.
 #[inline(always)]
 pub(crate) fn stands(c: u32) -> bool
     ensures { result ≡ is_direct c }

@@ -24,7 +24,7 @@ pub(crate) fn closing(pending: Bits) -> Piece
     Piece::two(closing_digit(pending), b'-')
 }
 
-/// The digit of pending bits, followed by zero bits.
+/// The digit of pending bits, which are filled up with zero bits.
 #[inline(always)]
 #[tactic(auto, using(crate::proofs::Cuts::closing_digits))]
 fn closing_digit(pending: Bits) -> u8
@@ -70,7 +70,8 @@ fn put_digits(cut: Cut, out: &mut [u8], at: usize) -> Put
     wrote
 }
 
-/// Writes the digits of a code unit. Each count of pending bits has a branch of its own, in which the count of digits is known.
+/// Writes the digits of a code unit. Each count of pending bits has a branch of its own, in which the count of digits
+/// is known.
 #[inline(always)]
 fn put_unit(pending: Bits, unit: u32, out: &mut [u8], at: usize) -> Put
     requires place { at ≤ length out.old }

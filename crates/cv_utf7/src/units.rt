@@ -4,7 +4,7 @@ ghost use Rattle.std.specs.Prelude.{◌≡◌, ℕ, ◌+◌, ◌*◌, ◌-◌, �
 use crate::sets::digit;
 use cv_base::Bits;
 
-/// A UTF-16 code unit, how many digits hold it, and the bits over.
+/// A UTF-16 code unit, how many digits hold it, and the bits left over after it.
 #[derive(Clone, Copy)]
 pub(crate) struct Unit {
     pub(crate) value: u32,
@@ -12,7 +12,8 @@ pub(crate) struct Unit {
     pub(crate) over: Bits,
 }
 
-/// The digits at the start of a text that are too few for a code unit: how many there are, and the bits so far with the pending ones.
+/// The digits at the start of a text, if they are too few for a code unit: how many there are, and how many bits they
+/// have with the pending ones before them, and the number that these spell.
 #[derive(Clone, Copy)]
 pub(crate) struct Front {
     pub(crate) n: usize,
@@ -23,7 +24,7 @@ pub(crate) struct Front {
 impl Unit {
     ghost use Rattle.cv_utf7.specs.Private.ItemSteps.{IsUnit, NoUnit};
 
-    /// The code unit at the start of a text, if there are digits enough.
+    /// The code unit at the start of a text after pending bits, if there are enough digits.
     #[inline(always)]
     #[tactic(auto, using(crate::proofs::FrontDigits::units))]
     pub(crate) fn next(pending: Bits, input: &[u8]) -> Option<Unit>
@@ -71,7 +72,7 @@ impl Front {
     ghost use Rattle.cv_utf7.specs.Private.ItemSteps.{NoUnit, IsFront};
     ghost use Rattle.cv_utf7.specs.Sets.{is_digit};
 
-    /// The digits at the start of a text.
+    /// The digits at the start of a text that has too few for a code unit.
     #[tactic(auto, using(crate::proofs::FrontDigits::fronts))]
     pub(crate) fn of(pending: Bits, input: &[u8]) -> Front
         requires { NoUnit pending input.now }

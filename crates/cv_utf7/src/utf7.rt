@@ -10,7 +10,8 @@ use crate::shifted_bytes::{closing, put_closed, put_first, put_shifted};
 use cv_base::place::write_slice;
 use cv_base::{Codec, Item, Piece, Put, ReadState, Scalar, WriteState};
 
-/// UTF-7. What it writes has no optional direct character.
+/// UTF-7 (RFC 2152). It reads the optional direct characters (set O) as themselves, and writes them in shifted
+/// sequences.
 #[derive(Clone, Copy, Debug, PartialEq, Eq)]
 pub struct Utf7;
 

@@ -40,7 +40,7 @@ fn write_outside(characters: &[Scalar], from: usize, out: &mut [u8], at: usize) 
     }
 }
 
-/// Continues at a place, as far as one step goes.
+/// Continues to write by one step, outside a shifted sequence or in one.
 #[inline(always)]
 pub(crate) fn write_on(characters: &[Scalar], from: Reached, out: &mut [u8]) -> Reached
     requires some { from.n < length characters.now }

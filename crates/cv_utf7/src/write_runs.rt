@@ -8,7 +8,7 @@ use crate::sets::stands;
 use cv_base::{Scalar, WriteState};
 use cv_byte_sets::SIXTEEN;
 
-/// Writes the direct characters of a run, and answers how many they are.
+/// Writes direct characters one by one, and returns how many it wrote.
 #[inline(always)]
 fn write_direct(characters: &[Scalar], n: usize, out: &mut [u8], at: usize) -> usize
     requires within { n ≤ length characters.now }
@@ -28,7 +28,7 @@ fn write_direct(characters: &[Scalar], n: usize, out: &mut [u8], at: usize) -> u
     run
 }
 
-/// The byte of a character, or 0xFF if it has none. No byte from 0x80 on is direct.
+/// The byte of a character below 256, or 0xFF for any other. No byte from 0x80 on is direct.
 #[inline(always)]
 fn narrow(c: Scalar) -> u8
     ensures { is_direct result ≡ true → result ≡ c }
@@ -36,7 +36,7 @@ fn narrow(c: Scalar) -> u8
     c.value().min(0xff) as u8
 }
 
-/// Sixteen characters as bytes. Bytes that are direct are the characters.
+/// Sixteen characters as bytes. Those bytes that are direct are the characters.
 #[inline(always)]
 fn narrowed(characters: &[Scalar], base: usize) -> [u8; 16]
     requires { base + 16 ≤ length characters.now }
@@ -62,7 +62,8 @@ pub(crate) fn copy(bytes: &[u8], many: usize, out: &mut [u8], at: usize)
     }
 }
 
-/// Writes the direct characters from a place on, sixteen at most if as many are left, and answers how many they are.
+/// Writes the direct characters from the `n`th on, at most sixteen, and returns how many they are. It may also change
+/// the bytes after them.
 #[inline(always)]
 pub(crate) fn write_run(characters: &[Scalar], n: usize, out: &mut [u8], at: usize) -> usize
     requires within { n ≤ length characters.now }

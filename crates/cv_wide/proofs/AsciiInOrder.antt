@@ -23,7 +23,7 @@ latin_fits Byte c h = h
 latin_fits (Two e) c h = omega arith
 latin_fits (Four e) c h = omega arith
 
--- a form reads them as a unit each
+-- a form reads the characters below 256 as one unit each
 pub reads_latin : (form : Form) (order : Order) (s : ReadState) (e : Endian) (unit : AsciiForm) → KeepsReading order s e → SpellsUnits unit (form e) → ReadsBelow 256 (reads_in form order) s unit
 reads_latin form order s e unit keeps spells c h =
     let is : form e c ≡ unit_of unit c = spells c (latin_fits unit c h) in
@@ -31,14 +31,14 @@ reads_latin form order s e unit keeps spells c h =
     let sized = subst (λ (n : ℕ). reads_in form order s (form e c) (taken n (Some c) s)) (ap length is ∙ length-unit_of unit c) reads in
     subst (λ w. reads_in form order s w (taken (unit_size unit) (Some c) s)) is sized
 
--- so it reads the ASCII characters
+-- a form reads the ASCII characters as one unit each
 pub reads_ascii : (form : Form) (order : Order) (s : ReadState) (e : Endian) (unit : AsciiForm) → KeepsReading order s e → SpellsUnits unit (form e) → ReadsAscii (reads_in form order) s unit
 reads_ascii form order s e unit keeps spells c h = reads_latin form order s e unit keeps spells c (omega arith)
 
--- a form writes them as a unit each
+-- a form writes the characters below 256 as one unit each
 pub writes_latin : (form : Form) (order : Order) (t : WriteState) (e : Endian) (unit : AsciiForm) → KeepsWriting order t e → SpellsUnits unit (form e) → WritesBelow 256 (writes_in form order) t unit
 writes_latin form order t e unit keeps spells c h = keeps form c ∙ ap (λ w. Some (w, t)) (spells c (latin_fits unit c h))
 
--- so it writes the ASCII characters
+-- a form writes the ASCII characters as one unit each
 pub writes_ascii : (form : Form) (order : Order) (t : WriteState) (e : Endian) (unit : AsciiForm) → KeepsWriting order t e → SpellsUnits unit (form e) → WritesAscii (writes_in form order) t unit
 writes_ascii form order t e unit keeps spells c h = writes_latin form order t e unit keeps spells c (omega arith)

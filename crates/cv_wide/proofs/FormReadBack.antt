@@ -18,7 +18,7 @@ BothAt write.Start s = s ≡ read.Start
 BothAt write.Marked s = s ≡ read.Big
 BothAt (write.Shifted bits) s = ⊥
 
--- what was written of a scalar is read as it
+-- what was written for a scalar is read as it
 abbrev pub is_read : Form → Order → ReadState → ℕ → List ℕ → WriteState → Type 0
 is_read form order s c bytes next = IsReadFrom (reads_in form order) s bytes (c ∷ []) (BothAt next)
 

@@ -12,7 +12,7 @@ use Rattle.cv_wide.specs.declared.order.Order.TheVariants.{Be, Le, Marked}
 use Rattle.cv_wide.specs.Private.Forms.{IsUnique, IsForm}
 use Rattle.cv_wide.specs.Orders.{Form, gives, reads_first, reads_in, writes_in, mark}
 
--- one item is next, and it uses some of its bytes: characters, then marks, then each order
+-- at most one item is next, and it uses some bytes: characters, then marks, then each order
 one_given : (bytes_of : ℕ → List ℕ) → IsUnique bytes_of → (next : ReadState) (text a b : List ℕ) (i j : Taken) → gives bytes_of next a i → gives bytes_of next b j → Begins a text → Begins b text → i ≡ j
 one_given bytes_of u next text a b i j p q f g =
     let c_is : p.0 ≡ q.0 = u.one text p.0 q.0 p.1 q.1 (rw (← p.2) f) (rw (← q.2) g) in
@@ -85,7 +85,7 @@ uses_in form u Marked read.Big = uses_given (form Big) (u.unique Big) read.Big
 uses_in form u Marked read.Little = uses_given (form Little) (u.unique Little) read.Little
 uses_in form u Marked (read.Shifted bits) = uses_first form u
 
--- an encoding form keeps it in each order
+-- an encoding form is readable in each order
 pub in_readable : (form : Form) → IsForm form → (order : Order) → IsReadable (reads_in form order)
 in_readable form u order = record { one_item = one_in form u order; uses = uses_in form u order }
 

@@ -12,7 +12,7 @@ use Rattle.cv_wide.specs.Orders.{Form, reads_in}
 use Rattle.cv_wide.specs.Private.AnyState.{always_gives, always_first}
 use Rattle.cv_wide.proofs.OneOrder.{next_like}
 
--- at an order and a state that are known
+-- what is next is the same if the order and the state are known
 at_state : (form : Form) (o order : Order) (r s : ReadState) (x : List ℕ) (i : Item) → order ≡ o → s ≡ r → IsNext (reads_in form o) r x i → IsNext (reads_in form order) s x i
 at_state form o order r s x i e f h = subst (λ a. IsNext (reads_in form a) s x i) (sym e) (subst (λ a. IsNext (reads_in form o) a x i) (sym f) h)
 

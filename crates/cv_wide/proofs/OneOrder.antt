@@ -8,14 +8,14 @@ use Rattle.cv_base.specs.declared.item.Item.TheVariants.{Char, Shift, Incomplete
 use Rattle.cv_base.proofs.Front.{Agree, Begins-agree}
 use Rattle.cv_wide.specs.Private.AnyState.{always_gives}
 
--- what begins a list that agrees with a text begins the text, if that is as long
+-- a prefix of a list that agrees with a text is a prefix of the text, if that is as long
 pub front_agrees : (a w x : List ℕ) → Begins a w → Agree w x → length a ≤ length x → Begins a x
 front_agrees [] w x p q l = tt
 front_agrees (y ∷ a) [] x p q l = absurd p
 front_agrees (y ∷ a) (z ∷ w) [] p q l = absurd (omega arith)
 front_agrees (y ∷ a) (z ∷ w) (t ∷ x) p q l = (p.0 ∙ q 0 (omega arith) (omega arith), front_agrees a w x p.1 (λ k m n. q (suc k) (omega arith) (omega arith)) (omega arith))
 
--- what follows a prefix of a list that agrees with a text agrees with what is there
+-- what follows a prefix of a list that agrees with a text agrees with what follows as many bytes of the text
 pub back_agrees : (a b x : List ℕ) → Agree (a ++ b) x → Agree b (drop (length a) x)
 back_agrees [] b x q = q
 back_agrees (y ∷ a) b [] q = λ k m n. absurd (omega arith)
@@ -27,7 +27,7 @@ whole_and_part [] b x p q = q
 whole_and_part (y ∷ a) b [] p q = absurd p
 whole_and_part (y ∷ a) b (t ∷ x) p q = (sym p.0, whole_and_part a b x p.1 q)
 
--- a scalar whose bytes begin the text is there
+-- a scalar whose bytes begin the text is next
 pub char_from : (bytes_of : ℕ → List ℕ) (next s : ReadState) (x : List ℕ) (n c : ℕ) → IsScalar c → Begins (bytes_of c) x → length (bytes_of c) ≡ n → Stands (always_gives bytes_of next) s x (taken n (Some c) next)
 char_from bytes_of next s x n c scalar front e = record { bytes = bytes_of c; is_item = (c, scalar, refl, ap (λ m. taken m (Some c) next) (sym e)); front = front }
 

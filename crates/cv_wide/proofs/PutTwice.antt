@@ -1,4 +1,4 @@
--- What was put at a place, and more after it.
+-- What was put at an index, and more after it.
 use Rattle.std.proofs.Common.{◌≡◌, ℕ, ◌+◌, ◌≤◌, List, ◌++◌, length, take, drop, refl, sym, ◌∙◌, ap, subst, arith, length-append, length-take, length-drop, append_assoc}
 use Rattle.cv_base.specs.Places.{IsPut}
 use Rattle.cv_base.specs.Units.{high_unit, low_unit, unit_of}

@@ -105,7 +105,8 @@ part_of_little_mark form u s x some big little front = (
   record { bytes = form Little mark; item = taken (length (form Little mark)) None read.Little; is_item = inr (inl (refl, refl)); front = front },
 )
 
--- if neither a mark nor a prefix of the little-endian one is next, what is next is what is next of big-endian characters
+-- if neither a mark nor a prefix of the little-endian one is next, what is next is the same as among big-endian
+-- characters
 pub no_mark : (form : Form) (s t : ReadState) (x : List ℕ) (i : Item) → (Begins (form Big mark) x → ⊥) → (Begins (form Little mark) x → ⊥) → (Begins x (form Little mark) → ⊥) → IsNext (always_gives (form Big) read.Big) s x i → IsNext (always_first form) t x i
 no_mark form s t x i big little front = first_from form s t x big little (grows form s x mark (omega arith, λ h. omega arith)) (λ f. absurd (front f)) i
 

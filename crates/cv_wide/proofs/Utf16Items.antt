@@ -42,7 +42,7 @@ other_from : (e : Endian) (b : ℕ) → b < 256 → CanBeOther e b → (u : ℕ)
 other_from Big b h other = (b * 256, λ low. other (omega (arith, low), omega (arith, low)), record { few = omega arith; begins = (omega arith, tt) })
 other_from Little b h other = (b, λ low. omega (arith, low), record { few = omega arith; begins = (omega arith, tt) })
 
--- bytes of a text by its length
+-- the first byte of a unit stays the first when bytes follow
 first_of_two : (e : Endian) (u : ℕ) (rest : List ℕ) → get_or (unit_of (Two e) u) 0 0 ≡ get_or (unit_of (Two e) u ++ rest) 0 0
 first_of_two Big u rest = refl
 first_of_two Little u rest = refl
@@ -93,14 +93,14 @@ two_from e x first c s a p high = elim (first_unit e x first c s a p) [
   | inr q ↦ q.0
 ]
 
--- a low surrogate at the start
+-- a low surrogate at the start is ill-formed
 pub ill_first : (e : Endian) (next s : ReadState) (x : List ℕ) (first : ℕ) → IsUnitAt (Two e) x 0 first → IsLowUnit first → IsNext (always_gives (utf16 e) next) s x Ill
 ill_first e next s x first p low = ill_from (utf16 e) next s x (omega (arith, unit_within e x 0 first p)) (λ c scalar a. elim (first_unit e x first c scalar a p) [
   | inl q ↦ q.0.no_low (ap (λ (u : ℕ). u / 0x400) q.1 ∙ low)
   | inr q ↦ omega (arith, q.0.high, q.1, low)
 ])
 
--- a high surrogate with no low one after it
+-- a high surrogate with no low one after it is ill-formed
 pub ill_second : (e : Endian) (next s : ReadState) (x : List ℕ) (first second : ℕ) → IsUnitAt (Two e) x 0 first → IsHighUnit first → IsUnitAt (Two e) x 2 second → (IsLowUnit second → ⊥) → IsNext (always_gives (utf16 e) next) s x Ill
 ill_second e next s x first second p high q never = ill_from (utf16 e) next s x (omega (arith, unit_within e x 0 first p)) (λ c scalar a. (
     let t = two_from e x first c scalar a p high in
@@ -109,7 +109,7 @@ ill_second e next s x first second p high q never = ill_from (utf16 e) next s x 
     let same : low_unit c ≡ second = one_number (Two e) (drop 2 x) (low_unit c) second here q.stands in
     never (ap (λ (u : ℕ). u / 0x400) (sym same) ∙ t.low)))
 
--- a high surrogate, and a byte that begins no low one
+-- a high surrogate, and a byte that begins no low one, are ill-formed
 pub ill_part : (e : Endian) (next s : ReadState) (x : List ℕ) (first : ℕ) → IsUnitAt (Two e) x 0 first → IsHighUnit first → length x ≡ 3 → (CanBeLow e (get_or x 2 0) → ⊥) → IsNext (always_gives (utf16 e) next) s x Ill
 ill_part e next s x first p high long never = ill_from (utf16 e) next s x (omega arith) (λ c scalar a. (
     let t = two_from e x first c scalar a p high in
@@ -117,7 +117,7 @@ ill_part e next s x first p high long never = ill_from (utf16 e) next s x (omega
     let same : get_or (unit_of (Two e) (low_unit c)) 0 0 ≡ get_or x 2 0 = rw get_or-drop at here in
     never (subst (CanBeLow e) same (low_byte e (low_unit c) t.low))))
 
--- a byte that begins only low surrogates
+-- a byte that begins only low surrogates is ill-formed
 pub ill_byte : (e : Endian) (next s : ReadState) (x : List ℕ) → 0 < length x → length x < 2 → (CanBeOther e (get_or x 0 0) → ⊥) → IsNext (always_gives (utf16 e) next) s x Ill
 ill_byte e next s x some few never = ill_from (utf16 e) next s x some (λ c scalar a. elim (one_or_two e c scalar) [
   | inl o ↦ (
@@ -129,25 +129,25 @@ ill_byte e next s x some few never = ill_from (utf16 e) next s x some (λ c scal
       never (subst (CanBeOther e) same (other_byte e (high_unit c) (λ low. omega (arith, low, o.high)))))
 ])
 
--- one unit
+-- a unit that is no surrogate is read as its character
 pub char_one : (e : Endian) (next s : ReadState) (x : List ℕ) (first : ℕ) → IsUnitAt (Two e) x 0 first → (IsLowUnit first → ⊥) → (IsHighUnit first → ⊥) → Stands (always_gives (utf16 e) next) s x (taken 2 (Some first) next)
 char_one e next s x first p low high = char_from (utf16 e) next s x 2 first (scalar_one first p.few high low) (subst (λ (w : List ℕ). Begins w x) (sym (one_unit e first p.few)) p.stands) (size_one first p.few e)
 
--- two units
+-- a high and a low surrogate are read as their character
 pub char_two : (e : Endian) (next s : ReadState) (x : List ℕ) (first second c : ℕ) → IsUnitAt (Two e) x 0 first → IsHighUnit first → IsUnitAt (Two e) x 2 second → IsPair first second c → Stands (always_gives (utf16 e) next) s x (taken 4 (Some c) next)
 char_two e next s x first second c p high q pair = char_from (utf16 e) next s x 4 c (pair_scalar first second c high pair) (pair_stands e x 0 first second c p q pair) (pair_size e first second c pair)
 
 longer : (e : Endian) (x : List ℕ) (first c : ℕ) → IsUnitAt (Two e) x 0 first → IsHighUnit first → length x < 4 → IsScalar c → Agree (utf16 e c) x → length x < length (utf16 e c)
 longer e x first c p high few scalar a = let t = two_from e x first c scalar a p high in omega (arith, size_two c t.above e)
 
--- a high surrogate
+-- a high surrogate alone is incomplete
 pub incomplete_high : (e : Endian) (next s : ReadState) (x : List ℕ) (first : ℕ) → IsUnitAt (Two e) x 0 first → IsHighUnit first → length x ≡ 2 → IsNext (always_gives (utf16 e) next) s x Incomplete
 incomplete_high e next s x first p high long =
     let pair : IsPair first 0xdc00 (paired first 0xdc00) = paired_is first 0xdc00 high (omega arith) in
     let front : Begins x (unit_of (Two e) first ++ unit_of (Two e) 0xdc00) = whole_and_part (unit_of (Two e) first) (unit_of (Two e) 0xdc00) x p.stands (nothing_behind (unit_of (Two e) 0xdc00) (length (unit_of (Two e) first)) x (omega (arith, length-unit_of (Two e) first))) in
     incomplete_from (utf16 e) next s x (omega arith) (λ c scalar a. longer e x first c p high (omega arith) scalar a) (paired first 0xdc00) (pair_scalar first 0xdc00 _ high pair) (subst (λ (w : List ℕ). Begins x w) (sym (pair_bytes e first 0xdc00 _ pair)) front)
 
--- a high surrogate and the first byte of a low one
+-- a high surrogate and the first byte of a low one are incomplete
 pub incomplete_part : (e : Endian) (next s : ReadState) (x : List ℕ) (first : ℕ) → IsUnitAt (Two e) x 0 first → IsHighUnit first → length x ≡ 3 → get_or x 2 0 < 256 → CanBeLow e (get_or x 2 0) → IsNext (always_gives (utf16 e) next) s x Incomplete
 incomplete_part e next s x first p high long byte can =
     let low = low_from e (get_or x 2 0) byte can in
@@ -156,7 +156,7 @@ incomplete_part e next s x first p high long byte can =
     let front : Begins x (unit_of (Two e) first ++ unit_of (Two e) low.0) = whole_and_part (unit_of (Two e) first) (unit_of (Two e) low.0) x p.stands rest in
     incomplete_from (utf16 e) next s x (omega arith) (λ c scalar a. longer e x first c p high (omega arith) scalar a) (paired first low.0) (pair_scalar first low.0 _ high pair) (subst (λ (w : List ℕ). Begins x w) (sym (pair_bytes e first low.0 _ pair)) front)
 
--- the first byte of a unit that may be no low surrogate
+-- the first byte of a unit that may be no low surrogate is incomplete
 pub incomplete_byte : (e : Endian) (next s : ReadState) (x : List ℕ) → 0 < length x → length x < 2 → get_or x 0 0 < 256 → CanBeOther e (get_or x 0 0) → IsNext (always_gives (utf16 e) next) s x Incomplete
 incomplete_byte e next s x some few byte can =
     let other = other_from e (get_or x 0 0) byte can in

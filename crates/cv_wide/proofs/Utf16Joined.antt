@@ -20,7 +20,7 @@ use Rattle.cv_wide.specs.Private.Joined.{IsJoined, AreJoined, unless_low, withou
 use Rattle.cv_wide.specs.Utf16.{utf16}
 use Rattle.cv_wide.proofs.Utf16Units.{one_spelled, pair_spelled}
 
--- a number more
+-- a low surrogate more adds no number
 low_more : (numbers : List ℕ) (k : ℕ) → k < length numbers → IsLowUnit (get_or numbers k 0) → without_low (take (k + 1) numbers) ≡ without_low (take k numbers)
 low_more numbers k h e =
     let c = get_or numbers k 0 in
@@ -33,7 +33,7 @@ other_more numbers k h never =
     let itself : unless_low c ≡ c ∷ [] = ap (λ b. cond b [] (c ∷ [])) (ne_eqb (c / 0x400) 0x37 never) in
     ap without_low (take_more numbers k 0 h) ∙ flat_map-more unless_low (take k numbers) c ∙ ap (λ (x : List ℕ). without_low (take k numbers) ++ x) itself
 
--- What was put into a buffer of the first k numbers.
+-- What was put into a buffer for the first k numbers.
 pub record IsPut (numbers before : List ℕ) (n k more : ℕ) (after : List ℕ) : Type 0 where
   pub few : more ≤ k
   pub counts : more ≡ length (without_low (take k numbers))
@@ -54,13 +54,13 @@ put_more numbers before now n k more false c h low is few counts stand room =
       stand = rw (e, ← is refl) (ap (λ x. take x (slice_set now (n + more) c)) (let g : n + (more + 1) ≡ n + more + 1 = omega arith in g) ∙ take_more_set now (n + more) c room ∙ ap (λ (x : List ℕ). x ++ c ∷ []) stand ∙ append_assoc (take n before) (without_low (take k numbers)) (c ∷ []));
     }
 
--- Characters whose bytes are at the start of a text, up to a place.
+-- Characters whose bytes are at the start of a text, up to an index.
 pub record IsFront (e : Endian) (text characters : List ℕ) (at : ℕ) : Type 0 where
   pub scalars : AreScalars characters
   pub begins : Begins (flat_map (utf16 e) characters) text
   pub uses : length (flat_map (utf16 e) characters) ≡ at
 
--- one character more
+-- one character more is at the start
 front_more : (e : Endian) (text characters : List ℕ) (at size c : ℕ) → IsFront e text characters at → IsSpelledAt (utf16 e) text at c size → IsFront e text (characters ++ c ∷ []) (at + size)
 front_more e text characters at size c front p =
     let more = flat_map-more (utf16 e) characters c in
@@ -75,7 +75,7 @@ record Before (e : Endian) (text numbers : List ℕ) (m u : ℕ) : Type 0 where
   low : IsLowUnit u → IsFront e text (without_low (take m numbers)) (2 * m + 2)
   other : (IsLowUnit u → ⊥) → IsFront e text (without_low (take m numbers)) (2 * m)
 
--- after a high surrogate
+-- what was read before the unit after a high surrogate
 after_high : (e : Endian) (text numbers : List ℕ) (m u : ℕ) → m < length numbers → (j : IsJoined e text (2 * m) (get_or numbers m 0)) → j.next ≡ u → Before e text numbers m j.unit → IsHighUnit j.unit → Before e text numbers (m + 1) u
 after_high e text numbers m u h j is before high =
     let c = get_or numbers m 0 in
@@ -89,7 +89,7 @@ after_high e text numbers m u h j is before high =
       other = λ f. absurd (f (subst IsLowUnit is low));
     }
 
--- after another unit
+-- what was read before the unit after another unit
 after_other : (e : Endian) (text numbers : List ℕ) (m u : ℕ) → m < length numbers → (j : IsJoined e text (2 * m) (get_or numbers m 0)) → j.next ≡ u → Before e text numbers m j.unit → (IsHighUnit j.unit → ⊥) → Before e text numbers (m + 1) u
 after_other e text numbers m u h j is before never =
     let c = get_or numbers m 0 in
@@ -106,7 +106,7 @@ after_other e text numbers m u h j is before never =
       ];
     }
 
--- all that was read before each unit
+-- what was read before each unit
 all_before : (e : Endian) (text numbers : List ℕ) (m u first : ℕ) → m ≤ length numbers → AreJoined e text numbers (length numbers) → IsUnitAt (Two e) text 0 first → (IsLowUnit first → ⊥) → IsUnitAt (Two e) text (2 * m) u → Before e text numbers m u
 all_before e text numbers zero u first h joined here never unit =
     let same : u ≡ first = one_number (Two e) text u first unit.stands here.stands in
@@ -123,7 +123,7 @@ all_before e text numbers (suc m) u first h joined here never unit =
       | inr other ↦ after_other e text numbers m u inside j is before other
     ])
 
--- how far that is after the last of many
+-- how many bytes were read after the last of many units
 end : {e : Endian} {text numbers : List ℕ} {u : ℕ} (is_low : Bool) → (IsTrue is_low ↔ (IsLowUnit u)) → Before e text numbers 16 u → IsFront e text (without_low (take 16 numbers)) (32 + 2 * bool_byte is_low)
 end true low b = b.low (low.0 refl)
 end false low b = b.other (λ f. (let g : false ≡ true = low.1 f in cc g))

@@ -9,7 +9,7 @@ use Rattle.cv_base.specs.declared.endian.Endian.TheVariants.{Big, Little}
 use Rattle.cv_wide.specs.Utf16.{utf16}
 use Rattle.cv_block.proofs.Lanes.{below, div_all, rem_all, mul_all, sum_all, below_all}
 
--- one lane
+-- the first unit of a lane
 abbrev first : ℕ → ℕ
 first v = below 0x10000 v v ((v / 0x400 + 0xd7c0) % 2 ^ 32)
 
@@ -44,7 +44,7 @@ pub lane_size_is : (e : Endian) (v : ℕ) → lane_size v ≡ length (utf16 e v)
 lane_size_is Big v = grind arith
 lane_size_is Little v = grind arith
 
--- the same of each lane
+-- the first units of all lanes
 abbrev firsts : ℕ → List ℕ → List ℕ
 firsts n vs = below_all n 0x10000 vs vs (sum_all (div_all n 0x400 vs) (replicate n 0xd7c0))
 
@@ -62,7 +62,7 @@ little_all n vs = sum_all (firsts n vs) (mul_all n 0x10000 (seconds n vs))
 abbrev pub big_all : ℕ → List ℕ → List ℕ
 big_all n vs = sum_all (turned_all n (firsts n vs)) (mul_all n 0x10000 (turned_all n (seconds n vs)))
 
--- the sizes
+-- the sizes of all lanes
 abbrev pub sizes_all : ℕ → List ℕ → List ℕ
 sizes_all n vs = sum_all (replicate n 2) (below_all n 0x10000 vs (replicate n 0) (replicate n 2))
 

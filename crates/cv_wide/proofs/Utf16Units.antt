@@ -14,11 +14,11 @@ use Rattle.cv_block.specs.Units.{IsUnitAt}
 use Rattle.cv_block.proofs.UnitBytes.{length-unit_of}
 use Rattle.cv_wide.specs.Utf16.{utf16}
 
--- a character below 10000 has the bytes of one unit
+-- a character below U+10000 has the bytes of one unit
 pub one_unit : (e : Endian) (c : ℕ) → c < 0x10000 → utf16 e c ≡ unit_of (Two e) c
 one_unit e c h = rw (lt-ltb c 0x10000 h) (append-nil (unit_of (Two e) c))
 
--- a character from 10000 on has those of two
+-- a character from U+10000 on has the bytes of two units
 pub two_units : (e : Endian) (c : ℕ) → 0x10000 ≤ c → utf16 e c ≡ unit_of (Two e) (high_unit c) ++ unit_of (Two e) (low_unit c)
 two_units e c h = rw (le-ltb c 0x10000 h) (ap (λ (x : List ℕ). unit_of (Two e) (high_unit c) ++ x) (append-nil (unit_of (Two e) (low_unit c))))
 
@@ -33,19 +33,19 @@ pair_bytes e high low c p =
 pub length-two : (e : Endian) (u v : ℕ) → length (unit_of (Two e) u ++ unit_of (Two e) v) ≡ 4
 length-two e u v = omega (arith, length-append (unit_of (Two e) u) (unit_of (Two e) v), length-unit_of (Two e) u, length-unit_of (Two e) v)
 
--- it has four of them
+-- the character of a pair has four bytes
 pub pair_size : (e : Endian) (high low c : ℕ) → IsPair high low c → length (utf16 e c) ≡ 4
 pair_size e high low c p = ap length (pair_bytes e high low c p) ∙ length-two e high low
 
--- a character below 10000 has two bytes
+-- a character below U+10000 has two bytes
 pub size_one : (c : ℕ) → c < 0x10000 → (e : Endian) → length (utf16 e c) ≡ 2
 size_one c h e = ap length (one_unit e c h) ∙ length-unit_of (Two e) c
 
--- a character from 10000 on has four
+-- a character from U+10000 on has four bytes
 pub size_two : (c : ℕ) → 0x10000 ≤ c → (e : Endian) → length (utf16 e c) ≡ 4
 size_two c h e = ap length (two_units e c h) ∙ length-two e (high_unit c) (low_unit c)
 
--- four bytes are the most
+-- no character has more than four bytes
 pub four_at_most : (e : Endian) (c : ℕ) → length (utf16 e c) ≤ 4
 four_at_most e c = elim (cases_lt c 0x10000) [
   | inl l ↦ omega (arith, size_one c l e)
@@ -64,7 +64,7 @@ pair_scalar high low c h p = (omega (arith, p.first, h), λ e. omega (arith, p.a
 abbrev pub paired : ℕ → ℕ → ℕ
 paired high low = 0x10000 + (high % 0x400) * 0x400 + low % 0x400
 
--- they are its units
+-- a high and a low surrogate are the units of their character
 pub paired_is : (high low : ℕ) → IsHighUnit high → IsLowUnit low → IsPair high low (paired high low)
 paired_is high low h l = record { above = omega arith; first = omega (arith, h, l); second = omega (arith, h, l) }
 
@@ -89,11 +89,11 @@ one_or_two e c s = elim (cases_lt c 0x10000) [
   | inr l ↦ inr (record { above = l; high = omega (arith, s.0, l); low = omega (arith, l); bytes = two_units e c l })
 ]
 
--- a unit that is at a place is within the text
+-- a unit that is at an index is within the text
 pub unit_within : (e : Endian) (text : List ℕ) (at u : ℕ) → IsUnitAt (Two e) text at u → at + 2 ≤ length text
 unit_within e text at u p = omega (arith, Begins-length (unit_of (Two e) u) (drop at text) p.stands, length-unit_of (Two e) u, length-drop at text)
 
--- a unit that is no surrogate is its character's spelling
+-- a unit that is no surrogate spells its character
 pub one_spelled : (e : Endian) (text : List ℕ) (at u : ℕ) → IsUnitAt (Two e) text at u → (IsHighUnit u → ⊥) → (IsLowUnit u → ⊥) → IsSpelledAt (utf16 e) text at u 2
 one_spelled e text at u p high low = (
   scalar_one u p.few high low,
@@ -110,6 +110,6 @@ pair_stands e text at high low c p q pair =
     let second : Begins (unit_of (Two e) low) (drop (length (unit_of (Two e) high)) (drop at text)) = subst (λ (x : List ℕ). Begins (unit_of (Two e) low) x) (behind e high text at) q.stands in
     subst (λ (w : List ℕ). Begins w (drop at text)) (sym (pair_bytes e high low c pair)) (Begins-join (unit_of (Two e) high) (unit_of (Two e) low) (drop at text) p.stands second)
 
--- it is spelled there
+-- the character of a pair is spelled where its units are
 pub pair_spelled : (e : Endian) (text : List ℕ) (at high low c : ℕ) → IsUnitAt (Two e) text at high → IsUnitAt (Two e) text (at + 2) low → IsHighUnit high → IsPair high low c → IsSpelledAt (utf16 e) text at c 4
 pair_spelled e text at high low c p q h pair = (pair_scalar high low c h pair, pair_stands e text at high low c p q pair, sym (pair_size e high low c pair))

@@ -14,7 +14,7 @@ use Rattle.cv_wide.specs.Utf32.{utf32}
 pub size_four : (e : Endian) (c : ℕ) → length (utf32 e c) ≡ 4
 size_four e c = length-unit_of (Four e) c
 
--- four bytes are the most
+-- no scalar has more than four bytes
 pub four_bytes : (e : Endian) (c : ℕ) → length (utf32 e c) ≤ 4
 four_bytes e c = omega (arith, size_four e c)
 

@@ -30,7 +30,8 @@ reads_first form bytes item =
     ⊎ (((bytes ≡ form Little mark) × (item ≡ taken (length bytes) None read.Little))
     ⊎ ((bytes ≡ form Big mark → ⊥) × (bytes ≡ form Little mark → ⊥) × gives (form Big) read.Big bytes item))
 
--- The whole byte string is one scalar in the state's order, or a mark. A state that the order doesn't use means `Start`.
+-- The whole byte string is one scalar in the state's order, or a mark. A state that the order doesn't use means
+-- `Start`.
 abbrev pub reads_in : Form → Order → ItemRelation
 reads_in form Be s = gives (form Big) read.Start
 reads_in form Le s = gives (form Little) read.Start
@@ -38,7 +39,8 @@ reads_in form Marked read.Big = gives (form Big) read.Big
 reads_in form Marked read.Little = gives (form Little) read.Little
 reads_in form Marked other = reads_first form
 
--- Every scalar is written in the order, after the big-endian mark if it is the first. A state that the order doesn't use means `Start`.
+-- Every scalar is written in the order, and with `Marked` after the big-endian mark if it is the first. A state that
+-- the order doesn't use means `Start`.
 abbrev pub writes_in : Form → Order → Writing
 writes_in form Be t c = Some (form Big c, write.Start)
 writes_in form Le t c = Some (form Little c, write.Start)

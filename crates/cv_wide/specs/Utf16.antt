@@ -4,6 +4,6 @@ use Rattle.cv_base.specs.Units.{units_of, unit_of}
 use Rattle.cv_base.specs.declared.ascii_form.AsciiForm.TheVariants.{Two}
 use Rattle.cv_wide.specs.Orders.{Form}
 
--- UTF-16 in each order
+-- the bytes of a scalar in UTF-16, in each byte order
 abbrev pub utf16 : Form
 utf16 endian c = flat_map (unit_of (Two endian)) (units_of c)

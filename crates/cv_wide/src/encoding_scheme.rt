@@ -12,13 +12,13 @@ use std::marker::PhantomData;
 /// is written in one piece with a mark. A state that the order does not use is treated as `Start`.
 #[derive(Clone, Copy)]
 pub struct EncodingScheme<F> {
-    /// The order.
+    /// The byte order.
     pub order: Order,
     form: PhantomData<F>,
 }
 
 impl<F> EncodingScheme<F> {
-    /// The form in this order.
+    /// Returns the encoding scheme of the form in this byte order.
     #[inline(always)]
     pub fn new(order: Order) -> EncodingScheme<F>
         ensures { result.order ≡ order }

@@ -12,7 +12,7 @@ use crate::wide_form::WideForm;
 use cv_base::{Endian, Item, Put, ReadState, Scalar, WriteState};
 use cv_block::{BigEndian, ByteOrder, LittleEndian};
 
-/// Whether the first bytes begin the others.
+/// Whether the first bytes are a prefix of the others.
 #[inline]
 #[tactic(auto, using(crate::proofs::StartOfText::begins_test))]
 fn begins(front: &[u8], text: &[u8]) -> bool
@@ -44,14 +44,14 @@ fn first_item<F: WideForm>(input: &[u8]) -> Item
             next: ReadState::Little,
         };
     }
-    // A prefix of the big-endian mark is that of U+FEFF.
+    // A prefix of the big-endian mark needs no test: it is a prefix of U+FEFF, which is read below.
     if begins(input, little.as_slice()) {
         return Item::Incomplete;
     }
     F::item::<BigEndian>(input, ReadState::Big)
 }
 
-/// What is next in a state.
+/// What is next in a text in a byte order and a state.
 #[inline(always)]
 pub(crate) fn item_in<F: WideForm>(order: Order, state: ReadState, input: &[u8]) -> Item
     ensures { IsNext (reads_in F.form order) state input.now result }
@@ -66,7 +66,7 @@ pub(crate) fn item_in<F: WideForm>(order: Order, state: ReadState, input: &[u8])
     }
 }
 
-/// Writes a character at a place.
+/// Writes a character in a byte order into a slice from index `at` on.
 #[inline]
 fn put<F: WideForm, O: ByteOrder>(c: Scalar, out: &mut [u8], at: usize, next: WriteState) -> Put
     requires { at ≤ length out.old }
@@ -80,7 +80,7 @@ fn put<F: WideForm, O: ByteOrder>(c: Scalar, out: &mut [u8], at: usize, next: Wr
     Put::Wrote { n, next }
 }
 
-/// Writes the big-endian mark and a character at a place.
+/// Writes the big-endian mark and a character into a slice from index `at` on.
 #[inline]
 fn put_marked<F: WideForm>(c: Scalar, out: &mut [u8], at: usize) -> Put
     requires { at ≤ length out.old }
@@ -101,7 +101,7 @@ fn put_marked<F: WideForm>(c: Scalar, out: &mut [u8], at: usize) -> Put
     }
 }
 
-/// Writes a character at a place in a state.
+/// Writes a character into a slice from index `at` on, in a byte order and a state.
 #[inline]
 pub(crate) fn put_in<F: WideForm>(
     order: Order,
@@ -123,7 +123,7 @@ pub(crate) fn put_in<F: WideForm>(
     }
 }
 
-/// The most bytes that one character is written as.
+/// How many bytes one character has at most when it is written. The mark before the first one counts.
 pub(crate) fn most_bytes_in<F: WideForm>(order: Order) -> usize
     ensures few { result ≤ 8 }
     ensures most { WritesAtMost result (writes_in F.form order) }

@@ -7,14 +7,14 @@ ghost use Rattle.cv_wide.specs.Utf32.{utf32};
 
 use crate::order::Order;
 
-/// UTF-16 reads back in each order what it writes.
+/// States that UTF-16 reads back in each byte order what it writes.
 pub fn utf16_reads_back(order: Order)
     ensures { ReadsBack (reads_in utf16 order) (writes_in utf16 order) (λ _. []) }
 {
     // The contract is the law; nothing runs.
 }
 
-/// UTF-32 reads back in each order what it writes.
+/// States that UTF-32 reads back in each byte order what it writes.
 pub fn utf32_reads_back(order: Order)
     ensures { ReadsBack (reads_in utf32 order) (writes_in utf32 order) (λ _. []) }
 {

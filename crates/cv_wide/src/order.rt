@@ -1,22 +1,23 @@
-//! The byte order.
+//! The byte order of a text.
 ghost use Rattle.std.specs.Prelude.{IfSome};
 ghost use Rattle.cv_wide.specs.Private.Kept.{KeepsReading, KeepsWriting};
 
 use cv_base::{Endian, ReadState, WriteState};
 
-/// The byte order of a unit in UTF-16 and UTF-32.
+/// The byte order of a text in UTF-16 or UTF-32.
 #[derive(Clone, Copy, Debug, PartialEq, Eq)]
 pub enum Order {
     /// The high byte first. U+FEFF is a character like others.
     Be,
     /// The low byte first. U+FEFF is a character like others.
     Le,
-    /// The order of the mark that begins the text, and without one the high byte first.
+    /// The order of the mark that begins the text, and without one the high byte first. What is written begins with a
+    /// big-endian mark.
     Marked,
 }
 
 impl Order {
-    /// The byte order of characters in this state, if it stays.
+    /// The byte order in which characters are read in this state, if the state stays.
     #[inline]
     pub(crate) fn kept_reading(self, state: ReadState) -> Option<Endian>
         ensures { IfSome result (λ endian. KeepsReading self state endian) }
@@ -30,7 +31,7 @@ impl Order {
         }
     }
 
-    /// The byte order in which characters are written in this state, if it stays.
+    /// The byte order in which characters are written in this state, if the state stays.
     #[inline]
     pub(crate) fn kept_writing(self, state: WriteState) -> Option<Endian>
         ensures { IfSome result (λ endian. KeepsWriting self state endian) }

@@ -11,7 +11,7 @@ use cv_block::{
     BigEndian, ByteOrder, LittleEndian, Two, first_of, is_high, is_low, joined, second_of,
 };
 
-/// The encoding form UTF-16 (Unicode Standard, section 3.9, D91): two or four bytes for each character.
+/// The encoding form UTF-16 (Unicode Standard, section 3.9, D91): each character has two or four bytes.
 #[derive(Clone, Copy)]
 pub struct Utf16Form;
 

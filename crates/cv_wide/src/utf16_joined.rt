@@ -8,7 +8,8 @@ ghost use Rattle.cv_wide.specs.Utf16.{utf16};
 use cv_base::Scalar;
 use cv_block::{ByteOrder, MANY, Spelled, is_high, is_low, joined};
 
-/// The number of a high surrogate with the low one after it, and of another unit its own. Computed without a branch.
+/// The number of the character of a high surrogate and the low one after it, or of another unit its own. Computed
+/// without a branch.
 #[inline(always)]
 fn joined_with(unit: u32, next: u32) -> u32
     ensures pair { IsHighUnit unit → IsLowUnit next → IsPair unit next result }
@@ -18,8 +19,8 @@ fn joined_with(unit: u32, next: u32) -> u32
     if is_high(unit) { pair } else { unit }
 }
 
-/// The numbers of the units at the start of a text, each joined with the next, if high and low surrogates are in pairs.
-/// No early exit, so that LLVM vectorizes the loop.
+/// The numbers of the sixteen units at the start of a text, each high surrogate joined with the next unit, if all high
+/// and low surrogates are in pairs. No early exit, so that LLVM vectorizes the loop.
 #[inline(always)]
 fn joined_numbers<O: ByteOrder>(text: &[u8]) -> Option<[u32; MANY]>
     requires { 34 ≤ length text.now }
@@ -37,8 +38,9 @@ fn joined_numbers<O: ByteOrder>(text: &[u8]) -> Option<[u32; MANY]>
     if all { Some(numbers) } else { None }
 }
 
-/// Puts the characters of the numbers into a buffer, after its first `n`, and answers how many they are. A low surrogate is not one of
-/// them, since it belongs to its pair: the next character overwrites it. It is a function of its own, so that LLVM vectorizes the numbers.
+/// Puts the characters of the numbers into a buffer, after its first `n`, and returns how many they are. A low
+/// surrogate is not one of them, since it belongs to its pair: the next character overwrites it. It is a function of
+/// its own, so that LLVM vectorizes the computation of the numbers.
 #[inline(never)]
 fn put_joined(numbers: &[u32; MANY], buffer: &mut [Scalar], n: usize) -> usize
     requires long { length numbers.now ≡ 16 }
@@ -59,7 +61,8 @@ fn put_joined(numbers: &[u32; MANY], buffer: &mut [Scalar], n: usize) -> usize
     more
 }
 
-/// Reads the characters of many units if surrogates are in pairs, and otherwise none.
+/// Reads the characters of sixteen units from index `at` on, if their surrogates are in pairs, and otherwise none. If
+/// the last unit is a high surrogate, it reads the low one after it too.
 #[inline(always)]
 pub(crate) fn read_joined<O: ByteOrder>(
     input: &[u8],

@@ -24,7 +24,7 @@ fn size_of(value: u32) -> usize
     2 + 2 * (value >= 0x1_0000) as usize
 }
 
-/// The bytes of a character. What follows those of a single unit may be anything.
+/// The bytes of a character. After a single unit, the last two bytes may be anything.
 #[inline(always)]
 fn bytes_of(endian: Endian, value: u32) -> [u8; 4]
     requires { value < 0x110000 }

@@ -9,14 +9,14 @@ use crate::wide_form::WideForm;
 use cv_base::{AsciiForm, Endian, Item, Piece, ReadState, Scalar};
 use cv_block::{BigEndian, ByteOrder, Four, LittleEndian};
 
-/// The encoding form UTF-32 (Unicode Standard, section 3.9, D90): four bytes for each character.
+/// The encoding form UTF-32 (Unicode Standard, section 3.9, D90): each character has four bytes.
 #[derive(Clone, Copy)]
 pub struct Utf32Form;
 
 /// UTF-32 in a byte order. Its mark has four bytes.
 pub type Utf32 = EncodingScheme<Utf32Form>;
 
-/// Whether the third highest byte fits the second: the two are of no surrogate.
+/// Whether the second and third highest bytes of a number are those of no surrogate.
 #[inline]
 fn fits_third(second: u8, third: u8) -> bool
     ensures { IsTrue result ↔ IsThird second third }

@@ -16,19 +16,19 @@ use cv_block::{ByteOrder, Spelling, Unit};
 pub(crate) trait WideForm {
     ghost form: { Form };
 
-    /// Its characters with the high byte first.
+    /// Its big-endian spelling.
     type Be: Spelling;
 
-    /// Its characters with the low byte first.
+    /// Its little-endian spelling.
     type Le: Spelling;
 
-    /// Its units with the high byte first.
+    /// Its big-endian units.
     type BeUnit: Unit;
 
-    /// Its units with the low byte first.
+    /// Its little-endian units.
     type LeUnit: Unit;
 
-    /// States what holds of the bytes of its characters. It does nothing.
+    /// Does nothing. Its contract states what holds of the bytes of its characters.
     fn assert_form()
         ensures form { IsForm form }
         ensures be { Self.Be.bytes_of ≡ form Big }
@@ -36,25 +36,25 @@ pub(crate) trait WideForm {
         ensures be_unit { SpellsUnits Self.BeUnit.form (form Big) }
         ensures le_unit { SpellsUnits Self.LeUnit.form (form Little) };
 
-    /// What is next in a text of one order.
+    /// Returns what is next in a text in one byte order. The state after a character is `next`.
     fn item<O: ByteOrder>(input: &[u8], next: ReadState) -> Item
         ensures { IsNext (always_gives (form O.endian) next) next input.now result };
 
-    /// How many bytes a character has, in each order.
+    /// Returns how many bytes a character has, which is the same in each byte order.
     fn size(c: Scalar) -> usize
         ensures few { result ≤ 4 }
         ensures bytes { (endian : Endian) → result ≡ length (form endian c) };
 
-    /// Writes a character at a place.
+    /// Writes a character in a byte order into a slice from index `at` on.
     fn write<O: ByteOrder>(c: Scalar, out: &mut [u8], at: usize)
         requires { at + length (form O.endian c) ≤ length out.old }
         ensures { IsPut (form O.endian c) out.old at (length (form O.endian c)) out.new };
 
-    /// The mark of an order.
+    /// Returns the byte order mark in a byte order.
     fn mark(endian: Endian) -> Piece
         ensures { result ≡ form endian mark };
 
-    /// The form of its units: a character that is one unit has its bytes.
+    /// Returns the form of its units: a character of one unit has the bytes of that unit.
     fn unit_form(endian: Endian) -> AsciiForm
         ensures { SpellsUnits result (form endian) };
 }

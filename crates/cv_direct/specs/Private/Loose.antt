@@ -1,11 +1,12 @@
--- Writing by more bytes than are wanted.
+-- Writes that may also change some bytes after those that are wanted.
 use Rattle.std.specs.Prelude.{◌≡◌, ℕ, ◌+◌, ◌≤◌, List, ◌++◌, take, drop, length}
 use Rattle.std.specs.List.{flat_map}
 use Rattle.cv_base.specs.Scalars.{AreScalars}
 use Rattle.cv_base.specs.Items.{Begins}
 use Rattle.cv_block.specs.Spelled.{BytesOf}
 
--- These n bytes were put at a place of a slice. The bytes behind them, as many as are given, may be anything, and all others stayed.
+-- These n bytes were written into a slice from index `at` on. The next `loose` bytes may be anything, and all others
+-- stayed.
 pub record IsPutLoosely (bytes before : List ℕ) (at n loose : ℕ) (after : List ℕ) : Type 0 where
   pub wrote : n ≡ length bytes
   pub fits : at + n ≤ length before
@@ -13,7 +14,8 @@ pub record IsPutLoosely (bytes before : List ℕ) (at n loose : ℕ) (after : Li
   pub behind : drop (at + n + loose) after ≡ drop (at + n + loose) before
   pub size : length after ≡ length before
 
--- The characters of the first bytes of a text, as one spelling has them, were put at a place in another.
+-- The characters of the first `used` bytes of a text in one spelling were written in another, as n bytes from index
+-- `at` on.
 pub record IsConvertedLoosely (from to : BytesOf) (text before : List ℕ) (at used n loose : ℕ) (after : List ℕ) : Type 0 where
   pub characters : List ℕ
   pub scalars : AreScalars characters

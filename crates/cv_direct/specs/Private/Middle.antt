@@ -1,4 +1,4 @@
--- Units of up to three bytes in UTF-8, by two numbers for each.
+-- Units of up to three bytes in UTF-8, each as two numbers of sixteen bits.
 use Rattle.std.specs.Prelude.{ℕ, ◌+◌, ◌*◌, ◌/◌, ◌%◌, ◌<◌, List, length, get_or, map, nat_lt, if◌then◌else◌}
 use Rattle.std.specs.Simd.Lanes.{mask_l}
 use Rattle.cv_utf8.specs.Private.Utf8Pairs.{has_two}
@@ -15,10 +15,11 @@ front_of u =
 abbrev pub last_of : ℕ → ℕ
 last_of u = if nat_lt u 0x800 then 0 else 0x80 + u % 64
 
--- the bits of those that have two bytes or more, the lowest for the first, and from the fifth bit on of those that have three
+-- which of four units have two bytes or more, as bits, the lowest for the first; and from the fifth bit on which have
+-- three
 abbrev pub marks : List ℕ → ℕ
 marks units = mask_l (map has_two units) + 16 * mask_l (map has_three units)
 
--- All have up to three bytes.
+-- All units have up to three bytes in UTF-8.
 abbrev pub AreMiddle : List ℕ → Type 0
 AreMiddle units = (k : ℕ) → k < length units → get_or units k 0 < 0x10000

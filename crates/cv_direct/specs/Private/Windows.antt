@@ -16,13 +16,14 @@ pub record IsWindow (bytes_of : BytesOf) (size : ℕ) (text units : List ℕ) : 
   pub begins : Begins (flat_map bytes_of units) text
   pub uses : size ≡ length (flat_map bytes_of units)
 
--- The units are characters, whose bytes begin a text and are so many.
+-- The units are characters, whose bytes begin a text and are `used` in number.
 pub record AreFirst (bytes_of : BytesOf) (used : ℕ) (text units : List ℕ) : Type 0 where
   pub scalars : AreScalars units
   pub begins : Begins (flat_map bytes_of units) text
   pub uses : used ≡ length (flat_map bytes_of units)
 
--- The units are sixteen below U+10000. If all of them are characters, their bytes begin a text; if some at the front are, so do theirs.
+-- The units are sixteen numbers below 0x10000. If all of them are characters, their bytes begin a text. If the first n
+-- are, so do the bytes of these.
 pub record AreSixteen (bytes_of : BytesOf) (size : ℕ) (text units : List ℕ) : Type 0 where
   pub few : (k : ℕ) → k < 16 → get_or units k 0 < 0x10000
   pub window : AreScalarsBelow units 16 → IsWindow bytes_of size text units
@@ -32,17 +33,17 @@ pub record AreSixteen (bytes_of : BytesOf) (size : ℕ) (text units : List ℕ) 
 abbrev pub is_surrogate : ℕ → Bool
 is_surrogate u = nat_eq (u / 0x800) 27
 
--- a unit as a number whose low byte is the first
+-- a unit as the number that is written with the low byte first
 abbrev pub in_order : Endian → ℕ → ℕ
 in_order Big u = u / 0x100 + u % 0x100 * 0x100
 in_order Little u = u
 
--- The unit is below U+10000, and it is the number if it is a scalar value.
+-- The unit is below 0x10000. If it is a scalar value, it is the number.
 pub record IsNarrow (number unit : ℕ) : Type 0 where
   pub few : unit < 0x10000
   pub same : IsScalar unit → number ≡ unit
 
--- The first n units are those of some numbers.
+-- The first n units are those of n numbers.
 abbrev pub AreNarrow : List ℕ → List ℕ → ℕ → Type 0
 AreNarrow numbers units n = (k : ℕ) → k < n → IsNarrow (get_or numbers k 0) (get_or units k 0)
 

@@ -1,4 +1,4 @@
--- What the steps of finding the next item find in a text.
+-- What the steps that look for the next item find in a text.
 use Rattle.std.specs.Prelude.{◌≡◌, ℕ, ◌+◌, ◌*◌, ◌^◌, ◌<◌, ◌≤◌, List, ◌++◌, length, take, Some, None}
 use Rattle.cv_base.specs.Items.{Taken, taken}
 use Rattle.cv_base.specs.declared.item.Item.{Item}
@@ -8,7 +8,8 @@ use Rattle.cv_utf7.specs.BitLists.{bits, bits_of, AreDigits, digit_bits}
 use Rattle.cv_utf7.specs.Utf7.{EndsAt}
 use Rattle.cv_utf7.specs.declared.units.Unit.{Unit}
 
--- The fewest digits whose bits hold a code unit are at the start.
+-- The text begins with the fewest digits that hold a code unit after the pending bits. The bits left over are pending
+-- next.
 pub record IsUnit (pending : Bits) (text : List ℕ) (found : Unit) : Type 0 where
   pub within : found.n ≤ length text
   pub are_digits : AreDigits (take found.n text)
@@ -19,7 +20,8 @@ pub record IsUnit (pending : Bits) (text : List ℕ) (found : Unit) : Type 0 whe
 abbrev pub NoUnit : Bits → List ℕ → Type 0
 NoUnit pending text = (n : ℕ) → n ≤ length text → 16 ≤ pending.count + 6 * n → AreDigits (take n text) → ⊥
 
--- These are the digits at the start, and the bits so far.
+-- The text begins with n digits, which are too few for a code unit. With the pending bits before them they are `count`
+-- bits, which spell the value.
 pub record IsFront (pending : Bits) (text : List ℕ) (n count value : ℕ) : Type 0 where
   pub within : n ≤ length text
   pub are_digits : AreDigits (take n text)
@@ -28,7 +30,7 @@ pub record IsFront (pending : Bits) (text : List ℕ) (n count value : ℕ) : Ty
   pub small : value < 2 ^ count
   pub same : bits_of pending ++ digit_bits (take n text) ≡ bits count value
 
--- What a byte after zero bits ends.
+-- The item that a byte ends after zero bits, or `Ill` if it ends none.
 abbrev pub IsEnding : ℕ → ℕ → Item → Type 0
 IsEnding last used (item.Char c n next) = EndsAt used last (taken n (Some c) next)
 IsEnding last used (item.Shift n next) = EndsAt used last (taken n None next)

@@ -15,7 +15,7 @@ use Rattle.cv_utf7.specs.declared.units.Unit.{Unit}
 abbrev pub place : ReadState → ℕ → ℕ → ReadBlock
 place state used n = record { n = n; used = used; next = state }
 
--- Items of a text were read from one place to another: their characters are in the buffer, after those that were there.
+-- Items of a text were read from one place to another. Their characters are in the buffer, after those that were there.
 pub record ReadsOn (text : List ℕ) (from : ReadBlock) (before : List ℕ) (to : ReadBlock) (after : List ℕ) : Type 0 where
   pub chain : List Taken
   pub is_chain : IsChain utf7_reads from.next (drop from.used text) chain
@@ -26,11 +26,12 @@ pub record ReadsOn (text : List ℕ) (from : ReadBlock) (before : List ℕ) (to 
   pub fits : to.n ≤ length after
   pub size : length after ≡ length before
 
--- A byte ends a shifted sequence in which no bits are left.
+-- A byte ends a shifted sequence whose pending bits are zero.
 abbrev pub Ends : ℕ → Type 0
 Ends b = (may_be_direct b ≡ true) × (is_digit b ≡ false)
 
--- A shifted sequence of one character is at a place of a text, and a byte that ends it: `+`, three digits, and the byte.
+-- A shifted sequence of one character is at index `at` of a text, with the byte that ends it: `+`, three digits, and
+-- the byte.
 pub record IsLone (text : List ℕ) (at c : ℕ) : Type 0 where
   pub none : Bits
   pub unit : Unit

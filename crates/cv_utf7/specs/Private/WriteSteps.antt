@@ -9,7 +9,8 @@ use Rattle.cv_utf7.specs.declared.write_sequences.Reached.{Reached}
 abbrev pub place : WriteState → ℕ → ℕ → Reached
 place state n end = record { n = n; end = end; next = state }
 
--- The characters from one place to another were written. After their bytes, as many bytes may have been overwritten as there are characters left.
+-- The characters from one place to another were written. After their bytes, as many bytes may have been overwritten as
+-- there are characters left.
 pub record WritesOn (characters : List ℕ) (from : Reached) (before : List ℕ) (to : Reached) (after : List ℕ) : Type 0 where
   pub run : List ℕ
   pub are : drop from.n characters ≡ run ++ drop to.n characters

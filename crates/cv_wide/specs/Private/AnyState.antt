@@ -1,4 +1,4 @@
--- The items of one order, and those at the start of a text, whatever the state is.
+-- The items of one byte order, and those at the start of a text, in any state.
 use Rattle.std.specs.Prelude.{ℕ, List}
 use Rattle.cv_base.specs.Items.{ItemRelation}
 use Rattle.cv_base.specs.declared.state.ReadState.{ReadState}

@@ -12,7 +12,8 @@ pub record IsUnique (bytes_of : ℕ → List ℕ) : Type 0 where
   pub some : (c : ℕ) → 0 < length (bytes_of c)
   pub few : (c : ℕ) → length (bytes_of c) ≤ 4
 
--- In each order the scalars are unique; the little-endian mark begins no text with the big-endian one, nor with another big-endian character.
+-- In each order the scalars are unique. The little-endian mark does not begin a text with the big-endian one, nor with
+-- another big-endian character.
 pub record IsForm (form : Form) : Type 0 where
   pub unique : (endian : Endian) → IsUnique (form endian)
   pub marks : (text : List ℕ) → Begins (form Big mark) text → Begins (form Little mark) text → ⊥

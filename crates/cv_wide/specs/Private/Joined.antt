@@ -7,7 +7,8 @@ use Rattle.cv_base.specs.declared.endian.Endian.{Endian}
 use Rattle.cv_block.specs.Surrogates.{IsHighUnit, IsLowUnit, IsPair}
 use Rattle.cv_block.specs.Units.{IsUnitAt}
 
--- A number is that of a high surrogate joined with the low one after it, or that of another unit that no low one follows.
+-- A number is that of a high surrogate joined with the low one after it, or that of another unit that no low one
+-- follows.
 pub record IsJoined (endian : Endian) (text : List ℕ) (at number : ℕ) : Type 0 where
   pub unit : ℕ
   pub next : ℕ

@@ -17,7 +17,7 @@ abbrev pub CanBeOther : Endian → ℕ → Type 0
 CanBeOther Big b = IsLowByte b → ⊥
 CanBeOther Little b = Unit {0}
 
--- the third highest byte of a scalar fits after the second: they are of no surrogate
+-- the second and third highest bytes of a number are those of no surrogate
 abbrev pub IsThird : ℕ → ℕ → Type 0
 IsThird second third = second ≡ 0 → 0xd8 ≤ third → 0xe0 ≤ third
 

@@ -6,7 +6,7 @@ use Rattle.cv_lex.specs.Constants.{bytes_of}
 use Rattle.cv_lex.specs.declared.cause.Cause.{Cause}
 use Rattle.cv_lex.specs.declared.cause.Cause.TheVariants.{Syntax}
 
--- one more byte of a name
+-- the same with one more byte before the name
 abbrev pub with_byte : ℕ → Option (List ℕ × List ℕ) → Option (List ℕ × List ℕ)
 with_byte b found = option_map (λ p. (b ∷ p.0, p.1)) found
 

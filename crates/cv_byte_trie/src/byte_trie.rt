@@ -71,7 +71,7 @@ fn met(entries: &[Entry], bytes: &[u8], place: usize) -> Added
 }
 
 impl ByteTrie {
-    /// Makes a trie with no entries.
+    /// Makes a trie with no entries. If an allocation fails, it returns an error.
     pub fn new(alloc: Global) -> Result<ByteTrie, Memory>
         ensures { IfOk result (λ t. t.entries ≡ []) }
     {
@@ -82,7 +82,8 @@ impl ByteTrie {
         })
     }
 
-    /// Makes a trie with no entries, and with room for `room` entries if there is memory for it.
+    /// Makes a trie with no entries, and with room for `room` entries if there is memory for it. It returns an error
+    /// only if the root cannot be allocated.
     pub fn with_room(alloc: Global, room: usize) -> Result<ByteTrie, Memory>
         ensures { IfOk result (λ t. t.entries ≡ []) }
     {
@@ -116,7 +117,8 @@ impl ByteTrie {
         entries.saturating_add(self.steps.size())
     }
 
-    /// Returns the entry at an index, counted from 0 in the order in which entries were added.
+    /// Returns the entry at an index, counted from 0 in the order in which entries were added, or `None` if there are
+    /// not so many.
     #[inline]
     pub fn get(&self, place: usize) -> Option<&Entry>
         ensures { option_copied result ≡ slice_get self.now.entries place }
@@ -163,7 +165,7 @@ impl ByteTrie {
         let _ = &self.steps;
     }
 
-    /// Looks up the entry with whose bytes a text begins.
+    /// Looks up the entry with whose bytes a text begins. The text has at least one byte.
     pub fn find(&self, text: &[u8]) -> Found
         requires { 0 < length text.now }
         ensures { Finds self.now.entries text.now result }

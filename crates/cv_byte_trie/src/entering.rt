@@ -1,4 +1,4 @@
-//! Adding an entry whose bytes lead nowhere, or differ from those of another after a while.
+//! Adding an entry whose bytes lead nowhere, or differ from another's after a common prefix.
 ghost use Rattle.std.specs.Prelude.{◌≡◌, ◌≢◌, ◌<◌, ◌≤◌, ◌+◌, ◌^◌, ℕ, [], ◌∷◌, ◌++◌, length, slice_index_or, OnOk, OnErr};
 ghost use Rattle.cv_byte_trie.specs.Entries.{bytes_at};
 ghost use Rattle.cv_byte_trie.specs.Tries.{tails, none};

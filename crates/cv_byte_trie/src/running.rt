@@ -12,9 +12,8 @@ use crate::steps::Steps;
 use cv_base::Scalar;
 
 /// Adds entries whose last byte and character count up from the given ones, and returns how many: at most `most`. It
-/// ends
-/// before the first whose last byte has an edge from `node`, to which the bytes before it lead, or if an allocation
-/// fails.
+/// ends before the first whose last byte has an edge from `node`, to which the bytes before it lead, or if an
+/// allocation fails.
 pub(crate) fn enter_run(
     entries: &mut Vec<Entry>,
     steps: &mut Steps,

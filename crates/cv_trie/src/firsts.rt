@@ -3,13 +3,13 @@ ghost use Rattle.std.specs.Prelude.{◌<◌};
 
 use cv_byte_trie::Entry;
 
-/// How many strings of two or of four bytes have to begin with a byte, for it to have a row. A row takes a kilobyte. So
-/// a map grows by at most 32 bytes for each of its pairs, by the row that all other bytes share, by the cells for
-/// single bytes, and by what `starts` takes.
+/// A byte gets a row if at least this many strings of two or of four bytes begin with it. A row takes a kilobyte. So a
+/// map grows by at most 32 bytes for each of its pairs, by the row that all other bytes share, by the cells for single
+/// bytes, and by what `starts` takes.
 const DENSE: u16 = 32;
 
-/// How many strings of three bytes have to begin with a byte, for it to have a row, if fewer than `DENSE` others do.
-/// Without a row they are read as fast as others of their size, so a row may take no more than a byte for each.
+/// A byte also gets a row if at least this many strings of three bytes begin with it. Without a row these are read as
+/// fast as others of their size, so a row may take no more than a byte for each.
 const DENSE_THREES: u16 = 1024;
 
 /// For each byte how many strings of two or of four bytes begin with it, and how many of three.

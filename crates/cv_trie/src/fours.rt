@@ -20,8 +20,8 @@ use std::alloc::{AllocError, Global};
 /// How many cells a block has: 16 for each third byte, one for each value of the last four bits of the fourth.
 const BLOCK: u32 = 4096;
 
-/// How many strings of four bytes have to begin with two bytes, for these to have a block. A block takes 16 KiB, so a
-/// map grows by at most 32 bytes for each of its pairs.
+/// Two bytes get a block if at least this many strings of four bytes begin with them. A block takes 16 KiB, so a map
+/// grows by at most 32 bytes for each of its pairs.
 const DENSE: u32 = 512;
 
 /// Returns the index in the rows of the first two bytes of a string of four. It is 0 if the first byte has no row, or

@@ -62,9 +62,9 @@ fn put_entry(front: &mut [u8], used: usize, entry: &Entry) -> usize
     entry.len()
 }
 
-/// Writes the characters from the `n`th up to the `end`th one by one, after those before them. It has no branch for
-/// each. It is inlined, since in its callers the compiler knows that the buffer and the pages do not overlap, and
-/// writes eight characters without a loop.
+/// Writes the characters from the `n`th up to the `end`th one by one, after those before them. There is no branch for
+/// each of them. It is inlined, since in its callers the compiler knows that the buffer and the pages do not overlap,
+/// and writes eight characters without a loop.
 #[inline(always)]
 fn put_few(
     pages: &Pages,
@@ -103,8 +103,8 @@ fn put_few(
 }
 
 /// Writes eight characters from the `n`th on after those before them, if each has at most four bytes, which the pages
-/// keep. It tests the sum of the eight sizes, not each of them, so that it has no branch for each. Any bytes may follow
-/// those written.
+/// keep. It tests the sum of the eight sizes, not each of them, so that there is no branch for each. Any bytes may
+/// follow those written.
 #[inline(always)]
 fn put_ready(
     pages: &Pages,

@@ -38,8 +38,8 @@ pub(crate) fn read_mixed(
     let mut n = front.n;
     let mut used = front.used;
     let mut most = buffer.len();
-    // How many more bytes than characters were read after the last that was followed. Single bytes leave the difference
-    // as it is.
+    // The number of bytes read less that of characters read, as it was after the last character that was followed.
+    // Single bytes leave the difference as it is.
     let mut followed = usize::MAX;
     while n < most && input.len() - used >= 2 {
         let first = ones[input[used] as usize];

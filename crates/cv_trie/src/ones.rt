@@ -11,9 +11,9 @@ use cv_byte_trie::{ByteTrie, Entry, TAIL};
 use cv_pages::{MANY, joined};
 use std::alloc::{AllocError, Global};
 
-/// The number for no character, as is each above it. It is a bit that no character has, so that the joined bits of
-/// several numbers tell whether one of them is none. It is the lowest such bit, so that an address can subtract it at
-/// no cost.
+/// The number for no character, as is each number above it. It is a bit that no character has, so that the joined bits
+/// of several numbers tell whether one of them is none. It is the lowest such bit, so that an address can subtract it
+/// at no cost.
 pub(crate) const NO_CHARACTER: u32 = 0x0020_0000;
 
 /// Returns the character that a byte is by itself, by the code to which the byte leads from the root, or

@@ -22,7 +22,7 @@ pub(crate) const THREES: u32 = 0x4000_0000;
 /// gives an index past all cells.
 const BASE: u32 = 0x8000_0000;
 
-/// How many strings of three bytes have to begin with two bytes, for these to have a block.
+/// Two bytes get a block only if at least this many strings of three bytes begin with them.
 const DENSE: u32 = 32;
 
 /// The number for no entry. An entry with this index or a higher one is in no cell, since a cell has 16 bits. So a map

@@ -192,7 +192,8 @@ impl Draft {
         }
     }
 
-    /// Notes that the first `end` entries of a range are in the list. The stops say at which indices they were found.
+    /// Notes that the first `end` entries of a range are in the list. The stops say at which indices those are that
+    /// were entered or found.
     pub(crate) fn cover(
         &mut self,
         hex: bool,

@@ -65,7 +65,7 @@ PassesOn all hex first bytes i count (Err (entry.Faulty cause)) after =
     (n : ℕ) → run_entries all n (entries_from hex first bytes i count) ≡ Err (fault n cause)
 PassesOn all hex first bytes i count (Err entry.Memory) after = Unit {0}
 
--- All entries of a line were entered. Nothing is claimed if an allocation failed.
+-- Entries were entered, or one is at fault, as a run over them says. Nothing is claimed if an allocation failed.
 abbrev pub RunsTo : Result (List Pair) MapFault → ℕ → Result (Unit {0}) EntryFault → List Pair → Type 0
 RunsTo run n (Ok done) after = run ≡ Ok after
 RunsTo run n (Err (entry.Faulty cause)) after = run ≡ Err (record { line = n; cause = cause })

@@ -10,7 +10,7 @@ use Rattle.cv_lex.specs.Names.{digits_of, symbol_of, character_of, range_of, ran
 use Rattle.cv_lex.specs.declared.cause.Cause.TheVariants.{UnknownName, Range}
 use Rattle.cv_lex.specs.Symbols.{symbols}
 
--- a name without escape characters is what it stands for
+-- removing escape characters from a name that has none changes nothing
 pub no_escape : (escape : ℕ) (name : List ℕ) → list_any (λ b. b == escape) name ≡ false → plain escape name ≡ name
 no_escape escape [] none = refl
 no_escape escape (b ∷ name) none =

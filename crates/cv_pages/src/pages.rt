@@ -22,8 +22,8 @@ const PAGE: u32 = 64;
 /// page.
 #[derive(Debug, Drop)]
 pub struct Pages {
-    /// For each 64 characters the index in `cells` at which their page begins. 0 is for the empty page, and is the
-    /// last, which all characters above share.
+    /// For each 64 characters the index in `cells` at which their page begins. 0 is the empty page. The last element is
+    /// 0, for all characters above.
     pub tops: Vec<u32>,
     /// The cells of the pages, one page after another. A cell has the index of its character's first entry, or
     /// [`NOWHERE`].
@@ -176,7 +176,7 @@ impl Pages {
         page as usize + (character % 64) as usize
     }
 
-    /// Returns the index of a character's cell, if the character is below the end of `tops`.
+    /// Returns the index of a character's cell, if `tops` has an element for the character.
     #[inline(always)]
     pub fn low_cell(&self, character: u32) -> usize
         requires { character / 64 < length self.now.tops.items }
@@ -187,9 +187,8 @@ impl Pages {
         page as usize + (character % 64) as usize
     }
 
-    /// Tells whether eight characters from the `n`th on are all below the end of `tops`. The joined bits of the eight
-    /// suffice for most texts, and cost less than the highest of them. They may be above the end though no character
-    /// is.
+    /// Tells whether `tops` has an element for each of eight characters from the `n`th on. The joined bits of the eight
+    /// suffice for most texts, and cost less than the highest of them. They may be too high though no character is.
     #[inline(always)]
     pub fn are_low(&self, characters: &[Scalar], n: usize) -> bool
         requires { n + 8 ≤ length characters.now }

@@ -53,8 +53,8 @@ fn run_at(stops: u64, place: usize) -> usize
 }
 
 /// Returns how many bytes from an index on are in a set, before the first that is not: at most sixteen. A set has an
-/// entry for each lower half of a byte, from 0 to 15, and an entry has a bit for each higher half from 0 to 7: byte 16
-/// * h + l is in the set if entry l has bit h. No byte from 0x80 on is in a set.
+/// entry for each lower half of a byte, from 0 to 15, and an entry has a bit for each higher half from 0 to 7: the byte
+/// `16*h+l` is in the set if entry `l` has bit `h`. No byte from 0x80 on is in a set.
 #[inline(always)]
 pub fn run_in(set: [u8; 16], bytes: &[u8], from: usize) -> usize
     requires many { 16 ≤ length bytes.now }

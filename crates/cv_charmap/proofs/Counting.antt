@@ -16,7 +16,7 @@ pub size_in : (size n : ℕ) → length (bytes_in size n) ≡ size
 size_in zero n = refl
 size_in (suc size) n = omega (arith, size_in size (n / 256), length-append (bytes_in size (n / 256)) (n % 256 ∷ []))
 
--- bytes write the number of which they were made
+-- bytes that were made of a number write that number
 pub number_in : (size n : ℕ) → n < 256 ^ size → number_of (bytes_in size n) ≡ n
 number_in zero n low = omega arith
 number_in (suc size) n low =

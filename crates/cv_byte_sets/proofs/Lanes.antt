@@ -18,21 +18,21 @@ AreSixteen v = (length v ≡ 16) × Each1 (Fits w8) v
 abbrev pub down : ℕ → ℕ → ℕ
 down a b = a / 2 ^ b
 
--- higher halves are places of a table of sixteen
+-- higher halves are indices of a table of sixteen
 pub high_ok : (v : List ℕ) → AreSixteen v → SwzOk w8 16 16 0 (zip2 down v (replicate 16 4))
 high_ok v fits =
     let small = Each1-weaker (λ a. a < 256) (λ a. a / 16 < 16) (λ a h. omega arith) v (below_from_Fits w8 v fits.1) in
     SwzOk-from_below w8 16 1 16 0 (zip2 down v (replicate 16 4)) refl (omega (arith, fits.0, length-zip2 down v (replicate 16 4) (fits.0 ∙ sym (length-replicate {A = ℕ} 16 4))))
     (Each1-zip2 down (λ j. j < 16) v (replicate 16 4) (Each2-splat (λ a b. down a b < 16) v 16 4 small))
 
--- lower halves are places of a table of sixteen
+-- lower halves are indices of a table of sixteen
 pub low_ok : (v : List ℕ) → AreSixteen v → SwzOk w8 16 16 0 (zip2 bit_and v (replicate 16 15))
 low_ok v fits =
     let small = Each1-all (λ a. bit_and a 15 < 16) (λ a. omega (arith, and_le_r a 15)) v in
     SwzOk-from_below w8 16 1 16 0 (zip2 bit_and v (replicate 16 15)) refl (omega (arith, fits.0, length-zip2 bit_and v (replicate 16 15) (fits.0 ∙ sym (length-replicate {A = ℕ} 16 15))))
     (Each1-zip2 bit_and (λ j. j < 16) v (replicate 16 15) (Each2-splat (λ a b. bit_and a b < 16) v 16 15 small))
 
--- a table of sixteen entries, read at places g x below 16
+-- a table of sixteen entries, read at indices `g x` below 16
 looked_up : (t : List ℕ) (g : ℕ → ℕ) (v js : List ℕ) → AreSixteen v → js ≡ map g v → ((x : ℕ) → x < 256 → g x < 16) → swz_l w8 16 t 0 js ≡ map (λ x. get_or t (g x) 0) v
 looked_up t g v js fits e small =
     let long : length js ≡ 16 = ap length e ∙ length-map v g ∙ fits.0 in
@@ -80,17 +80,17 @@ in_set set v xs ys long ex ey i l =
     let test : eqb (get_or (zip2 bit_and xs ys) i 0) 0 ≡ eqb (bit_and (get_or set (bit_and (get_or v i 0) 15) 0) (get_or half_bits (get_or v i 0 / 16) 0)) 0 = ap (λ z. eqb z 0) z_is in
     bit ∙ ap (λ b. cond b 1 0) (lane ∙ test) ∙ turned (eqb (bit_and (get_or set (bit_and (get_or v i 0) 15) 0) (get_or half_bits (get_or v i 0 / 16) 0)) 0)
 
--- if the bit of what is outside is not set, the byte is in the set
+-- if its bit is clear, the byte is in the set
 not_outside : (b : Bool) → cond {A = ℕ} b 0 1 ≡ 0 → b ≡ true
 not_outside true e = refl
 not_outside false e = absurd (omega arith)
 
--- if it is set, it is not
+-- if its bit is set, the byte is not in the set
 is_outside : (b : Bool) → cond {A = ℕ} b 0 1 ≡ 1 → b ≡ false
 is_outside true e = absurd (omega arith)
 is_outside false e = refl
 
--- The bits of sixteen bytes of a text, from a place on.
+-- The bits of sixteen bytes of a text, from an index on.
 abbrev pub HasStops : List ℕ → List ℕ → ℕ → ℕ → Type 0
 HasStops set bytes base stops = (i : ℕ) → i < 16 → bit_at stops i ≡ cond {A = ℕ} (is_in set (get_or (chunk base 16 bytes) i 0)) 0 1
 
@@ -101,15 +101,15 @@ bit_of set bytes base from stops i has b l =
     let byte : get_or (chunk base 16 bytes) (from - base + i) 0 ≡ get_or bytes (from + i) 0 = get_or-chunk base 16 bytes (from - base + i) 0 l ∙ ap (λ (j : ℕ). get_or bytes j 0) there in
     ap (λ (b : ℕ). cond {A = ℕ} (is_in set b) 0 1) (sym byte) ∙ sym (has (from - base + i) l)
 
--- a byte whose bit is not set is in the set
+-- a byte whose bit is clear is in the set
 pub member_at : (set bytes : List ℕ) (base from stops i : ℕ) → HasStops set bytes base stops → base ≤ from → from - base + i < 16 → bit_at stops (from - base + i) ≡ 0 → is_in set (get_or bytes (from + i) 0) ≡ true
 member_at set bytes base from stops i has b l clear = not_outside _ (bit_of set bytes base from stops i has b l ∙ clear)
 
--- one whose bit is set is not
+-- a byte whose bit is set is not
 pub stop_at : (set bytes : List ℕ) (base from stops i : ℕ) → HasStops set bytes base stops → base ≤ from → from - base + i < 16 → bit_at stops (from - base + i) ≡ 1 → is_in set (get_or bytes (from + i) 0) ≡ false
 stop_at set bytes base from stops i has b l stop = is_outside _ (bit_of set bytes base from stops i has b l ∙ stop)
 
--- the bytes up to a place are in a set, and so are those of a run there
+-- the bytes up to an index are in a set, and so are those of a run from there on
 pub members_more : (set bytes : List ℕ) (n run : ℕ) → ((i : ℕ) → i < n → is_in set (get_or bytes i 0) ≡ true) → ((i : ℕ) → i < run → is_in set (get_or bytes (n + i) 0) ≡ true) → (i : ℕ) → i < n + run → is_in set (get_or bytes i 0) ≡ true
 members_more set bytes n run before more i l = elim (cases_lt i n) [
   | inl m ↦ before i m

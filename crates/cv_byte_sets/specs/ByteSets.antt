@@ -1,4 +1,4 @@
--- Sets of bytes by the halves of each byte.
+-- Sets of bytes, by the two halves of each byte.
 use Rattle.std.specs.Prelude.{ℕ, ◌/◌, Bool, not, List, [], ◌∷◌, get_or, nat_eq, bit_and}
 
 -- the bit of each higher half

@@ -1,4 +1,4 @@
-//! Sets of bytes, against which sixteen bytes are tested at once: each is looked up by its two halves.
+//! Sets of bytes. Sixteen bytes are tested at once: each is looked up by its two halves of four bits.
 ghost use Rattle.std.specs.Prelude.{◌≡◌, ◌≤◌, ◌<◌, ◌+◌, ◌/◌, ℕ, true, false, cond, map, length, get_or, bit_and};
 ghost use Rattle.std.specs.Int.{bit_at};
 ghost use Rattle.cv_byte_sets.specs.ByteSets.{half_bits, is_in};
@@ -8,13 +8,13 @@ use std::simd::prelude::*;
 /// How many bytes are tested against a set at once.
 pub const SIXTEEN: usize = 16;
 
-// The bit of each higher half. From 8 on a half has none.
+// The bit of each higher half of a byte. A half of 8 or more has none.
 #[rattlefmt::skip]
 const HALF_BITS: [u8; 16] = [
     0x01, 0x02, 0x04, 0x08, 0x10, 0x20, 0x40, 0x80, 0x00, 0x00, 0x00, 0x00, 0x00, 0x00, 0x00, 0x00,
 ];
 
-/// What a set has for the lower half of each of sixteen bytes.
+/// Returns for each of sixteen bytes the set's entry for its lower half.
 #[inline(always)]
 fn by_lower_half(set: [u8; 16], bytes: u8x16) -> u8x16
     ensures { result ≡ map (λ b. get_or set (bit_and b 15) 0) bytes }
@@ -22,7 +22,7 @@ fn by_lower_half(set: [u8; 16], bytes: u8x16) -> u8x16
     u8x16::from_array(set).swizzle_dyn_within::<16>(bytes & u8x16::splat(15))
 }
 
-/// The bit of the higher half of each of sixteen bytes.
+/// Returns for each of sixteen bytes the bit of its higher half.
 #[inline(always)]
 fn by_higher_half(bytes: u8x16) -> u8x16
     ensures { result ≡ map (λ b. get_or half_bits (b / 16) 0) bytes }
@@ -30,7 +30,7 @@ fn by_higher_half(bytes: u8x16) -> u8x16
     u8x16::from_array(HALF_BITS).swizzle_dyn_within::<16>(bytes >> u8x16::splat(4))
 }
 
-/// A bit for each of sixteen bytes that is not in a set, the lowest for the first, and one after them.
+/// Returns a mask whose bit `i` is set if the `i`th of sixteen bytes is not in a set. Bit 16 is set.
 #[inline(always)]
 fn sixteen_outside(set: [u8; 16], bytes: u8x16) -> u64
     ensures outside { (i : ℕ) → i < 16 → bit_at result i ≡ cond (is_in set (get_or bytes i 0)) 0 1 }
@@ -40,7 +40,7 @@ fn sixteen_outside(set: [u8; 16], bytes: u8x16) -> u64
     found.simd_eq(u8x16::splat(0)).to_bitmask() | 1 << SIXTEEN
 }
 
-/// How many bits from a place on are not set, up to the one after sixteen, which is.
+/// Returns how many bits from `place` on are clear before the first that is set. Bit 16 is set.
 #[inline(always)]
 fn run_at(stops: u64, place: usize) -> usize
     requires place { place ≤ 16 }
@@ -52,9 +52,9 @@ fn run_at(stops: u64, place: usize) -> usize
     (stops >> place).trailing_zeros() as usize
 }
 
-/// How many bytes from a place of a text on are in a set, sixteen at most. A set has an entry for each lower half of a byte, from 0 to
-/// 15, and the entry has a bit for each higher half from 0 to 7: byte 16 * h + l is in the set if entry l has bit h. No byte from 80
-/// on is in a set.
+/// Returns how many bytes from an index on are in a set, before the first that is not: at most sixteen. A set has an
+/// entry for each lower half of a byte, from 0 to 15, and an entry has a bit for each higher half from 0 to 7: the byte
+/// `16*h+l` is in the set if entry `l` has bit `h`. No byte from 0x80 on is in a set.
 #[inline(always)]
 pub fn run_in(set: [u8; 16], bytes: &[u8], from: usize) -> usize
     requires many { 16 ≤ length bytes.now }
@@ -65,13 +65,14 @@ pub fn run_in(set: [u8; 16], bytes: &[u8], from: usize) -> usize
     ensures stop { (result < 16) → from + result < length bytes.now
         → is_in set (get_or bytes.now (from + result) 0) ≡ false }
 {
-    // Near the end of the text they are the last sixteen.
+    // Near the end of the text, the last sixteen bytes are tested.
     let base = from.min(bytes.len() - SIXTEEN);
     let stops = sixteen_outside(set, u8x16::from_slice(&bytes[base..]));
     run_at(stops, from - base)
 }
 
-/// How many bytes at the start are in a set, in whole blocks of sixteen.
+/// Returns how many bytes at the start are in a set, before the first that is not. It tests sixteen at once, and ends
+/// when fewer than sixteen are left, which are not tested.
 #[inline(always)]
 pub fn front_in(set: [u8; 16], bytes: &[u8]) -> usize
     ensures within { result ≤ length bytes.now }

@@ -6,15 +6,15 @@ use Rattle.cv_base.specs.Items.{Begins}
 use Rattle.cv_base.proofs.Front.{Begins-take, Begins-agree}
 use Rattle.cv_byte_trie.specs.Private.Meetings.{AgreeFor}
 
--- the same from the other side
+-- the same for the two strings exchanged
 pub agree_flip : (v x : List ℕ) (n : ℕ) → AgreeFor v x n → AgreeFor x v n
 agree_flip v x n a = record { in_left = a.in_right; in_right = a.in_left; same = sym a.same; differ = λ l m e. a.differ m l (sym e) }
 
--- one that is in common begins the other
+-- a string that is in common as a whole begins the other
 pub agree_begins : (v x : List ℕ) (n : ℕ) → AgreeFor v x n → n ≡ length v → Begins v x
 agree_begins v x n a e = subst (λ (y : List ℕ). Begins y x) (sym a.same ∙ take_all n v (omega arith)) (Begins-take n x)
 
--- one that is not does not
+-- a string that is not does not begin the other
 pub agree_not : (v x : List ℕ) (n : ℕ) → AgreeFor v x n → n < length v → Begins v x → ⊥
 agree_not v x n a l f = let g = Begins-agree v x f in a.differ l (omega (arith, g.0)) (g.1 n l (omega (arith, g.0)))
 
@@ -25,7 +25,7 @@ agree_deep u v x n a l m f g = elim (cases_lt n (length u)) [
   | inr h ↦ h
 ]
 
--- some of the bytes in front of others
+-- some bytes of an entry, taken from its padded bytes
 pub part_is : (padded v : List ℕ) (n d l : ℕ) → take n padded ≡ v → l < n → d < l → take (l + 1 - (d + 1)) (drop (d + 1) padded) ≡ drop (d + 1) (take (l + 1) v)
 part_is padded v n d l e low deep =
     let front : take (l + 1) v ≡ take (l + 1) padded = ap (take (l + 1)) (sym e) ∙ take-take (l + 1) n padded (omega arith) in

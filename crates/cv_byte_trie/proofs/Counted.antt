@@ -1,4 +1,4 @@
--- Entries that are added one behind another, from one node.
+-- Entries that are added one after another, from one node.
 use Rattle.std.proofs.Common.{◌≡◌, ℕ, zero, suc, ◌+◌, ◌<◌, ◌≤◌, List, [], ◌∷◌, ◌++◌, append_assoc, length, take, get_or, refl, sym, subst, ◌∙◌, ap, arith, inl, inr, length-append}
 use Rattle.std.proofs.lemmas.Bool.{cases_eq}
 use Rattle.std.specs.Prelude.{slice_set}
@@ -22,13 +22,13 @@ run_more all now new bytes character n is more =
     more ∙ ap (λ (x : List Entry). x ++ counted bytes character n ∷ []) is ∙ append_assoc all (run_of bytes character n) (counted bytes character n ∷ [])
     ∙ ap (λ (x : ℕ). all ++ run_of bytes character x) next
 
--- bytes that are the same in front of a node lead to it too
+-- bytes that are the same up to a node lead to it too
 pub at_other : (S : StepsBy) (count : ℕ) (entries : List Entry) (x y : List ℕ) (d i : ℕ) → IsAt S count entries x d i → d ≤ length x → take d x ≡ take d y → IsAt S count entries y d i
 at_other S count entries x y d i r long same =
     let way : r.way i ≡ take d x = Begins-same (r.way i) (take d x) x r.at (Begins-take d x) (r.deep ∙ sym (length-take-le d x long)) in
     record { way = r.way; trie = r.trie; low = r.low; at = subst (λ (w : List ℕ). Begins w y) (sym (way ∙ same)) (Begins-take d y); deep = r.deep }
 
--- some of them stand in front of more
+-- fewer of them are a prefix of more
 pub run_front : (all : List Entry) (bytes : List ℕ) (character k m : ℕ) → k ≤ m → take (length (all ++ run_of bytes character k)) (all ++ run_of bytes character m) ≡ all ++ run_of bytes character k
 run_front all bytes character k zero low =
     let none : k ≡ 0 = omega arith in
@@ -44,7 +44,7 @@ run_front all bytes character k (suc m) low = elim (cases_eq k (suc m)) [
       ∙ run_front all bytes character k m (omega arith))
 ]
 
--- the one at a place among them
+-- the one at an index among them
 pub run_at : (all : List Entry) (bytes : List ℕ) (character k : ℕ) (d : Entry) → get_or (all ++ run_of bytes character (suc k)) (length all + k) d ≡ counted bytes character k
 run_at all bytes character k d =
     ap (λ (x : List Entry). get_or x (length all + k) d) (sym (append_assoc all (run_of bytes character k) (counted bytes character k ∷ [])))
@@ -53,7 +53,7 @@ run_at all bytes character k d =
 -- ---- the bytes of the next, written in a word
 
 module _ (word bytes : List ℕ) (d y : ℕ) (same : take d word ≡ take d bytes) where
-  -- in front of the last they stay
+  -- the bytes before the last stay
   pub word_stays : take d (slice_set word d y) ≡ take d bytes
   word_stays = take-set word d y ∙ same
 

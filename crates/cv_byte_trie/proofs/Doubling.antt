@@ -15,11 +15,11 @@ use Rattle.cv_byte_trie.proofs.Coded.{coded_none, coded_at, coded_same, coded_mo
 use Rattle.cv_byte_trie.proofs.Setting.{block_sets}
 use Rattle.cv_byte_trie.proofs.Keeping.{IsBlock, IsNew, node_keeps}
 
--- room for an edge
+-- a free edge
 abbrev pub nothing : Edge
 nothing = record { byte = 256; code = none }
 
--- a node whose block stands behind all others
+-- a node whose block comes after all others
 new_few : (t u : Steps) (x : Node) (size start : ℕ) → x ≡ Few size start → length t.edges.items ≡ start → IsBlock u.edges.items start size → IsNew t u x
 new_few t u x size start is at block = record {
   one = λ b code e. absurd (let bad : One b code ≡ Few size start = sym e ∙ is in cc);
@@ -29,7 +29,7 @@ new_few t u x size start is at block = record {
   whole = λ k e. absurd (let bad : Table k ≡ Few size start = sym e ∙ is in cc);
 }
 
--- a node whose table stands behind all others
+-- a node whose table comes after all others
 pub new_table : (t u : Steps) (k : ℕ) → length t.tables.items ≡ k * 256 → length u.tables.items ≡ length t.tables.items + 256 → IsNew t u (Table k)
 new_table t u k at more = record {
   one = λ b code e. absurd (let bad : Table k ≡ One b code = e in cc);
@@ -54,7 +54,7 @@ pub not_root : (t : Steps) → IsSound t → (n : ℕ) (y : Node) → node_at t 
 not_root t s n y e h = elim (cases_eq n 0) [ inl z ↦ absurd (h 0 (sym e ∙ ap (node_at t) z ∙ s.root)) | inr z ↦ omega arith ]
 
 module _ (t u : Steps) (s : IsSound t) (n : ℕ) (low : n < length t.nodes.items) (more : List Edge) (edges : u.edges.items ≡ t.edges.items ++ more) (tables : u.tables.items ≡ t.tables.items) (start : ℕ) (at : length t.edges.items ≡ start) where
-  -- the places of a block behind all others
+  -- the edges of a block after all others
   place : (k : ℕ) → edge_in u.edges.items (start + k) ≡ get_or more k nothing
   place k = rw (← at) (ap (λ (y : List Edge). get_or y (length t.edges.items + k) nothing) edges ∙ get_or-append-add t.edges.items more k nothing)
 
@@ -124,7 +124,7 @@ module _ (t u : Steps) (s : IsSound t) (n : ℕ) (low : n < length t.nodes.items
     pub pair_sound : IsSound u
     pair_sound = node_keeps t u s n low (Few 2 start) nodes (not_root t s n (One own led) one (λ k e. absurd (cc))) more edges [] no_rows (rw tables s.full) (new_few t u (Few 2 start) 2 start refl at block_two)
 
-  -- ---- a block with as much room again
+  -- ---- a block of twice the size
 
   module _ (size from b code k : ℕ) (few : node_at t n ≡ Few size from) (small : size ≤ 16) (lacks : (j : ℕ) → j < size → (edge_in t.edges.items (from + j)).byte ≢ b) (byte : b < 256) (leads : code ≢ none)
       (here : k < 2 * size) (upper : size ≤ k) (twice : length more ≡ 2 * size) (there : get_or more k nothing ≡ record { byte = b; code = code })
@@ -148,7 +148,7 @@ module _ (t u : Steps) (s : IsSound t) (n : ℕ) (low : n < length t.nodes.items
       | inr m ↦ elim (cases_eq j k) [ inl p ↦ p | inr p ↦ absurd (let r = at_room j m l p in omega arith) ]
     ]
 
-    -- a place with an edge is an old one or the new one
+    -- an edge of the new block is one of the old block or the new one
     which_place : (j : ℕ) → j < 2 * size → (edge_in u.edges.items (start + j)).byte < 256 → (j < size) ⊎ (j ≡ k)
     which_place j l m = elim (cases_lt j size) [
       | inl h ↦ inl h
@@ -186,7 +186,7 @@ module _ (t u : Steps) (s : IsSound t) (n : ℕ) (low : n < length t.nodes.items
     pub double_sound : IsSound u
     double_sound = node_keeps t u s n low (Few (2 * size) start) nodes (not_root t s n (Few size from) few (λ k e. absurd (cc))) more edges [] no_rows (rw tables s.full) (new_few t u (Few (2 * size) start) (2 * size) start refl at block_twice)
 
--- the places of a block, room for as many behind them, and an edge there
+-- the edges of a block, as many free ones after them, and the new edge among these
 module _ (edges : List Edge) (start size x : ℕ) (e : Edge) (within : start + size ≤ length edges) (small : size ≤ 16) (low : x < size) where
   abbrev filled : List Edge
   filled = take size (drop start edges) ++ drop size (replicate 32 nothing)

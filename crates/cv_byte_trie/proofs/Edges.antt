@@ -12,28 +12,28 @@ use Rattle.cv_byte_trie.specs.declared.node.Node.TheVariants.{Few, Table}
 use Rattle.cv_byte_trie.specs.declared.steps.Steps.{Steps}
 use Rattle.cv_byte_trie.proofs.Coded.{coded_none, coded_at}
 
--- a node that was read
+-- reading a node by its index gives the node of the specification
 pub node_read : (t : Steps) (n : ℕ) (x y : Node) → n < length t.nodes.items → x ≡ get_or t.nodes.items n x → x ≡ y → node_at t n ≡ y
 node_read t n x y low is e = sym (get_or_read t.nodes.items n x low is (Table 0)) ∙ e
 
--- a place that was read
+-- reading an edge by its index gives the edge of the specification
 pub place_read : (edges : List Edge) (k : ℕ) (x : Edge) → k < length edges → x ≡ get_or edges k x → x ≡ edge_in edges k
 place_read edges k x low is = get_or_read edges k x low is (record { byte = 256; code = none })
 
 module _ (t : Steps) (s : IsSound t) (n size start : ℕ) (low : n < length t.nodes.items) (few : node_at t n ≡ Few size start) (b : ℕ) (byte : b < 256) where
-  -- a block is the edges of its node
+  -- the edges of a node with a block are those of the block
   pub edge_few : edge_of t n b ≡ coded t.edges.items start size b
   edge_few = ap (edge_at t n b) few
 
-  -- the place of a byte gives its code
+  -- an edge with a byte gives the code to which the byte leads
   pub edge_found : (k : ℕ) → k < size → (edge_in t.edges.items (start + k)).byte ≡ b → edge_of t n b ≡ (edge_in t.edges.items (start + k)).code
   edge_found k here is = edge_few ∙ coded_at t.edges.items start size b k here is (λ j l e. s.once n size start j k low few l here (e ∙ sym is) (rw is byte))
 
-  -- without one it leads nowhere
+  -- a byte that no edge has leads nowhere
   pub edge_none : FindsEdge t.edges.items start size b None → edge_of t n b ≡ none
   edge_none h = edge_few ∙ coded_none t.edges.items start size b h
 
-  -- where it leads nowhere no place has it
+  -- a byte that leads nowhere is in no edge
   pub lacks : edge_of t n b ≡ none → (k : ℕ) → k < size → (edge_in t.edges.items (start + k)).byte ≢ b
   lacks z k here is = s.led n size start k low few here (rw is byte) (sym (edge_found k here is) ∙ z)
 

@@ -12,7 +12,7 @@ use Rattle.cv_byte_trie.specs.declared.walking.Tail.{Tail}
 use Rattle.cv_byte_trie.proofs.Ways.{Begins-more, longer_by_one}
 
 module _ (entries : List Entry) (a : AreEntries entries) (S : StepsBy) (count : ℕ) (x : List ℕ) (d i : ℕ) (r : IsAt S count entries x d i) where
-  -- no entry of this length or less begins the text
+  -- the text begins with no entry of this length or less
   short : (p : ℕ) → p < length entries → Begins (bytes_at entries p) x → length (bytes_at entries p) ≤ d → ⊥
   short p low front l =
       let some = a.some p low in
@@ -37,7 +37,7 @@ module _ (entries : List Entry) (a : AreEntries entries) (S : StepsBy) (count : 
     size : length (r.way i ++ b ∷ []) ≡ d + 1
     size = longer_by_one (r.way i) b ∙ ap (λ (n : ℕ). n + 1) r.deep
 
-    -- the way to a node and the next byte are the front of the text
+    -- the text begins with the bytes that lead to a node and the next byte
     pub front : r.way i ++ b ∷ [] ≡ take (d + 1) x
     front = Begins-same (r.way i ++ b ∷ []) (take (d + 1) x) x begun (Begins-take (d + 1) x) (size ∙ sym (length-take-le (d + 1) x (omega arith)))
 
@@ -45,11 +45,11 @@ module _ (entries : List Entry) (a : AreEntries entries) (S : StepsBy) (count : 
     pub leads_to_leaf : (p : ℕ) → p ≡ S i b → p < tails → (p < length entries) × (bytes_at entries p ≡ take (d + 1) x)
     leads_to_leaf p e l = let q = r.trie.leaf i b p r.low byte (sym e) l in (q.0, q.1 ∙ front)
 
-    -- to an entry of which bytes are left
+    -- to an entry that has bytes after this one
     pub leads_to_tail : (p : ℕ) → S i b ≡ tail_code p → p < tails → IsTail S count entries x (record { node = i; depth = d; place = p })
     leads_to_tail p e l = record { here = r; more = more; byte = rw is at byte; code = rw is at e; few = l }
 
-    -- a node on
+    -- to a node
     pub leads_to_node : (j : ℕ) → S i b ≡ node_code j → IsAt S count entries x (d + 1) j
     leads_to_node j e =
         let n = r.trie.node i b j r.low byte e in
@@ -65,21 +65,21 @@ module _ (entries : List Entry) (a : AreEntries entries) (S : StepsBy) (count : 
       | inr l ↦ short p low f l
     ]
 
-    -- where the next byte leads nowhere, the way with it begins no entry
+    -- if the next byte leads nowhere, no entry begins with the bytes up to it
     pub begins_none : S i b ≡ none → (p : ℕ) → p < length entries → Begins (r.way i ++ b ∷ []) (bytes_at entries p) → ⊥
     begins_none e p low f = r.trie.there i b p r.low byte low f e
 
-    -- where the next byte leads nowhere, the text meets no entry
+    -- if the next byte leads nowhere, the text meets no entry
     pub meets_none : S i b ≡ none → MeetsNone entries x
     meets_none e p low = (none_begins e p low, λ f. begins_none e p low (Begins-trans (r.way i ++ b ∷ []) x (bytes_at entries p) begun f))
 
--- what leads nowhere meets no entry
+-- a text that leads nowhere meets no entry
 pub vacant_meets_none : (entries : List Entry) → AreEntries entries → (S : StepsBy) (count : ℕ) (x : List ℕ) (d i : ℕ) → IsVacant S count entries x d i → MeetsNone entries x
 vacant_meets_none entries a S count x d i v = meets_none entries a S count x d i v.here (get_or x d 0) v.more refl v.byte v.vacant
 
--- Where the next byte leads to an entry of which bytes are left.
+-- The next byte leads to an entry that has bytes after it.
 module _ (entries : List Entry) (a : AreEntries entries) (S : StepsBy) (count : ℕ) (x : List ℕ) (tail : Tail) (t : IsTail S count entries x tail) where
-  -- it is the only one behind the bytes
+  -- it is the only entry that begins with these bytes
   pub tail_alone : IsAlone entries (t.here.way tail.node ++ get_or x tail.depth 0 ∷ []) tail.place
   tail_alone = t.here.trie.tail tail.node (get_or x tail.depth 0) tail.place t.here.low t.byte t.code t.few
 
@@ -87,7 +87,7 @@ module _ (entries : List Entry) (a : AreEntries entries) (S : StepsBy) (count : 
   pub tail_low : tail.place < length entries
   tail_low = tail_alone.on.low
 
-  -- the way to it begins the text
+  -- the text begins with the bytes that lead to it
   pub tail_begun : Begins (t.here.way tail.node ++ get_or x tail.depth 0 ∷ []) x
   tail_begun = Begins-more (t.here.way tail.node) x tail.depth (get_or x tail.depth 0) t.here.at t.here.deep t.more refl
 

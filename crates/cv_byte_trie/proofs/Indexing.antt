@@ -1,4 +1,4 @@
--- What a byte trie keeps, from entry to entry.
+-- The invariant of a byte trie stays when entries are added.
 use Rattle.std.proofs.Common.{◌≡◌, ◌≢◌, ◌==◌, ◌&&◌, ℕ, ◌<◌, ◌≤◌, ◌+◌, ◌-◌, cond, List, [], ◌∷◌, ◌++◌, length, take, drop, get_or, refl, sym, subst, ◌∙◌, ap, arith, inl, inr, eq-eqb, length-drop}
 use Rattle.std.proofs.lemmas.Bool.{cases_eq, ne_eqb}
 use Rattle.std.proofs.lemmas.List.{get_or-drop, get_or-take, length-take-le}
@@ -25,7 +25,7 @@ use Rattle.cv_byte_trie.proofs.OneMore.{cases_same, one_more_entry, one_more_tri
 use Rattle.cv_byte_trie.proofs.Lowering.{at_fork}
 use Rattle.cv_byte_trie.proofs.Setting.{edge_same}
 
--- ---- where nothing changed
+-- ---- if nothing changed
 
 module _ (old new : Steps) (u : IsUnchanged old new) where
   node_unchanged : (n : ℕ) → node_at new n ≡ node_at old n
@@ -68,7 +68,7 @@ trie_same S T count entries same h =
       };
     }
 
--- entries and steps that stay are indexed as they were
+-- unchanged entries and steps keep the invariant
 pub indexed_unchanged : (entries same : List Entry) (old new : Steps) → IsIndexed entries old → same ≡ entries → IsUnchanged old new → IsIndexed same new
 indexed_unchanged entries same old new i e u = subst (λ (x : List Entry). IsIndexed x new) (sym e) (record {
   apart = i.apart;
@@ -80,9 +80,9 @@ indexed_unchanged entries same old new i e u = subst (λ (x : List Entry). IsInd
   tables = rw u.tables i.tables;
 })
 
--- ---- where an entry was added
+-- ---- if an entry was added
 
--- one more entry is indexed with the others
+-- the invariant holds with one more entry
 pub indexed_more : (entries : List Entry) (old new : Steps) (w : List ℕ) (character d i : ℕ) → IsIndexed entries old → IsVacant (edge_of old) (length old.nodes.items) entries w d i
     → length w ≤ 8 → IsScalar character → length entries < 16777216 → IsSound new → SetsEdge old new i (get_or w d 0) (end_code (length w) d (length entries)) → length new.nodes.items ≡ length old.nodes.items
     → length new.edges.items ≤ length old.edges.items + 32 → length new.tables.items ≤ length old.tables.items + 256 → IsIndexed (entries ++ (w, character) ∷ []) new
@@ -102,7 +102,7 @@ indexed_more entries old new w character d i x v short scalar room sound g same 
       tables = omega (arith, longer entries e);
     }
 
--- the bytes in front of the one that led nowhere lead to the node to which they led
+-- the bytes before the one that led nowhere still lead to the same node
 pub at_more : (entries : List Entry) (old new : Steps) (w : List ℕ) (character d i : ℕ) → IsIndexed entries old → IsVacant (edge_of old) (length old.nodes.items) entries w d i
     → length entries < 16777216 → SetsEdge old new i (get_or w d 0) (end_code (length w) d (length entries)) → length new.nodes.items ≡ length old.nodes.items
     → IsAt (edge_of new) (length new.nodes.items) (entries ++ (w, character) ∷ []) w d i
@@ -110,9 +110,9 @@ at_more entries old new w character d i x v room g same =
     subst (λ (n : ℕ). IsAt (edge_of new) n (entries ++ (w, character) ∷ []) w d i) (sym same)
     (one_more_at entries x.apart (edge_of old) (length old.nodes.items) w d i v.here (get_or w d 0) v.more refl v.byte v.vacant (omega arith) character (edge_of new) g.same g.set)
 
--- ---- where an entry was added beside another
+-- ---- if an entry was added beside another
 
--- steps without one edge
+-- the steps with one edge removed
 abbrev pub without : StepsBy → ℕ → ℕ → StepsBy
 without T m x n c = cond ((n == m) && (c == x)) none (T n c)
 
@@ -128,7 +128,7 @@ without_other T m x n c h = elim (cases_eq n m) [
   | inr p ↦ rw (ne_eqb n m p) refl
 ]
 
--- The bytes w and those of the entry that the next byte leads to have l bytes in common.
+-- The bytes `w` and those of the entry to which the next byte leads have `l` bytes in common.
 module _ (entries : List Entry) (a : AreEntries entries) (old new : Steps) (w : List ℕ) (tail : Tail) (t : IsTail (edge_of old) (length old.nodes.items) entries w tail) (l : ℕ)
     (agree : AgreeFor (bytes_at entries tail.place) w l) (parts_held : l < length (bytes_at entries tail.place)) (parts : l < length w) where
   abbrev d : ℕ
@@ -140,7 +140,7 @@ module _ (entries : List Entry) (a : AreEntries entries) (old new : Steps) (w : 
   alone : IsAlone entries (t.here.way tail.node ++ get_or w d 0 ∷ []) tail.place
   alone = tail_alone entries a (edge_of old) (length old.nodes.items) w tail t
 
-  -- the way to it is in common
+  -- the bytes that lead to it are in common
   pub beside_deep : d < l
   beside_deep =
       let long = agree_deep (t.here.way tail.node ++ get_or w d 0 ∷ []) v w l agree parts_held parts alone.on.front (tail_begun entries a (edge_of old) (length old.nodes.items) w tail t) in
@@ -175,7 +175,7 @@ module _ (entries : List Entry) (a : AreEntries entries) (old new : Steps) (w : 
       let here : l - 0 ≡ l = omega arith in
       agree.differ parts_held parts (sym (e ∙ ap (λ (k : ℕ). get_or between k 0) (sym at) ∙ between_at 0 (omega arith) ∙ ap (λ (k : ℕ). get_or v k 0) here))
 
-  -- the new entry meets none
+  -- the new entry meets no other
   pub beside_meets_none : MeetsNone entries w
   beside_meets_none = tail_meets_none entries a (edge_of old) (length old.nodes.items) w tail t (agree_not v w l agree parts_held) (agree_not w v l (agree_flip v w l agree) parts)
 
@@ -205,7 +205,7 @@ module _ (entries : List Entry) (a : AreEntries entries) (old new : Steps) (w : 
       rw sum (one_more_trie entries a (without T count x) (count + m) w l count fork x parts refl byte (without_it T count x count x refl refl) small character T
       (λ n c low cb h. sym (without_other T count x n c h)) g.branches.fork)
 
-  -- one more entry beside another is indexed with the others
+  -- the invariant holds with one more entry beside another
   pub indexed_beside : (character : ℕ) → IsIndexed entries old → length w ≤ 8 → IsScalar character → length entries < 16777216 → get_or w l 0 < 256 → IsSound new
       → Forks old new tail.node (get_or w d 0) between (end_code (length v) l tail.place) (get_or w l 0) (end_code (length w) l (length entries))
       → length new.edges.items ≤ length old.edges.items + 32 → length new.tables.items ≤ length old.tables.items + 256 → IsIndexed (entries ++ (w, character) ∷ []) new
@@ -225,7 +225,7 @@ module _ (entries : List Entry) (a : AreEntries entries) (old new : Steps) (w : 
         tables = omega (arith, longer entries e);
       }
 
--- a root with no edge has no entries
+-- a root with no edge is the trie of no entries
 pub indexed_none : (steps : Steps) → IsSound steps → length steps.nodes.items ≡ 1 → length steps.edges.items ≡ 0 → length steps.tables.items ≡ 256 → ((b : ℕ) → b < 256 → edge_of steps 0 b ≡ none) → IsIndexed [] steps
 indexed_none steps sound nodes edges tables empty = record {
   apart = record { some = λ k l. absurd (omega arith); short = λ k l. absurd (omega arith); scalar = λ k l. absurd (omega arith); apart = λ j k l h f. absurd (omega arith) };
@@ -237,6 +237,6 @@ indexed_none steps sound nodes edges tables empty = record {
   tables = omega arith;
 }
 
--- bytes that lead to an entry begin the text
+-- a text begins with the bytes that lead to an entry
 pub leaf_begins : (entries : List Entry) (x : List ℕ) (p n : ℕ) → bytes_at entries p ≡ take n x → Begins (bytes_at entries p) x
 leaf_begins entries x p n e = rw e (Begins-take n x)

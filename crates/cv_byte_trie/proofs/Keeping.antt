@@ -1,4 +1,4 @@
--- What the nodes, blocks and tables keep when a node, or a place of a block, changes.
+-- The invariant of nodes, blocks and tables stays when a node or an edge of a block changes.
 use Rattle.std.proofs.Common.{◌≡◌, ◌≢◌, ◌⊎◌, ℕ, ◌+◌, ◌*◌, ◌/◌, ◌<◌, ◌≤◌, List, ◌++◌, length, get_or, sym, ◌∙◌, ap, arith, inl, inr, slice_set, length-append}
 use Rattle.std.proofs.lemmas.Bool.{cases_eq}
 use Rattle.std.proofs.lemmas.List.{get_or-set_same, get_or-set_other, length-set}
@@ -11,7 +11,7 @@ use Rattle.cv_byte_trie.specs.declared.node.Node.TheVariants.{One, Few, Table}
 use Rattle.cv_byte_trie.specs.declared.steps.Steps.{Steps}
 use Rattle.cv_byte_trie.proofs.Setting.{block_before}
 
--- A block has a byte once, and its edges lead somewhere.
+-- A block has each byte once at most, and its edges lead somewhere.
 pub record IsBlock (edges : List Edge) (start size : ℕ) : Type 0 where
   pub some : 0 < size
   pub small : size ≤ 32
@@ -19,7 +19,7 @@ pub record IsBlock (edges : List Edge) (start size : ℕ) : Type 0 where
   pub once : (j k : ℕ) → j < size → k < size → (edge_in edges (start + j)).byte ≡ (edge_in edges (start + k)).byte → (edge_in edges (start + k)).byte < 256 → j ≡ k
   pub led : (k : ℕ) → k < size → (edge_in edges (start + k)).byte < 256 → (edge_in edges (start + k)).code ≢ none
 
--- A node's block or table stands behind all that were there.
+-- A node's block or table comes after all old ones.
 pub record IsNew (t u : Steps) (x : Node) : Type 0 where
   pub one : (b code : ℕ) → x ≡ One b code → code ≢ none
   pub few : (size start : ℕ) → x ≡ Few size start → IsBlock u.edges.items start size
@@ -41,7 +41,7 @@ module _ (t u : Steps) (s : IsSound t) (n : ℕ) (low : n < length t.nodes.items
   now : node_at u n ≡ x
   now = ap (λ (y : List Node). get_or y n (Table 0)) nodes ∙ get_or-set_same t.nodes.items n x (Table 0) low
 
-  -- a node is the one that changed, or as it was
+  -- a node is the changed one, or the same as in the old list
   which : (m : ℕ) (y : Node) → m < length u.nodes.items → node_at u m ≡ y → ((m ≡ n) × (x ≡ y)) ⊎ ((m < length t.nodes.items) × (node_at t m ≡ y))
   which m y lm e = elim (cases_eq m n) [
     | inl p ↦ inl (p, sym now ∙ ap (node_at u) (sym p) ∙ e)
@@ -72,7 +72,7 @@ module _ (t u : Steps) (s : IsSound t) (n : ℕ) (low : n < length t.nodes.items
   apart_new : (m p size start width from k : ℕ) → (m < length t.nodes.items) × (node_at t m ≡ Few size start) → x ≡ Few width from → start ≤ k → k < start + size → from ≤ k → ⊥
   apart_new m p size start width from k h e a b c = let w = s.within m size start h.0 h.1 in let v = new.behind width from e in omega arith
 
-  -- a node that changes to what stands behind all that was there
+  -- a node may change to one whose block or table comes after all old ones
   pub node_keeps : IsSound u
   node_keeps = record {
     some = (let h = s.some in omega (arith, count));
@@ -113,7 +113,7 @@ module _ (t u : Steps) (s : IsSound t) (n : ℕ) (low : n < length t.nodes.items
     led = λ m size start k lm e. (block m size start lm e).led k;
   }
 
--- a place of a block that gets another edge
+-- an edge of a block may change to another
 pub place_keeps : (t u : Steps) → IsSound t → (n b code size start k : ℕ) → n < length t.nodes.items → node_at t n ≡ Few size start → k < size
     → ((j : ℕ) → j < size → (edge_in t.edges.items (start + j)).byte ≡ b → j ≡ k) → code ≢ none
     → u.nodes.items ≡ t.nodes.items → u.tables.items ≡ t.tables.items → u.edges.items ≡ slice_set t.edges.items (start + k) (record { byte = b; code = code }) → IsSound u

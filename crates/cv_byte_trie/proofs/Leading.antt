@@ -1,4 +1,4 @@
--- New nodes that lead over bytes, one by one from the last.
+-- New nodes that lead over bytes, one for each byte, from the last byte on.
 use Rattle.std.proofs.Common.{◌≡◌, ◌≢◌, ℕ, ◌+◌, ◌-◌, ◌<◌, ◌≤◌, Bool, cond, List, [], ◌∷◌, ◌++◌, length, take, get_or, sym, ◌∙◌, ap, arith, inl, inr, length-append}
 use Rattle.std.proofs.lemmas.Bool.{cases_lt, ne_eqb}
 use Rattle.std.proofs.lemmas.List.{get_or_push, get_or_append_left, take-append-le}
@@ -17,7 +17,7 @@ pub record IsLeading (old new : Steps) (bytes : List ℕ) (code n first : ℕ) :
   pub chain : (j : ℕ) → j + n < length bytes → node_at new (length old.nodes.items + j) ≡ One (get_or bytes (length bytes - 1 - j) 0) (code_behind code (length old.nodes.items) j)
   pub leads : first ≡ code_behind code (length old.nodes.items) (length bytes - n)
 
--- over bytes the newest node leads on
+-- the code that leads over one byte or more is that of the newest node
 pub behind_some : (code count j : ℕ) → 0 < j → code_behind code count j ≡ node_code (count + j - 1)
 behind_some code count j some = ap (λ (b : Bool). cond b code (node_code (count + j - 1))) (ne_eqb j 0 (let h : j ≢ 0 = omega arith in h))
 

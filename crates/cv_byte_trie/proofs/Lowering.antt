@@ -14,7 +14,8 @@ use Rattle.cv_byte_trie.proofs.Followed.{front}
 use Rattle.cv_byte_trie.proofs.Leading.{behind_some}
 use Rattle.cv_byte_trie.proofs.OneMore.{cases_same, end_low, end_whole, end_tail}
 
--- A byte b leads from node i to the entry at p, of which bytes are left; m new nodes lead over its bytes up to the one at l.
+-- A byte `b` leads from node `i` to the entry at `p`, which has bytes after it. `m` new nodes lead over its bytes up to
+-- index `l`.
 module _ (entries : List Entry) (a : AreEntries entries) (S : StepsBy) (count p : ℕ) (lp : p < length entries) (d i : ℕ) (r : IsAt S count entries (bytes_at entries p) d i) (b : ℕ) (more : d < length (bytes_at entries p))
     (is : b ≡ get_or (bytes_at entries p) d 0) (byte : b < 256) (leads : S i b ≡ tail_code p) (few : p < tails) (l m : ℕ) (size : d + m ≡ l) (some : 0 < m) (fits : l < length (bytes_at entries p)) where
   abbrev v : List ℕ
@@ -29,7 +30,7 @@ module _ (entries : List Entry) (a : AreEntries entries) (S : StepsBy) (count p 
   cut : length (take (d + 1) v) ≡ d + 1
   cut = length-take-le (d + 1) v (omega arith)
 
-  -- only this entry and no way of a node begins with the bytes up to that edge
+  -- only this entry begins with the bytes up to that edge, and they are no prefix of the bytes that lead to a node
   only_this : (q : ℕ) → q < length entries → Begins (take (d + 1) v) (bytes_at entries q) → q ≡ p
   only_this q low f = (r.trie.tail i b p r.low byte leads few).alone q low (rw here f)
 
@@ -64,7 +65,7 @@ module _ (entries : List Entry) (a : AreEntries entries) (S : StepsBy) (count p 
     | inr z ↦ absurd (let f : node_code (count + j - 1) ≡ tail_code q = sym (behind_some last count j (omega arith)) ∙ e in omega arith)
   ]
 
-  -- the way to each node
+  -- the bytes that lead to each node
   pub way_with : ℕ → List ℕ
   way_with n = cond (ltb n count) (r.way n) (take (l - (n - count)) v)
 
@@ -79,7 +80,7 @@ module _ (entries : List Entry) (a : AreEntries entries) (S : StepsBy) (count p 
   way_size : (j : ℕ) → length (take (l - j) v) ≡ l - j
   way_size j = length-take-le (l - j) v (omega arith)
 
-  -- one byte on from a new node
+  -- the bytes that lead to a new node, and its next byte
   way_on : (j c : ℕ) → c ≡ get_or v (l - j) 0 → way_with (count + j) ++ c ∷ [] ≡ take (l - j + 1) v
   way_on j c e = ap (λ (x : List ℕ). x ++ c ∷ []) (way_new j) ∙ ap (λ (x : ℕ). take (l - j) v ++ x ∷ []) e ∙ sym (take_more v (l - j) 0 (omega arith))
 
@@ -87,7 +88,7 @@ module _ (entries : List Entry) (a : AreEntries entries) (S : StepsBy) (count p 
   cases_node : (n : ℕ) → n < count + m → (n < count) ⊎ ((j : ℕ) × (j < m) × (n ≡ count + j))
   cases_node n low = elim (cases_lt n count) [ inl l ↦ inl l | inr l ↦ inr (n - count, omega arith, omega arith) ]
 
-  -- what goes on behind the edge
+  -- the bytes that lead to a new node begin with those up to the edge
   longer_front : (j : ℕ) → j < m → Begins (take (d + 1) v) (take (l - j) v)
   longer_front j low = Begins-meet (take (d + 1) v) (take (l - j) v) v (Begins-take (d + 1) v) (Begins-take (l - j) v) (omega (arith, cut, way_size j))
 
@@ -106,7 +107,7 @@ module _ (entries : List Entry) (a : AreEntries entries) (S : StepsBy) (count p 
     way_set : (n c : ℕ) → n < count → (n ≡ i) × (c ≡ b) → way_with n ++ c ∷ [] ≡ take (d + 1) v
     way_set n c low h = ap (λ (y : List ℕ). y ++ c ∷ []) (way_old n low) ∙ ap (λ (y : ℕ). r.way y ++ c ∷ []) h.0 ∙ ap (λ (y : ℕ). r.way i ++ y ∷ []) h.1 ∙ here
 
-    -- the way from a new node, by the byte of the entry
+    -- the bytes that lead to a new node, and the byte of the entry after them
     way_from : (j n c : ℕ) → n ≡ count + j → c ≡ get_or v (l - j) 0 → way_with n ++ c ∷ [] ≡ take (l - j + 1) v
     way_from j n c e f = ap (λ (y : ℕ). way_with y ++ c ∷ []) e ∙ way_on j c f
 
@@ -146,7 +147,7 @@ module _ (entries : List Entry) (a : AreEntries entries) (S : StepsBy) (count p 
       ]
     ]
 
-    -- the entry is the only one behind the last new node
+    -- the entry is the only one that begins with the bytes up to the last new node
     alone_last : (y : List ℕ) (q : ℕ) → length v ≢ l + 1 → q ≡ p → y ≡ take (l + 1) v → IsAlone entries y q
     alone_last y q long e f =
         let own : length (take (l + 1) v) ≡ l + 1 = length-take-le (l + 1) v (omega arith) in
@@ -172,7 +173,7 @@ module _ (entries : List Entry) (a : AreEntries entries) (S : StepsBy) (count p 
       ]
     ]
 
-    -- no other edge to an entry lies on the way of this one
+    -- no other edge to an entry is on the way to this one
     no_other : (n c q : ℕ) → n < count → c < 256 → ((n ≡ i) × (c ≡ b) → ⊥) → S n c ≡ tail_code q → q < tails → Begins (r.way n ++ c ∷ []) v → ⊥
     no_other n c q lo cb h e lq f =
         let one : length (r.way n ++ c ∷ []) ≡ length (r.way n) + 1 = longer_by_one (r.way n) c in
@@ -235,7 +236,7 @@ module _ (entries : List Entry) (a : AreEntries entries) (S : StepsBy) (count p 
       ]
     ]
 
-    -- no old node has the way of a new one
+    -- an old and a new node are not reached by the same bytes
     apart_T : (n j : ℕ) → n < count → j < m → r.way n ≡ take (l - j) v → ⊥
     apart_T n j lo lj e = no_way n lo (rw e (longer_front j lj))
 

@@ -16,7 +16,7 @@ use Rattle.cv_byte_trie.proofs.Followed.{begins_none, front}
 -- ---- the list
 
 module _ (entries : List Entry) (e : Entry) where
-  -- the bytes of an entry that was there
+  -- the bytes of an old entry
   pub bytes_old : (p : ℕ) → p < length entries → bytes_at (entries ++ e ∷ []) p ≡ bytes_at entries p
   bytes_old p low = ap (λ (x : Entry). x.0) (get_or_append_left entries (e ∷ []) no_entry p low)
 
@@ -34,11 +34,11 @@ module _ (entries : List Entry) (e : Entry) where
   pub longer : length (entries ++ e ∷ []) ≡ length entries + 1
   longer = length-append entries (e ∷ [])
 
-  -- a fact of each entry, and of the new one
+  -- a fact that holds of each old entry and of the new one holds of all
   each : (P : ℕ → Type 0) → ((p : ℕ) → p < length entries → P p) → ((p : ℕ) → p ≡ length entries → P p) → (p : ℕ) → p < length (entries ++ e ∷ []) → P p
   each P old new p low = elim (cases_lt p (length entries)) [ inl l ↦ old p l | inr l ↦ new p (omega (arith, longer)) ]
 
-  -- entries stay apart, with one that meets none
+  -- entries stay apart if the new one meets none
   pub one_more_entry : AreEntries entries → MeetsNone entries e.0 → 0 < length e.0 → length e.0 ≤ 8 → IsScalar e.1 → AreEntries (entries ++ e ∷ [])
   one_more_entry a meets some short scalar = record {
     some = each (λ p. 0 < length (bytes_at (entries ++ e ∷ []) p)) (λ p l. rw (bytes_old p l) (a.some p l)) (λ p is. rw (bytes_new p is) some);
@@ -58,7 +58,7 @@ module _ (entries : List Entry) (e : Entry) where
 
 -- ---- the trie
 
--- whether an edge is another
+-- whether two edges are the same
 pub cases_same : (i b n c : ℕ) → ((n ≡ i) × (c ≡ b)) ⊎ ((n ≡ i) × (c ≡ b) → ⊥)
 cases_same i b n c = elim (cases_eq n i) [
   | inl p ↦ elim (cases_eq c b) [ inl q ↦ inl (p, q) | inr q ↦ inr (λ h. q h.1) ]
@@ -76,21 +76,21 @@ end_cases size depth place = elim (cases_eq size (depth + 1)) [
 pub end_low : (size depth place : ℕ) → place < tails → end_code size depth place < none
 end_low size depth place l = elim (end_cases size depth place) [ inl e ↦ rw e.1 (omega arith) | inr e ↦ rw e.1 (omega arith) ]
 
--- what it says where it is the code of a last byte, or of another
+-- if it is an index, it is the entry's own, and the byte is the entry's last
 pub end_whole : (size depth place p : ℕ) → end_code size depth place ≡ p → p < tails → (size ≡ depth + 1) × (p ≡ place)
 end_whole size depth place p is low = elim (end_cases size depth place) [
   | inl e ↦ (e.0, sym is ∙ e.1)
   | inr e ↦ absurd (let f : p ≡ tail_code place = sym is ∙ e.1 in omega arith)
 ]
 
--- where an entry ends with a tail, the tail is its own
+-- if it is the code of an entry with bytes after the edge's, it is the entry's own, and the byte is not its last
 pub end_tail : (size depth place p : ℕ) → place < tails → end_code size depth place ≡ tail_code p → (size ≢ depth + 1) × (p ≡ place)
 end_tail size depth place p low is = elim (end_cases size depth place) [
   | inl e ↦ absurd (let f : place ≡ tail_code p = sym e.1 ∙ is in omega arith)
   | inr e ↦ (let f : tail_code place ≡ tail_code p = sym e.1 ∙ is in (e.0, omega arith))
 ]
 
--- A byte string whose first d bytes lead to a node, from which the next has no edge.
+-- A byte string whose first `d` bytes lead to a node, which has no edge for the next.
 module _ (entries : List Entry) (a : AreEntries entries) (S : StepsBy) (count : ℕ) (w : List ℕ) (d i : ℕ) (r : IsAt S count entries w d i) (b : ℕ) (more : d < length w) (is : b ≡ get_or w d 0) (byte : b < 256)
     (vacant : S i b ≡ none) (small : length entries < tails) where
   here : r.way i ++ b ∷ [] ≡ take (d + 1) w
@@ -99,7 +99,7 @@ module _ (entries : List Entry) (a : AreEntries entries) (S : StepsBy) (count : 
   cut : length (take (d + 1) w) ≡ d + 1
   cut = length-take-le (d + 1) w (omega arith)
 
-  -- the bytes up to the vacant edge begin no entry, and no way of a node
+  -- no entry begins with the bytes up to the vacant edge, and no node is reached by them
   begins_no_entry : (p : ℕ) → p < length entries → Begins (r.way i ++ b ∷ []) (bytes_at entries p) → ⊥
   begins_no_entry p low f = begins_none entries a S count w d i r b more is byte vacant p low f
 
@@ -123,7 +123,7 @@ module _ (entries : List Entry) (a : AreEntries entries) (S : StepsBy) (count : 
     way_set : (n c : ℕ) → (n ≡ i) × (c ≡ b) → r.way n ++ c ∷ [] ≡ r.way i ++ b ∷ []
     way_set n c h = ap (λ (y : ℕ). r.way y ++ c ∷ []) h.0 ∙ ap (λ (y : ℕ). r.way i ++ y ∷ []) h.1
 
-    -- another edge on the way of the new bytes comes before the vacant one, and leads to a node
+    -- another edge over which the new bytes lead comes before the vacant one, and leads to a node
     before : (n c : ℕ) → n < count → ((n ≡ i) × (c ≡ b) → ⊥) → Begins (r.way n ++ c ∷ []) w → Begins (r.way n ++ c ∷ []) (r.way i) × (length (r.way n) < d)
     before n c l h f =
         let one : length (r.way n ++ c ∷ []) ≡ length (r.way n) + 1 = longer_by_one (r.way n) c in
@@ -138,7 +138,7 @@ module _ (entries : List Entry) (a : AreEntries entries) (S : StepsBy) (count : 
           ]
         ]
 
-    -- so such an edge is there
+    -- so there is such an edge
     path : (n c : ℕ) → n < count → c < 256 → ((n ≡ i) × (c ≡ b) → ⊥) → Begins (r.way n ++ c ∷ []) w → S n c ≢ none
     path n c l cb h f z =
         let g = before n c l h f in
@@ -248,7 +248,7 @@ module _ (entries : List Entry) (a : AreEntries entries) (S : StepsBy) (count : 
     pub one_more_trie : HasTrie T count all
     one_more_trie = record { way = r.way; trie = is_trie }
 
-    -- the bytes in front of the vacant edge lead to the same node
+    -- the bytes before the vacant edge lead to the same node
     pub one_more_at : IsAt T count all w d i
     one_more_at = record { way = r.way; trie = is_trie; low = r.low; at = r.at; deep = r.deep }
 

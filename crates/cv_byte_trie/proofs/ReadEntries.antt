@@ -1,4 +1,4 @@
--- What an entry that was read says of the list that it stands in.
+-- An entry that was read by its index, and the list that has it.
 use Rattle.std.proofs.Common.{◌≡◌, ℕ, ◌<◌, List, length, get_or, sym, ap}
 use Rattle.std.proofs.lemmas.List.{get_or_read}
 use Rattle.cv_byte_trie.specs.Entries.{Entry, no_entry, bytes_at, character_at}

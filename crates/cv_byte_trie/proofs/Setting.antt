@@ -12,17 +12,17 @@ use Rattle.cv_byte_trie.specs.declared.node.Node.TheVariants.{One, Few, Table}
 use Rattle.cv_byte_trie.specs.declared.steps.Steps.{Steps}
 use Rattle.cv_byte_trie.proofs.Coded.{coded_same, coded_other, coded_at}
 
--- the places of a block stay
+-- the edges of a block stay
 abbrev pub SameBlock : Steps → Steps → ℕ → ℕ → Type 0
 SameBlock t u size start = (k : ℕ) → k < size → edge_in u.edges.items (start + k) ≡ edge_in t.edges.items (start + k)
 
--- a node's edges stay where its block and the tables do
+-- a node's edges stay if its block and the tables do
 pub edge_same : (t u : Steps) (n b : ℕ) (x : Node) → u.tables.items ≡ t.tables.items → ((size start : ℕ) → x ≡ Few size start → SameBlock t u size start) → edge_at u n b x ≡ edge_at t n b x
 edge_same t u n b (One byte code) e f = refl
 edge_same t u n b (Few size start) e f = coded_same t.edges.items u.edges.items start start size b (f size start refl)
 edge_same t u n b (Table number) e f = ap (λ (x : List ℕ). get_or x (number * 256 + b) none) e
 
--- a block stays where more places follow
+-- a block stays if more edges are appended
 pub block_before : (t u : Steps) (more : List Edge) → u.edges.items ≡ t.edges.items ++ more → (size start : ℕ) → start + size ≤ length t.edges.items → SameBlock t u size start
 block_before t u more e size start within k low = ap (λ (x : List Edge). get_or x (start + k) (record { byte = 256; code = none })) e ∙ get_or_append_left t.edges.items more (record { byte = 256; code = none }) (start + k) (omega arith)
 
@@ -33,11 +33,12 @@ module _ (t u : Steps) (s : IsSound t) (n : ℕ) (low : n < length t.nodes.items
   other : (m : ℕ) → m ≢ n → node_at u m ≡ node_at t m
   other m h = ap (λ (y : List Node). get_or y m (Table 0)) nodes ∙ get_or-set_other t.nodes.items n m x (Table 0) h
 
-  -- the edges of another node, where more places follow
+  -- the edges of another node stay if more edges are appended
   others : (more : List Edge) → u.edges.items ≡ t.edges.items ++ more → (m b : ℕ) → m < length t.nodes.items → m ≢ n → edge_of u m b ≡ edge_of t m b
   others more e m b lm h = ap (edge_at u m b) (other m h) ∙ edge_same t u m b (node_at t m) tables (λ size start is. block_before t u more e size start (s.within m size start lm is))
 
-  -- A node gets a block of so many places behind all others, where the byte b has the place k and each other byte leads as it did.
+  -- A node gets a block of so many edges after all others. Its edge at index `k` has the byte `b`, and each other byte
+  -- leads as in the old block.
   pub block_sets : (more : List Edge) → u.edges.items ≡ t.edges.items ++ more → (b code size start k : ℕ) → x ≡ Few size start → k < size → (edge_in u.edges.items (start + k)).byte ≡ b → (edge_in u.edges.items (start + k)).code ≡ code
       → ((j : ℕ) → j < size → (edge_in u.edges.items (start + j)).byte ≡ b → j ≡ k) → ((c : ℕ) → c < 256 → c ≢ b → coded u.edges.items start size c ≡ edge_of t n c) → SetsEdge t u n b code
   block_sets more e b code size start k is here has leads once rest = record {
@@ -48,7 +49,7 @@ module _ (t u : Steps) (s : IsSound t) (n : ℕ) (low : n < length t.nodes.items
     ];
   }
 
-  -- the one edge of a node leads elsewhere
+  -- the only edge of a node is set to another code
   pub one_turns : (b led code : ℕ) → node_at t n ≡ One b led → x ≡ One b code → u.edges.items ≡ t.edges.items → SetsEdge t u n b code
   one_turns b led code was is edges = record {
     set = ap (edge_at u n b) (now ∙ is) ∙ ap (λ (y : Bool). cond y code none) (eq-eqb b b refl);
@@ -60,7 +61,7 @@ module _ (t u : Steps) (s : IsSound t) (n : ℕ) (low : n < length t.nodes.items
     ];
   }
 
--- an edge in a block
+-- an edge in a block is set
 pub place_sets : (t u : Steps) → IsSound t → (n b code size start k : ℕ) → n < length t.nodes.items → b < 256 → node_at t n ≡ Few size start → k < size
     → ((j : ℕ) → j < size → (edge_in t.edges.items (start + j)).byte ≡ b → j ≡ k) → ((c : ℕ) → c < 256 → c ≢ b → (edge_in t.edges.items (start + k)).byte ≢ c)
     → u.nodes.items ≡ t.nodes.items → u.tables.items ≡ t.tables.items → u.edges.items ≡ slice_set t.edges.items (start + k) (record { byte = b; code = code }) → SetsEdge t u n b code

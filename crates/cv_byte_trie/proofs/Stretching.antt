@@ -1,4 +1,4 @@
--- Blocks that stand behind all others and get as much room again where they are.
+-- The last block is doubled where it is.
 use Rattle.std.proofs.Common.{◌≡◌, ◌≢◌, ◌⊎◌, ℕ, ◌+◌, ◌*◌, ◌-◌, ◌<◌, ◌≤◌, List, ◌++◌, length, take, get_or, refl, sym, ◌∙◌, ap, arith, inl, inr, slice_set, length-append}
 use Rattle.std.proofs.Math.ListN.{replicate}
 use Rattle.std.proofs.lemmas.Bool.{cases_eq, cases_lt}
@@ -45,7 +45,7 @@ module _ (t u : Steps) (s : IsSound t) (n : ℕ) (low : n < length t.nodes.items
     | inr m ↦ elim (cases_eq j (size + x)) [ inl p ↦ p | inr p ↦ absurd (let r = at_room j m l p in omega arith) ]
   ]
 
-  -- a place with an edge is an old one or the new one
+  -- an edge of the new block is one of the old block or the new one
   which_place : (j : ℕ) → j < 2 * size → (edge_in u.edges.items (start + j)).byte < 256 → (j < size) ⊎ (j ≡ size + x)
   which_place j l m = elim (cases_lt j size) [
     | inl h ↦ inl h
@@ -91,14 +91,14 @@ module _ (t u : Steps) (s : IsSound t) (n : ℕ) (low : n < length t.nodes.items
   now : node_at u n ≡ Few (2 * size) start
   now = ap (λ (y : List Node). get_or y n (Table 0)) nodes ∙ get_or-set_same t.nodes.items n (Few (2 * size) start) (Table 0) low
 
-  -- a node is the one that changed, or as it was
+  -- a node is the changed one, or the same as in the old list
   which : (m : ℕ) (y : Node) → m < length u.nodes.items → node_at u m ≡ y → ((m ≡ n) × (Few (2 * size) start ≡ y)) ⊎ ((m < length t.nodes.items) × (node_at t m ≡ y))
   which m y lm e = elim (cases_eq m n) [
     | inl p ↦ inl (p, sym now ∙ ap (node_at u) (sym p) ∙ e)
     | inr p ↦ inr (omega (arith, count), sym (ap (λ (z : List Node). get_or z m (Table 0)) nodes ∙ get_or-set_other t.nodes.items n m (Few (2 * size) start) (Table 0) p) ∙ e)
   ]
 
-  -- a table is one that was there
+  -- a table is an old one
   table_stays : (m k : ℕ) → m < length u.nodes.items → node_at u m ≡ Table k → (m < length t.nodes.items) × (node_at t m ≡ Table k)
   table_stays m k lm e = elim (which m (Table k) lm e) [
     | inl p ↦ absurd (let bad : Few (2 * size) start ≡ Table k = p.1 in cc)
@@ -119,7 +119,7 @@ module _ (t u : Steps) (s : IsSound t) (n : ℕ) (low : n < length t.nodes.items
         })
   ]
 
-  -- an old block that meets the new one met the one before it
+  -- an old block with an edge at the start of the new block or after it is the block of the same node
   met : (m width from k : ℕ) → (m < length t.nodes.items) × (node_at t m ≡ Few width from) → from ≤ k → k < from + width → start ≤ k → m ≡ n
   met m width from k h a c d = let w = s.within m width from h.0 h.1 in s.own m n width from size start k h.0 low h.1 few a c d (omega (arith, last))
 
@@ -153,7 +153,7 @@ module _ (t u : Steps) (s : IsSound t) (n : ℕ) (low : n < length t.nodes.items
     led = λ m width from k lm e. (block m width from lm e).led k;
   }
 
--- room for as many edges, with one of them
+-- free edges, as many as the block had, with the new edge among them
 module _ (size x : ℕ) (e : Edge) (small : size ≤ 16) (low : x < size) where
   abbrev pub one_more : List Edge
   one_more = take size (slice_set (replicate 16 nothing) x e)

@@ -1,4 +1,4 @@
--- Where whole byte strings lead.
+-- Where byte strings lead.
 use Rattle.std.proofs.Common.{◌≡◌, ◌≢◌, ◌==◌, ◌⊎◌, ℕ, suc, ◌<◌, ◌+◌, ◌-◌, cond, ltb, List, [], ◌∷◌, ◌++◌, length, take, refl, sym, subst, ◌∙◌, ap, arith, inl, inr, append_assoc, append-nil, length-append, eq-eqb}
 use Rattle.std.proofs.lemmas.Bool.{cases_lt, cases_eq, lt-ltb, le-ltb, ne_eqb}
 use Rattle.cv_base.specs.Items.{Begins}
@@ -66,7 +66,7 @@ kind c = elim (cases_lt c tails) [
   ]
 ]
 
--- an entry stands at its place, or a front of it does
+-- an entry's bytes lead to its index, all of them or a proper prefix
 abbrev Owned : List Entry → ℕ → ℕ → Destination → Type 0
 Owned entries p size f = (f ≡ Leaf p size) ⊎ ((n : ℕ) × (n < size) × (f ≡ Tail p n))
 

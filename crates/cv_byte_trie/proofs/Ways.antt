@@ -1,8 +1,8 @@
--- Lists that begin one list.
+-- Prefixes of one list.
 use Rattle.std.proofs.Common.{◌≡◌, ℕ, ◌<◌, ◌+◌, List, [], ◌∷◌, ◌++◌, length, get_or, zero, suc, arith, length-append}
 use Rattle.cv_base.specs.Items.{Begins}
 
--- one byte more
+-- a prefix with the next byte is a prefix
 pub Begins-more : (u w : List ℕ) (d b : ℕ) → Begins u w → length u ≡ d → d < length w → b ≡ get_or w d 0 → Begins (u ++ b ∷ []) w
 Begins-more [] [] d b p e l is = absurd (omega arith)
 Begins-more [] (y ∷ w) zero b p e l is = (is, tt)

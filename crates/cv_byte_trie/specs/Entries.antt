@@ -7,19 +7,19 @@ use Rattle.cv_base.specs.Items.{Begins}
 abbrev pub Entry : Type 0
 Entry = List ℕ × ℕ
 
--- what stands past the end of a list
+-- the entry that is taken for an index past the end of a list
 abbrev pub no_entry : Entry
 no_entry = ([], 0)
 
--- the byte string at a place
+-- the byte string at an index
 abbrev pub bytes_at : List Entry → ℕ → List ℕ
 bytes_at entries place = (slice_index_or entries place no_entry).0
 
--- the character at a place
+-- the character at an index
 abbrev pub character_at : List Entry → ℕ → ℕ
 character_at entries place = (slice_index_or entries place no_entry).1
 
--- No byte string begins that of another place: so they are distinct, and none is a prefix of another.
+-- No byte string begins that at another index: so they are distinct, and none is a prefix of another.
 abbrev pub AreApart : List Entry → Type 0
 AreApart entries =
     (j k : ℕ) → j < length entries → k < length entries → Begins (bytes_at entries j) (bytes_at entries k) → j ≡ k

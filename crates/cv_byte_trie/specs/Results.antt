@@ -1,4 +1,4 @@
--- What came of looking up a text, and of adding an entry.
+-- The results of looking up a text, and of adding an entry.
 use Rattle.std.specs.Prelude.{◌≡◌, ℕ, ◌<◌, List, [], ◌∷◌, ◌++◌, length}
 use Rattle.cv_base.specs.Items.{Begins}
 use Rattle.cv_byte_trie.specs.Entries.{Entry, bytes_at}
@@ -7,24 +7,27 @@ use Rattle.cv_byte_trie.specs.declared.found.Found.TheVariants as found
 use Rattle.cv_byte_trie.specs.declared.added.Added.{Added}
 use Rattle.cv_byte_trie.specs.declared.added.Added.TheVariants as added
 
--- No entry's bytes begin these, nor do these begin an entry's.
+-- No entry's bytes begin with these, nor do these begin with an entry's.
 abbrev pub MeetsNone : List Entry → List ℕ → Type 0
 MeetsNone entries bytes =
     (p : ℕ) → p < length entries → (Begins (bytes_at entries p) bytes → ⊥) × (Begins bytes (bytes_at entries p) → ⊥)
 
--- The entry at a place goes on behind these bytes.
+-- The bytes of the entry at an index begin with these, and are longer.
 pub record GoesOnBehind (entries : List Entry) (bytes : List ℕ) (place : ℕ) : Type 0 where
   pub low : place < length entries
   pub front : Begins bytes (bytes_at entries place)
   pub longer : length bytes < length (bytes_at entries place)
 
--- What a text is to the entries: one of them stands at its front, or it ends inside of one, or neither.
+-- What a text is among the entries: it begins with the bytes of one, or is a proper prefix of the bytes of one, or
+-- neither.
 abbrev pub Finds : List Entry → List ℕ → Found → Type 0
 Finds entries text (found.Entry place) = (place < length entries) × Begins (bytes_at entries place) text
 Finds entries text found.Inside = (place : ℕ) × GoesOnBehind entries text place
 Finds entries text found.Nothing = MeetsNone entries text
 
--- What came of adding an entry: it meets none and stands at the end now; or nothing changes, since its bytes are there, or go on behind an entry, or an entry goes on behind them.
+-- The result of adding an entry. If it meets no other, it is the last of the new list. Otherwise nothing changes: an
+-- entry has its bytes, or its bytes begin with an entry's and are longer, or an entry's bytes begin with its bytes and
+-- are longer.
 abbrev pub Adds : List Entry → Entry → Added → List Entry → Type 0
 Adds old entry added.Entered new = MeetsNone old entry.0 × (new ≡ old ++ entry ∷ [])
 Adds old entry (added.Held place) new = (place < length old) × (bytes_at old place ≡ entry.0) × (new ≡ old)

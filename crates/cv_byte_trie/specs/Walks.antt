@@ -1,24 +1,25 @@
--- Where whole byte strings lead through a trie.
+-- Where byte strings lead through a trie.
 use Rattle.std.specs.Prelude.{◌≡◌, ◌==◌, ℕ, suc, ◌-◌, ◌<◌, ◌⊎◌, List, [], ◌∷◌, ◌++◌, length, take, nat_lt, if◌then◌else◌}
 use Rattle.cv_byte_trie.specs.Entries.{Entry, bytes_at}
 use Rattle.cv_byte_trie.specs.Results.{GoesOnBehind}
 use Rattle.cv_byte_trie.specs.Tries.{StepsBy, tails, none, IsAlone}
 
--- a walk ends at the place of an entry, after so many bytes, its last or with others left; or at a node; or it leads nowhere
+-- A walk reaches the entry at an index after so many bytes: by its last byte (`Leaf`), or by one that others follow
+-- (`Tail`). Or it ends at a node, or leads nowhere.
 pub data Destination : Type 0 where
   Leaf : (place count : ℕ) → Destination
   Tail : (place count : ℕ) → Destination
   Node : (node : ℕ) → Destination
   Nowhere : Destination
 
--- the same, one byte later
+-- the same, after one byte more
 abbrev pub later : Destination → Destination
 later (Leaf place count) = Leaf place (suc count)
 later (Tail place count) = Tail place (suc count)
 later (Node node) = Node node
 later Nowhere = Nowhere
 
--- from a node over bytes, with a step for each
+-- where bytes lead from a node, one step for each byte
 abbrev pub walk : StepsBy → ℕ → List ℕ → Destination
 walk step node [] = Node node
 walk step node (b ∷ bytes) =
@@ -33,11 +34,11 @@ AreBytes (b ∷ bytes) = (b < 256) × AreBytes bytes
 
 -- Where byte strings lead from the root.
 pub record Leads (step : StepsBy) (entries : List Entry) : Type 0 where
-  -- each that was entered leads to its own place, whatever follows it, all of it or a front
+  -- each entry's bytes lead to its own index, whatever follows them: all of them do, or a proper prefix of them
   pub own : (p : ℕ) (rest : List ℕ) → p < length entries → AreBytes (bytes_at entries p) → (walk step 0 (bytes_at entries p ++ rest) ≡ Leaf p (length (bytes_at entries p))) ⊎ ((n : ℕ) × (n < length (bytes_at entries p)) × (walk step 0 (bytes_at entries p ++ rest) ≡ Tail p n))
-  -- a front leads to the place of the only one that it begins
+  -- bytes that lead to a `Tail` are a proper prefix of that entry's bytes, and of no other's
   pub alone : (bytes : List ℕ) (p n : ℕ) → AreBytes bytes → walk step 0 bytes ≡ Tail p n → IsAlone entries (take n bytes) p
-  -- no other leads to a place
+  -- bytes that lead to a `Leaf` are that entry's bytes
   pub only : (bytes : List ℕ) (p n : ℕ) → AreBytes bytes → walk step 0 bytes ≡ Leaf p n → (p < length entries) × (bytes_at entries p ≡ take n bytes)
-  -- each node but the root lies on the way of one that was entered
+  -- bytes that lead to a node other than the root are a proper prefix of an entry's bytes
   pub on_way : (bytes : List ℕ) (node : ℕ) → 0 < length bytes → AreBytes bytes → walk step 0 bytes ≡ Node node → (p : ℕ) × GoesOnBehind entries bytes p

@@ -1,14 +1,14 @@
-//! What came of adding an entry.
+//! Results of adding an entry.
 
-/// What came of adding an entry.
+/// What adding an entry did. Only `Entered` changes the entries.
 #[derive(Clone, Copy, Debug, PartialEq, Eq)]
 pub enum Added {
-    /// It stands at the end of the entries now.
+    /// The entry was added after all others.
     Entered,
-    /// Its bytes are those of the entry at this place.
+    /// The entry at this index has the same bytes.
     Held(usize),
-    /// Its bytes go on behind those of the entry at this place.
+    /// Its bytes are longer than those of the entry at this index, and begin with them.
     Continues(usize),
-    /// Its bytes begin those of another entry.
+    /// Its bytes are a proper prefix of another entry's.
     Begins,
 }

@@ -1,4 +1,4 @@
-//! Entries with a trie of them.
+//! Entries with a trie over their bytes.
 ghost use Rattle.std.specs.Prelude.{◌≡◌, ◌<◌, ◌≤◌, ◌+◌, ◌-◌, ◌*◌, ◌^◌, ℕ, min, [], ◌++◌, length, slice_get, slice_index, vec_capacity, OnErr, IfOk};
 ghost use Rattle.std.specs.Option.{option_copied};
 ghost use Rattle.cv_base.specs.Items.{Begins};
@@ -26,7 +26,8 @@ use std::marker::Model;
 /// How many bytes an entry takes.
 const ENTRY: usize = 16;
 
-/// Entries in the order in which they were added, found by their bytes. Contracts see the list of them, and the steps of their trie.
+/// Entries in the order in which they were added, found by their bytes. No entry's bytes begin with another's.
+/// Contracts see the list of entries, and the steps of the trie.
 #[derive(Debug, Drop)]
 pub struct ByteTrie {
     entries: Vec<Entry>,
@@ -45,7 +46,7 @@ impl Model for ByteTrie {
     ghost invariant = { λ t. IsIndexed t.entries.items t.steps };
 }
 
-/// A list of no entries, with room for so many, if there is memory for it.
+/// Makes an empty list, with room for `room` entries if there is memory for it.
 fn roomy(alloc: Global, room: usize) -> Vec<Entry>
     ensures items { result.items ≡ [] }
     ensures room { vec_capacity result ≤ room }
@@ -56,7 +57,7 @@ fn roomy(alloc: Global, room: usize) -> Vec<Entry>
     }
 }
 
-/// What bytes are to the entry at a place, whose bytes begin them.
+/// Tells whether bytes are those of the entry at an index, or longer. They begin with the entry's bytes.
 fn met(entries: &[Entry], bytes: &[u8], place: usize) -> Added
     requires low { place < length entries.now }
     requires front { Begins (bytes_at entries.now place) bytes.now }
@@ -70,7 +71,7 @@ fn met(entries: &[Entry], bytes: &[u8], place: usize) -> Added
 }
 
 impl ByteTrie {
-    /// No entries.
+    /// Makes a trie with no entries. If an allocation fails, it returns an error.
     pub fn new(alloc: Global) -> Result<ByteTrie, Memory>
         ensures { IfOk result (λ t. t.entries ≡ []) }
     {
@@ -81,7 +82,8 @@ impl ByteTrie {
         })
     }
 
-    /// No entries, with room for so many, if there is memory for it.
+    /// Makes a trie with no entries, and with room for `room` entries if there is memory for it. It returns an error
+    /// only if the root cannot be allocated.
     pub fn with_room(alloc: Global, room: usize) -> Result<ByteTrie, Memory>
         ensures { IfOk result (λ t. t.entries ≡ []) }
     {
@@ -90,14 +92,14 @@ impl ByteTrie {
         Ok(ByteTrie { entries, steps })
     }
 
-    /// Gives back the room that is left for more entries.
+    /// Gives the spare capacity for entries back to the allocator. Entries and steps stay as they are.
     pub fn trim(&mut self)
         ensures { self.new ≡ self.old }
     {
         self.entries.shrink_to_fit();
     }
 
-    /// How many entries there are.
+    /// Returns how many entries there are.
     #[inline]
     pub fn len(&self) -> usize
         ensures value { result ≡ length self.now.entries }
@@ -106,7 +108,8 @@ impl ByteTrie {
         self.entries.len()
     }
 
-    /// How many bytes its entries and its steps take, with the room that is left for more.
+    /// Returns how many bytes the entries and the steps take, with the spare capacity: at least 16 for each entry. It
+    /// saturates at `usize::MAX`.
     pub fn size(&self) -> usize
         ensures { min (16 * length self.now.entries) (2 ^ 64 - 1) ≤ result }
     {
@@ -114,7 +117,8 @@ impl ByteTrie {
         entries.saturating_add(self.steps.size())
     }
 
-    /// The entry at a place.
+    /// Returns the entry at an index, counted from 0 in the order in which entries were added, or `None` if there are
+    /// not so many.
     #[inline]
     pub fn get(&self, place: usize) -> Option<&Entry>
         ensures { option_copied result ≡ slice_get self.now.entries place }
@@ -122,7 +126,7 @@ impl ByteTrie {
         self.entries.get(place)
     }
 
-    /// The entries, none of whose bytes begin those of another.
+    /// Returns the entries in the order in which they were added. No entry's bytes begin with another's.
     #[inline]
     pub fn entries(&self) -> &[Entry]
         ensures value { result.now ≡ self.now.entries }
@@ -131,7 +135,9 @@ impl ByteTrie {
         &self.entries
     }
 
-    /// Where a byte leads from a node, as a code: below [`TAIL`] it is the place of an entry by its last byte, from there to [`NONE`] an entry of which bytes are left, and above it a node. Node 0 is the root.
+    /// Returns the code to which a byte leads from a node. A code below [`TAIL`] is the index of an entry that the byte
+    /// completes. From there to [`NONE`] it is [`TAIL`] plus the index of an entry that has bytes after it. Above
+    /// [`NONE`] it is [`NODE`] plus the number of a node. Node 0 is the root.
     #[inline]
     pub fn step(&self, node: u32, byte: u8) -> u32
         requires { node < node_count self.now.steps }
@@ -140,7 +146,7 @@ impl ByteTrie {
         self.steps.edge(node, byte)
     }
 
-    /// Where each byte leads from node 0, the root, as a code.
+    /// Returns for each byte the code to which it leads from node 0, the root.
     #[inline]
     pub fn root(&self) -> &[u32]
         ensures size { length result.now ≡ 256 }
@@ -149,7 +155,8 @@ impl ByteTrie {
         self.steps.root()
     }
 
-    /// The steps lead each byte string as they should. It does nothing.
+    /// Does nothing. Its contract says that the steps are those of a trie of the entries, and where they lead each byte
+    /// string.
     pub fn assert_leads(&self)
         ensures trie { HasTrie (edge_of self.now.steps) (node_count self.now.steps)
             self.now.entries }
@@ -158,7 +165,7 @@ impl ByteTrie {
         let _ = &self.steps;
     }
 
-    /// What a text is to the entries.
+    /// Looks up the entry with whose bytes a text begins. The text has at least one byte.
     pub fn find(&self, text: &[u8]) -> Found
         requires { 0 < length text.now }
         ensures { Finds self.now.entries text.now result }
@@ -177,7 +184,8 @@ impl ByteTrie {
         }
     }
 
-    /// Adds an entry, unless its bytes meet those of another.
+    /// Adds an entry of 1 to 8 bytes, unless its bytes begin with another's or begin another's. If an allocation fails,
+    /// it returns an error and the entries stay as they were.
     pub fn add(&mut self, bytes: &[u8], character: Scalar) -> Result<Added, Memory>
         requires some { 0 < length bytes.now }
         requires short { length bytes.now ≤ 8 }
@@ -221,8 +229,8 @@ impl ByteTrie {
         }
     }
 
-    /// Adds entries whose last byte and whose character count up from those of the first, and gives how many. It adds those that are quick to
-    /// add, at most so many: it ends in front of one that has to be added alone, or where no memory is to be had.
+    /// Adds entries whose last byte and character count up from the given ones, and returns how many: at most `most`.
+    /// It ends early at an entry that [`add`](ByteTrie::add) has to handle, or if an allocation fails.
     pub fn add_run(&mut self, bytes: &[u8], character: Scalar, most: usize) -> usize
         requires some { 0 < length bytes.now }
         requires short { length bytes.now ≤ 8 }

@@ -1,4 +1,4 @@
-//! Entering an entry where its bytes lead nowhere, or beside another.
+//! Adding an entry whose bytes lead nowhere, or differ from another's after a common prefix.
 ghost use Rattle.std.specs.Prelude.{◌≡◌, ◌≢◌, ◌<◌, ◌≤◌, ◌+◌, ◌^◌, ℕ, [], ◌∷◌, ◌++◌, length, slice_index_or, OnOk, OnErr};
 ghost use Rattle.cv_byte_trie.specs.Entries.{bytes_at};
 ghost use Rattle.cv_byte_trie.specs.Tries.{tails, none};
@@ -14,7 +14,7 @@ use crate::steps::{Steps, TAIL};
 use crate::walking::Tail;
 use cv_base::{Memory, Scalar};
 
-/// The code by which the byte behind `depth` others leads to the entry at a place, of so many bytes.
+/// Returns the code for the edge of the byte at `depth` to the entry at `place`, which has `len` bytes.
 fn code_of(len: usize, depth: usize, place: usize) -> u32
     requires few { depth < 2 ^ 32 }
     requires low { place < tails }
@@ -28,7 +28,7 @@ fn code_of(len: usize, depth: usize, place: usize) -> u32
     }
 }
 
-/// Adds an entry of which the byte behind the first `depth` leads nowhere from a node.
+/// Adds an entry. Its first `depth` bytes lead to `node`, which has no edge for the next.
 #[inline(always)]
 pub(crate) fn enter(
     entries: &mut Vec<Entry>,
@@ -66,7 +66,8 @@ pub(crate) fn enter(
     }
 }
 
-/// Adds an entry beside the one at a place, to which a node leads by the byte behind the first `depth`, and with which it has `common` bytes in common.
+/// Adds an entry that has its first `common` bytes in common with the one at `tail.place`. The first `tail.depth` of
+/// them lead to `tail.node`, and the next leads from there to that entry.
 pub(crate) fn enter_beside(
     entries: &mut Vec<Entry>,
     steps: &mut Steps,

@@ -4,7 +4,7 @@ ghost use Rattle.std.specs.Prelude.{◌≡◌, ◌≤◌, length, take};
 use cv_base::Scalar;
 use std::marker::Model;
 
-/// At most eight bytes, and the character that they stand for. Contracts see the pair of them.
+/// At most eight bytes, and the character that they encode. Contracts see the pair of them.
 #[derive(Debug, Drop)]
 pub struct Entry {
     bytes: [u8; 8],
@@ -22,7 +22,7 @@ impl Model for Entry {
     ghost invariant = { λ e. record { few : e.len ≤ 8; padded : length e.bytes ≡ 8 } };
 }
 
-/// Bytes with zeros behind them. Few are put in registers: a copy of a size that isn't known at compile time is a call.
+/// Pads bytes with zeros. Up to four are moved by registers: a copy whose size is not known at compile time is a call.
 #[inline(always)]
 fn padded(bytes: &[u8]) -> [u8; 8]
     requires { length bytes.now ≤ 8 }
@@ -43,7 +43,7 @@ fn padded(bytes: &[u8]) -> [u8; 8]
 }
 
 impl Entry {
-    /// Bytes and their character.
+    /// Makes an entry of bytes and their character.
     pub(crate) fn new(bytes: &[u8], character: Scalar) -> Entry
         requires { length bytes.now ≤ 8 }
         ensures { result ≡ (bytes.now, character) }
@@ -55,7 +55,7 @@ impl Entry {
         }
     }
 
-    /// Its bytes.
+    /// Returns its bytes, without the padding.
     #[inline]
     pub fn bytes(&self) -> &[u8]
         ensures value { result.now ≡ self.now.0 }
@@ -64,7 +64,7 @@ impl Entry {
         &self.bytes[..self.len as usize]
     }
 
-    /// Its bytes, with others behind them.
+    /// Returns its bytes with the padding after them.
     #[inline]
     pub fn padded(&self) -> &[u8; 8]
         ensures bytes { take (length self.now.0) result.now ≡ self.now.0 }
@@ -74,7 +74,7 @@ impl Entry {
         &self.bytes
     }
 
-    /// How many bytes it has.
+    /// Returns how many bytes it has, without the padding.
     #[inline]
     pub fn len(&self) -> usize
         ensures { result ≡ length self.now.0 }
@@ -82,7 +82,7 @@ impl Entry {
         self.len as usize
     }
 
-    /// Its character.
+    /// Returns its character.
     #[inline]
     pub fn character(&self) -> Scalar
         ensures { result ≡ self.now.1 }

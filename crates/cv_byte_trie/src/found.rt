@@ -1,12 +1,12 @@
-//! What a text is to the entries.
+//! The result of looking up a text.
 
-/// What a text is to the entries.
+/// What the beginning of a text is among the entries.
 #[derive(Clone, Copy, Debug, PartialEq, Eq)]
 pub enum Found {
-    /// The bytes of the entry at this place begin it.
+    /// The text begins with the bytes of the entry at this index.
     Entry(usize),
-    /// It ends inside of an entry's bytes.
+    /// The text is a proper prefix of an entry's bytes.
     Inside,
-    /// No entry's bytes begin it, nor does it begin an entry's.
+    /// The text begins with no entry's bytes, and no entry's bytes begin with the text.
     Nothing,
 }

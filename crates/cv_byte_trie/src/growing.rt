@@ -1,4 +1,4 @@
-//! Growing a branch: new nodes that lead over the bytes of an entry to the place where another parts from it.
+//! Growing a branch: new nodes that lead over the bytes of an entry to the one from which another entry differs.
 ghost use Rattle.std.specs.Prelude.{◌≡◌, ◌≢◌, ◌≤◌, ◌<◌, ◌+◌, ◌-◌, ◌^◌, length, take, OnOk, OnErr, IfOk, slice_index_or};
 ghost use Rattle.cv_byte_trie.specs.Tries.{none};
 ghost use Rattle.cv_byte_trie.specs.Tables.{node_count, edge_count, code_count, edge_of};
@@ -10,7 +10,8 @@ use crate::steps::{NODE, Steps};
 use std::alloc::AllocError;
 
 impl Steps {
-    /// Adds nodes that lead over bytes to a code, and gives the code that leads to the first of them.
+    /// Adds nodes that lead over bytes to a code. Returns the code that leads to the first of them, or `code` if there
+    /// are no bytes.
     pub(crate) fn lead(&mut self, bytes: &[u8], code: u32) -> Result<u32, AllocError>
         requires sound { IsSound self.old }
         requires room { node_count self.old + length bytes.now < 2 ^ 30 }
@@ -37,7 +38,8 @@ impl Steps {
         Ok(first)
     }
 
-    /// Adds nodes that lead over bytes to a code, and from the last of them by another byte to another.
+    /// Adds nodes that lead over bytes to a code. The last of them leads by the byte `other` to the code `place`.
+    /// Returns the code that leads to the first of them.
     fn branch(&mut self, bytes: &[u8], code: u32, other: u8, place: u32) -> Result<u32, AllocError>
         requires sound { IsSound self.old }
         requires some { 0 < length bytes.now }
@@ -65,7 +67,8 @@ impl Steps {
         Ok(first)
     }
 
-    /// Makes a byte of a node, which has an edge of it, lead over bytes to a code, and before the last of them by another byte to another code.
+    /// Makes an existing edge of a node lead over bytes to a code. The last of the new nodes leads by the byte `other`
+    /// to the code `place`. If an allocation fails, nothing changes.
     pub(crate) fn fork(
         &mut self,
         node: u32,

@@ -1,4 +1,4 @@
-//! Byte strings and their characters, found by their bytes.
+//! Byte strings, each with its character, found by their bytes in a trie.
 #![tactic(auto)]
 
 mod added;

@@ -5,18 +5,18 @@ ghost use Rattle.cv_byte_trie.specs.Private.Meetings.{AgreeFor, Meets};
 
 use crate::entry::Entry;
 
-/// What a text is to an entry.
+/// How a text compares with an entry's bytes.
 #[derive(Clone, Copy, Debug)]
 pub(crate) enum Meeting {
-    /// The entry's bytes begin it.
+    /// The text begins with the entry's bytes.
     Held,
-    /// It ends inside of the entry's bytes.
+    /// The text is a proper prefix of the entry's bytes.
     Inside,
-    /// They part behind so many bytes.
+    /// They differ after this many bytes.
     Parts(usize),
 }
 
-/// How many bytes two byte strings have in common at their fronts.
+/// Returns the length of the longest common prefix.
 fn common(left: &[u8], right: &[u8]) -> usize
     ensures { AgreeFor left.now right.now result }
 {
@@ -28,7 +28,7 @@ fn common(left: &[u8], right: &[u8]) -> usize
     count
 }
 
-/// What a text is to a byte string.
+/// Compares a text with a byte string.
 fn compare(held: &[u8], text: &[u8]) -> Meeting
     ensures { Meets held.now text.now result }
 {
@@ -42,7 +42,7 @@ fn compare(held: &[u8], text: &[u8]) -> Meeting
     }
 }
 
-/// What a text is to the entry at a place.
+/// Compares a text with the entry at an index.
 pub(crate) fn meet(entries: &[Entry], place: usize, text: &[u8]) -> Meeting
     requires { place < length entries.now }
     ensures { Meets (bytes_at entries.now place) text.now result }

@@ -1,36 +1,36 @@
 //! The nodes of a trie, and the edges in their blocks.
 
-/// The edges of a node: where each byte leads, as a code.
+/// The edges of a node. Each leads from a byte to a code.
 #[derive(Clone, Copy, Debug)]
 pub enum Node {
-    /// There is one edge.
+    /// One edge.
     One {
         /// Its byte.
         byte: u8,
-        /// Where the byte leads.
+        /// The code to which the byte leads.
         code: u32,
     },
-    /// There are a few, in a block.
+    /// A few edges, in a block.
     Few {
         /// How many edges the block has room for.
         size: u8,
-        /// Where it begins.
+        /// The index of the block's first edge.
         start: u32,
     },
-    /// There are many, in a table.
+    /// Any number of edges, in a table with a code for each byte.
     Table {
         /// The number of the table.
         number: u32,
     },
 }
 
-/// In place of a byte, where a block has room for an edge.
+/// The `byte` of a free edge in a block.
 pub(crate) const VACANT: u16 = 256;
 
-/// An edge in the block of a node, or room for one.
+/// An edge in the block of a node, or a free one.
 #[derive(Clone, Copy, Debug)]
 pub struct Edge {
     pub(crate) byte: u16,
-    /// Where the byte leads.
+    /// The code to which the byte leads.
     pub(crate) code: u32,
 }

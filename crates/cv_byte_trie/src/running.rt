@@ -11,8 +11,9 @@ use crate::entry::Entry;
 use crate::steps::Steps;
 use cv_base::Scalar;
 
-/// Adds entries whose last byte and whose character count up from those of the first, as long as the last byte leads nowhere from the node
-/// to which the others lead, and there is memory. It gives how many were added.
+/// Adds entries whose last byte and character count up from the given ones, and returns how many: at most `most`. It
+/// ends before the first whose last byte has an edge from `node`, to which the bytes before it lead, or if an
+/// allocation fails.
 pub(crate) fn enter_run(
     entries: &mut Vec<Entry>,
     steps: &mut Steps,

@@ -1,4 +1,4 @@
-//! Setting where a byte leads from a node.
+//! Setting the code to which a byte leads from a node.
 ghost use Rattle.std.specs.Prelude.{◌≡◌, ◌≢◌, ◌<◌, ◌≤◌, ◌+◌, ◌*◌, ◌^◌, ℕ, length, slice_index_or, OnOk, OnErr, IfOk};
 ghost use Rattle.cv_byte_trie.specs.Tries.{none};
 ghost use Rattle.cv_byte_trie.specs.Tables.{node_count, edge_count, code_count, node_at, edge_in, coded, edge_of};
@@ -10,11 +10,11 @@ use crate::node::{Edge, Node, VACANT};
 use crate::steps::{NONE, Steps};
 use std::alloc::AllocError;
 
-/// How many edges the largest block has room for. With more, a node gets a table, which has a kilobyte.
+/// How many edges the largest block has room for. A node with more edges gets a table, which takes a kilobyte.
 const MOST: usize = 32;
 
 impl Steps {
-    /// Gives a node with one edge a block of two.
+    /// Gives a node with one edge a block of two, which has a second edge.
     fn pair(&mut self, node: u32, own: u8, led: u32, byte: u8, code: u32) -> Result<(), AllocError>
         requires sound { IsSound self.old }
         requires low { node < node_count self.old }
@@ -48,7 +48,7 @@ impl Steps {
         Ok(())
     }
 
-    /// Gives a node with a full block one of twice the size, with one more edge.
+    /// Gives a node with a full block a new one of twice the size after all others, and adds an edge to it.
     fn double(
         &mut self,
         node: u32,
@@ -91,7 +91,7 @@ impl Steps {
         Ok(())
     }
 
-    /// Gives a node whose full block stands behind all others as much room again where it is, with one more edge.
+    /// Doubles a full block where it is, and adds an edge to it. The block has to be the last.
     fn stretch(
         &mut self,
         node: u32,
@@ -130,7 +130,7 @@ impl Steps {
         Ok(())
     }
 
-    /// Where each byte leads by a block.
+    /// Returns the table of a block: for each byte the code to which it leads.
     fn table_of(&self, start: u32, size: u8) -> [u32; 256]
         requires within { start + size ≤ edge_count self.now }
         ensures { (b : ℕ) → b < 256 → slice_index_or result b none ≡ coded self.now.edges.items start size b }
@@ -145,7 +145,7 @@ impl Steps {
         table
     }
 
-    /// Gives a node with a block a table, and says which.
+    /// Replaces a node's block by a table, and returns the number of the table.
     fn promote(&mut self, node: u32, size: u8, start: u32) -> Result<u32, AllocError>
         requires sound { IsSound self.old }
         requires low { node < node_count self.old }
@@ -166,7 +166,7 @@ impl Steps {
         Ok(number)
     }
 
-    /// Sets where a byte leads from a node that has no edge of it.
+    /// Adds an edge to a node that has none for this byte. If an allocation fails, nothing changes.
     pub(crate) fn set(&mut self, node: u32, byte: u8, code: u32) -> Result<(), AllocError>
         requires sound { IsSound self.old }
         requires low { node < node_count self.old }
@@ -212,7 +212,7 @@ impl Steps {
         }
     }
 
-    /// Sets where a byte leads from a node that has an edge of it.
+    /// Changes the code of an edge that a node has.
     pub(crate) fn turn(&mut self, node: u32, byte: u8, code: u32)
         requires sound { IsSound self.old }
         requires low { node < node_count self.old }

@@ -10,26 +10,26 @@ use crate::node::{Edge, Node};
 use std::alloc::{AllocError, Global};
 use std::mem::size_of;
 
-/// The code of the entry at place 0, where bytes of it are left. Those below it are the places of entries by their last byte.
+/// The code of entry 0 if bytes of it are left to compare. Codes below it are entries that the edge's byte completes.
 pub const TAIL: u32 = 0x4000_0000;
 
-/// The code of no edge. Those below it are entries, and those above it nodes.
+/// The code of no edge. Codes below it are entries, and codes above it are nodes.
 pub const NONE: u32 = 0x8000_0000;
 
 /// The code of node 0.
 pub const NODE: u32 = 0x8000_0001;
 
-/// Where each byte leads from each node of a trie. Node 0 is the root, and has table 0.
+/// The nodes of a trie with their edges. Node 0 is the root, and has table 0.
 #[derive(Debug, Drop)]
 pub struct Steps {
     pub(crate) nodes: Vec<Node>,
-    /// The blocks of nodes, one behind another. A node that outgrew its block leaves it behind.
+    /// The blocks of nodes, one after another. A block that its node outgrew may stay here unused.
     pub(crate) edges: Vec<Edge>,
-    /// Tables of 256 codes, one behind another.
+    /// Tables of 256 codes, one after another.
     pub(crate) tables: Vec<u32>,
 }
 
-/// How many bytes from one on, of so many, stand before another.
+/// Returns how many of the `free` bytes from `byte` on come before `other`: all of them if `other` is less than `byte`.
 fn nearer(byte: u8, other: u16, free: usize) -> usize
     ensures few { result ≤ free }
     ensures before { (b : ℕ) → byte ≤ b → b < byte + result → other ≢ b }
@@ -41,7 +41,8 @@ fn nearer(byte: u8, other: u16, free: usize) -> usize
 }
 
 impl Steps {
-    /// Finds the edge of a byte, or room for one, in a block. The place that the byte's last bits name is tried first.
+    /// Returns the index in a block of an edge with the byte `sought`, which is `byte` itself or `VACANT`. It tries the
+    /// index in the low bits of `byte` first.
     #[inline]
     pub(crate) fn find(&self, start: u32, size: u8, byte: u8, sought: u16) -> Option<usize>
         requires some { 0 < size }
@@ -60,7 +61,7 @@ impl Steps {
         None
     }
 
-    /// Where a byte leads from a node.
+    /// Returns the code to which a byte leads from a node.
     #[inline(always)]
     pub(crate) fn edge(&self, node: u32, byte: u8) -> u32
         requires sound { IsSound self.now }
@@ -79,7 +80,7 @@ impl Steps {
         }
     }
 
-    /// How many bytes from one on, of so many, stand before the first that has an edge in a block.
+    /// Returns how many of the `most` bytes from `byte` on come before the first that has an edge in a block.
     fn free_in(&self, start: u32, size: u8, byte: u8, most: usize) -> usize
         requires within { start + size ≤ edge_count self.now }
         requires bytes { byte + most ≤ 256 }
@@ -93,7 +94,7 @@ impl Steps {
         free
     }
 
-    /// How many bytes from one on, of so many, stand before the first that leads somewhere from a node.
+    /// Returns how many of the `most` bytes from `byte` on come before the first that has an edge from a node.
     pub(crate) fn free_from(&self, node: u32, byte: u8, most: usize) -> usize
         requires sound { IsSound self.now }
         requires low { node < node_count self.now }
@@ -111,7 +112,7 @@ impl Steps {
         free
     }
 
-    /// Where each byte leads from the root.
+    /// Returns the table of the root: for each byte the code to which it leads.
     #[inline]
     pub(crate) fn root(&self) -> &[u32]
         requires { IsSound self.now }
@@ -121,7 +122,7 @@ impl Steps {
         &self.tables[..256]
     }
 
-    /// How many bytes they take, with the room that is left for more.
+    /// Returns how many bytes they take, with the spare capacity.
     pub(crate) fn size(&self) -> usize {
         let nodes = self.nodes.capacity().saturating_mul(size_of::<Node>());
         let edges = self.edges.capacity().saturating_mul(size_of::<Edge>());
@@ -129,7 +130,7 @@ impl Steps {
         nodes.saturating_add(edges).saturating_add(tables)
     }
 
-    /// A root with no edge.
+    /// Makes a root with no edge.
     pub(crate) fn new(alloc: Global) -> Result<Steps, AllocError>
         ensures sound { IfOk result IsSound }
         ensures nodes { IfOk result (λ t. node_count t ≡ 1) }

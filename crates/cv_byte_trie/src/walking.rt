@@ -9,7 +9,7 @@ ghost use Rattle.cv_byte_trie.specs.Private.Reading.{LeadsTo};
 use crate::entry::Entry;
 use crate::steps::{NODE, NONE, Steps, TAIL};
 
-/// The first `depth` bytes lead to a node, and the next from there to the entry at a place, which goes on behind it.
+/// The first `depth` bytes lead to `node`. The next leads from there to the entry at `place`, which has bytes after it.
 #[derive(Clone, Copy, Debug)]
 pub(crate) struct Tail {
     pub(crate) node: u32,
@@ -20,17 +20,17 @@ pub(crate) struct Tail {
 /// Where bytes lead from the root.
 #[derive(Clone, Copy, Debug)]
 pub(crate) enum Reached {
-    /// To an entry, by the byte that stands behind `depth` others, its last.
+    /// To an entry, by its last byte, which follows `depth` others.
     Leaf { place: usize, depth: usize },
     /// To an entry, by a byte that is not its last.
     Tail(Tail),
     /// To a node, by all of them.
     Inside,
-    /// Nowhere: from a node, to which the first `depth` of them lead, the next has no edge.
+    /// Nowhere: the first `depth` bytes lead to `node`, which has no edge for the next.
     Vacant { node: u32, depth: usize },
 }
 
-/// Where a text leads. The entries are there for the contract.
+/// Follows a text from the root, until it leaves the nodes or ends. The entries are for the contract alone.
 pub(crate) fn walk(steps: &Steps, _entries: &[Entry], text: &[u8]) -> Reached
     requires entries { AreEntries _entries.now }
     requires sound { IsSound steps.now }

@@ -11,12 +11,12 @@ use Rattle.cv_lex.specs.Names.{is_scalar}
 use Rattle.cv_lex.specs.declared.cause.Cause.TheVariants.{NotScalar, Carry}
 use Rattle.cv_charmap.specs.Entries.{Pair, number_of, bytes_in, named_by, entry_at}
 
--- a number in so many bytes has so many
+-- a number in `size` bytes has that many
 pub size_in : (size n : ℕ) → length (bytes_in size n) ≡ size
 size_in zero n = refl
 size_in (suc size) n = omega (arith, size_in size (n / 256), length-append (bytes_in size (n / 256)) (n % 256 ∷ []))
 
--- bytes write the number that they were made of
+-- bytes that were made of a number write that number
 pub number_in : (size n : ℕ) → n < 256 ^ size → number_of (bytes_in size n) ≡ n
 number_in zero n low = omega arith
 number_in (suc size) n low =
@@ -25,14 +25,14 @@ number_in (suc size) n low =
     let last : number_of (bytes_in size (n / 256) ++ n % 256 ∷ []) ≡ 256 * number_of (bytes_in size (n / 256)) + n % 256 = fold-append (λ m b. 256 * m + b) 0 (bytes_in size (n / 256)) (n % 256 ∷ []) in
     omega arith
 
--- what stands in an entry that isn't faulty
+-- the parts of an entry that is no cause
 pub record IsEntry (hex : Bool) (first : ℕ) (bytes : List ℕ) (i : ℕ) (q : Pair) : Type 0 where
   pub scalar : is_scalar (named_by hex (first + i)) ≡ true
   pub fits : number_of bytes + i < 256 ^ length bytes
   pub bytes_are : q.0 ≡ bytes_in (length bytes) (number_of bytes + i)
   pub character : q.1 ≡ named_by hex (first + i)
 
--- what an entry of a range is that has no cause
+-- an entry of a range that is no cause has these parts
 pub is_entry : (hex : Bool) (first : ℕ) (bytes : List ℕ) (i : ℕ) (q : Pair) → entry_at hex first bytes i ≡ Ok q → IsEntry hex first bytes i q
 unfolding entry_at
 is_entry hex first bytes i q e = by (is_scalar (named_by hex (first + i))) (leb (256 ^ length bytes) (number_of bytes + i)) refl refl e
@@ -61,7 +61,7 @@ counted_on hex first bytes i q e number s is =
     let value : number_of q.0 ≡ number_of bytes + i = ap number_of p.bytes_are ∙ number_in (length bytes) (number_of bytes + i) p.fits in
     same_entry hex number first q.0 bytes s (i + s) (omega arith) (omega arith) size
 
--- a byte before those that are written
+-- one byte before those that are written
 pub byte_written : (k size rest : ℕ) (bytes : List ℕ) → 0 < k → k ≤ size → size ≤ length bytes
     → bytes_in k rest ++ drop k (take size bytes) ≡ bytes_in (k - 1) (rest / 256) ++ drop (k - 1) (take size (slice_set bytes (k - 1) (rest % 256)))
 byte_written k size rest bytes some low long =

@@ -1,4 +1,4 @@
--- What is known to be in the list stays in it, and is passed over.
+-- Entries that are known to be in the list stay in it, and are skipped.
 use Rattle.std.proofs.Common.{◌≡◌, ℕ, zero, suc, ◌+◌, ◌-◌, ◌<◌, ◌≤◌, Bool, true, false, List, [], ◌∷◌, ◌++◌, length, take, drop, append-nil, get_or, refl, sym, subst, ◌∙◌, ap, arith, inl, inr, length-take}
 use Rattle.std.specs.Prelude.{Ok, Err, None, max, slice_set}
 use Rattle.std.proofs.Math.Bool.{beq}
@@ -20,22 +20,22 @@ use Rattle.cv_charmap.specs.declared.draft.EntryFault.TheVariants.{Faulty, Memor
 use Rattle.cv_charmap.proofs.EntryLemmas.{goes_on, range_ends, stops_at_pair}
 use Rattle.cv_charmap.proofs.Meeting.{held_again}
 
--- ---- a list that goes on
+-- ---- a list that grows
 
 module _ (all new : List Pair) (stay : take (length all) new ≡ all) where
-  -- the list has not become shorter
+  -- the list is not shorter
   pub no_shorter : length all ≤ length new
   no_shorter = (let e = ap length stay in omega (arith, length-take (length all) new))
 
-  -- a pair stays at its place
+  -- a pair stays at its index
   pub pair_stays : (k : ℕ) → k < length all → pair_at new k ≡ pair_at all k
   pair_stays k low = sym (get_or-take (length all) new k ([], 0) low) ∙ ap (λ (x : List Pair). get_or x k ([], 0)) stay
 
-  -- an entry that was in the list is in it
+  -- an entry that is in the old list is in the new one
   pub entry_stays : (hex : Bool) (first : ℕ) (bytes : List ℕ) (i : ℕ) → HasEntry all hex first bytes i → HasEntry new hex first bytes i
   entry_stays hex first bytes i h = (h.0, (let l = no_shorter in let m = h.1 in omega arith), h.2 ∙ ap (λ (x : Pair). Ok x) (sym (pair_stays h.0 h.1)))
 
-  -- what was known to be in the list is in it
+  -- what is known of the old list is known of the new one
   pub covered_stays : (reach : List Reach) → length reach ≤ length all → AreCovered all reach → AreCovered new reach
   covered_stays reach within c place low i less =
       let r = reach_at reach place in
@@ -51,13 +51,13 @@ module _ (all new : List Pair) (stay : take (length all) new ≡ all) where
         (omega arith, h.1 ∙ ap (λ (x : Pair). Ok x) (sym (pair_stays (stop.place + j) h.0)))),
   )
 
-  -- entries that were looked up are at their places
+  -- entries that were entered or found stay at their indices
   pub stops_stay : (hex : Bool) (first : ℕ) (bytes : List ℕ) (end last : ℕ) (stops : List Stop) → end ≤ last → AreStops all hex first bytes end stops → AreStops new hex first bytes last stops
   stops_stay hex first bytes end last stops more s k low = stop_stays hex first bytes end last (get_or stops k no_stop) more (s k low)
 
 -- ---- entries that are in the list
 
--- the entries from one on whose pair is at a place
+-- the entries of a range from the one on whose pair is at an index
 pub has_from : (all : List Pair) (hex : Bool) (first : ℕ) (bytes : List ℕ) (i place number known : ℕ) → entry_at hex first bytes i ≡ Ok (pair_at all place) → number ≡ first + i → HasEntries all hex number (bytes_at all place) known
     → (k : ℕ) → i ≤ k → k < i + known → HasEntry all hex first bytes k
 has_from all hex first bytes i place number known e is has k from low =
@@ -65,7 +65,7 @@ has_from all hex first bytes i place number known e is has k from low =
     let same : entry_at hex number (bytes_at all place) (k - i) ≡ entry_at hex first bytes k = counted_on hex first bytes i (pair_at all place) e number (k - i) is ∙ ap (entry_at hex first bytes) (let m : i + (k - i) ≡ k = omega arith in m) in
     (h.0, h.1, sym same ∙ h.2)
 
--- a run passes over them
+-- a run skips them
 pub skips : (all : List Pair) → AreApart all → (hex : Bool) (first : ℕ) (bytes : List ℕ) (count n m i : ℕ) → ((k : ℕ) → i ≤ k → k < i + m → HasEntry all hex first bytes k)
     → run_entries all n (entries_from hex first bytes i count) ≡ run_entries all n (entries_from hex first bytes (i + m) count)
 skips all apart hex first bytes count n zero i has = ap (λ (x : ℕ). run_entries all n (entries_from hex first bytes x count)) (let e : i ≡ i + 0 = omega arith in e)
@@ -93,7 +93,7 @@ stops_more all hex first bytes last stop stops more is s new =
       | inr l ↦ subst (IsStop all hex first bytes last) (sym (get_or_push stops stop no_stop k (omega (arith, length-append stops (stop ∷ []))))) new
     ])
 
--- an entry alone, as a pass over it and some behind it
+-- a single entry, as a pass over it and some after it
 pub passed_alone : (all new : List Pair) (hex : Bool) (first : ℕ) (bytes : List ℕ) (i count place next : ℕ) → Passes all hex first bytes i count (Ok (place, next)) new
     → PassesOn all hex first bytes i count (Ok (record { at = i; place = place; size = 1 }, next)) new
 passed_alone all new hex first bytes i count place next h = (
@@ -111,12 +111,12 @@ passed_alone all new hex first bytes i count place next h = (
   h.5,
 )
 
--- an entry that was refused alone
+-- a single entry that was refused
 pub refused_alone : (all new : List Pair) (hex : Bool) (first : ℕ) (bytes : List ℕ) (i count : ℕ) (why : EntryFault) → Passes all hex first bytes i count (Err why) new → PassesOn all hex first bytes i count (Err why) new
 refused_alone all new hex first bytes i count (Faulty cause) h = h
 refused_alone all new hex first bytes i count Memory h = tt
 
--- one more place that is known of
+-- something is noted for one more pair
 pub covered_set : (all : List Pair) (reach : List Reach) (hex : Bool) (first : ℕ) (bytes : List ℕ) (end at place number count : ℕ) → AreCovered all reach → HasEntries all hex first bytes end
     → entry_at hex first bytes at ≡ Ok (pair_at all place) → at < end → number ≡ first + at → count ≤ end - at → place < length reach → AreCovered all (slice_set reach place (record { hex = hex; number = number; count = count }))
 covered_set all reach hex first bytes end at place number count c has e below is few low k lk i less =
@@ -135,9 +135,9 @@ covered_set all reach hex first bytes end at place number count c has e below is
           subst (λ (x : Reach). HasEntry all x.hex x.number (bytes_at all k) i) (sym f) (c k l i (subst (λ (x : Reach). i < x.count) f less)))
     ]
 
--- ---- what a range's entry comes to
+-- ---- the result of entering an entry of a range
 
--- what was entered stands where it stood before, or is there now
+-- a pair that was entered is at its old index, or at a new one
 pub passed_on : (all new : List Pair) (p : Pair) (place : ℕ) → (pair_cause all p ≡ None) × (new ≡ entered all p) × (place < length new) × (pair_at new place ≡ p) → AreApart new → (hex : Bool) (first : ℕ) (bytes : List ℕ) (i count known next number : ℕ)
     → i < count → entry_at hex first bytes i ≡ Ok p → number ≡ first + i → HasEntries new hex number (bytes_at new place) known → next ≡ max known 1
     → ((n : ℕ) → run_entries all n (entries_from hex first bytes i count) ≡ run_entries new n (entries_from hex first bytes (i + next) count)) × ((k : ℕ) → i ≤ k → k < i + next → HasEntry new hex first bytes k)
@@ -160,7 +160,7 @@ pub refused_run : (all new : List Pair) (p : Pair) (why : EntryFault) → Enters
 refused_run all new p (Faulty cause) h hex first bytes i count low e = λ n. stops_at_pair hex first bytes i count low all n p cause e h
 refused_run all new p Memory h hex first bytes i count low e = tt
 
--- what was read of what is known
+-- what was noted for a pair that was read
 pub reach_has : (all seen : List Pair) (reach read : List Reach) (place : ℕ) (r : Reach) (hex : Bool) (number known : ℕ) → AreCovered all reach → read ≡ reach → place < length read → ((d : Reach) → r ≡ get_or read place d)
     → beq r.hex hex ≡ true → r.number ≡ number → known ≡ r.count → all ≡ seen → HasEntries seen hex number (bytes_at seen place) known
 reach_has all seen reach read place r hex number known c same low is h_is n_is k_is seen_is =
@@ -179,7 +179,7 @@ reach_has all seen reach read place r hex number known c same low is h_is n_is k
     same_flag false true e = absurd (cc)
     same_flag false false e = refl
 
--- a list that was made as long as that of the pairs
+-- the list of notes, made as long as that of the pairs
 pub covered_padded : (all : List Pair) (reach new : List Reach) (n m : ℕ) → length reach ≤ n → new ≡ take n reach ++ replicate m (record { hex = true; number = 0; count = 0 }) → AreCovered all reach → AreCovered all new
 covered_padded all reach new n m long is c =
     let none : Reach = record { hex = true; number = 0; count = 0 } in
@@ -194,11 +194,11 @@ covered_padded all reach new n m long is c =
           omega arith)
     ])
 
--- a slice that is as long as the list that it was lent of
+-- a slice as long as its list, put back into it, is the whole list
 pub put_back : (n : ℕ) (slice items : List Reach) → length slice ≡ length items → n ≡ length items → take n (slice ++ drop (length slice) items) ≡ slice
 put_back n slice items e f =
     ap (λ (x : List Reach). take n (slice ++ x)) (drop_all (length slice) items (omega arith)) ∙ ap (take n) (append-nil slice) ∙ take_all n slice (omega arith)
 
--- a draft whose list stayed
+-- a draft whose list of pairs stays
 pub draft_marked : (all : List Pair) (old reach : List Reach) → IsDraft all old → AreCovered all reach → length reach ≡ length all → IsDraft all reach
 draft_marked all old reach i c e = record { few = i.few; apart = i.apart; within = omega arith; covered = c }

@@ -1,4 +1,4 @@
--- What a pair comes to, by what its bytes are to the entries.
+-- The result of entering a pair, by how its bytes compare with those of the entries.
 use Rattle.std.proofs.Common.{◌≡◌, ◌≢◌, ℕ, ◌<◌, ◌≤◌, Bool, false, cond, leb, List, [], ◌∷◌, ◌++◌, length, get_or, refl, sym, subst, ◌∙◌, ap, arith, Some, None, length-append}
 use Rattle.std.proofs.lemmas.Bool.{le-leb, lt-leb}
 use Rattle.std.proofs.lemmas.List.{get_or_push, get_or_read}
@@ -12,14 +12,14 @@ use Rattle.cv_charmap.specs.Lists.{most_pairs, entered, pair_cause}
 use Rattle.cv_charmap.specs.Private.Covers.{pair_at}
 use Rattle.cv_charmap.proofs.Meeting.{fresh, fresh_entered, held_again, goes_before}
 
--- what begins bytes and is as long is the same
+-- a prefix of the same length is the same
 pub same_whole : (a b : List ℕ) → Begins a b → length a ≡ length b → a ≡ b
 same_whole [] [] h e = refl
 same_whole [] (y ∷ b) h e = absurd (omega arith)
 same_whole (x ∷ a) [] h e = absurd h
 same_whole (x ∷ a) (y ∷ b) h e = let rest : a ≡ b = same_whole a b h.1 (omega arith) in let one : x ≡ y = h.0 in (cc)
 
--- what begins bytes and isn't as long is shorter
+-- a prefix of another length is shorter
 pub shorter : (a b : List ℕ) → Begins a b → length a ≢ length b → length a < length b
 shorter a b h other = let l = Begins-length a b h in omega arith
 
@@ -34,15 +34,15 @@ module _ (all : List Pair) (p : Pair) where
       let low : leb most_pairs (length all) ≡ false = lt-leb most_pairs (length all) room in
       (f.1 ∙ ap (λ (b : Bool). cond b (Some TooMany) None) low, fresh_entered all p meets, omega (arith, length-append all (p ∷ [])), get_or_push all p ([], 0) (length all) refl)
 
-  -- a new pair at a full list
+  -- a new pair for a full list
   pub too_many : MeetsNone all p.0 → most_pairs ≤ length all → pair_cause all p ≡ Some TooMany
   too_many meets full = (fresh all p meets).1 ∙ ap (λ (b : Bool). cond b (Some TooMany) None) (le-leb most_pairs (length all) full)
 
-  -- a pair that is there
+  -- a pair that is in the list
   pub enters_again : AreApart all → (k : ℕ) → k < length all → bytes_at all k ≡ p.0 → character_at all k ≡ p.1 → (pair_cause all p ≡ None) × (all ≡ entered all p) × (k < length all) × (pair_at all k ≡ p)
   enters_again apart k low e c = (let h = held_again all p apart k low e c in (h.0, sym h.1, low, pair_eq (pair_at all k) p e c))
 
-  -- bytes that begin those of an entry
+  -- bytes that are a proper prefix of an entry's
   pub begins_one : AreApart all → (k : ℕ) → GoesOnBehind all p.0 k → pair_cause all p ≡ Some Prefix
   begins_one apart k g = goes_before all p apart k g.low g.front g.longer
 
@@ -50,7 +50,7 @@ module _ (all : List Pair) (p : Pair) where
 pub entry_read : (all read : List Pair) (k : ℕ) (r : Pair) → read ≡ all → k < length all → r ≡ get_or read k r → r ≡ pair_at all k
 entry_read all read k r same low is = get_or_read all k r low (is ∙ ap (λ (x : List Pair). get_or x k r) same) ([], 0)
 
--- a new pair, at a place behind the others
+-- a new pair, at the index after the others
 pub enters_at : (all new : List Pair) (p : Pair) (place : ℕ) → MeetsNone all p.0 × (new ≡ all ++ p ∷ []) → length all < most_pairs → place ≡ length all
     → (pair_cause all p ≡ None) × (new ≡ entered all p) × (place < length new) × (pair_at new place ≡ p)
 enters_at all new p place a room is = (let h = enters_new all p a.0 room in

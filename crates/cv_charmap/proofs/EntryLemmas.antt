@@ -13,7 +13,7 @@ use Rattle.cv_charmap.specs.declared.draft.EntryFault.{EntryFault}
 use Rattle.cv_charmap.specs.declared.draft.EntryFault.TheVariants.{Faulty, Memory}
 use Rattle.cv_charmap.specs.declared.fault.MapFault.{MapFault}
 
--- an entry whose number has no room in its bytes
+-- an entry whose number does not fit its bytes
 pub entry_carries : (hex : Bool) (first : ℕ) (bytes : List ℕ) (i v n : ℕ) → v ≡ named_by hex (first + i) → is_scalar v ≡ true → n ≡ number_of bytes → leb (256 ^ length bytes) (n + i) ≡ true → entry_at hex first bytes i ≡ Err Carry
 unfolding entry_at
 entry_carries hex first bytes i v n named is number far =
@@ -39,13 +39,13 @@ module _ (hex : Bool) (first : ℕ) (bytes : List ℕ) (i count : ℕ) (lt : i <
       next ∙ ap (λ (x : Result Pair Cause). unless (entry_cause all x) n (run_entries (with_entry all x) n (entries_from hex first bytes (i + 1) count))) e
       ∙ ap (λ (o : Option Cause). unless o n (run_entries (entered all p) n (entries_from hex first bytes (i + 1) count))) f
 
-  -- a run goes on behind a pair that has no cause
+  -- a run goes on after a pair that has no cause
   pub goes_on : (p : Pair) → entry_at hex first bytes i ≡ Ok p → pair_cause all p ≡ None → run_entries all n (entries_from hex first bytes i count) ≡ run_entries (entered all p) n (entries_from hex first bytes (i + 1) count)
   goes_on p e f =
       next ∙ ap (λ (x : Result Pair Cause). unless (entry_cause all x) n (run_entries (with_entry all x) n (entries_from hex first bytes (i + 1) count))) e
       ∙ ap (λ (o : Option Cause). unless o n (run_entries (entered all p) n (entries_from hex first bytes (i + 1) count))) f
 
--- a run ends behind the last entry
+-- a run ends after the last entry
 pub range_ends : (hex : Bool) (first : ℕ) (bytes : List ℕ) (i count : ℕ) → count ≤ i → (all : List Pair) (n : ℕ) → run_entries all n (entries_from hex first bytes i count) ≡ Ok all
 unfolding run_entries
 range_ends hex first bytes i count le all n = ap (λ (k : ℕ). run_entries all n (map (entry_at hex first bytes) (range_with_len i k))) (let e : count - i ≡ 0 = omega arith in e)
@@ -64,7 +64,7 @@ pub refused : (all : List Pair) (p : Pair) (fault' : EntryFault) (after last : L
 refused all p (Faulty cause) after last n run h f = f cause h
 refused all p Memory after last n run h f = tt
 
--- what stood so far, from the whole list
+-- what holds for the entries so far, stated for the whole range
 pub from_whole : (hex : Bool) (first last : ℕ) (bytes : List ℕ) (i count : ℕ) (all now : List Pair) (n : ℕ) → count ≡ last + 1 - first → run_entries all n (entries_from hex first bytes 0 count) ≡ run_entries now n (entries_from hex first bytes i count)
     → run_entries all n (map (entry_at hex first bytes) (range_with_len 0 (last + 1 - first))) ≡ run_entries now n (entries_from hex first bytes i count)
 from_whole hex first last bytes i count all now n e so_far =

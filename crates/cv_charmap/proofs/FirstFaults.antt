@@ -24,12 +24,12 @@ filter_append [] ys = refl
 filter_append ((n, Ok p) ∷ xs) ys = ap (λ (r : List Pair). p ∷ r) (filter_append xs ys)
 filter_append ((n, Err c) ∷ xs) ys = filter_append xs ys
 
--- one more entry that isn't faulty
+-- one more entry that is no cause
 pairs_more : (done : List Step) (step : Step) → pairs_of (done ++ step ∷ []) ≡ with_entry (pairs_of done) step.1
 pairs_more done (n, Ok p) = ap distinct (filter_append done ((n, Ok p) ∷ [])) ∙ fold_append [] (filter_map pair_of done) (p ∷ [])
 pairs_more done (n, Err c) = ap distinct (filter_append done ((n, Err c) ∷ []) ∙ append-nil (filter_map pair_of done))
 
--- the faults from a place on
+-- the faults from an index on
 abbrev faults_from : List Step → ℕ → ℕ → List MapFault
 faults_from steps k n = filter_map (λ k. fault_by (pairs_of (take k steps)) (drop k steps)) (range_with_len k n)
 
@@ -56,7 +56,7 @@ run_from done (step ∷ rest) =
 pub run_finds : (steps : List Step) → run_steps [] steps ≡ by_fault (slice_get (faults_of steps) 0) (pairs_of steps)
 run_finds steps = run_from [] steps
 
--- a run over two lists, one behind the other
+-- a run over one list after another
 pub run_append : (all : List Pair) (xs ys : List Step) → run_steps all (xs ++ ys) ≡ run_steps all xs >>= (λ a. run_steps a ys)
 run_append all [] ys = refl
 run_append all (x ∷ xs) ys = each (entry_cause all x.1) x.0 (run_steps (with_entry all x.1) (xs ++ ys)) (run_steps (with_entry all x.1) xs) (λ a. run_steps a ys) (run_append (with_entry all x.1) xs ys)

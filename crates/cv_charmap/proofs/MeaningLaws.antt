@@ -1,4 +1,4 @@
--- What a text means is a charmap.
+-- If a text means a name and pairs, these are a charmap's.
 use Rattle.std.proofs.Common.{◌≡◌, ℕ, ◌<◌, ◌≤◌, Bool, true, false, cond, leb, ltb, not, List, [], ◌∷◌, ◌++◌, length, refl, sym, subst, ◌∙◌, ap, arith, inl, inr, Option, Some, None, length-append}
 use Rattle.std.specs.Prelude.{◌==◌, ◌||◌, ◌&&◌, bytes_eq, slice_get, is_none, Ok, Err}
 use Rattle.std.specs.List.{list_any, after_first}
@@ -85,7 +85,7 @@ run_so_far all ((n, Err cause) ∷ steps) after f s e = absurd (cc)
 no_pairs : IsSoFar []
 no_pairs = (record { some = λ k l. absurd (omega arith); short = λ k l. absurd (omega arith); scalar = λ k l. absurd (omega arith); apart = λ j k l h f. absurd (omega arith) }, omega arith)
 
--- what was decided for a charmap
+-- what follows if the outcome is a charmap
 pub record IsDecided (fault : Option MapFault) (lack : Option Cause) (pairs : List Pair) (charmap : Charmap) : Type 0 where
   pub no_fault : fault ≡ None
   pub no_lack : lack ≡ None
@@ -106,7 +106,7 @@ not_lacking true true true e h = absurd (cc)
 not_lacking true true false true h = refl
 not_lacking true true false false h = absurd (cc)
 
--- what a text means is a charmap
+-- if a text means a name and pairs, these are a charmap's
 pub means_maps : MeansMaps
 unfolding meaning_of_lines
 means_maps text charmap e =

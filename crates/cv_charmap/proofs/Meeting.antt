@@ -1,4 +1,4 @@
--- What is wrong with a pair, by the bytes that it meets.
+-- What is wrong with a pair, by the entries that its bytes meet.
 use Rattle.std.proofs.Common.{◌≡◌, ◌≢◌, ℕ, ◌<◌, Bool, true, false, cond, leb, List, [], ◌∷◌, ◌++◌, length, refl, sym, ◌∙◌, ap, arith, inl, inr, Some, None, eq-eqb}
 use Rattle.std.specs.Prelude.{◌||◌, ◌&&◌, not, bytes_eq, nat_eq}
 use Rattle.std.specs.List.{list_any}
@@ -18,13 +18,13 @@ use Rattle.cv_charmap.specs.Private.Covers.{pair_at}
 
 -- ---- byte strings
 
--- what begins a text passes the test
+-- a text that begins with bytes passes the test
 pub begins_true : (b t : List ℕ) → Begins b t → begins t b ≡ true
 begins_true [] t h = refl
 begins_true (x ∷ b) [] h = absurd h
 begins_true (x ∷ b) (y ∷ t) h = rw (eq-eqb x y h.0) (begins_true b t h.1)
 
--- what passes the test begins the text
+-- a text that passes the test begins with the bytes
 pub begins_from : (b t : List ℕ) → begins t b ≡ true → Begins b t
 begins_from [] t e = tt
 begins_from (x ∷ b) [] e = absurd (cc)
@@ -33,11 +33,11 @@ begins_from (x ∷ b) (y ∷ t) e = let parts = and_parts (nat_eq x y) (begins t
     same : (x y : ℕ) → nat_eq x y ≡ true → x ≡ y
     same x y h = elim (cases_eq x y) [ inl s ↦ s | inr s ↦ absurd (false≢true (sym (ne_eqb x y s) ∙ h)) ]
 
--- byte strings that pass the test are the same
+-- byte strings that pass the test are equal
 pub same_bytes : (a b : List ℕ) → bytes_eq a b ≡ true → a ≡ b
 same_bytes a b e = (bytes_eq-Decides a b).0 e
 
--- byte strings that are the same pass the test
+-- byte strings that are equal pass the test
 pub eq_bytes : (a b : List ℕ) → a ≡ b → bytes_eq a b ≡ true
 eq_bytes a b e = (bytes_eq-Decides a b).1 e
 
@@ -96,38 +96,38 @@ module _ (all : List Pair) (p : Pair) where
       let r = repeat_free other in
       (r, cause_by all p false false false (clash_free (λ k low e. absurd (other k low e))) (overlap_free (λ k low _. ((meets k low).1, (meets k low).0))) r)
 
-  -- a pair that meets none stands at the end
+  -- a pair that meets none is added at the end
   pub fresh_entered : MeetsNone all p.0 → entered all p ≡ all ++ p ∷ []
   fresh_entered meets = rw (fresh meets).0 refl
 
   module _ (apart : AreApart all) (k : ℕ) (low : k < length all) where
-    -- no other entry overlaps one that is there
+    -- no other entry overlaps one that is in the list
     held_overlaps : bytes_at all k ≡ p.0 → list_any (overlaps p) all ≡ false
     held_overlaps e = overlap_free (λ j lj other. (
       λ f. other (ap (bytes_at all) (sym (apart k j low lj (rw e f))) ∙ e),
       λ f. other (ap (bytes_at all) (apart j k lj low (rw e f)) ∙ e),
     ))
 
-    -- a pair that is there has no cause, and is not entered again
+    -- a pair that is in the list has no cause, and is not entered again
     pub held_again : bytes_at all k ≡ p.0 → character_at all k ≡ p.1 → (pair_cause all p ≡ None) × (entered all p ≡ all)
     held_again e c =
         let r : list_any (repeats p) all ≡ true = list_any_at (repeats p) all k ([], 0) low (rw (eq_bytes (bytes_at all k) p.0 e, eq-eqb (character_at all k) p.1 c) refl) in
         let clash = clash_free (λ j lj f. ap (character_at all) (apart j k lj low (rw (f, e) (Begins-refl p.0))) ∙ c) in
         (cause_by all p false false true clash (held_overlaps e) r, rw r refl)
 
-    -- bytes that are there with another character
+    -- bytes that are in the list with another character
     pub held_otherwise : bytes_at all k ≡ p.0 → character_at all k ≢ p.1 → pair_cause all p ≡ Some Clash
     held_otherwise e c =
         cause_by all p true (list_any (overlaps p) all) (list_any (repeats p) all) (list_any_at (clashes p) all k ([], 0) low (rw (eq_bytes (bytes_at all k) p.0 e, ne_eqb (character_at all k) p.1 c) refl)) refl refl
 
-    -- bytes that go on behind those of an entry
+    -- bytes that begin with an entry's and are longer
     pub continues : Begins (bytes_at all k) p.0 → length (bytes_at all k) < length p.0 → pair_cause all p ≡ Some Prefix
     continues f longer =
         let other : bytes_at all k ≢ p.0 = λ e. (let same = ap length e in omega arith) in
         let clash = clash_free (λ j lj e. absurd (let same : k ≡ j = apart k j low lj (rw e f) in other (ap (bytes_at all) same ∙ e))) in
         cause_by all p false true (list_any (repeats p) all) clash (overlapped' k low other (begins_true (bytes_at all k) p.0 f)) refl
 
-    -- bytes that an entry goes on behind
+    -- bytes that are a proper prefix of an entry's
     pub goes_before : Begins p.0 (bytes_at all k) → length p.0 < length (bytes_at all k) → pair_cause all p ≡ Some Prefix
     goes_before f longer =
         let other : bytes_at all k ≢ p.0 = λ e. (let same = ap length e in omega arith) in

@@ -1,4 +1,4 @@
--- A range is entered, entry by entry or many at once.
+-- A range is entered one by one, or many entries at once.
 use Rattle.std.proofs.Common.{◌≡◌, ℕ, ◌+◌, ◌-◌, Bool, List, [], ◌∷◌, ◌++◌, ◌∙◌, arith, inl, inr, map}
 use Rattle.std.specs.Prelude.{Ok, Err}
 use Rattle.std.specs.List.{range_with_len}
@@ -13,19 +13,19 @@ use Rattle.cv_charmap.specs.declared.reach.Stop.{Stop}
 use Rattle.cv_charmap.proofs.Covering.{entry_stays, stops_stay, stops_more}
 use Rattle.cv_charmap.proofs.EntryLemmas.{from_whole}
 
--- What is so far of a range of so many entries.
+-- The first `i` of the `count` entries of a range were entered.
 pub record IsEntering (all now : List Pair) (hex : Bool) (first : ℕ) (bytes : List ℕ) (count i : ℕ) (stops : List Stop) : Type 0 where
   pub run : (n : ℕ) → run_entries all n (entries_from hex first bytes 0 count) ≡ run_entries now n (entries_from hex first bytes i count)
   pub has : HasEntries now hex first bytes i
   pub looked_up : AreStops now hex first bytes i stops
 
 module _ (all now new : List Pair) (hex : Bool) (first : ℕ) (bytes : List ℕ) (count i : ℕ) (stops : List Stop) (so_far : IsEntering all now hex first bytes count i stops) where
-  -- an entry that was refused is the end of the range
+  -- an entry that is refused ends the range
   pub range_refused : (last n : ℕ) (why : EntryFault) → count ≡ last + 1 - first → PassesOn now hex first bytes i count (Err why) new → RunsTo (run_entries all n (map (entry_at hex first bytes) (range_with_len 0 (last + 1 - first)))) n (Err why) new
   range_refused last n (Faulty cause) is h = from_whole hex first last bytes i count all now n is (so_far.run n) ∙ h n
   range_refused last n Memory is h = tt
 
-  -- entries that were entered, and those behind them that are known of
+  -- entries that were entered, and those after them that are known to be in the list
   pub range_passed : (passed : Stop × ℕ) → PassesOn now hex first bytes i count (Ok passed) new → (more : List Stop) → more ≡ stops ++ passed.0 ∷ [] → IsEntering all new hex first bytes count passed.1 more
   range_passed passed h more is =
       let next = h.0 in

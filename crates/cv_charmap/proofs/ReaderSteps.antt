@@ -27,18 +27,18 @@ by_entries h all m n (Err entry.Memory) after e = tt
 pub maps_inside : (h : Header) (all : List Pair) (m : Mapping) (n : ℕ) (r : Result (Unit {0}) EntryFault) (after : List Pair) → RunsTo (run_entries all n (sized_entries h.least h.most m)) n r after → (o : Result Phase CompileFault) → o ≡ after_entries r n → TakesInside h all (Maps m) n o after
 maps_inside h all m n r after e o is = subst (λ (x : Result Phase CompileFault). TakesInside h all (Maps m) n x after) (sym is) (by_entries h all m n r after e)
 
--- what a line among the mappings says is taken with it
+-- the result of what a line among the mappings says is that of the line
 said_inside : (h : Header) (all : List Pair) (line : List ℕ) (m : Mapping) (n : ℕ) (o : Result Phase CompileFault) (after : List Pair) → reading_of (marks_by h true) line ≡ Ok (Maps m) → TakesInside h all (Maps m) n o after → InsideTo h all line n o after
 said_inside h all line m n (Ok phase) after e takes = λ k. ap (inside_by (state h all Inside k) n) e ∙ takes k
 said_inside h all line m n (Err (compile.Map fault)) after e takes = λ k. ap (inside_by (state h all Inside k) n) e ∙ takes k
 said_inside h all line m n (Err compile.Memory) after e takes = tt
 
--- what a mapping among the mappings says is entered with it
+-- the result of entering a mapping is that of its line
 pub entered_inside : (h : Header) (all : List Pair) (line : List ℕ) (m : Mapping) (n : ℕ) (r : Result (Unit {0}) EntryFault) (after : List Pair) (o : Result Phase CompileFault) → reading_of (marks_by h true) line ≡ Ok (Maps m)
     → RunsTo (run_entries all n (sized_entries h.least h.most m)) n r after → o ≡ after_entries r n → InsideTo h all line n o after
 entered_inside h all line m n r after o e runs is = said_inside h all line m n o after e (maps_inside h all m n r after runs o is)
 
--- a line that is at fault decides
+-- a faulty line decides the meaning
 pub stops : (lines rest more : List (List ℕ)) (s : State) (line : List ℕ) (why : CompileFault) (after : List Pair) → run_of lines ≡ lines_run s rest >>= finish_run → rest ≡ line ∷ more → NextTo s line (Err why) after → Reads (meaning_of_lines lines) (Err why)
 stops lines rest more s line (compile.Map f) after so_far is e =
     sym (run_means lines) ∙ so_far ∙ ap (λ (ls : List (List ℕ)). lines_run s ls >>= finish_run) is ∙ ap (λ (r : Result State MapFault). (r >>= (λ t. lines_run t more)) >>= finish_run) e
@@ -49,13 +49,13 @@ same_end Above h all n = refl
 same_end Inside h all n = refl
 same_end Behind h all n = refl
 
--- behind the last line the rest is decided
+-- after the last line the rest is decided
 pub ends : (lines rest : List (List ℕ)) (h : Header) (all : List Pair) (phase : Phase) (n : ℕ) (r : Result Charmap CompileFault) → run_of lines ≡ lines_run (state h all phase n) rest >>= finish_run → rest ≡ [] → Reads (finished phase h all) r → Reads (meaning_of_lines lines) r
 ends lines rest h all phase n r so_far none e =
     let same : meaning_of_lines lines ≡ finished phase h all = sym (run_means lines) ∙ so_far ∙ ap (λ (ls : List (List ℕ)). lines_run (state h all phase n) ls >>= finish_run) none ∙ same_end phase h all n in
     subst (λ (m : Result Charmap MapFault). Reads m r) (sym same) e
 
--- a line that ends the mappings decides what is left
+-- after a line that ends the mappings the rest is decided
 pub ends_behind : (lines rest more : List (List ℕ)) (s : State) (line : List ℕ) (h : Header) (all : List Pair) (n : ℕ) (phase : Phase) (r : Result Charmap CompileFault) → run_of lines ≡ lines_run s rest >>= finish_run → rest ≡ line ∷ more
     → line_run s line ≡ Ok (state h all phase n) → phase ≡ Behind → Reads (finished phase h all) r → Reads (meaning_of_lines lines) r
 ends_behind lines rest more s line h all n phase r so_far is next behind e =

@@ -39,13 +39,13 @@ after_no p x xs e =
 
 -- ---- the mappings
 
--- nothing behind the mappings counts
+-- lines after the mappings mean nothing
 pub behind_stays : (h : Header) (all : List Pair) (n : ℕ) (lines : List (List ℕ)) → lines_run (state h all Behind n) lines >>= finish_run ≡ whole_by h.name all
 unfolding line_run
 behind_stays h all n [] = refl
 behind_stays h all n (line ∷ lines) = behind_stays h all (next_number n) lines
 
--- what is left to decide behind the mappings
+-- what is left to decide after the mappings
 abbrev ended : Bool → Option (List ℕ) → List Pair → Result Charmap MapFault
 ended true name all = whole_by name all
 ended false name all = Err (fault 0 NoEnd)
@@ -61,7 +61,7 @@ bind_same : {A B : Type 0} (r : Result A MapFault) (f g : A → Result B MapFaul
 bind_same (Ok x) f g e = e x
 bind_same (Err c) f g e = refl
 
--- a run over the mapping lines, and then what is left
+-- a run over the mapping lines, and then what is left to decide
 abbrev rest_of : Header → List Pair → ℕ → List (List ℕ) → Result Charmap MapFault
 rest_of h all n lines = run_steps all (numbered n (mapping_entries h (before_first is_finish lines))) >>= λ a. ended (list_any is_finish lines) h.name a
 
@@ -128,7 +128,7 @@ settled h lines = fold (λ h line. with_said h (declaration_of line)) h lines
 abbrev above_ended : Bool → List (List ℕ) → Option (List ℕ) → List Pair → Result Charmap MapFault
 above_ended begun after name all = cond begun (ended (list_any is_finish after) name all) (Err (fault 0 NoMap))
 
--- a run over header lines, then over the lines that follow them, and then what is left
+-- a run over header lines, then over the lines that follow them, and then what is left to decide
 abbrev shape : Header → ℕ → List (List ℕ) → List (List ℕ) → Bool → Result Charmap MapFault
 shape h n header after begun =
     run_steps [] (numbered n (header_entries h header ++ [] ∷ mapping_entries (settled h header) (before_first is_finish after))) >>= λ a. above_ended begun after (settled h header).name a

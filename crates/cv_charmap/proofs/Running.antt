@@ -25,14 +25,14 @@ use Rattle.cv_charmap.proofs.EntryLemmas.{goes_on}
 
 -- ---- their bytes
 
--- a number that counts up in its last byte
+-- if the last byte of a number can count up, the others stay
 last_counts : (s n k : ℕ) → n % 256 + k < 256 → bytes_in (suc s) (n + k) ≡ bytes_in s (n / 256) ++ (n % 256 + k) ∷ []
 last_counts s n k low =
     let front : (n + k) / 256 ≡ n / 256 = omega arith in
     let last : (n + k) % 256 ≡ n % 256 + k = omega arith in
     ap (λ (x : ℕ). bytes_in s x ++ (n + k) % 256 ∷ []) front ∙ ap (λ (x : ℕ). bytes_in s (n / 256) ++ x ∷ []) last
 
--- bytes count up in their last
+-- bytes that count up in their last byte
 bytes_count : (size n k : ℕ) (w : List ℕ) → 0 < size → w ≡ bytes_in size n → get_or w (length w - 1) 0 + k < 256 → n < 256 ^ size
     → (bytes_in size (n + k) ≡ take (length w - 1) w ++ (get_or w (length w - 1) 0 + k) ∷ []) × (n + k < 256 ^ size)
 bytes_count zero n k w some is low fits = absurd (omega arith)
@@ -58,7 +58,7 @@ scalar_is n s = elim (cases_lt n 0xD800) [
     either true = refl
     either false = refl
 
--- the entry of a range so many places behind another, where only the last byte differs
+-- the `k`th entry of a range after another, if only the last byte differs
 counted_entry : (first : ℕ) (bytes w : List ℕ) (i c k : ℕ) → 0 < length bytes → entry_at true first bytes i ≡ Ok (w, c) → get_or w (length w - 1) 0 + k < 256 → IsScalar (c + k) → entry_at true first bytes (i + k) ≡ Ok (counted w c k)
 unfolding entry_at
 counted_entry first bytes w i c k some e low scalar =
@@ -98,7 +98,7 @@ module _ (all new : List Pair) (first : ℕ) (bytes w : List ℕ) (i c m : ℕ) 
   placed : (k : ℕ) → k < m → pair_at new (length all + k) ≡ counted w c k
   placed k less = pair_stays (with_first (suc k)) new (front (suc k) (omega arith)) (length all + k) (omega (arith, size (suc k))) ∙ run_at all w c k ([], 0)
 
-  -- the next meets none of those that are there
+  -- the next meets none of those in the list
   meets : (k : ℕ) → k < m → MeetsNone (with_first k) (counted w c k).0
   meets k less p lp =
       let there : bytes_at new p ≡ bytes_at (with_first k) p = ap (λ (x : Pair). x.0) (pair_stays (with_first k) new (front k (omega arith)) p lp) in
@@ -141,13 +141,13 @@ module _ (all new : List Pair) (first : ℕ) (bytes w : List ℕ) (i c m : ℕ) 
   passed_at_once : (count : ℕ) → i + m ≤ count → 0 < m → PassesOn all true first bytes i count (Ok (record { at = i; place = length all; size = m }, i + m)) new
   passed_at_once count within more = (omega arith, stays, run_on count within, (omega arith, stood), has)
 
--- the last byte of an entry that has others behind it
+-- the last byte of an entry that has other bytes after it
 pub last_of : (word : List ℕ) (n : ℕ) → length word ≡ 8 → 0 < n → n ≤ 8 → get_or (take n word) (length (take n word) - 1) 0 ≡ get_or word (n - 1) 0
 last_of word n size more few =
     let cut : length (take n word) ≡ n = length-take-le n word (omega arith) in
     ap (λ (k : ℕ). get_or (take n word) (k - 1) 0) cut ∙ get_or-take n word (n - 1) 0 (omega arith)
 
--- entries that were entered at once, where the range counts in hexadecimal
+-- entries that were entered at once, if the range counts in hexadecimal
 pub at_once : (all new : List Pair) (hex : Bool) (first : ℕ) (bytes w : List ℕ) (i c m : ℕ) → hex ≡ true → 0 < length bytes → entry_at hex first bytes i ≡ Ok (w, c) → get_or w (length w - 1) 0 + m ≤ 256
     → ((k : ℕ) → k < m → IsScalar (c + k)) → new ≡ all ++ run_of w c m → AreApart new → length new ≤ most_pairs → (count : ℕ) → i + m ≤ count → 0 < m
     → PassesOn all hex first bytes i count (Ok (record { at = i; place = length all; size = m }, i + m)) new
@@ -155,6 +155,6 @@ at_once all new hex first bytes w i c m is_hex some e low scalars is apart few c
     subst (λ (h : Bool). PassesOn all h first bytes i count (Ok (record { at = i; place = length all; size = m }, i + m)) new) (sym is_hex)
     (passed_at_once all new first bytes w i c m some (subst (λ (h : Bool). entry_at h first bytes i ≡ Ok (w, c)) is_hex e) low scalars is apart few count within more)
 
--- a list with so many more has room for them
+-- a list with `n` more pairs is not too long
 pub run_room : (all new : List Pair) (bytes : List ℕ) (character n : ℕ) → new ≡ all ++ run_of bytes character n → length all + n ≤ most_pairs → length new ≤ most_pairs
 run_room all new bytes character n is room = omega (arith, ap length is, length-append all (run_of bytes character n), run_size bytes character n)

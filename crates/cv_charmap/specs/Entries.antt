@@ -6,29 +6,31 @@ use Rattle.cv_lex.specs.Mappings.{Mapping, One, Range}
 use Rattle.cv_lex.specs.declared.cause.Cause.{Cause}
 use Rattle.cv_lex.specs.declared.cause.Cause.TheVariants.{NotScalar, Length, Carry}
 
--- bytes, and the character that they stand for
+-- bytes, and the character that they encode
 abbrev pub Pair : Type 0
 Pair = List ℕ × ℕ
 
--- the number of bytes, the highest first
+-- the number that bytes write, the most significant first
 abbrev pub number_of : List ℕ → ℕ
 number_of bytes = fold (λ n b. 256 * n + b) 0 bytes
 
--- a number in so many bytes, the highest first
+-- a number in `size` bytes, the most significant first
 abbrev pub bytes_in : ℕ → ℕ → List ℕ
 bytes_in zero n = []
 bytes_in (suc size) n = bytes_in size (n / 256) ++ n % 256 ∷ []
 
--- the number whose hexadecimal digits are the last decimal digits of a number
+-- the number whose hexadecimal digits are the last `digits` decimal digits of a number
 abbrev pub reread : ℕ → ℕ → ℕ
 reread zero n = 0
 reread (suc digits) n = 16 * reread digits (n / 10) + n % 10
 
--- The character that a number of a range names. `...` counts in decimal digits, of which a name has eight at most.
+-- The character that a number of a range names: the number itself for `..`; for `...` the number that its decimal
+-- digits write in hexadecimal, of which a name has eight at most.
 abbrev pub named_by : Bool → ℕ → ℕ
 named_by hex n = if hex then n else reread 8 n
 
--- The entry of a range so many places behind the first: the bytes count up as one number, and can't become more.
+-- The `i`th entry of a range after the first. Its bytes count up as one number, and are as many as those of the first:
+-- a number that does not fit them is at fault.
 unfoldable pub entry_at : Bool → ℕ → List ℕ → ℕ → Result Pair Cause
 entry_at hex first bytes i =
     let character : ℕ = named_by hex (first + i) in
@@ -47,7 +49,7 @@ abbrev pub bytes_of_mapping : Mapping → List ℕ
 bytes_of_mapping (One character bytes) = bytes
 bytes_of_mapping (Range first last hex bytes) = bytes
 
--- the entries of a mapping, whose bytes are tested first: at least and at most so many
+-- the entries of a mapping, if it has at least `least` and at most `most` bytes; this is tested first
 abbrev pub sized_entries : ℕ → ℕ → Mapping → List (Result Pair Cause)
 sized_entries least most mapping =
     let size : ℕ = length (bytes_of_mapping mapping) in

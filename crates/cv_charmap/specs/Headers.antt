@@ -5,7 +5,7 @@ use Rattle.cv_lex.specs.Declarations.{Declared, declaration_of}
 use Rattle.cv_lex.specs.declared.cause.Cause.{Cause}
 use Rattle.cv_lex.specs.declared.line.Marks.{Marks}
 
--- the values that hold behind some header lines
+-- the values that hold after some header lines
 pub record Header : Type 0 where
   pub name : Option (List ℕ)
   pub most : ℕ
@@ -17,7 +17,7 @@ pub record Header : Type 0 where
 abbrev pub undeclared : Header
 undeclared = record { name = None; most = 1; least = 1; escape = 92; comment = 35 }
 
--- the values behind a declaration: of two the later holds
+-- the values after a declaration, which replaces an earlier one of the same name
 abbrev pub with_declared : Header → Declared → Header
 with_declared h (says.Name name) = record h { name = Some name }
 with_declared h (says.MbMax n) = record h { most = n }
@@ -26,15 +26,15 @@ with_declared h (says.Escape b) = record h { escape = b }
 with_declared h (says.Comment b) = record h { comment = b }
 with_declared h says.Other = h
 
--- the values behind a line: one that declares nothing changes nothing
+-- the values after a line: one that declares nothing changes nothing
 abbrev pub with_said : Header → Result Declared Cause → Header
 with_said h (Ok declared) = with_declared h declared
 with_said h (Err cause) = h
 
--- the values behind all of these lines: those of the last declarations
+-- the values after all of these lines: those of the last declarations
 abbrev pub header_of : List (List ℕ) → Header
 header_of lines = fold (λ h line. with_said h (declaration_of line)) undeclared lines
 
--- the marks of a line
+-- the marks by which a line is read
 abbrev pub marks_by : Header → Bool → Marks
 marks_by h inside = record { escape = h.escape; comment = h.comment; inside = inside }

@@ -21,11 +21,12 @@ pub record Charmap : Type 0 where
 abbrev pub header_lines : List (List ℕ) → List (List ℕ)
 header_lines lines = before_first is_begin lines
 
--- the mappings: the lines between that line and the next line `END CHARMAP`, or to the end; what is behind that line means nothing
+-- the mappings: the lines after that line, up to the next line `END CHARMAP` or to the end; what follows `END CHARMAP`
+-- means nothing
 abbrev pub mapping_lines : List (List ℕ) → List (List ℕ)
 mapping_lines lines = before_first is_finish (after_first is_begin lines)
 
--- the entries of a line: a faulty line has its cause in an entry's place, and all but mappings have none
+-- the entries of a line: those of a mapping; for a faulty line its cause in place of an entry; none for any other line
 abbrev pub entries_by : Header → Result Reading Cause → List (Result Pair Cause)
 entries_by h (Err cause) = Err cause ∷ []
 entries_by h (Ok (Maps mapping)) = sized_entries h.least h.most mapping
@@ -48,7 +49,8 @@ mapping_entries h lines = map (λ line. entries_by h (reading_of (marks_by h tru
 abbrev pub Step : Type 0
 Step = ℕ × Result Pair Cause
 
--- The entries of lines one after another, with the numbers of their lines from n on. A number that 32 bits can't hold is given as the greatest that they can.
+-- The entries of lines one after another, with the numbers of their lines, from `n` on. A number that does not fit 32
+-- bits is given as the greatest that does.
 abbrev pub numbered : ℕ → List (List (Result Pair Cause)) → List Step
 numbered n [] = []
 numbered n (entries ∷ lines) = map (λ entry. (min n 4294967295, entry)) entries ++ numbered (n + 1) lines
@@ -59,7 +61,7 @@ steps_of lines =
     let header : List (List ℕ) = header_lines lines in
     numbered 1 (header_entries undeclared header ++ [] ∷ mapping_entries (header_of header) (mapping_lines lines))
 
--- the pair of an entry
+-- the pair of an entry that is no cause
 abbrev pub pair_of : Step → Option Pair
 pair_of (n, Ok pair) = Some pair
 pair_of (n, Err cause) = None
@@ -77,7 +79,7 @@ fault_by all (step ∷ steps) = option_map (λ cause. record { line = step.0; ca
 abbrev pub faults_of : List Step → List MapFault
 faults_of steps = filter_map (λ k. fault_by (pairs_of (take k steps)) (drop k steps)) (range_with_len 0 (length steps))
 
--- what the whole file lacks
+-- what the whole text lacks, if anything
 abbrev pub lacks : List (List ℕ) → Option (List ℕ) → List Pair → Option Cause
 lacks lines name pairs =
     if not (list_any is_begin lines) then Some NoMap else
@@ -85,7 +87,7 @@ lacks lines name pairs =
     if is_none name then Some NoName else
     if not (list_any (λ p. p.1 == question) pairs) then Some NoSubstitute else None
 
--- the outcome: a fault decides; then what is lacking, with line 0; else it is the name and the pairs
+-- the outcome: the first fault; or else what is lacking, with line 0; or else the name and the pairs
 abbrev pub decided : Option MapFault → Option Cause → Option (List ℕ) → List Pair → Result Charmap MapFault
 decided (Some fault) lack name pairs = Err fault
 decided None (Some cause) name pairs = Err (record { line = 0; cause = cause })

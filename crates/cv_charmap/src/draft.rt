@@ -1,4 +1,4 @@
-//! The list of pairs while it is read.
+//! The list of pairs while a text is read.
 ghost use Rattle.std.specs.Prelude.{◌≡◌, ◌<◌, ◌≤◌, ◌+◌, ◌-◌, ◌*◌, ◌/◌, ◌^◌, ℕ, min, [], ◌++◌, length, take, slice_index, IfOk};
 ghost use Rattle.std.specs.Int.{IsPowerOfTwo};
 ghost use Rattle.cv_base.specs.Scalars.{IsScalar};
@@ -18,7 +18,8 @@ use std::marker::Model;
 /// How many pairs a charmap has at most.
 const MOST_PAIRS: usize = 262_144;
 
-/// How many bytes of a text a mapping is taken to have, when room is asked for: about as many as the longest lines that are common.
+/// How many bytes a mapping is taken to have in a text when room is reserved: about as many as the longest common
+/// lines.
 const LINE: usize = 48;
 
 /// Why a pair was not entered.
@@ -26,16 +27,16 @@ const LINE: usize = 48;
 pub(crate) enum EntryFault {
     /// The entry has a fault.
     Faulty(Cause),
-    /// No memory was to be had.
+    /// An allocation failed.
     Memory,
 }
 
-/// The pairs that were entered, in order. Contracts see the list of them.
+/// The pairs that were entered, in this order. Contracts see the list of them.
 #[derive(Drop)]
 pub(crate) struct Draft {
     alloc: Global,
     trie: ByteTrie,
-    /// For each of the first pairs what is known from it on.
+    /// For each of the first pairs, how many entries of a range are known to be in the list from it on.
     reach: Vec<Reach>,
 }
 
@@ -52,7 +53,7 @@ impl Model for Draft {
     ghost invariant = { λ d. IsDraft d.trie.entries d.reach.items };
 }
 
-/// The place of an entry with the same bytes, if it has this character.
+/// Returns the index of an entry with the same bytes, if it has this character, or else the fault.
 fn held(trie: &ByteTrie, bytes: &[u8], place: usize, character: Scalar) -> Result<usize, EntryFault>
     requires apart { AreApart trie.now.entries }
     requires low { place < length trie.now.entries }
@@ -67,7 +68,7 @@ fn held(trie: &ByteTrie, bytes: &[u8], place: usize, character: Scalar) -> Resul
     }
 }
 
-/// What a pair comes to where the list has all the pairs that it may have.
+/// Looks up a pair when the list is full. It returns the index of the same pair, or the fault.
 fn held_by_all(trie: &ByteTrie, bytes: &[u8], character: Scalar) -> Result<usize, EntryFault>
     requires apart { AreApart trie.now.entries }
     requires some { 0 < length bytes.now }
@@ -87,7 +88,7 @@ fn held_by_all(trie: &ByteTrie, bytes: &[u8], character: Scalar) -> Result<usize
     }
 }
 
-/// Enters a pair into a list that can have more.
+/// Enters a pair into a list that is not full, and returns its index.
 fn enter_into(trie: &mut ByteTrie, bytes: &[u8], character: Scalar) -> Result<usize, EntryFault>
     requires apart { AreApart trie.old.entries }
     requires some { 0 < length bytes.now }
@@ -110,8 +111,8 @@ fn enter_into(trie: &mut ByteTrie, bytes: &[u8], character: Scalar) -> Result<us
     }
 }
 
-/// For how many pairs a text of so many bytes gets room at first. It is a power of two: a list that doubles from there ends where one ends
-/// that began with no room.
+/// Returns for how many pairs a text of `bytes` bytes gets room at first. It is a power of two, so that a list that
+/// doubles from there ends with the same room as one that began with none.
 fn room_for(bytes: usize) -> usize
     ensures few { result ≤ most_pairs }
     ensures below { 48 * result ≤ bytes }
@@ -123,7 +124,8 @@ fn room_for(bytes: usize) -> usize
 }
 
 impl Draft {
-    /// No pairs, with room for some of those that a text of so many bytes may have, if there is memory for it.
+    /// Makes an empty list, with room for some of the pairs that a text of `bytes` bytes may have, if there is memory
+    /// for it.
     pub(crate) fn new(alloc: Global, bytes: usize) -> Result<Draft, Memory>
         ensures { IfOk result (λ d. d ≡ []) }
     {
@@ -135,12 +137,12 @@ impl Draft {
         })
     }
 
-    /// Its allocator.
+    /// Returns its allocator.
     pub(crate) fn alloc(&self) -> Global {
         self.alloc
     }
 
-    /// Enters a pair, unless it is there already, and says at which place it is.
+    /// Enters a pair unless it is in the list already, and returns its index.
     pub(crate) fn enter(&mut self, bytes: &[u8], character: Scalar) -> Result<usize, EntryFault>
         requires some { 0 < length bytes.now }
         requires short { length bytes.now ≤ 8 }
@@ -153,8 +155,8 @@ impl Draft {
         enter_into(&mut self.trie, bytes, character)
     }
 
-    /// Enters pairs whose last byte and whose character count up from those of the first, and gives how many. It enters those that are quick
-    /// to enter, at most so many.
+    /// Enters pairs whose last byte and character count up from the given ones, and returns how many: at most `most`.
+    /// It ends early at a pair that [`enter`](Draft::enter) has to handle, or if an allocation fails.
     pub(crate) fn enter_run(&mut self, bytes: &[u8], character: Scalar, most: usize) -> usize
         requires some { 0 < length bytes.now }
         requires short { length bytes.now ≤ 8 }
@@ -169,14 +171,14 @@ impl Draft {
         self.trie.add_run(bytes, character, most.min(room))
     }
 
-    /// How many pairs there are.
+    /// Returns how many pairs there are.
     pub(crate) fn len(&self) -> usize
         ensures { result ≡ length self.now }
     {
         self.trie.len()
     }
 
-    /// How many entries of a range are known to be in the list, from the one on whose pair is at a place.
+    /// Returns how many entries of a range are known to be in the list, from the one on whose pair is at `place`.
     pub(crate) fn reach(&self, place: usize, hex: bool, number: u64) -> u64
         ensures has { HasEntries self.now hex number (bytes_at self.now place) result }
         ensures small { result < 2 ^ 32 }
@@ -190,7 +192,8 @@ impl Draft {
         }
     }
 
-    /// Notes that the first entries of a range are in the list, those that were looked up at their places.
+    /// Notes that the first `end` entries of a range are in the list. The stops say at which indices those are that
+    /// were entered or found.
     pub(crate) fn cover(
         &mut self,
         hex: bool,
@@ -209,7 +212,7 @@ impl Draft {
         Ok(())
     }
 
-    /// The pairs, with their trie. It has no room for more.
+    /// Returns the pairs with their trie, and gives the spare capacity of the list back.
     pub(crate) fn into_trie(self) -> ByteTrie
         ensures value { result.entries ≡ self }
         ensures few { length self ≤ most_pairs }

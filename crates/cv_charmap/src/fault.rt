@@ -10,7 +10,8 @@ use thiserror::Error;
 #[derive(Clone, Copy, Debug, PartialEq, Eq, Error)]
 #[error("line {line}: {cause}")]
 pub struct MapFault {
-    /// The number of the line, from 1 on; 0 where the whole text has the fault.
+    /// The number of the line, counted from 1; 4,294,967,295 is for all later lines too. 0 if the text as a whole has
+    /// the fault.
     pub line: u32,
     /// What is wrong.
     pub cause: Cause,
@@ -22,7 +23,7 @@ pub enum CompileFault {
     /// The text has a fault.
     #[error("{0}")]
     Map(MapFault),
-    /// No memory was to be had.
+    /// An allocation failed.
     #[error("out of memory")]
     Memory,
 }

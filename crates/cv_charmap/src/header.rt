@@ -7,7 +7,7 @@ ghost use Rattle.cv_charmap.specs.Private.Seen.{header_seen};
 
 use cv_lex::{Marks, Setting};
 
-/// The values that hold behind some header lines.
+/// The values that hold after some header lines.
 #[derive(Clone, Copy, Debug)]
 pub(crate) struct Header<'a> {
     pub(crate) name: Option<&'a [u8]>,
@@ -18,7 +18,7 @@ pub(crate) struct Header<'a> {
 }
 
 impl<'a> Header<'a> {
-    /// The values where nothing is declared.
+    /// Returns the values that hold if nothing is declared.
     pub(crate) fn new() -> Header<'a>
         ensures { header_seen result ≡ undeclared }
     {
@@ -31,7 +31,7 @@ impl<'a> Header<'a> {
         }
     }
 
-    /// Takes a declaration.
+    /// Returns the values that hold after one more declaration.
     pub(crate) fn with(self, setting: Setting<'a>) -> Header<'a>
         ensures { header_seen result
             ≡ with_declared (header_seen self.entry) (setting_seen setting.entry) }
@@ -48,7 +48,7 @@ impl<'a> Header<'a> {
         header
     }
 
-    /// The marks of a line.
+    /// Returns the marks by which a line is read. `inside` says whether it is below `CHARMAP`.
     pub(crate) fn marks(&self, inside: bool) -> Marks
         ensures { result ≡ marks_by (header_seen self.now) inside }
     {

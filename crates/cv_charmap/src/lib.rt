@@ -1,4 +1,4 @@
-//! Charmap texts: what they mean.
+//! Reading charmap texts (POSIX XBD 6.4, character set description file).
 #![tactic(auto)]
 
 mod draft;

@@ -6,7 +6,8 @@ ghost use Rattle.cv_charmap.specs.Maps.{IsMap};
 use cv_byte_trie::{ByteTrie, Entry};
 use std::marker::Model;
 
-/// A charmap's name and its pairs of bytes and characters, in the order of the text. Contracts see the name and the list.
+/// A charmap's name and its pairs of bytes and characters, in the order of the text. There are 262,144 pairs at most,
+/// and no pair's bytes begin with another's. Contracts see the name and the list.
 #[derive(Drop)]
 pub struct Pairs {
     name: Vec<u8>,
@@ -26,7 +27,7 @@ impl Model for Pairs {
 }
 
 impl Pairs {
-    /// A name, and pairs that are those of a charmap.
+    /// Makes a charmap of a name and of pairs that are a charmap's.
     pub(crate) fn of(name: Vec<u8>, entries: ByteTrie) -> Pairs
         requires { IsMap entries.entries }
         ensures name { result.name ≡ name.items }
@@ -35,28 +36,28 @@ impl Pairs {
         Pairs { name, entries }
     }
 
-    /// The name of the code set.
+    /// Returns the name of the code set: 1 to 64 visible ASCII characters.
     pub fn name(&self) -> &[u8]
         ensures { result.now ≡ self.now.name }
     {
         self.name.as_slice()
     }
 
-    /// How many pairs there are.
+    /// Returns how many pairs there are.
     pub fn len(&self) -> usize
         ensures { result ≡ length self.now.pairs }
     {
         self.entries.len()
     }
 
-    /// The pair at a place.
+    /// Returns the pair at an index, counted from 0 in the order of the text.
     pub fn get(&self, i: usize) -> Option<&Entry>
         ensures { option_copied result ≡ slice_get self.now.pairs i }
     {
         self.entries.get(i)
     }
 
-    /// The name, and the pairs with the trie that finds them by their bytes.
+    /// Returns the name, and the pairs with the trie that finds them by their bytes.
     pub fn into_parts(self) -> (Vec<u8>, ByteTrie)
         ensures name { result.0.items ≡ self.name }
         ensures pairs { result.1.entries ≡ self.pairs }

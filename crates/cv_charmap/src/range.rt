@@ -14,7 +14,7 @@ use crate::reach::Stop;
 use cv_base::Scalar;
 use cv_lex::Cause;
 
-/// How many entries a range has.
+/// Returns how many entries a range has.
 fn count_of(first: u32, last: u32) -> u64
     ensures value { result ≡ last + 1 - first }
     ensures small { result ≤ 2 ^ 32 }
@@ -22,7 +22,7 @@ fn count_of(first: u32, last: u32) -> u64
     (u64::from(last) + 1).saturating_sub(u64::from(first))
 }
 
-/// Where the scalar values end that follow one another from a character on.
+/// Returns the end of the run of scalar values in which a character is: the number after the last.
 fn end_of(character: Scalar) -> u32
     ensures above { character < result }
     ensures small { result ≤ 0x110000 }
@@ -35,8 +35,8 @@ fn end_of(character: Scalar) -> u32
     }
 }
 
-/// How many entries of a range may be entered at once from one on, of so many: those that differ from it in their last byte alone, and have
-/// characters one after another.
+/// Returns how many of the `left` entries of a range may be entered at once from one on: those that differ from it in
+/// their last byte alone, and whose characters are consecutive.
 fn run_limit(hex: bool, character: Scalar, last: u8, left: u64) -> usize
     ensures few { result ≤ left }
     ensures hex { 0 < result → hex ≡ true }
@@ -51,7 +51,7 @@ fn run_limit(hex: bool, character: Scalar, last: u8, left: u64) -> usize
     left.min(u64::from(limit)) as usize
 }
 
-/// Enters entries of a range from one on that can be entered at once, at most so many, and says how many they are.
+/// Enters at most `left` entries of a range at once, from the `i`th on, and returns how many.
 fn pass_run(draft: &mut Draft, hex: bool, first: u32, bytes: &[u8], i: u64, left: u64) -> usize
     requires some { 0 < length bytes.now }
     requires few { length bytes.now ≤ 8 }
@@ -71,8 +71,8 @@ fn pass_run(draft: &mut Draft, hex: bool, first: u32, bytes: &[u8], i: u64, left
     draft.enter_run(&entry.0[..bytes.len()], entry.1, most)
 }
 
-/// Enters the entry of a range so many places behind the first. It gives the place of its pair, and how many entries stand before
-/// the next that isn't known to be in the list.
+/// Enters the `i`th entry of a range. Returns the index of its pair, and the number of the next entry that is not known
+/// to be in the list.
 fn pass_one(
     draft: &mut Draft,
     hex: bool,
@@ -99,8 +99,8 @@ fn pass_one(
     Ok((place, i + known.max(1)))
 }
 
-/// Enters the entry of a range so many places behind the first, and some of those behind it at once, as many as may be. It gives where they
-/// stand, and how many entries stand before the next that isn't known to be in the list.
+/// Enters the `i`th entry of a range, and as many of those after it as can be entered at once. Returns where their
+/// pairs are, and the number of the next entry that is not known to be in the list.
 fn pass(
     draft: &mut Draft,
     hex: bool,
@@ -134,7 +134,8 @@ fn pass(
     }
 }
 
-/// How many entries of a range, of so many, may be entered at once from one on. It is worth it behind two, where the last was new.
+/// Returns how many entries of a range, of `count`, may be entered at once from the `i`th on. Several are tried after
+/// two, if the last was new.
 fn left_of(grew: bool, i: u64, count: u64) -> u64
     requires { i < count }
     ensures { i + result ≤ count }
@@ -179,7 +180,7 @@ pub(crate) fn enter_range(
     }
 }
 
-/// Whether a mapping's bytes are too few or too many.
+/// Tells whether a mapping has too few or too many bytes.
 fn is_unfit(header: &Header<'_>, bytes: &[u8]) -> bool
     ensures { result ≡ (nat_lt (length bytes.now) header.now.least
         || nat_lt header.now.most (length bytes.now)) }
@@ -187,7 +188,7 @@ fn is_unfit(header: &Header<'_>, bytes: &[u8]) -> bool
     bytes.len() < usize::from(header.least) || usize::from(header.most) < bytes.len()
 }
 
-/// Enters a mapping of one character.
+/// Enters a mapping of one character, if its number of bytes is allowed.
 #[tactic(auto, using(crate::proofs::EntryLemmas::one_entry), unfolding(crate::specs::Private::Runs::run_entries))]
 pub(crate) fn enter_sized_one(
     draft: &mut Draft,
@@ -209,7 +210,7 @@ pub(crate) fn enter_sized_one(
     }
 }
 
-/// Enters the mappings of a range.
+/// Enters the mappings of a range, if their number of bytes is allowed.
 #[tactic(auto, unfolding(crate::specs::Private::Runs::run_entries))]
 pub(crate) fn enter_sized_range(
     draft: &mut Draft,

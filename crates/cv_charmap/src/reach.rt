@@ -1,11 +1,12 @@
-//! What ranges have entered, so that a range that repeats them is passed over quickly.
+//! The entries that ranges have entered, so that a range that repeats them is skipped quickly.
 ghost use Rattle.std.specs.Prelude.{◌≡◌, ◌<◌, ◌^◌, length, Ok};
 ghost use Rattle.cv_charmap.specs.Entries.{entry_at};
 ghost use Rattle.cv_charmap.specs.Private.Covers.{pair_at, HasEntries, AreCovered, IsStop, AreStops};
 
 use cv_byte_trie::ByteTrie;
 
-/// From a pair on, so many entries of a range are in the list: those of the names from a number on, and of the pair's bytes.
+/// From a pair on, this many entries of a range are in the list. The range begins with the number in the pair's name
+/// and with the pair's bytes.
 #[derive(Clone, Copy, Debug)]
 pub(crate) struct Reach {
     /// Whether the range counts in hexadecimal.
@@ -16,8 +17,8 @@ pub(crate) struct Reach {
     pub(crate) count: u32,
 }
 
-/// Entries of a range that were looked up: how many stand before the first, the place of its pair, and how many they are. Their pairs stand
-/// one after another.
+/// Entries of a range that were entered or found: the number of the first in its range, the index of its pair, and how
+/// many they are. Their pairs are one after another.
 #[derive(Clone, Copy, Debug)]
 pub(crate) struct Stop {
     pub(crate) at: u64,
@@ -25,7 +26,8 @@ pub(crate) struct Stop {
     pub(crate) size: u64,
 }
 
-/// Notes from the pair of one entry on how many entries of the range are in the list. Numbers that 32 bits can't hold are not noted.
+/// Notes for the pair of one entry how many entries of the range are in the list from it on. If its number does not fit
+/// 32 bits, nothing is noted. A count that does not fit is noted as the greatest that does.
 fn note(
     trie: &ByteTrie,
     reach: &mut [Reach],
@@ -56,7 +58,7 @@ fn note(
     };
 }
 
-/// Notes from the pair of each entry of a stop on.
+/// Notes this for the pair of each entry of a stop.
 fn note_all(
     trie: &ByteTrie,
     reach: &mut [Reach],
@@ -84,7 +86,7 @@ fn note_all(
     }
 }
 
-/// Notes from each pair that was looked up on how many entries of the range are in the list.
+/// Notes this for each pair that was entered or found.
 pub(crate) fn mark(
     trie: &ByteTrie,
     reach: &mut [Reach],

@@ -17,21 +17,21 @@ use cv_byte_trie::Entry;
 use cv_lex::{Cause, lines};
 use std::alloc::Global;
 
-/// Whether the question mark has bytes.
+/// Tells whether a pair has the question mark.
 fn has_substitute(pairs: &[Entry]) -> bool
     ensures { result ≡ list_any (λ q. q.1 == question) pairs.now }
 {
     pairs.iter().any(|pair| pair.character().value() == 0x3F)
 }
 
-/// What the whole text lacks.
+/// Makes the fault of a text that lacks something, with line 0.
 fn lacking(cause: Cause) -> CompileFault
     ensures { result ≡ Map (record { line = 0; cause = cause }) }
 {
     CompileFault::Map(MapFault { line: 0, cause })
 }
 
-/// What a charmap text means, once its lines are read.
+/// Returns what a charmap text means after its lines are read.
 fn finish(
     alloc: Global,
     header: Header<'_>,
@@ -58,7 +58,8 @@ fn finish(
     }
 }
 
-/// Reads a charmap text: its name and pairs, or its first fault.
+/// Reads a charmap text. Returns its name and pairs, or its first fault, or that an allocation failed. What follows the
+/// line `END CHARMAP` is not read.
 pub fn read(alloc: Global, text: &[u8]) -> Result<Pairs, CompileFault>
     ensures { Reads (meaning text.now) result }
 {

@@ -12,7 +12,7 @@ use crate::phase::{Phase, Place};
 use crate::range::{enter_sized_one, enter_sized_range};
 use cv_lex::{Line, read_line, read_plain};
 
-/// Takes a line above `CHARMAP`.
+/// Reads a line above `CHARMAP`. Returns the header's values after it, and the part in which the next line is.
 pub(crate) fn read_above<'a>(
     header: Header<'a>,
     line: &'a [u8],
@@ -31,7 +31,7 @@ pub(crate) fn read_above<'a>(
     }
 }
 
-/// What came of a mapping.
+/// Returns what follows from entering a mapping: the part in which the next line is, or why the text is not read.
 fn after(entered: Result<(), EntryFault>, number: u32) -> Result<Phase, CompileFault>
     ensures { result ≡ after_entries entered number }
 {
@@ -45,7 +45,7 @@ fn after(entered: Result<(), EntryFault>, number: u32) -> Result<Phase, CompileF
     }
 }
 
-/// Takes what a line among the mappings says.
+/// Does what a line among the mappings says. Returns the part in which the next line is.
 fn take_inside(
     draft: &mut Draft,
     header: &Header<'_>,
@@ -75,7 +75,8 @@ fn take_inside(
     }
 }
 
-/// Takes a line among the mappings. The commonest are read first, as `read_line` would read them.
+/// Reads a line among the mappings, and returns the part in which the next line is. Lines of the commonest form are
+/// tried first: their reading is that of `read_line`.
 pub(crate) fn read_inside(
     draft: &mut Draft,
     header: &Header<'_>,
@@ -99,7 +100,7 @@ pub(crate) fn read_inside(
     }
 }
 
-/// Takes a line, and goes on to where it leads.
+/// Reads a line in the part of the charmap in which it is, and sets what the next line depends on.
 #[tactic(auto, unfolding(crate::specs::Private::Runs::line_run))]
 pub(crate) fn read_next<'a>(
     draft: &mut Draft,

@@ -26,7 +26,7 @@ fits base number d n low digit small few =
     let most : 16 ^ suc n ≤ 16 ^ 8 = pow-le-pow_right {n = 16} (omega arith) {i = suc n} {j = 8} (omega arith) in
     omega arith
 
--- a prefix that is cut off at the end of the text has the same digits
+-- a limit cut down to the text's length gives the same digits
 pub front_digits : (p : ℕ → Bool) (most : ℕ) (text : List ℕ) → take (prefix_len p (take (min most (length text)) text)) (take (min most (length text)) text) ≡ take_while p (take most text)
 front_digits p most text = ap (take_while p) (take_min most text)
 

@@ -13,7 +13,7 @@ abbrev pub feeds_of : List ℕ → ℕ
 feeds_of xs = mask_l (map (top 7) (zip2 (λ a b. cond (eqb a b) 255 0) xs (replicate 32 10))) % 2 ^ 64
 
 module _ (text : List ℕ) (from : ℕ) (room : from + 32 ≤ length text) where
-  -- so many of 32 bytes precede the first line feed
+  -- this many of 32 bytes precede the first line feed
   abbrev pub IsCount : ℕ → Type 0
   IsCount r = r ≡ prefix_len (λ x. not (eqb x 10)) (chunk from 32 text)
 
@@ -23,11 +23,11 @@ module _ (text : List ℕ) (from : ℕ) (room : from + 32 ≤ length text) where
       let long = length-chunk from 32 text room in
       rw (bitmask_splat w8 eqb xs 32 10 long (lit≤ tt)) (first_set_mask_l (λ x. eqb x 10) xs 32 long (lit≤ tt))
 
-  -- with no bit set none is among them
+  -- if no bit is set, there is no line feed among them
   pub count_all : feeds_of (chunk from 32 text) ≡ 0 → IsCount 32
   count_all none = rw (eq-eqb _ 0 none) at counted
 
-  -- with a bit set the lowest is the first
+  -- if a bit is set, the lowest is that of the first line feed
   pub count_some : feeds_of (chunk from 32 text) ≢ 0 → IsCount (count_trailing_zeros 64 (feeds_of (chunk from 32 text)))
   count_some some = rw (ne_eqb _ 0 some) at counted
 
@@ -40,7 +40,7 @@ module _ (text : List ℕ) (from : ℕ) (room : from + 32 ≤ length text) where
   pub count_at : (r : ℕ) → IsCount r → r < 32 → get_or text (from + r) 0 ≡ 10
   count_at r is h = eqb-true _ _ (run_in_chunk_stops (λ x. eqb x 10) text from 32 r 0 room is h)
 
--- no line feed is among some bytes and none is among those after them
+-- there is no line feed among some bytes and those after them
 pub none_more : (text : List ℕ) (n run : ℕ) → ((k : ℕ) → k < n → get_or text k 0 ≢ 10) → ((k : ℕ) → k < run → get_or text (n + k) 0 ≢ 10) → (k : ℕ) → k < n + run → get_or text k 0 ≢ 10
 none_more text n run before more k l = elim (cases_lt k n) [
   | inl m ↦ before k m

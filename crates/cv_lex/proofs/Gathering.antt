@@ -11,7 +11,7 @@ use Rattle.cv_lex.specs.declared.cause.Cause.TheVariants.{Constant, Length}
 abbrev Found : Type 0
 Found = Option (ℕ × List ℕ)
 
--- what follows is at most so long
+-- what follows has at most this length
 abbrev Within : ℕ → Found → Type 0
 Within n o = IfSome o (λ c. length c.1 ≤ n)
 
@@ -40,7 +40,7 @@ each_same : (f g : List ℕ → Option (List ℕ)) (n : ℕ) → ((rest : List �
 each_same f g n same None h = refl
 each_same f g n same (Some c) h = ap (option_map (λ numbers. c.0 ∷ numbers)) (same c.1 h)
 
--- more steps than bytes change nothing
+-- a limit that is at least the text's length changes nothing
 pub enough : (escape : ℕ) (kind : Kind) (k j : ℕ) (text : List ℕ) → length text ≤ k → length text ≤ j → numbers_within k escape kind text ≡ numbers_within j escape kind text
 enough escape kind k j [] p q = refl
 enough escape kind zero j (b ∷ text) p q = absurd (omega arith)

@@ -1,4 +1,4 @@
--- What a mapping line that isn't faulty says: a scalar value or a range, and 1 to 8 bytes.
+-- A mapping line that is not faulty says a scalar value or a range, and 1 to 8 bytes.
 use Rattle.std.proofs.Common.{◌≡◌, ◌≢◌, ℕ, ◌<◌, ◌≤◌, Bool, true, false, cond, ltb, List, [], ◌∷◌, length, drop, Option, Some, None, refl, subst, ◌∙◌, ap, arith}
 use Rattle.std.specs.Prelude.{◌==◌, codes, bytes_eq, option_map, option_and_then, ok_or, Result, Ok, Err}
 use Rattle.std.specs.Char.{is_ascii_alphabetic}
@@ -86,7 +86,7 @@ character_scalar name c e = by (digits_of name) (symbol_of name) refl e
 
 -- ---- mappings
 
--- if a step isn't faulty, neither is the one before it
+-- if a step is not faulty, neither is the one before it
 bind_ok : {A B : Type 0} (r : Result A Cause) (f : A → Result B Cause) (y : B) → r >>= f ≡ Ok y → (x : A) × (r ≡ Ok x) × (f x ≡ Ok y)
 bind_ok (Ok x) f y e = (x, refl, e)
 bind_ok (Err cause) f y e = absurd (cc)

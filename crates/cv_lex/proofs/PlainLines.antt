@@ -19,7 +19,7 @@ use Rattle.cv_lex.proofs.PlainNames.{no_escape}
 
 -- ---- digits
 
--- a digit is no byte that isn't one
+-- a digit is not a byte that is none
 not_digit : (b x : ℕ) → 36 ≤ digit_value x → digit_value b < 16 → (b == x) ≡ false
 not_digit b x e h = ne_eqb b x (λ same. let v : digit_value b ≡ digit_value x = ap digit_value same in omega arith)
 
@@ -55,7 +55,7 @@ constant_is escape h l more p q =
     let none : 0 + digit_value h ≡ digit_value h = omega arith in
     rw (same, first, second, none, small) refl
 
--- a text with so many bytes, by them
+-- a text of at least this many bytes, by its first bytes
 pub one_of : (text : List ℕ) → 1 ≤ length text → text ≡ get_or text 0 0 ∷ drop 1 text
 one_of [] h = absurd (omega arith)
 one_of (a ∷ text) h = refl
@@ -128,7 +128,7 @@ word_none (b ∷ rest) h = absurd (omega arith)
 
 -- ---- names
 
--- a number's name up to a place
+-- the name of a number up to an index
 pub number_is : (text ds : List ℕ) (number n : ℕ) → text ≡ 85 ∷ ds → n < length ds → get_or ds n 0 ≡ 62 → 4 ≤ n → n ≤ 8 → are_digits 16 (take n ds) ≡ true → number ≡ numeral 16 (take n ds)
     → HasNumber text number (drop (n + 1) ds)
 number_is text ds number n whole lt close four eight all value =
@@ -203,11 +203,11 @@ mapping_is escape apart name rest bytes number c has scalar blanks e =
     let character : character_of (plain escape (85 ∷ digits)) ≡ Ok c = ap character_of (plain_is escape apart digits has.all) ∙ character_is digits c has.four has.eight has.all (ap scalar_of (sym has.value) ∙ sym scalar) in
     rw (named, no_dots rest (46 ∷ []) blanks, no_dots rest [] blanks, encoding_is escape rest bytes blanks e, character, e) refl
 
--- the bytes of such a line are some
+-- such a line has at least one byte
 pub mapping_some : (escape : ℕ) (name bytes : List ℕ) (c : ℕ) → mapping_of escape (60 ∷ name) ≡ Ok (One c bytes) → 0 < length bytes
 mapping_some escape name bytes c e = (mapping_fit escape (60 ∷ name) (One c bytes) e).1
 
--- such a line is neither skipped nor the last one
+-- such a line is neither skipped nor ends the mappings
 pub reading_is : (marks : Marks) (name bytes : List ℕ) (c : ℕ) → marks.inside ≡ true → mapping_of marks.escape (60 ∷ name) ≡ Ok (One c bytes) → reading_of marks (60 ∷ name) ≡ Ok (Maps (One c bytes))
 unfolding reading_of
 reading_is marks name bytes c inside e = rw (inside, e) refl

@@ -10,7 +10,7 @@ use Rattle.cv_lex.specs.Names.{digits_of, symbol_of, character_of, range_of, ran
 use Rattle.cv_lex.specs.declared.cause.Cause.TheVariants.{UnknownName, Range}
 use Rattle.cv_lex.specs.Symbols.{symbols}
 
--- a name without escape characters is what it stands for
+-- removing escape characters from a name that has none changes nothing
 pub no_escape : (escape : ℕ) (name : List ℕ) → list_any (λ b. b == escape) name ≡ false → plain escape name ≡ name
 no_escape escape [] none = refl
 no_escape escape (b ∷ name) none =
@@ -25,7 +25,7 @@ no_digits (b ∷ digits) long =
     let no : (((b == 85 && nat_le 4 (length digits)) && nat_le (length digits) 8) && are_digits 16 digits) ≡ false = and_left _ _ (and_right _ _ off) in
     rw no refl
 
--- no entry of a table of short names
+-- a name that is longer than all of a table is not in it
 absent : (name : List ℕ) (n : ℕ) → n < length name → (table : List (List ℕ × ℕ)) → list_all (λ e. nat_le (length e.0) n) table ≡ true → lookup (bytes_eq name) table ≡ None
 absent name n long [] short = refl
 absent name n long (e ∷ table) short =

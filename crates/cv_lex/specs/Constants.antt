@@ -30,18 +30,18 @@ abbrev pub kind_of : List ℕ → Kind
 kind_of text =
     if begins text (codes "d") then Decimal else if begins text (codes "x") then Hexadecimal else Octal
 
--- the digits at the start, as many as there may be
+-- the digits at the start, at most as many as the type allows
 abbrev pub digits_at : Kind → List ℕ → List ℕ
 digits_at kind text = take_while (λ b. is_digit b (base_of_kind kind)) (take (most_digits kind) text)
 
--- the number of these digits, and what follows them
+-- the number of these digits, and what follows them, if they are two or more and the number is at most 255
 abbrev pub numeral_at : Kind → List ℕ → Option (ℕ × List ℕ)
 numeral_at kind text =
     let digits : List ℕ = digits_at kind text in
     let number : ℕ = numeral (base_of_kind kind) digits in
     if nat_le 2 (length digits) && nat_le number 255 then Some (number, drop (length digits) text) else None
 
--- what follows an escape character and the letter of a type
+-- what follows an escape character and the letter of a type, if the text begins with them
 abbrev pub behind_head : ℕ → Kind → List ℕ → Option (List ℕ)
 behind_head escape kind text =
     let head : List ℕ = escape ∷ letter_of kind in
@@ -51,7 +51,7 @@ behind_head escape kind text =
 unfoldable pub constant_at : ℕ → Kind → List ℕ → Option (ℕ × List ℕ)
 constant_at escape kind text = option_and_then (numeral_at kind) (behind_head escape kind text)
 
--- the numbers of constants of one type, one after another to the end, if there are at most as many as given
+-- the numbers of constants of one type, one after another to the end, if there are at most `most`
 abbrev pub numbers_within : ℕ → ℕ → Kind → List ℕ → Option (List ℕ)
 numbers_within most escape kind [] = Some []
 numbers_within zero escape kind (b ∷ text) = None
@@ -60,7 +60,7 @@ numbers_within (suc most) escape kind (b ∷ text) =
     (λ c. option_map (λ numbers. c.0 ∷ numbers) (numbers_within most escape kind c.1))
     (constant_at escape kind (b ∷ text))
 
--- at most eight bytes, if there are any
+-- the bytes, if there are any and at most eight
 abbrev pub bytes_by : Option (List ℕ) → Result (List ℕ) Cause
 bytes_by None = Err Constant
 bytes_by (Some bytes) = if nat_lt 8 (length bytes) then Err Length else Ok bytes

@@ -30,13 +30,13 @@ name_by name =
     then Ok (Name name)
     else Err Declaration
 
--- the byte of a value that is one byte and passes a test
+-- the byte of a value that is one byte, if it passes a test
 abbrev pub sole : (ℕ → Bool) → List ℕ → Option ℕ
 sole test [] = None
 sole test (b ∷ []) = if test b then Some b else None
 sole test (b ∷ c ∷ value) = None
 
--- what such a value declares
+-- what a value of one byte declares
 abbrev pub byte_by : (ℕ → Declared) → Option ℕ → Result Declared Cause
 byte_by declares None = Err Declaration
 byte_by declares (Some b) = Ok (declares b)

@@ -6,7 +6,7 @@ use Rattle.cv_lex.specs.Constants.{bytes_of}
 use Rattle.cv_lex.specs.declared.cause.Cause.{Cause}
 use Rattle.cv_lex.specs.declared.cause.Cause.TheVariants.{Syntax}
 
--- one more byte of a name
+-- the same with one more byte before the name
 abbrev pub with_byte : ℕ → Option (List ℕ × List ℕ) → Option (List ℕ × List ℕ)
 with_byte b found = option_map (λ p. (b ∷ p.0, p.1)) found
 
@@ -23,14 +23,14 @@ abbrev pub name_at : ℕ → List ℕ → Option (List ℕ × List ℕ)
 name_at escape [] = None
 name_at escape (b ∷ text) = if b == 60 then name_from escape false text else None
 
--- A name without its escape characters: the byte after each stands for itself. The flag is that of `name_from`.
+-- A name without its escape characters: the byte after each is literal. The flag is that of `name_from`.
 abbrev pub without_escapes : ℕ → Bool → List ℕ → List ℕ
 without_escapes escape escaped [] = []
 without_escapes escape true (b ∷ name) = b ∷ without_escapes escape false name
 without_escapes escape false (b ∷ name) =
     if b == escape then without_escapes escape true name else b ∷ without_escapes escape false name
 
--- the name that a name with escape characters stands for
+-- a name with its escape characters removed
 abbrev pub plain : ℕ → List ℕ → List ℕ
 plain escape name = without_escapes escape false name
 

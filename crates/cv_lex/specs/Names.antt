@@ -42,7 +42,7 @@ character_of name = meaning_by (digits_of name) (symbol_of name)
 abbrev pub base_of : Bool → ℕ
 base_of hex = if hex then 16 else 10
 
--- the first and the last number that the digits of two names write
+-- the first and the last number that the digits of two names write in a base
 abbrev pub range_by : ℕ → Option (List ℕ) → Option (List ℕ) → Result (ℕ × ℕ) Cause
 range_by base None last = Err Range
 range_by base (Some first) None = Err Range
@@ -52,6 +52,7 @@ range_by base (Some first) (Some last) =
     then Ok (numeral base first, numeral base last)
     else Err Range
 
--- The numbers of a range: both names are `U` and as many digits, and the second number isn't below the first.
+-- The numbers of a range: each name is `U` and digits, both have equally many, and the second number is not below the
+-- first.
 unfoldable pub range_of : Bool → List ℕ → List ℕ → Result (ℕ × ℕ) Cause
 range_of hex first last = range_by (base_of hex) (digits_of first) (digits_of last)

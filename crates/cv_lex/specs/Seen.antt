@@ -28,7 +28,7 @@ line_seen (line.Setting s) = Declares (setting_seen s)
 line_seen (line.One c bytes) = Maps (maps.One c bytes)
 line_seen (line.Range first last hex bytes) = Maps (maps.Range first last hex bytes)
 
--- a line that was read, or the cause why it was not
+-- a line that was read, or the cause why it is faulty
 abbrev pub line_read : Result Line Cause → Result Reading Cause
 line_read (Ok l) = Ok (line_seen l)
 line_read (Err cause) = Err cause

@@ -10,7 +10,7 @@ use crate::cause::Cause;
 use crate::line::Setting;
 use crate::words::{are_graphic, is, value_behind};
 
-/// The index of the first `>`.
+/// Returns the index of the first `>`.
 fn close_at(text: &[u8]) -> Option<usize>
     ensures { MatchOption result (list_any spec.is_close text.now ≡ false) (λ n.
         (list_any spec.is_close text.now ≡ true)
@@ -27,7 +27,7 @@ fn close_at(text: &[u8]) -> Option<usize>
     None
 }
 
-/// A value without the one pair of quotation marks around it.
+/// Returns a value without the one pair of quotation marks around it, if it has one.
 fn unquoted(value: &[u8]) -> &[u8]
     ensures { result.now ≡ spec.unquoted value.now }
 {
@@ -38,7 +38,7 @@ fn unquoted(value: &[u8]) -> &[u8]
     }
 }
 
-/// The name of a code set.
+/// Returns the name of a code set, if it has 1 to 64 visible ASCII characters.
 fn name_by(name: &[u8]) -> Result<Setting<'_>, Cause>
     ensures { setting_read result ≡ spec.name_by name.now }
 {
@@ -49,7 +49,7 @@ fn name_by(name: &[u8]) -> Result<Setting<'_>, Cause>
     }
 }
 
-/// The digit of a number from 1 to 8.
+/// Returns the byte of a value that is one digit from 1 to 8.
 fn size_by(value: &[u8]) -> Option<u8>
     ensures value { result ≡ spec.sole spec.is_size value.now }
     ensures digit { IfSome result (λ b. 48 ≤ b) }
@@ -60,7 +60,7 @@ fn size_by(value: &[u8]) -> Option<u8>
     }
 }
 
-/// A punctuation byte other than `<` and `>`.
+/// Returns the byte of a value that is one ASCII punctuation character other than `<` and `>`.
 fn mark_by(value: &[u8]) -> Option<u8>
     ensures { result ≡ spec.sole spec.is_mark value.now }
 {
@@ -70,7 +70,7 @@ fn mark_by(value: &[u8]) -> Option<u8>
     }
 }
 
-/// What a name and its value declare.
+/// Returns what a name and its value declare.
 #[tactic(auto, unfolding(crate::specs::Declarations::declared_by))]
 fn declared_by<'a>(key: &[u8], value: &'a [u8]) -> Result<Setting<'a>, Cause>
     ensures { setting_read result ≡ spec.declared_by key.now value.now }
@@ -92,7 +92,7 @@ fn declared_by<'a>(key: &[u8], value: &'a [u8]) -> Result<Setting<'a>, Cause>
     setting.ok_or(Cause::Declaration)
 }
 
-/// What a header line declares.
+/// Reads a header line that declares something.
 #[tactic(auto, unfolding(crate::specs::Declarations::declaration_of))]
 pub(crate) fn read_declaration(line: &[u8]) -> Result<Setting<'_>, Cause>
     ensures { setting_read result ≡ spec.declaration_of line.now }

@@ -1,6 +1,6 @@
 //! The values of digits.
 
-/// The value of each byte that is a digit or a letter, and 36 for any other byte.
+/// For each byte its value as a digit: letters of either case have 10 to 35, and any other byte has 36.
 #[rattlefmt::skip]
 pub(crate) static DIGITS: [u8; 256] = [
     36, 36, 36, 36, 36, 36, 36, 36, 36, 36, 36, 36, 36, 36, 36, 36,

@@ -1,4 +1,4 @@
-//! Where a line ends.
+//! The end of a line.
 
 ghost use Rattle.std.specs.Prelude.{◌≡◌, ◌≢◌, ◌≤◌, ◌<◌, ◌+◌, ℕ, length, slice_index};
 
@@ -7,7 +7,7 @@ use std::simd::prelude::*;
 /// How many bytes are tested at once.
 const MANY: usize = 32;
 
-/// How many of 32 bytes from a place on precede the first line feed.
+/// Returns how many of 32 bytes from an index on precede the first line feed, or 32 if none is among them.
 #[inline(always)]
 fn before_feed(text: &[u8], from: usize) -> usize
     requires { from + 32 ≤ length text.now }
@@ -25,7 +25,8 @@ fn before_feed(text: &[u8], from: usize) -> usize
     }
 }
 
-/// How many bytes precede the first line feed from a place on, one by one.
+/// Returns the index of the first line feed, or the text's length if there is none. It tests bytes one by one, from an
+/// index on before which there is none.
 #[inline(always)]
 fn feed_from(text: &[u8], from: usize) -> usize
     requires from { from ≤ length text.now }
@@ -41,7 +42,7 @@ fn feed_from(text: &[u8], from: usize) -> usize
     n
 }
 
-/// How many bytes precede the first line feed.
+/// Returns how many bytes precede the first line feed, or the text's length if there is none.
 #[inline]
 pub(crate) fn feed_at(text: &[u8]) -> usize
     ensures within { result ≤ length text.now }

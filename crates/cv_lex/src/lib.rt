@@ -1,4 +1,4 @@
-//! The lines of a charmap text, and what each of them says (XBD 6.4).
+//! The lines of a charmap text, and what each of them says (POSIX XBD 6.4, character set description file).
 #![tactic(auto)]
 
 mod cause;

@@ -16,7 +16,7 @@ use crate::words::{after_blanks, begins, has, value_behind};
 use arrayvec::ArrayVec;
 use cv_base::Scalar;
 
-/// A name up to the first `>` that isn't escaped, and what follows it.
+/// Returns a name up to the first `>` that is not escaped, and what follows it.
 fn name_from(escape: u8, text: &[u8]) -> Option<(&[u8], &[u8])>
     ensures { option_map (λ p. (p.0.now, p.1.now)) result ≡ spec.name_from escape false text.now }
 {
@@ -33,7 +33,7 @@ fn name_from(escape: u8, text: &[u8]) -> Option<(&[u8], &[u8])>
     None
 }
 
-/// The name at the start in angle brackets, and what follows it.
+/// Returns the name at the start in angle brackets, and what follows it.
 fn name_at(escape: u8, text: &[u8]) -> Option<(&[u8], &[u8])>
     ensures { option_map (λ p. (p.0.now, p.1.now)) result ≡ spec.name_at escape text.now }
 {
@@ -47,7 +47,7 @@ fn name_at(escape: u8, text: &[u8]) -> Option<(&[u8], &[u8])>
     }
 }
 
-/// A name without its escape characters, if that has at most 64 bytes. No longer name means a character.
+/// Returns a name without its escape characters, if it has at most 64 bytes then. No longer name means a character.
 fn unescaped(escape: u8, name: &[u8]) -> Option<ArrayVec<u8, 64>>
     ensures some { IfSome result (λ v. v.items ≡ spec.plain escape name.now) }
     ensures none { IfNone result (64 < length (spec.plain escape name.now)) }
@@ -69,14 +69,14 @@ fn unescaped(escape: u8, name: &[u8]) -> Option<ArrayVec<u8, 64>>
     Some(plain)
 }
 
-/// Whether a name has no escape character.
+/// Tells whether a name has no escape character.
 fn is_plain(escape: u8, name: &[u8]) -> bool
     ensures { OnTrue result (spec.plain escape name.now ≡ name.now) }
 {
     !has(escape, name)
 }
 
-/// The character of a name with escape characters.
+/// Returns the character of a name that may have escape characters.
 fn character(escape: u8, name: &[u8]) -> Result<Scalar, Cause>
     ensures { result ≡ names.character_of (spec.plain escape name.now) }
 {
@@ -89,7 +89,7 @@ fn character(escape: u8, name: &[u8]) -> Result<Scalar, Cause>
     }
 }
 
-/// The ends of a range of names with escape characters.
+/// Returns the first and the last number of a range, whose names may have escape characters.
 fn ends(escape: u8, hex: bool, first: &[u8], last: &[u8]) -> Result<(u32, u32), Cause>
     ensures { result
         ≡ names.range_of hex (spec.plain escape first.now) (spec.plain escape last.now) }
@@ -106,7 +106,7 @@ fn ends(escape: u8, hex: bool, first: &[u8], last: &[u8]) -> Result<(u32, u32), 
     range_of(hex, first.as_slice(), last.as_slice())
 }
 
-/// The encoding after blanks.
+/// Returns the encoding after blanks.
 fn encoding_at(text: &[u8]) -> Result<&[u8], Cause>
     ensures { bytes_read result ≡ ok_or (spec.encoding_at text.now) Cause.Syntax }
 {
@@ -118,7 +118,7 @@ fn encoding_at(text: &[u8]) -> Result<&[u8], Cause>
     }
 }
 
-/// What a mapping says after a single name.
+/// Reads what follows a single name.
 #[tactic(auto, unfolding(crate::specs::Mappings::single_by))]
 fn read_single<'a>(escape: u8, name: &[u8], rest: &[u8]) -> Result<Line<'a>, Cause>
     ensures { line_read result ≡ mapping_read (spec.single_by escape name.now rest.now) }
@@ -129,7 +129,7 @@ fn read_single<'a>(escape: u8, name: &[u8], rest: &[u8]) -> Result<Line<'a>, Cau
     Ok(Line::One { c, bytes })
 }
 
-/// What a mapping says after the first name of a range.
+/// Reads what follows the first name of a range.
 #[tactic(auto, unfolding(crate::specs::Mappings::ranged_by))]
 fn read_ranged<'a>(escape: u8, hex: bool, name: &[u8], rest: &[u8]) -> Result<Line<'a>, Cause>
     ensures { line_read result ≡ mapping_read (spec.ranged_by escape hex name.now rest.now) }
@@ -148,7 +148,7 @@ fn read_ranged<'a>(escape: u8, hex: bool, name: &[u8], rest: &[u8]) -> Result<Li
     })
 }
 
-/// What a mapping line says.
+/// Reads a mapping line.
 #[tactic(auto, unfolding(crate::specs::Mappings::mapping_of))]
 pub(crate) fn read_mapping<'a>(escape: u8, line: &[u8]) -> Result<Line<'a>, Cause>
     ensures { line_read result ≡ mapping_read (spec.mapping_of escape line.now) }

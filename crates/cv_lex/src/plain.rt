@@ -13,7 +13,7 @@ use crate::names::scalar;
 use crate::words::{blanks_at, digit, is_blank};
 use cv_base::Scalar;
 
-/// Whether no name of this form has the escape character, and it is no blank.
+/// Tells whether the escape character is no blank and in no name of this form.
 #[inline(always)]
 fn is_apart(escape: u8) -> bool
     ensures { IsTrue result → IsApart escape }
@@ -21,7 +21,8 @@ fn is_apart(escape: u8) -> bool
     digit(escape) >= 36 && !is_blank(escape) && escape != b'>'
 }
 
-/// The number of a name after its `<`, if it is `U` and four to eight hexadecimal digits, and what follows its `>`.
+/// Returns the number of a name after its `<`, and what follows its `>`, if the name is `U` and four to eight
+/// hexadecimal digits.
 #[inline(always)]
 fn number_at(text: &[u8]) -> Option<(u32, &[u8])>
     ensures { IfSome result (λ p. HasNumber text.now p.0 p.1.now) }
@@ -49,7 +50,7 @@ fn number_at(text: &[u8]) -> Option<(u32, &[u8])>
     None
 }
 
-/// Puts the bytes of one to eight hexadecimal constants up to a blank or the end, and answers how many they are.
+/// Puts the bytes of one to eight hexadecimal constants, up to a blank or the end, and returns how many they are.
 #[inline(always)]
 fn put_bytes(escape: u8, text: &[u8], bytes: &mut [u8; 8]) -> Option<usize>
     requires { IsApart escape }
@@ -83,8 +84,9 @@ fn put_bytes(escape: u8, text: &[u8], bytes: &mut [u8; 8]) -> Option<usize>
     }
 }
 
-/// The character of a mapping line of the commonest form, below `CHARMAP`, and how many bytes it has, which are put into the buffer:
-/// no list of them goes through memory. `None` says nothing of the line, which `read_line` reads then.
+/// Reads a mapping line of the commonest form, below `CHARMAP`. Returns its character and how many bytes it has, from 1
+/// to 8, which are put into the buffer: so no list of them goes through memory. `None` says nothing of the line, which
+/// then has to be read by [`read_line`](crate::read_line).
 #[inline(always)]
 pub fn read_plain(marks: &Marks, line: &[u8], bytes: &mut [u8; 8]) -> Option<(Scalar, usize)>
     requires { marks.now.inside ≡ true }

@@ -1,4 +1,4 @@
--- Pages that are numbered, and the places that they name.
+-- Pages that are numbered, and the indices that they name.
 use Rattle.std.proofs.Common.{◌≡◌, ◌≢◌, ℕ, ◌<◌, ◌+◌, ◌/◌, ◌%◌, List, length, get_or, slice_set, sym, ◌∙◌, ap, arith, inl, inr}
 use Rattle.std.proofs.lemmas.Bool.{cases_lt, cases_eq}
 use Rattle.std.proofs.lemmas.List.{get_or-set_same, get_or-set_other, get_or_past}
@@ -8,16 +8,16 @@ use Rattle.cv_pages.specs.Private.Numbered.{AreNumbered}
 
 -- ---- numbered pages
 
--- what has a page is no higher than the last
+-- 64 characters that have a page of their own are within `tops`
 pub has_page : (tops : List ℕ) (t : ℕ) → 0 < get_or tops t 0 → t < length tops
 has_page tops t some = elim (cases_lt t (length tops)) [
   | inl low ↦ low
   | inr past ↦ absurd (let none = get_or_past tops t 0 past in omega arith)
 ]
 
--- ---- naming places
+-- ---- naming indices
 
--- two characters have two cells if one has a page of its own
+-- two characters have different cells if one has a page of its own
 cells_apart : (tops : List ℕ) (size c d : ℕ) → AreNumbered tops size → 0 < get_or tops (c / 64) 0 → cell_of tops d ≡ cell_of tops c → d ≡ c
 cells_apart tops size c d n some e =
     let page : get_or tops (d / 64) 0 ≡ get_or tops (c / 64) 0 = omega (arith, e, n.begins (c / 64), n.begins (d / 64)) in
@@ -25,7 +25,7 @@ cells_apart tops size c d n some e =
     let top : d / 64 ≡ c / 64 = n.apart (d / 64) (c / 64) page some in
     omega arith
 
--- the next entry's character is named its place, if it has none
+-- the next entry's index is put into the cell of its character, if the cell is vacant
 pub named_more : (tops cells : List ℕ) (size k c : ℕ) (entries : List Entry) → AreNumbered tops size → 0 < get_or tops (c / 64) 0 → cell_of tops c < length cells → k < nowhere → c ≡ character_at entries k
     → place_of tops cells c ≡ nowhere → NameFirst (place_of tops cells) k entries → NameFirst (place_of tops (slice_set cells (cell_of tops c) k)) (k + 1) entries
 named_more tops cells size k c entries n some within small is vacant h =
@@ -54,7 +54,7 @@ named_more tops cells size k c entries n some within small is vacant h =
       ];
     }
 
--- the next entry's character has a place already
+-- the next entry's character has an index already
 pub named_kept : (place : ℕ → ℕ) (k c : ℕ) (entries : List Entry) → c ≡ character_at entries k → place c ≢ nowhere → NameFirst place k entries → NameFirst place (k + 1) entries
 named_kept place k c entries is has h = record {
   low = λ d some. (let l = h.low d some in omega arith);
@@ -66,6 +66,6 @@ named_kept place k c entries is has h = record {
   ];
 }
 
--- the place of a character is one of the list
+-- the index of a character is within the list
 pub place_low : (entries : List Entry) (place : ℕ → ℕ) → NameFirst place (length entries) entries → (c k : ℕ) → k ≡ place c → k ≢ nowhere → k < length entries
 place_low entries place h c k is has = let l = h.low c (λ z. has (is ∙ z)) in omega arith

@@ -1,4 +1,4 @@
-//! Pages of characters, by which a charmap is written.
+//! Pages of characters, by which a charmap is written: they give the index of a character's first entry.
 #![tactic(auto)]
 
 mod many;

@@ -1,10 +1,10 @@
 //! Eight numbers at once.
 ghost use Rattle.std.specs.Prelude.{◌≤◌, ◌<◌, ℕ, slice_index};
 
-/// How many characters are looked up at once, to be read or to be written.
+/// How many characters are read or written at once.
 pub const MANY: usize = 8;
 
-/// The bits of eight numbers, joined.
+/// Returns the bits of eight numbers, joined by OR. None of the numbers is above the result.
 #[inline(always)]
 pub fn joined(numbers: &[u32; MANY]) -> u32
     ensures { (k : ℕ) → k < 8 → slice_index numbers.now k ≤ result }

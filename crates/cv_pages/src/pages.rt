@@ -1,4 +1,4 @@
-//! The place of each character's first entry.
+//! For each character the index of its first entry.
 ghost use Rattle.std.specs.Prelude.{◌≡◌, ◌≤◌, ◌<◌, ◌+◌, ◌-◌, ◌*◌, ◌/◌, ◌^◌, ℕ, min, length, slice_index, IfOk, IsTrue};
 ghost use Rattle.cv_byte_trie.specs.Entries.{AreEntries, character_at};
 ghost use Rattle.cv_pages.specs.Paging.{cell_of, place_of, AreWhole, AreFirst};
@@ -12,20 +12,23 @@ use cv_byte_trie::Entry;
 use std::alloc::{AllocError, Global};
 use std::mem::size_of;
 
-/// The value for no place.
+/// The value for no entry.
 pub const NOWHERE: u32 = 0xFFFF_FFFF;
 
 /// How many characters a page has.
 const PAGE: u32 = 64;
 
-/// Pages of 64 characters each, with a cell for each character. Only pages that name a place are stored, and an empty one.
+/// Pages of 64 characters each, with a cell for each character. Only pages with an entry are stored, and one empty
+/// page.
 #[derive(Debug, Drop)]
 pub struct Pages {
-    /// Where the page of each 64 characters begins, and that of all above the last that have one. The page at 0 is empty.
+    /// For each 64 characters the index in `cells` at which their page begins. 0 is the empty page. The last element is
+    /// 0, for all characters above.
     pub tops: Vec<u32>,
-    /// The cells of the pages, one page after another.
+    /// The cells of the pages, one page after another. A cell has the index of its character's first entry, or
+    /// [`NOWHERE`].
     pub cells: Vec<u32>,
-    /// The bytes of each cell's entry, if they are few.
+    /// For each cell the bytes of its entry, if they are four at most.
     pub shorts: Shorts,
     pub ghost some: { 0 < length tops.items },
     pub ghost last: { slice_index tops.items (length tops.items - 1) ≡ 0 },
@@ -34,14 +37,14 @@ pub struct Pages {
     pub ghost sizes: { length shorts.sizes.items ≡ length cells.items },
 }
 
-/// Where pages begin, and how many cells all of them have.
+/// Where pages begin, and how many cells they have together.
 #[derive(Drop)]
 struct Numbers {
     tops: Vec<u32>,
     size: u32,
 }
 
-/// The highest character of entries.
+/// Returns the highest character of entries, or 0 if there are no entries.
 fn highest(entries: &[Entry]) -> u32
     requires { AreEntries entries.now }
     ensures highest { (k : ℕ) → k < length entries.now → character_at entries.now k ≤ result }
@@ -54,7 +57,7 @@ fn highest(entries: &[Entry]) -> u32
     highest
 }
 
-/// Numbers the pages of the characters of entries, in the order in which they occur.
+/// Numbers the pages that the characters of entries need, in the order in which they occur.
 fn number(alloc: Global, entries: &[Entry]) -> Result<Numbers, AllocError>
     requires entries { AreEntries entries.now }
     requires few { length entries.now ≤ 0x1000000 }
@@ -77,7 +80,7 @@ fn number(alloc: Global, entries: &[Entry]) -> Result<Numbers, AllocError>
     Ok(Numbers { tops, size })
 }
 
-/// The cells of pages, each with the first place of its character.
+/// Makes the cells of the pages, each with the index of its character's first entry.
 fn fill(alloc: Global, tops: &[u32], size: u32, entries: &[Entry]) -> Result<Vec<u32>, AllocError>
     requires entries { AreEntries entries.now }
     requires few { length entries.now ≤ 0x1000000 }
@@ -98,7 +101,7 @@ fn fill(alloc: Global, tops: &[u32], size: u32, entries: &[Entry]) -> Result<Vec
     Ok(cells)
 }
 
-/// The bits of eight characters from the `n`th on, joined.
+/// Returns the bits of eight characters from the `n`th on, joined by OR.
 #[inline(always)]
 fn joined_from(characters: &[Scalar], n: usize) -> u32
     requires { n + 8 ≤ length characters.now }
@@ -111,7 +114,7 @@ fn joined_from(characters: &[Scalar], n: usize) -> u32
     joined
 }
 
-/// The highest of eight characters from the `n`th on.
+/// Returns the highest of eight characters from the `n`th on.
 #[inline(always)]
 fn highest_from(characters: &[Scalar], n: usize) -> u32
     requires { n + 8 ≤ length characters.now }
@@ -125,7 +128,7 @@ fn highest_from(characters: &[Scalar], n: usize) -> u32
 }
 
 impl Pages {
-    /// The pages of entries.
+    /// Makes the pages of entries. If an allocation fails, it returns an error.
     pub fn of(alloc: Global, entries: &[Entry]) -> Result<Pages, AllocError>
         requires entries { AreEntries entries.now }
         requires few { length entries.now ≤ 0x1000000 }
@@ -143,7 +146,7 @@ impl Pages {
         })
     }
 
-    /// How many bytes all pages take.
+    /// Returns how many bytes all pages take, with the spare capacity. It saturates at `usize::MAX`.
     pub fn size(&self) -> usize
         ensures { min (4 * length self.now.cells.items) (2 ^ 64 - 1) ≤ result }
     {
@@ -153,7 +156,7 @@ impl Pages {
             .saturating_add(self.shorts.size())
     }
 
-    /// The place of a character's first entry.
+    /// Returns the index of a character's first entry, or [`NOWHERE`] if it has none.
     #[inline]
     pub fn place(&self, character: u32) -> u32
         ensures { result ≡ place_of self.now.tops.items self.now.cells.items character }
@@ -161,7 +164,8 @@ impl Pages {
         self.cells[self.cell(character)]
     }
 
-    /// The cell of a character, without a branch: for all that are above the last page, the last number names the empty page.
+    /// Returns the index of a character's cell. It has no branch: the last element of `tops` names the empty page for
+    /// all characters above.
     #[inline(always)]
     pub fn cell(&self, character: u32) -> usize
         ensures is { result ≡ cell_of self.now.tops.items character }
@@ -172,7 +176,7 @@ impl Pages {
         page as usize + (character % 64) as usize
     }
 
-    /// The cell of a character that is no higher than the last page.
+    /// Returns the index of a character's cell, if `tops` has an element for the character.
     #[inline(always)]
     pub fn low_cell(&self, character: u32) -> usize
         requires { character / 64 < length self.now.tops.items }
@@ -183,8 +187,8 @@ impl Pages {
         page as usize + (character % 64) as usize
     }
 
-    /// Whether eight characters from the `n`th on are no higher than the last page. Their joined bits say so of most texts, and cost less
-    /// than the highest of them. Those of Chinese or of kana are higher than any page.
+    /// Tells whether `tops` has an element for each of eight characters from the `n`th on. The joined bits of the eight
+    /// suffice for most texts, and cost less than the highest of them. They may be too high though no character is.
     #[inline(always)]
     pub fn are_low(&self, characters: &[Scalar], n: usize) -> bool
         requires { n + 8 ≤ length characters.now }

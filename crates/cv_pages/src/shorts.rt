@@ -5,23 +5,24 @@ ghost use Rattle.cv_pages.specs.Shorts.{IsShort, AreShorts, no_size};
 use cv_byte_trie::Entry;
 use std::alloc::{AllocError, Global};
 
-/// The most bytes that are ready to be written.
+/// The most bytes of an entry that are kept ready.
 pub const SHORT: usize = 4;
 
-/// The size of bytes that are more than four, or of none. Eight sizes together are less than this, unless it is among them.
+/// The size of bytes that are more than four, or of no entry. Eight sizes together are less than this, unless it is one
+/// of them.
 pub const NO_SIZE: u8 = 33;
 
-/// For each cell of pages the bytes of the entry that it names, if they are four at most. So they are written without reading
-/// the entry.
+/// For each cell of pages the bytes of the entry that it names, if they are four at most. They are written without
+/// reading the entry.
 #[derive(Debug, Drop)]
 pub struct Shorts {
-    /// The bytes of each cell, with others after them.
+    /// The bytes of each cell, with others after them if they are fewer than four.
     pub bytes: Vec<[u8; SHORT]>,
-    /// How many they are.
+    /// How many bytes each cell has, or [`NO_SIZE`].
     pub sizes: Vec<u8>,
 }
 
-/// The first four bytes of an entry, with others after them if it has less.
+/// Returns the bytes of an entry that has four at most, with others after them if it has fewer.
 fn first_four(entry: &Entry) -> [u8; SHORT]
     requires { length entry.now.0 ≤ 4 }
     ensures size { length result ≡ 4 }
@@ -32,7 +33,8 @@ fn first_four(entry: &Entry) -> [u8; SHORT]
     first
 }
 
-/// The bytes of the entry at a place and their size, if there is one that has four at most.
+/// Returns the bytes of the entry at an index and their size, or [`NO_SIZE`] if there is no such entry or it has more
+/// than four.
 fn short_of(entries: &[Entry], place: u32) -> ([u8; SHORT], u8)
     requires few { length entries.now ≤ 0x1000000 }
     ensures least { result.1 ≤ no_size }
@@ -46,7 +48,7 @@ fn short_of(entries: &[Entry], place: u32) -> ([u8; SHORT], u8)
 }
 
 impl Shorts {
-    /// The bytes for cells, by the entries that they name.
+    /// Makes the bytes for cells, by the entries that they name. If an allocation fails, it returns an error.
     pub fn of(alloc: Global, cells: &[u32], entries: &[Entry]) -> Result<Shorts, AllocError>
         requires few { length entries.now ≤ 0x1000000 }
         ensures long { IfOk result (λ s. length s.bytes.items ≡ length cells.now) }
@@ -63,14 +65,14 @@ impl Shorts {
         Ok(Shorts { bytes, sizes })
     }
 
-    /// How many bytes they take.
+    /// Returns how many bytes they take, with the spare capacity.
     pub(crate) fn size(&self) -> usize {
         let bytes = self.bytes.capacity().saturating_mul(SHORT);
         bytes.saturating_add(self.sizes.capacity())
     }
 
-    /// Puts the bytes of a cell at a place, and answers their size. What follows them may be anything: four bytes are copied,
-    /// a number that is known at compile time.
+    /// Writes the bytes of a cell at an index of a slice, and returns their size, which is [`NO_SIZE`] if the cell has
+    /// none. Any bytes may follow them: four are copied, a number known at compile time.
     #[inline(always)]
     pub fn put(&self, cell: usize, front: &mut [u8], used: usize) -> usize
         requires long { cell < length self.now.bytes.items }

@@ -55,7 +55,7 @@ unfolding run_items
 run_characters s form [] = refl
 run_characters s form (c ∷ characters) = ap (λ (x : List ℕ). c ∷ x) (run_characters s form characters)
 
--- characters that are in one form, and were put as the bytes that they are written as, are a chain
+-- characters that are in one form in the text, and were put as the bytes as which they are written, are a chain
 pub run_takes : (limit : ℕ) (reads : ItemRelation) (writes : Writing) (policy : Policy) (from : States) (rest before : List ℕ) (at : ℕ) (form : AsciiForm) (characters bytes : List ℕ) (after : List ℕ) → ReadsBelow limit reads from.reading form → output_for writes from.writing characters ≡ output bytes 0 from.writing → AreBelow limit characters
     → Begins (units_of form characters) rest → 0 < length (units_of form characters) → at + length bytes ≤ length before
     → after ≡ take at before ++ bytes ++ drop (at + length bytes) before
@@ -77,7 +77,7 @@ run_takes limit reads writes policy from rest before at form characters bytes af
       out = put ∙ ap (λ (x : Output). take at before ++ x.bytes ++ drop (at + length bytes) before) (sym o);
     }
 
--- a run of units, and its characters that were put in another form
+-- a run of units whose characters were put in another form is a chain
 pub units_take : (limit : ℕ) → limit ≤ 0x100 → (reads : ItemRelation) (writes : Writing) (policy : Policy) (from : States) (rest before : List ℕ) (at n : ℕ) (form target : AsciiForm) (after : List ℕ) → ReadsBelow limit reads from.reading form → WritesBelow limit writes from.writing target
     → 0 < n → unit_size form * n ≤ length rest → at + unit_size target * n ≤ length before → IsRunBelow limit form rest n
     → after ≡ take at before ++ units_of target (characters_in form rest n) ++ drop (at + unit_size target * n) before
@@ -99,12 +99,12 @@ units_taken limit few reads writes from rest before at form target after zero r 
 units_taken limit few reads writes from rest before at form target after (suc n) r w within fits small none put =
     λ policy. units_take limit few reads writes policy from rest before at (suc n) form target after r w (omega arith) within fits small put
 
--- how many bytes the units of characters are
+-- how many bytes the units of characters have
 length-units : (form : AsciiForm) (characters : List ℕ) → length (units_of form characters) ≡ unit_size form * length characters
 length-units form [] = sym (mul-zero (unit_size form))
 length-units form (c ∷ characters) = omega (arith, length-append (unit_of form c) (units_of form characters), length-unit_of form c, length-units form characters, mul-suc (unit_size form) (length characters))
 
--- a run that was written as bytes is in the text
+-- a run that was written as bytes is within the text
 pub run_within : (writes : Writing) (t : WriteState) (form : AsciiForm) (rest before : List ℕ) (at n : ℕ) (after : List ℕ) → IsWrittenRun writes t form rest before at n after → unit_size form * n ≤ length rest
 run_within writes t form rest before at n after p =
     let long : length (units_of form p.characters) ≡ unit_size form * n = length-units form p.characters ∙ ap (λ (k : ℕ). unit_size form * k) (sym p.put.wrote) in

@@ -1,4 +1,4 @@
--- The result of feeds doesn't depend on how the text and the room were cut.
+-- The result of feeds does not depend on how the text and the room were cut.
 use Rattle.std.proofs.Common.{◌≡◌, ℕ, ◌+◌, ◌⊎◌, ◌<◌, ◌≤◌, List, [], ◌∷◌, ◌++◌, length, drop, refl, sym, ◌∙◌, ap, subst, arith, add-zero, inl, inr}
 use Rattle.std.proofs.lemmas.List.{drop-drop}
 use Rattle.cv_base.specs.Items.{Taken, ItemRelation, Begins, Stands, NoneStands}
@@ -18,12 +18,12 @@ use Rattle.cv_pivot.specs.declared.outcome.Stop.TheVariants as stop
 use Rattle.cv_pivot.proofs.Allowed.{middle_allowed}
 use Rattle.cv_pivot.proofs.LongestChains.{Longer, longer, same_used, same_chain}
 
--- A chain stays one when bytes follow.
+-- A chain stays a chain if bytes follow.
 pub IsChain-more : (reads : ItemRelation) (s : ReadState) (text more : List ℕ) (chain : List Taken) → Begins text more → IsChain reads s text chain → IsChain reads s more chain
 IsChain-more reads s text more [] b p = tt
 IsChain-more reads s text more (i ∷ chain) b p = (item_stays reads s text more i b p.0, IsChain-more reads i.next (drop i.used text) (drop i.used more) chain (Begins-drop i.used text more b) p.1)
 
--- a call used what its chain uses
+-- a call used as many bytes as its chain
 uses : (reads : ItemRelation) (writes : Writing) (policy : Policy) (from : States) (call : Call) (p : IsConverted reads writes policy from call.input call.room call.came) → used_of call ≡ used_bytes p.chain
 uses reads writes policy from call p = omega (arith, p.left)
 
@@ -87,7 +87,7 @@ not_longer reads r s text a b end used p q e u none =
     let never : length a < length b → ⊥ = (λ h. let more : Longer reads s text a b = longer reads r s text a b p q h in none more.item (rw (e, u) more.stands)) in
     omega (arith, never)
 
--- No chain that the policy allows goes past a character that it doesn't allow.
+-- No chain that the policy allows goes past a character that it does not allow.
 pub not_past : (reads : ItemRelation) (writes : Writing) (policy : Policy) → IsReadable reads → (from end : States) (text : List ℕ) (used : ℕ) (a b : List Taken) → IsChain reads from.reading text a → IsChain reads from.reading text b
     → Allows policy (output_of writes from.writing b) → end.reading ≡ read_state from.reading a → end.writing ≡ (output_of writes from.writing a).next → used ≡ used_bytes a
     → LackingStands reads writes policy end (drop used text) → length b ≤ length a
@@ -120,13 +120,13 @@ same reads writes policy r from text a b p q f g e =
     (x.reading ∙ ap (read_state from.reading) one ∙ sym y.reading)
     (x.writing ∙ ap (λ (c : List Taken). (output_of writes from.writing c).next) one ∙ sym y.writing)
 
--- A feed that ends ill-formed takes as many items as any.
+-- A feed that ends at ill-formed bytes takes at least as many items as any other.
 ill_takes_most : (reads : ItemRelation) (writes : Writing) (policy : Policy) → IsReadable reads → (from : States) (text : List ℕ) (a b : List Call) → IsFeed reads writes policy from a → IsFed text a → EndsIll a
     → (x : IsFront reads writes from text (total from a)) (y : IsFront reads writes from text (total from b)) → length y.chain ≤ length x.chain
 ill_takes_most reads writes policy r from text a b p f h x y =
     not_longer reads r from.reading text x.chain y.chain _ _ x.is_chain y.is_chain x.reading x.used (ends_none reads writes policy from text a p f h)
 
--- A feed that ends at a character that the target lacks takes as many items as any.
+-- A feed that ends at a character that the target lacks takes at least as many items as any other.
 lacking_takes_most : (reads : ItemRelation) (writes : Writing) (policy : Policy) → IsReadable reads → (from : States) (text : List ℕ) (a b : List Call) → IsFeed reads writes policy from a → IsFeed reads writes policy from b → IsFed text a → EndsLacking a
     → (x : IsFront reads writes from text (total from a)) (y : IsFront reads writes from text (total from b)) → length y.chain ≤ length x.chain
 lacking_takes_most reads writes policy r from text a b p q f h x y =
@@ -148,6 +148,6 @@ same_end reads writes policy r from text a b p q f g h =
     let one : x.chain ≡ y.chain = same_chain reads r from.reading text x.chain y.chain x.is_chain y.is_chain (omega (arith, m, n)) in
     x.used ∙ ap used_bytes one ∙ sym y.used
 
--- the result of feeds doesn't depend on the cuts
+-- the result of feeds does not depend on the cuts
 pub cuts : (reads : ItemRelation) (writes : Writing) (policy : Policy) → IsReadable reads → DoesNotDependOnCuts reads writes policy
 cuts reads writes policy r = record { front = front reads writes policy; same = same reads writes policy r; same_end = same_end reads writes policy r }

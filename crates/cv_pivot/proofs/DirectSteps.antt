@@ -38,7 +38,7 @@ converted_takes reads writes policy from bytes_of bytes_to rest before at run af
     let written = spelled_written writes from.writing bytes_to w characters before at (record { wrote = run.wrote; count = 0; next = from.writing }) after (record { bytes = p.put; counts = refl; next = refl }) in
     block_takes reads writes policy from rest before at _ characters characters _ after block some (sym whole) (none_allowed policy _ (sym written.counts)) written
 
--- from a spelling
+-- characters that were converted from a spelling
 pub spelled_takes : (reads : ItemRelation) (writes : Writing) (policy : Policy) (from : States) (bytes_of bytes_to : BytesOf) (rest before : List ℕ) (at : ℕ) (run : Direct) (after : List ℕ) → ReadsSpelled reads from.reading bytes_of → WritesSpelled writes from.writing bytes_to → 0 < run.used
     → IsConverted bytes_of bytes_to rest before at run after → TakesSome reads writes policy from rest before at (record { used = run.used; wrote = run.wrote; count = 0 }) from after
 spelled_takes reads writes policy from bytes_of bytes_to rest before at run after r w some p =
@@ -49,16 +49,16 @@ bytes_read [] rest p h = tt
 bytes_read (c ∷ characters) [] p h = absurd h
 bytes_read (c ∷ characters) (b ∷ rest) p h = ((omega (arith, h.0, p 0), refl), bytes_read characters rest (λ k. p (suc k)) h.1)
 
--- from the bytes of ISO-8859-1
+-- characters that were converted from the bytes of ISO-8859-1
 pub bytes_take : (writes : Writing) (policy : Policy) (from : States) (bytes_to : BytesOf) (rest before : List ℕ) (at : ℕ) (run : Direct) (after : List ℕ) → from.reading ≡ read.Start → ((k : ℕ) → get_or rest k 0 < 256) → WritesSpelled writes from.writing bytes_to → 0 < run.used
     → IsConverted (λ c. c ∷ []) bytes_to rest before at run after → TakesSome (byte_reads 256) writes policy from rest before at (record { used = run.used; wrote = run.wrote; count = 0 }) from after
 bytes_take writes policy from bytes_to rest before at run after e p w some q =
     converted_takes (byte_reads 256) writes policy from (λ c. c ∷ []) bytes_to rest before at run after (λ characters scalars begins. subst (λ (s : ReadState). AreRead (byte_reads 256) s (λ c. c ∷ []) characters) (sym e) (bytes_read characters rest p begins)) w some q
 
--- UTF-8 is written as it is at the start
+-- UTF-8 is written by its spelling at the start
 pub utf8_spelled : (t : WriteState) → t ≡ write.Start → WritesSpelled utf8_writes t utf8_bytes
 utf8_spelled t e = subst (λ (s : WriteState). WritesSpelled utf8_writes s utf8_bytes) (sym e) (λ c. refl)
 
--- UTF-8 is read as it is at the start
+-- UTF-8 is read by its spelling at the start
 pub utf8_read : (s : ReadState) → s ≡ read.Start → ReadsSpelled utf8_reads s utf8_bytes
 utf8_read s e = subst (λ (t : ReadState). ReadsSpelled utf8_reads t utf8_bytes) (sym e) utf8_reads_spelled

@@ -1,4 +1,4 @@
--- An encoding keeps what every codec keeps.
+-- An encoding satisfies the laws of codecs.
 use Rattle.std.proofs.Common.{refl}
 use Rattle.cv_base.specs.Codecs.{IsReadable, CanSubstitute}
 use Rattle.cv_base.proofs.SingleByteLaws.{byte_readable}

@@ -17,7 +17,7 @@ builtin_reads_back (Utf16 order) = utf_reads_back utf16 order
 builtin_reads_back (Utf32 order) = utf_reads_back utf32 order
 builtin_reads_back Utf7 = utf7_reads_back
 
--- each by its own law
+-- each encoding reads back by its own law
 pub form_reads_back : (form : Form) → ReadsBack (form_reads form) (form_writes form) (form_closes form)
 form_reads_back (Own builtin) = builtin_reads_back builtin
 form_reads_back (Mapped pairs) = maps_back pairs

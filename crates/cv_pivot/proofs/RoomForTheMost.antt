@@ -1,4 +1,4 @@
--- One conversion, and a room that is enough.
+-- A conversion has only one result, and enough room is as good as any room.
 use Rattle.std.proofs.Common.{◌≡◌, ℕ, ◌*◌, ◌≤◌, min, List, [], ◌∷◌, length, drop, refl, sym, ap, subst, ◌∙◌, arith, length-append, Option, Some, None}
 use Rattle.std.specs.Prelude.{IfSome}
 use Rattle.cv_base.specs.Scalars.{question}
@@ -59,7 +59,7 @@ same_states a b r w = rw (r, w) refl
 same_fields : (c d : Converted) → c.left ≡ d.left → c.count ≡ d.count → c.stop ≡ d.stop → c.output ≡ d.output → c.states.reading ≡ d.states.reading → c.states.writing ≡ d.states.writing → c ≡ d
 same_fields c d l n s o r w = rw (l, n, s, o, r, w) refl
 
--- a text in a room has one conversion
+-- a text has only one conversion into a room
 pub one_conversion : (reads : ItemRelation) (writes : Writing) (policy : Policy) → IsReadable reads → (from : States) (text : List ℕ) (room : ℕ) (c d : Converted)
     → IsConverted reads writes policy from text room c → IsConverted reads writes policy from text room d → c ≡ d
 one_conversion reads writes policy r from text room c d p q =
@@ -104,7 +104,7 @@ few_written : (most : ℕ) (writes : Writing) → WritesAtMost most writes → (
 few_written most writes few t None = omega arith
 few_written most writes few t (Some c) = few_put most (writes t c) _ (few t c) (few_substitute most (writes t question) t (few t question))
 
--- what a chain writes is no more than the most for each byte that it uses
+-- a chain writes at most the most bytes of a character for each byte that it uses
 short : (most : ℕ) (reads : ItemRelation) (writes : Writing) → IsReadable reads → WritesAtMost most writes → (s : ReadState) (t : WriteState) (text : List ℕ) (chain : List Taken) → IsChain reads s text chain → length (output_of writes t chain).bytes ≤ most * used_bytes chain
 short most reads writes r few s t text [] p = omega arith
 short most reads writes r few s t text (i ∷ chain) p =
@@ -115,7 +115,8 @@ short most reads writes r few s t text (i ∷ chain) p =
     let long = length-append (written writes t i.gives).bytes (output_of writes (written writes t i.gives).next chain).bytes in
     omega (arith, first, once, others, long)
 
--- What a text is written as has at most the most bytes of a character for each of its bytes, and so at most any number that is no less.
+-- A text is written as at most the most bytes of a character for each of its bytes, and so as at most any number that
+-- is not less.
 pub most_output : (most : ℕ) (reads : ItemRelation) (writes : Writing) → IsReadable reads → WritesAtMost most writes → (len n : ℕ) → most * len ≤ n → IsMostOutput reads writes len n
 most_output most reads writes r few len n covers from text chain within is_chain =
     let s = short most reads writes r few from.reading from.writing text chain is_chain in

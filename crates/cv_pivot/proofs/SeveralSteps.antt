@@ -16,7 +16,7 @@ use Rattle.cv_base.proofs.ChainLaws.{used_bytes-append, read_state-append, outpu
 use Rattle.cv_pivot.proofs.Allowed.{followed_allowed}
 use Rattle.cv_pivot.proofs.Progress.{output_of-count, used_bytes-within, some_of_one}
 
--- what was taken, and more
+-- what was taken so far, and more
 abbrev pub both : Took → Took → Took
 both taken took = record { used = taken.used + took.used; wrote = taken.wrote + took.wrote; count = taken.count + took.count }
 
@@ -52,7 +52,7 @@ some_more reads writes policy from rest before at taken now out p took to after 
       out = rw e (put ∙ rw there (ap (λ (x : List ℕ). x ++ drop (at + (taken.wrote + took.wrote)) before) (append_assoc (take at before) o.bytes v.bytes)));
     }
 
--- what was taken, and some items more, are some items
+-- what was taken so far, and some more items, are some items
 pub any_then_some : (reads : ItemRelation) (writes : Writing) (policy : Policy) (from : States) (rest before : List ℕ) (at : ℕ) (taken : Took) (now : States) (out : List ℕ) → TakesAny reads writes policy from rest before at taken now out
     → (took : Took) (to : States) (after : List ℕ) → TakesSome reads writes policy now (drop taken.used rest) out (at + taken.wrote) took to after → TakesSome reads writes policy from rest before at (both taken took) to after
 any_then_some reads writes policy from rest before at taken now out (inr p) took to after q = some_more reads writes policy from rest before at taken now out p took to after q
@@ -63,7 +63,7 @@ any_then_some reads writes policy from rest before at taken now out (inl p) took
     let d : taken.count + took.count ≡ took.count = omega (arith, p.2) in
     rw (a, b, d) (rw (here, p.0, p.3, p.4) at q)
 
--- what was taken is within the text and the room, and replaces no more characters than there are bytes
+-- what was taken is within the text and the room, and `?` replaces no more characters than there are bytes
 pub any_within : (reads : ItemRelation) (writes : Writing) (policy : Policy) → IsReadable reads → (from : States) (rest before : List ℕ) (at : ℕ) (taken : Took) (now : States) (out : List ℕ) → at ≤ length before
     → TakesAny reads writes policy from rest before at taken now out → (taken.used ≤ length rest) × (at + taken.wrote ≤ length before) × (taken.count ≤ taken.used) × (length out ≡ length before)
 any_within reads writes policy r from rest before at taken now out room (inl p) = (omega (arith, p.0), omega (arith, p.1), omega (arith, p.0, p.2), ap length p.4)
@@ -90,14 +90,14 @@ no_items reads writes policy from rest before at count = record {
   counts = omega arith;
 }
 
--- they are within the text and the room
+-- what was taken is within the text and the room
 pub items_within : (reads : ItemRelation) (writes : Writing) (policy : Policy) → IsReadable reads → (from : States) (rest before : List ℕ) (at count used end lacking : ℕ) (now : States) (out : List ℕ) → at ≤ length before
     → ItemsSoFar reads writes policy from rest before at count used end lacking now out → (used ≤ length rest) × (end ≤ length out) × (lacking ≤ count + used)
 items_within reads writes policy r from rest before at count used end lacking now out room p =
     let s = any_within reads writes policy r from rest before at p.took now out room p.takes in
     (omega (arith, s.0, p.uses), omega (arith, s.1, s.3, p.ends), omega (arith, s.2, p.uses, p.counts))
 
--- one item more
+-- one more item is taken
 pub items_more : (reads : ItemRelation) (writes : Writing) (policy : Policy) → IsReadable reads → (from : States) (rest before : List ℕ) (at count used end lacking : ℕ) (now : States) (out : List ℕ) → ItemsSoFar reads writes policy from rest before at count used end lacking now out
     → (took : Took) (to : States) (after : List ℕ) → TakesOne reads writes policy now (drop used rest) out end took to after → ItemsSoFar reads writes policy from rest before at count (used + took.used) (end + took.wrote) (lacking + took.count) to after
 items_more reads writes policy r from rest before at count used end lacking now out p took to after q =
@@ -111,7 +111,7 @@ items_more reads writes policy r from rest before at count used end lacking now 
       counts = omega (arith, p.counts);
     }
 
--- if the next item stops the conversion, it finishes
+-- if the next item stops the conversion, the conversion finishes
 pub items_finish : (reads : ItemRelation) (writes : Writing) (policy : Policy) (from : States) (rest before : List ℕ) (at count used end lacking : ℕ) (now : States) (out : List ℕ) → ItemsSoFar reads writes policy from rest before at count used end lacking now out
     → (stop : Stop) → StepStops reads writes policy now (drop used rest) out end stop → (left room_left : ℕ) → left + used ≡ length rest → room_left + end ≡ length out
     → Finishes reads writes policy from rest before at count (record { left = left; room_left = room_left; count = lacking; stop = stop }) now out
@@ -124,7 +124,7 @@ items_finish reads writes policy from rest before at count used end lacking now 
   counts = p.counts;
 }
 
--- one item, or none, is a stride
+-- taking one item or none takes some items or none
 pub item_strides : (reads : ItemRelation) (writes : Writing) (policy : Policy) → IsReadable reads → (from : States) (rest before : List ℕ) (at : ℕ) (step : Step) (to : States) (after : List ℕ) → TakesOrStops reads writes policy from rest before at step to after
     → StridesOrStops reads writes policy from rest before at step to after
 item_strides reads writes policy r from rest before at (step.Took took) to after q = some_of_one reads writes policy r from rest before at took to after q

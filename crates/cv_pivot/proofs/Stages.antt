@@ -1,4 +1,4 @@
--- A conversion that is made in stages: of the front of a text, or into the front of the room, and then of what is left.
+-- A conversion in two stages: of a prefix of a text, or into less room, and then of the rest.
 use Rattle.std.proofs.Common.{◌≡◌, ◌≢◌, ◌⊎◌, ℕ, ◌+◌, ◌-◌, ◌<◌, ◌≤◌, inl, inr, List, [], ◌∷◌, ◌++◌, length, drop, refl, sym, ◌∙◌, ap, subst, arith, length-append, length-drop}
 use Rattle.std.proofs.lemmas.Bool.{cases_lt}
 use Rattle.std.proofs.lemmas.List.{drop-drop}
@@ -20,11 +20,11 @@ use Rattle.cv_pivot.proofs.Allowed.{followed_allowed}
 use Rattle.cv_pivot.proofs.CutLaws.{IsChain-more, lacking_stays, not_longer, not_past}
 use Rattle.cv_pivot.proofs.LongestChains.{Longer, longer}
 
--- what is converted first, and then the rest
+-- the result of a first conversion and then of one of the rest
 abbrev pub joined : Converted → Converted → Converted
 joined c d = record { left = d.left; count = c.count + d.count; stop = d.stop; output = c.output ++ d.output; states = d.states }
 
--- the chain behind the first items of a chain
+-- the items of a chain after its first ones
 behind : (reads : ItemRelation) (s : ReadState) (text : List ℕ) (a b : List Taken) → IsChain reads s text (a ++ b) → IsChain reads (read_state s a) (drop (used_bytes a) text) b
 behind reads s text [] b p = p
 behind reads s text (i ∷ a) b p = subst (λ (x : List ℕ). IsChain reads (read_state i.next a) x b) (drop-drop (used_bytes a) i.used text) (behind reads i.next (drop i.used text) a b p.1)
@@ -34,7 +34,8 @@ last_allowed Substitute a b p = tt
 last_allowed Strict a b p = omega (arith, p)
 
 module _ (reads : ItemRelation) (writes : Writing) (policy : Policy) (r : IsReadable reads) where
-  -- The longest chain of a text begins with that of its front, or of less room, and goes on with that of what is left.
+  -- The longest chain of a text begins with that of a prefix of the text, or of less room, and continues with that of
+  -- the rest.
   join_longest : (from mid : States) (text : List ℕ) (room : ℕ) (a b : List Taken) → IsChain reads from.reading text a → Allows policy (output_of writes from.writing a)
       → mid.reading ≡ read_state from.reading a → mid.writing ≡ (output_of writes from.writing a).next → IsLongest reads writes policy mid.reading mid.writing (drop (used_bytes a) text) room b
       → IsLongest reads writes policy from.reading from.writing text (length (output_of writes from.writing a).bytes + room) (a ++ b)
@@ -65,7 +66,7 @@ module _ (reads : ItemRelation) (writes : Writing) (policy : Policy) (r : IsRead
         ];
       }
 
-  -- What is converted of the front of a text, or into less room, and then of what is left, is converted of the text.
+  -- A conversion of a prefix of a text, or into less room, and then of the rest, is a conversion of the text.
   pub join_stages : (from : States) (text input : List ℕ) (part room used : ℕ) (c d : Converted) → Begins input text → used + c.left ≡ length input → IsConverted reads writes policy from input part c
       → IsConverted reads writes policy c.states (drop used text) room d → IsConverted reads writes policy from text (length c.output + room) (joined c d)
   join_stages from text input part room used c d front uses p q =
@@ -90,7 +91,7 @@ module _ (reads : ItemRelation) (writes : Writing) (policy : Policy) (r : IsRead
         writing = q.writing ∙ ap (λ (x : Output). x.next) same ∙ sym (ap (λ (x : Output). x.next) e);
       }
 
-  -- Where a conversion stops for no want of room, no chain goes further.
+  -- If a conversion stops for another reason than the room, no chain goes further.
   none_further : (from end : States) (text : List ℕ) (used : ℕ) (a b : List Taken) (stop : Stop) → stop ≢ TooBig → IsChain reads from.reading text a → IsChain reads from.reading text b → Allows policy (output_of writes from.writing b)
       → end.reading ≡ read_state from.reading a → end.writing ≡ (output_of writes from.writing a).next → used ≡ used_bytes a → StopsAt reads writes policy end (drop used text) stop → length b ≤ length a
   none_further from end text used a b Done fits p q ok reading writing u at =
@@ -101,7 +102,7 @@ module _ (reads : ItemRelation) (writes : Writing) (policy : Policy) (r : IsRead
   none_further from end text used a b Incomplete fits p q ok reading writing u at = not_longer reads r from.reading text a b end.reading used p q reading u at.1
   none_further from end text used a b Lacking fits p q ok reading writing u at = not_past reads writes policy r from end text used a b p q ok reading writing u at
 
-  -- What stops for no want of room is converted so in more room.
+  -- A conversion that stops for another reason than the room is the same in more room.
   pub more_room : (from : States) (text : List ℕ) (part room : ℕ) (c : Converted) → part ≤ room → c.stop ≢ TooBig → IsConverted reads writes policy from text part c → IsConverted reads writes policy from text room c
   more_room from text part room c within roomy p = record {
     chain = p.chain;
@@ -128,7 +129,8 @@ module _ (reads : ItemRelation) (writes : Writing) (policy : Policy) (r : IsRead
       let lacks : StopsAt reads writes policy states rest Lacking = rw e at p in
       rw e (lacking_stays reads writes policy states rest more b lacks)
 
-  -- What stops at ill-formed bytes or at a character that the target lacks stops there too where bytes follow.
+  -- A conversion that stops at ill-formed bytes or at a character that the target lacks stops there too if more bytes
+  -- follow.
   pub bytes_follow : (from : States) (text input : List ℕ) (room : ℕ) (c : Converted) (left : ℕ) → Begins input text → (c.stop ≡ Ill) ⊎ (c.stop ≡ Lacking) → left + length input ≡ c.left + length text
       → IsConverted reads writes policy from input room c → IsConverted reads writes policy from text room (record c { left = left })
   bytes_follow from text input room c left front fault leaves p =

@@ -18,7 +18,7 @@ use Rattle.cv_pivot.specs.Encodings.{Builtin, Ascii, Latin1, Utf8, Utf16, Utf32,
 use Rattle.cv_pivot.specs.Stateless.{HasNoStates, IsStateless, StaysAtStart}
 use Rattle.cv_pivot.specs.declared.outcome.States.{States}
 
--- ---- what every item and every character leaves
+-- ---- the state after an item and after a character
 
 abbrev ReadsToStart : ItemRelation → Type 0
 ReadsToStart reads = (s : ReadState) (bytes : List ℕ) (item : Taken) → reads s bytes item → item.next ≡ read.Start
@@ -74,7 +74,7 @@ writes_to_start : (form : Form) → IsStateless form → WritesToStart (form_wri
 writes_to_start (Own builtin) is t c = builtin_writes_to_start builtin is t c
 writes_to_start (Mapped pairs) is t c = pair_put _
 
--- ---- what a chain leaves
+-- ---- the states after a chain
 
 read_at_start : (reads : ItemRelation) → ReadsToStart reads → (s : ReadState) → s ≡ read.Start → (text : List ℕ) (chain : List Taken) → IsChain reads s text chain → read_state s chain ≡ read.Start
 read_at_start reads to_start s at text [] p = at

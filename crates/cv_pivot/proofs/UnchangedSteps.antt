@@ -1,4 +1,4 @@
--- Copying what stays unchanged is a step.
+-- Copying text that stays unchanged is a step.
 use Rattle.std.proofs.Common.{◌≡◌, ℕ, ◌<◌, ◌+◌, ◌≤◌, List, ◌++◌, length, take, drop, sym, ◌∙◌, ap, arith, length-take}
 use Rattle.std.proofs.lemmas.List.{take-take}
 use Rattle.cv_base.specs.Items.{ItemRelation}
@@ -12,7 +12,7 @@ use Rattle.cv_pivot.specs.Private.Steps.{TakesSome}
 use Rattle.cv_base.proofs.AllWritten.{none_allowed}
 use Rattle.cv_pivot.proofs.CutLaws.{IsChain-more}
 
--- bytes at the start of a part of the rest that were copied
+-- bytes at the start of a prefix of the rest that were copied
 pub unchanged_takes : (reads : ItemRelation) (writes : Writing) (policy : Policy) (from : States) (rest before : List ℕ) (at most n : ℕ) (after : List ℕ) → IsUnchanged reads writes from.reading from.writing (take most rest) n → 0 < n → at + n ≤ length before
     → after ≡ take at before ++ take n rest ++ drop (at + n) before → TakesSome reads writes policy from rest before at (record { used = n; wrote = n; count = 0 }) from after
 unchanged_takes reads writes policy from rest before at most n after p some fits put =

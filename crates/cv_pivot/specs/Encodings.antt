@@ -56,7 +56,7 @@ builtin_reads (Utf16 order) = reads_in utf16 order
 builtin_reads (Utf32 order) = reads_in utf32 order
 builtin_reads Utf7 = utf7_reads
 
--- what it writes
+-- what a built-in encoding writes
 abbrev pub builtin_writes : Builtin → Writing
 builtin_writes Ascii = byte_writes 128
 builtin_writes Latin1 = byte_writes 256
@@ -65,7 +65,7 @@ builtin_writes (Utf16 order) = writes_in utf16 order
 builtin_writes (Utf32 order) = writes_in utf32 order
 builtin_writes Utf7 = utf7_writes
 
--- what closes its text
+-- what closes a text of a built-in encoding
 abbrev pub builtin_closes : Builtin → WriteState → List ℕ
 builtin_closes Ascii t = []
 builtin_closes Latin1 t = []
@@ -79,22 +79,22 @@ abbrev pub form_reads : Form → ItemRelation
 form_reads (Own builtin) = builtin_reads builtin
 form_reads (Mapped pairs) = map_reads pairs
 
--- what it writes
+-- what a form writes
 abbrev pub form_writes : Form → Writing
 form_writes (Own builtin) = builtin_writes builtin
 form_writes (Mapped pairs) = map_writes pairs
 
--- what closes its text
+-- what closes a text of a form
 abbrev pub form_closes : Form → WriteState → List ℕ
 form_closes (Own builtin) t = builtin_closes builtin t
 form_closes (Mapped pairs) t = map_closes t
 
--- The list of a form is that of a charmap.
+-- If a form is a list, it is that of a charmap.
 abbrev pub IsForm : Form → Type 0
 IsForm (Own builtin) = Unit {0}
 IsForm (Mapped pairs) = IsMap pairs
 
--- the form of a value of the program; only the list of a charmap counts
+-- the form of a value of the program; of a charmap it is the list alone
 abbrev pub form_of : Encoding → Form
 form_of encoding.Ascii = Own Ascii
 form_of encoding.Latin1 = Own Latin1

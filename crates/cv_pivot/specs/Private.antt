@@ -1,2 +1,2 @@
--- What the contracts of private functions say, which no public contract cites.
+-- Definitions that only contracts of private functions cite.
 pub mod Steps

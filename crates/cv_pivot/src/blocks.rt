@@ -12,7 +12,7 @@ const SHORT_BLOCK: usize = 64;
 /// How many characters a long block has at most.
 const LONG_BLOCK: usize = 256;
 
-/// How many long blocks are taken in sequence, before a run of small characters is tried again.
+/// How many long blocks are taken in a row, before a run of small characters is tried again.
 const MOST_BLOCKS: usize = 4;
 
 /// How many bytes a character has at most in any encoding.
@@ -31,7 +31,7 @@ pub(crate) enum BlockSize {
 }
 
 impl BlockSize {
-    /// Whether the next block is no later one of several.
+    /// Tells whether the next block is a short one.
     #[inline(always)]
     pub(crate) fn is_short(self) -> bool {
         match self {
@@ -40,7 +40,7 @@ impl BlockSize {
         }
     }
 
-    /// Whether windows are tried before the next block.
+    /// Tells whether windows are tried before the next block.
     #[inline(always)]
     pub(crate) fn allows_windows(self) -> bool {
         match self {
@@ -49,7 +49,8 @@ impl BlockSize {
         }
     }
 
-    /// The size after windows that took so many bytes. Behind fewer than `many` more windows are likely to take few again.
+    /// Returns the size after windows that took `used` bytes. After fewer than `many`, further windows are likely to
+    /// take few again, and are not tried.
     #[inline(always)]
     pub(crate) fn behind_windows(used: usize, many: usize) -> BlockSize {
         if used >= many {
@@ -59,7 +60,7 @@ impl BlockSize {
         }
     }
 
-    /// The size after a block, or after none.
+    /// Returns the size after a block, or after none.
     #[inline(always)]
     fn behind(took: &Option<Took>) -> BlockSize {
         match took {
@@ -68,7 +69,8 @@ impl BlockSize {
         }
     }
 
-    /// The size after so many bytes were taken at once. After many of them more are likely to follow what the next block takes.
+    /// Returns the size after `used` bytes were taken at once. If they are many, it is likely that more can be taken at
+    /// once after the next block, which then is a short one.
     #[inline(always)]
     pub(crate) fn behind_many(self, used: usize) -> BlockSize {
         if used >= LONG_BLOCK {
@@ -79,7 +81,8 @@ impl BlockSize {
     }
 }
 
-/// Takes a block of at most as many characters as fit in the buffer, if the source reads one, and the target writes it under the policy.
+/// Takes a block of at most as many characters as the buffer has, if the source reads any, and the target writes them
+/// under the policy.
 #[inline(always)]
 fn block<F: BlockCodec, T: BlockCodec>(
     from: &F,
@@ -115,7 +118,8 @@ fn block<F: BlockCodec, T: BlockCodec>(
     })
 }
 
-/// Takes a short block, if there is one, by a buffer of its own size. A function clears all of its buffers on entry.
+/// Takes a short block, if there is one, through a buffer of its own size. A function clears all of its buffers on
+/// entry.
 #[inline(always)]
 fn short_block<F: BlockCodec, T: BlockCodec>(
     from: &F,
@@ -135,7 +139,8 @@ fn short_block<F: BlockCodec, T: BlockCodec>(
     block(from, to, &mut buffer, policy, states, rest, out, at)
 }
 
-/// Takes a few long blocks in a row, if there is one, by one buffer, which is cleared once for all of them.
+/// Takes up to `MOST_BLOCKS` long blocks in a row, if there is one, through one buffer, which is cleared once for all
+/// of them.
 #[inline(always)]
 fn long_blocks<F: BlockCodec, T: BlockCodec>(
     from: &F,
@@ -172,7 +177,7 @@ fn long_blocks<F: BlockCodec, T: BlockCodec>(
     Some(taken)
 }
 
-/// Takes a block of the current size, or some of them, if there is one.
+/// Takes a block of the current size, or several, if there is one. Sets the size of the next.
 #[inline(always)]
 pub(crate) fn sized_block<F: BlockCodec, T: BlockCodec>(
     from: &F,

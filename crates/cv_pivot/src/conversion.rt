@@ -8,7 +8,7 @@ use crate::encoding::Encoding;
 use crate::outcome::{Outcome, States, TooBig};
 use cv_base::{Codec, Piece, Policy};
 
-/// A conversion from one encoding to another, between two calls.
+/// A conversion from one encoding to another. It keeps its states from one call to the next.
 #[derive(Drop)]
 pub struct Conversion {
     pub to: Encoding,
@@ -18,7 +18,7 @@ pub struct Conversion {
 }
 
 impl Conversion {
-    /// A conversion at its start.
+    /// Makes a conversion that is at its start.
     pub fn new(to: Encoding, from: Encoding, policy: Policy) -> Conversion
         ensures { result ≡ record { to = to; from = from; policy = policy; states = start } }
     {
@@ -30,15 +30,16 @@ impl Conversion {
         }
     }
 
-    /// Converts the longest run of items whose bytes fit in `out`. A character that the target lacks is written as `?` and
-    /// counted, or ends the run if the policy is strict. Bytes of `out` past the output stay.
+    /// Converts the longest run of items whose bytes fit in `out`. A character that the target lacks is written as `?`
+    /// and counted, or ends the run if the policy is strict. Bytes of `out` past the output stay. Returns why it
+    /// stopped, and how many bytes of the input and of `out` are left.
     pub fn convert(&mut self, input: &[u8], out: &mut [u8]) -> Outcome
         ensures converts { Converts (form_reads (form_of self.old.from)) (form_writes (form_of self.old.to))
             self.old.policy self.old.states input.now out.old result self.new.states out.new }
         ensures same { (self.new.from ≡ self.old.from) × (self.new.to ≡ self.old.to)
             × (self.new.policy ≡ self.old.policy) }
 
-        // So the counts fit wherever the lengths do.
+        // So the counts fit if the lengths do.
         ensures few { (result.left ≤ length input.now) × (result.count ≤ length input.now) × (result.room_left ≤ length out.old) }
         ensures size { length out.new ≡ length out.old }
     {
@@ -53,7 +54,7 @@ impl Conversion {
         )
     }
 
-    /// The most bytes that input of this length can be written as.
+    /// Returns an upper bound of how many bytes any input of at most `len` bytes is written as, in any states.
     pub fn most_output(&self, len: usize) -> usize
         requires { 8 * len < 2 ^ 64 }
         ensures { IsMostOutput (form_reads (form_of self.now.from)) (form_writes (form_of self.now.to)) len result }
@@ -62,9 +63,9 @@ impl Conversion {
         self.to.most_bytes() * len
     }
 
-    /// Goes back to the start, under the same policy. With room 0 it drops both states and writes nothing; with room above 0
-    /// it answers the bytes that close the target's shift, or `TooBig` if they don't fit, and then the conversion is
-    /// unchanged.
+    /// Goes back to the start, under the same policy. With room 0 it drops both states and writes nothing. With room
+    /// above 0 it returns the bytes that close the target's shift, or `TooBig` if they do not fit, and then the
+    /// conversion is unchanged.
     pub fn reset(&mut self, room: usize) -> Result<Piece, TooBig>
         ensures gives_up { room ≡ 0 → (result ≡ Ok []) × (self.new ≡ record self.old { states = start }) }
         ensures closes { 0 < room → length (form_closes (form_of self.old.to) self.old.states.writing) ≤ room

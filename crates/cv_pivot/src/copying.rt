@@ -8,8 +8,8 @@ use crate::outcome::States;
 use crate::step::Took;
 use cv_base::BlockCodec;
 
-/// Whether both are the same encoding, whose text is copied. It may say no even if they are: then the text is converted by blocks, or item
-/// by item.
+/// Tells whether both are the same encoding, so that text is copied. It may return false even if they are: then the
+/// text is converted by blocks, or item by item.
 #[inline(always)]
 pub(crate) fn may_copy(from: &Encoding, to: &Encoding) -> bool
     ensures { IsTrue result → from.now ≡ to.now }
@@ -23,7 +23,7 @@ pub(crate) fn may_copy(from: &Encoding, to: &Encoding) -> bool
     }
 }
 
-/// Copies the first `n` bytes to a place.
+/// Copies the first `n` bytes to an index of the output.
 #[inline(always)]
 fn copy_front(rest: &[u8], n: usize, out: &mut [u8], at: usize)
     requires stand { n ≤ length rest.now }

@@ -1,4 +1,4 @@
-//! Converting from one encoding to another without a buffer of characters between.
+//! Converting from one encoding to another without a buffer of characters in between.
 ghost use Rattle.std.specs.Prelude.{◌≡◌, ◌≤◌, length, IfSome, MatchOption};
 ghost use Rattle.cv_base.specs.SingleBytes.{byte_reads};
 ghost use Rattle.cv_base.specs.declared.policy.Policy.{Policy};
@@ -22,7 +22,7 @@ use cv_block::{BigEndian, ByteOrder, LittleEndian};
 use cv_direct::{begins_with_fours, latin1_to_utf8, utf16_swapped, utf16_to_utf8};
 use cv_wide::Order;
 
-/// The byte order in which units are read in this state, if it stays.
+/// Returns the byte order in which units are read, if reading does not leave this state.
 #[inline(always)]
 pub(crate) fn kept_reading(order: Order, state: ReadState) -> Option<Endian>
     ensures { IfSome result (λ endian. KeepsReading order state endian) }
@@ -36,7 +36,7 @@ pub(crate) fn kept_reading(order: Order, state: ReadState) -> Option<Endian>
     }
 }
 
-/// The byte order in which units are written in this state, if it stays.
+/// Returns the byte order in which units are written, if writing does not leave this state.
 #[inline(always)]
 pub(crate) fn kept_writing(order: Order, state: WriteState) -> Option<Endian>
     ensures { IfSome result (λ endian. KeepsWriting order state endian) }
@@ -49,7 +49,7 @@ pub(crate) fn kept_writing(order: Order, state: WriteState) -> Option<Endian>
     }
 }
 
-/// From UTF-16 in a byte order to UTF-8.
+/// Converts from UTF-16 in a byte order to UTF-8, if any characters are converted at once.
 #[inline(always)]
 fn utf16_step<O: ByteOrder>(
     order: Order,
@@ -73,7 +73,7 @@ fn utf16_step<O: ByteOrder>(
     })
 }
 
-/// From UTF-16 to UTF-8.
+/// Converts from UTF-16 to UTF-8, if the states allow it and any characters are converted at once.
 #[inline(always)]
 fn from_utf16(order: Order, states: States, rest: &[u8], out: &mut [u8], at: usize) -> Option<Took>
     requires { at ≤ length out.old }
@@ -90,7 +90,7 @@ fn from_utf16(order: Order, states: States, rest: &[u8], out: &mut [u8], at: usi
     }
 }
 
-/// From ISO-8859-1 to UTF-8.
+/// Converts from ISO-8859-1 to UTF-8, if the states allow it and any characters are converted at once.
 #[inline(always)]
 fn from_latin1(states: States, rest: &[u8], out: &mut [u8], at: usize) -> Option<Took>
     requires { at ≤ length out.old }
@@ -112,7 +112,7 @@ fn from_latin1(states: States, rest: &[u8], out: &mut [u8], at: usize) -> Option
     })
 }
 
-/// From UTF-16 in one byte order to UTF-16 in the other.
+/// Converts from UTF-16 in one byte order to UTF-16 in the other, if any characters are converted at once.
 #[inline(always)]
 fn swapped_step<O: ByteOrder, P: ByteOrder>(
     order: Order,
@@ -137,7 +137,7 @@ fn swapped_step<O: ByteOrder, P: ByteOrder>(
     })
 }
 
-/// From UTF-16 to UTF-16, if the byte orders are different.
+/// Converts from UTF-16 to UTF-16, if the byte orders differ and any characters are converted at once.
 #[inline(always)]
 fn between_orders(
     order: Order,
@@ -165,8 +165,8 @@ fn between_orders(
     }
 }
 
-/// Takes the characters at the start of a text, if a loop converts them from the one encoding to the other, and if it takes any. Every
-/// policy allows it.
+/// Takes the characters at the start of a text, if a loop converts them from the one encoding to the other and takes
+/// any. Every policy allows it.
 #[inline(always)]
 fn convert_directly(
     from: &Encoding,
@@ -200,20 +200,20 @@ fn convert_directly(
     }
 }
 
-/// With fewer bytes a text of UTF-8 goes by blocks, which cost less for a few characters.
+/// A text of UTF-8 with fewer bytes goes by blocks, which cost less for a few characters.
 const MANY_BYTES: usize = 128;
 
-/// With fewer bytes a text of UTF-16 or ISO-8859-1 goes by blocks.
+/// A text of UTF-16 or ISO-8859-1 with fewer bytes goes by blocks.
 const MANY_UNITS: usize = 256;
 
-/// UTF-32 has as many characters in twice the bytes.
+/// A text of UTF-32 with fewer bytes goes by blocks. As many characters have twice the bytes of UTF-16.
 const MANY_WIDE: usize = 512;
 
-/// With less room few windows are written, and a step of them may cost more than it saves.
+/// With less room only a few windows are written, and a step of them may cost more than it saves.
 const MANY_ROOM: usize = 256;
 
-/// Whether the rest of a text may be taken at once, into so much room. It affects speed only. Behind a block of
-/// UTF-32 it may not: likely it has many characters from U+10000 on, which go by blocks as fast.
+/// Tells whether the rest of a text may be taken at once, if there is so much room. It affects speed only. After a
+/// block of UTF-32 it may not: such a text likely has many characters from U+10000 on, which go by blocks as fast.
 #[inline(always)]
 pub(crate) fn may_take_at_once(
     from: &Encoding,
@@ -239,7 +239,7 @@ pub(crate) fn may_take_at_once(
     }
 }
 
-/// The size of the next block behind so many bytes that were taken at once. It affects speed only.
+/// Returns the size of the next block after `used` bytes were taken at once. It affects speed only.
 #[inline(always)]
 pub(crate) fn size_behind(
     from: &Encoding,
@@ -255,8 +255,8 @@ pub(crate) fn size_behind(
     }
 }
 
-/// Takes the characters at the start of a text that are copied, because both encodings are the same, or that a loop converts, if there
-/// are any. Kept out of line, so that the step that calls it stays small.
+/// Takes the characters at the start of a text that are copied because both encodings are the same, or that a loop
+/// converts, if there are any. Kept out of line, so that the step that calls it stays small.
 #[inline(never)]
 pub(crate) fn take_at_once(
     from: &Encoding,

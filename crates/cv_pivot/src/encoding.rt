@@ -32,7 +32,7 @@ pub enum Encoding {
     Charmap(Arc<Charmap>),
 }
 
-/// The built-in encoding of a name, in any case of its ASCII letters.
+/// Returns the built-in encoding of a name, which may be written in any case of its ASCII letters.
 #[tactic(auto, unfolding(crate::specs::Encodings::builtin_of))]
 pub fn builtin(name: &[u8]) -> Option<Encoding>
     ensures { result ≡ option_map encoding_of (builtin_of name.now) }
@@ -66,7 +66,7 @@ pub fn builtin(name: &[u8]) -> Option<Encoding>
 impl Clone for Encoding {
     ghost is_clone = { λ encoding other. form_of other ≡ form_of encoding };
 
-    /// A copy of the encoding. It takes no memory, and fails only if a charmap has too many owners.
+    /// Returns a copy of the encoding. It allocates nothing, and fails only if a charmap has too many owners.
     fn clone(&self) -> Result<Encoding, AllocError> {
         match self {
             Encoding::Ascii => Ok(Encoding::Ascii),
@@ -81,12 +81,13 @@ impl Clone for Encoding {
 }
 
 impl Encoding {
-    /// States that the list of a charmap is that of a charmap, for callers that need it. It does nothing.
+    /// Does nothing. Its contract says that the list of a charmap has what holds for every charmap, for callers that
+    /// need it.
     pub fn assert_form(&self)
         ensures { IsForm (form_of self.now) }
     {
         if let Encoding::Charmap(map) = self {
-            // What it ensures says so.
+            // The contract of `len` says so.
             let _pairs = map.len();
         }
     }

@@ -1,4 +1,4 @@
-//! Converting from UTF-32 to UTF-8 and to UTF-16 without a buffer of characters between.
+//! Converting from UTF-32 to UTF-8 and to UTF-16 without a buffer of characters in between.
 ghost use Rattle.std.specs.Prelude.{◌≡◌, ◌≤◌, length, MatchOption};
 ghost use Rattle.cv_base.specs.declared.policy.Policy.{Policy};
 ghost use Rattle.cv_base.specs.declared.state.WriteState.{WriteState};
@@ -17,7 +17,7 @@ use cv_block::{BigEndian, ByteOrder, LittleEndian};
 use cv_direct::{utf32_to_utf8, utf32_to_utf16};
 use cv_wide::Order;
 
-/// From UTF-32 in a byte order to UTF-8.
+/// Converts from UTF-32 in a byte order to UTF-8, if any characters are converted at once.
 #[inline(always)]
 fn utf8_step<O: ByteOrder>(
     order: Order,
@@ -41,7 +41,7 @@ fn utf8_step<O: ByteOrder>(
     })
 }
 
-/// From UTF-32 to UTF-8.
+/// Converts from UTF-32 to UTF-8, if the states allow it and any characters are converted at once.
 #[inline(always)]
 pub(crate) fn to_utf8(
     order: Order,
@@ -64,7 +64,7 @@ pub(crate) fn to_utf8(
     }
 }
 
-/// From UTF-32 in a byte order to UTF-16 in a byte order.
+/// Converts from UTF-32 in a byte order to UTF-16 in a byte order, if any characters are converted at once.
 #[inline(always)]
 fn utf16_step<O: ByteOrder, P: ByteOrder>(
     order: Order,
@@ -89,7 +89,7 @@ fn utf16_step<O: ByteOrder, P: ByteOrder>(
     })
 }
 
-/// From UTF-32 to UTF-16.
+/// Converts from UTF-32 to UTF-16, if the states allow it and any characters are converted at once.
 #[inline(always)]
 pub(crate) fn to_utf16(
     order: Order,

@@ -1,4 +1,4 @@
-//! Converting from UTF-8 to UTF-16 without a buffer of characters between.
+//! Converting from UTF-8 to UTF-16 without a buffer of characters in between.
 ghost use Rattle.std.specs.Prelude.{◌≡◌, ◌≤◌, length, MatchOption};
 ghost use Rattle.cv_base.specs.declared.policy.Policy.{Policy};
 ghost use Rattle.cv_base.specs.declared.state.ReadState.{ReadState};
@@ -16,7 +16,7 @@ use cv_block::{BigEndian, ByteOrder, LittleEndian};
 use cv_direct::utf8_to_utf16;
 use cv_wide::Order;
 
-/// From UTF-8 to UTF-16 in a byte order.
+/// Converts from UTF-8 to UTF-16 in a byte order, if any characters are converted at once.
 #[inline(always)]
 fn utf16_step<P: ByteOrder>(
     target: Order,
@@ -40,7 +40,7 @@ fn utf16_step<P: ByteOrder>(
     })
 }
 
-/// From UTF-8 to UTF-16.
+/// Converts from UTF-8 to UTF-16, if the states allow it and any characters are converted at once.
 #[inline(always)]
 pub(crate) fn to_utf16(
     target: Order,

@@ -15,7 +15,7 @@ use cv_wide::{Utf16, Utf32};
 /// Fewer bytes than these are converted faster item by item than by blocks, whose buffers are cleared and copied. It affects speed only.
 pub(crate) const FEW_BYTES: usize = 12;
 
-/// Takes the item that is next, if there is one, the policy allows it and its bytes fit after the first `at` bytes of the
+/// Takes the next item, if there is one, the policy allows it and its bytes fit after the first `at` bytes of the
 /// output.
 #[inline(always)]
 #[tactic(auto, using(cv_base::proofs::AllWritten::none_allowed))]
@@ -64,8 +64,9 @@ pub(crate) fn one_step<F: Codec, T: Codec>(
     }
 }
 
-/// Converts what is left of a text item by item, after the first `at` bytes of the output and `count` characters for which `?` was
-/// written. Each pair of encodings has a loop of its own, so that no item is dispatched on its encoding.
+/// Converts the rest of a text item by item, after the first `at` bytes of the output. `count` is for how many
+/// characters `?` was written already. Each pair of encodings has a loop of its own, so that no item is dispatched on
+/// its encoding.
 #[inline(always)]
 fn each_item<F: Codec, T: Codec>(
     from: &F,
@@ -113,7 +114,7 @@ fn each_item<F: Codec, T: Codec>(
     }
 }
 
-/// Converts what is left, as `each_item`, after dispatching on the target encoding.
+/// Converts the rest as `each_item` does, after dispatching on the target encoding.
 #[inline(always)]
 fn each_item_to<F: Codec>(
     from: &F,
@@ -159,7 +160,7 @@ fn each_item_to<F: Codec>(
     }
 }
 
-/// Converts what is left of a text if that is little. Kept out of line, so that the loop that calls it stays small.
+/// Converts the rest of a text, if it is short. Kept out of line, so that the loop that calls it stays small.
 #[inline(never)]
 pub(crate) fn few_items(
     from: &Encoding,

@@ -1,4 +1,4 @@
-//! What a conversion answers.
+//! The result of a conversion.
 ghost use Rattle.std.specs.Prelude.{◌≡◌};
 ghost use Rattle.cv_pivot.specs.Conversions.{start};
 
@@ -9,7 +9,7 @@ use cv_base::{ReadState, WriteState};
 pub enum Stop {
     /// All of the input is used.
     Done,
-    /// The bytes of the next character don't fit in the room that is left (E2BIG).
+    /// The bytes of the next character do not fit in the room that is left (E2BIG).
     TooBig,
     /// The next bytes begin no item, whatever follows (EILSEQ).
     Ill,
@@ -19,7 +19,7 @@ pub enum Stop {
     Lacking,
 }
 
-/// What a conversion answers.
+/// The result of a conversion.
 #[derive(Clone, Copy, Debug, PartialEq, Eq)]
 pub struct Outcome {
     /// How many bytes of the input are left.
@@ -32,7 +32,7 @@ pub struct Outcome {
     pub stop: Stop,
 }
 
-/// The states of a conversion on its two sides.
+/// The states of a conversion: that of the source's text and that of the target's.
 #[derive(Clone, Copy, Debug, PartialEq, Eq)]
 pub struct States {
     pub reading: ReadState,
@@ -40,7 +40,7 @@ pub struct States {
 }
 
 impl States {
-    /// Both sides at their start.
+    /// Returns the states at the start of a conversion.
     pub fn start() -> States
         ensures { result ≡ start }
     {
@@ -51,6 +51,6 @@ impl States {
     }
 }
 
-/// The closing bytes don't fit in the room.
+/// The closing bytes do not fit in the room.
 #[derive(Clone, Copy, Debug, PartialEq, Eq)]
 pub struct TooBig;

@@ -19,7 +19,7 @@ use Rattle.cv_trie.proofs.TwoBytes.{two_stands}
 
 -- ---- starts
 
--- what is put behind the rows changes none of them
+-- what is put after the rows changes none of them
 pub rows_kept : (pairs : List Entry) (ones twos after : List ℕ) (place : ℕ) → place + 128 ≡ length twos → length after ≡ length twos → ((k : ℕ) → k < place → get_or after k 0 ≡ get_or twos k 0) → AreTwos pairs ones twos → AreTwos pairs ones after
 rows_kept pairs ones twos after place behind size low t = record {
   within = λ b l. rw size (t.within b l);
@@ -31,7 +31,7 @@ rows_kept pairs ones twos after place behind size low t = record {
 
 -- ---- reading
 
--- What stands for the bytes at a place, where it is a character.
+-- The number of the bytes at an index is a character, and that character is the next item.
 record IsReadAs (pairs : List Entry) (text : List ℕ) (p size number : ℕ) : Type 0 where
   pub scalar : IsScalar number
   pub stands : Stands (map_reads pairs) read.Start (drop p text) (taken size (Some number) read.Start)
@@ -58,7 +58,7 @@ read_as pairs ones twos starts text p singles doubles begins byte next low some 
           rw (single, e) (record { scalar = one.0; stands = one_stands pairs text p f (get_or ones f 0) (omega arith) refl one }))
     ]
 
--- what stands for the bytes at a place is a scalar value, or no character
+-- the number of the bytes at an index is a scalar value, or that for no character or above
 pub number_scalar : (pairs : List Entry) (ones twos starts text : List ℕ) (p : ℕ) → AreOnes pairs ones 256 → AreTwos pairs ones twos → AreStarts ones twos starts → get_or text p 0 < 256 → get_or text (p + 1) 0 < 256 → p + 1 < length text
     → number_at twos starts text p < no_character → IsScalar (number_at twos starts text p)
 number_scalar pairs ones twos starts text p singles doubles begins byte next low some = (read_as pairs ones twos starts text p singles doubles begins byte next low some (leads (get_or text p 0)) refl).scalar

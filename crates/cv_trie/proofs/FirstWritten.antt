@@ -1,4 +1,4 @@
--- Which bytes are written for a character, by the place that pages name for it.
+-- Which bytes are written for a character, by the index that pages name for it.
 use Rattle.std.proofs.Common.{◌≡◌, ◌≢◌, ◌==◌, ℕ, zero, suc, ◌<◌, List, [], ◌∷◌, length, refl, sym, ◌∙◌, ap, arith, eq-eqb, Some, None, option_map}
 use Rattle.std.proofs.lemmas.Bool.{ne_eqb}
 use Rattle.std.specs.List.{find}
@@ -18,7 +18,7 @@ find_none [] c h = refl
 find_none (p ∷ entries) c h = rw (ne_eqb p.1 c (h 0 (omega arith))) (find_none entries c (λ j m. h (suc j) (omega arith)))
 
 module _ (entries : List Entry) (place : ℕ → ℕ) (h : NameFirst place (length entries) entries) (c k : ℕ) (is : k ≡ place c) where
-  -- a character that has a place is written as the bytes there
+  -- a character that has an index is written as the bytes of the pair there
   pub writes_place : k ≢ nowhere → (t : WriteState) → map_writes entries t c ≡ Some (bytes_at entries k, write.Start)
   writes_place has t =
       let some : place c ≢ nowhere = λ z. has (is ∙ z) in

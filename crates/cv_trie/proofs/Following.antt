@@ -26,7 +26,7 @@ use Rattle.cv_trie.proofs.MapItems.{pair_stands}
 at_root : (S : StepsBy) (count : ℕ) (entries : List Entry) (x : List ℕ) → HasTrie S count entries → IsAt S count entries x 0 0
 at_root S count entries x t = record { way = t.way; trie = t.trie; low = t.trie.some; at = rw t.trie.root tt; deep = rw t.trie.root refl }
 
--- a byte that leads from the root to an entry is all of its bytes
+-- a byte that leads from the root to an entry's index is all of its bytes
 pub root_leaf : (entries : List Entry) (S : StepsBy) (count : ℕ) → HasTrie S count entries → (b code : ℕ) → b < 256 → code ≡ S 0 b → code < tails → (code < length entries) × (bytes_at entries code ≡ b ∷ [])
 root_leaf entries S count t b code byte e l = let p = t.trie.leaf 0 b code t.trie.some byte (sym e) l in (p.0, p.1 ∙ ap (λ (x : List ℕ). x ++ b ∷ []) t.trie.root)
 
@@ -36,7 +36,7 @@ root_reads entries b code low bytes character =
     let e : Contains entries (b ∷ [], b) = subst (λ (p : Entry). Contains entries p) (ap (λ (w : List ℕ). (w, character_at entries code)) bytes ∙ ap (λ (d : ℕ). (b ∷ [], d)) character) (holds_place entries code low) in
     (b, e, refl)
 
--- a byte on from a node
+-- one byte further from a node
 pub followed_on : (entries : List Entry) → AreEntries entries → (S : StepsBy) (count : ℕ) (text : List ℕ) (d i : ℕ) → IsAt S count entries text d i → (b code : ℕ) → d < length text → b ≡ get_or text d 0 → b < 256 → code ≡ S i b → IsFollowed S count entries text (d + 1) code
 followed_on entries a S count text d i at b code more is byte e = record {
   low = λ l. (leads_to_leaf entries a S count text d i at b more is byte code e l).0;
@@ -45,13 +45,13 @@ followed_on entries a S count text d i at b code more is byte e = record {
   node = λ n f. leads_to_node entries a S count text d i at b more is byte n (sym e ∙ f);
 }
 
--- a byte on from the root, at a place of a text
+-- one byte further from the root, at an index of a text
 pub followed_first : (entries : List Entry) → AreEntries entries → (S : StepsBy) (count : ℕ) → HasTrie S count entries → (text : List ℕ) (used b code : ℕ) → used < length text → b ≡ get_or text used 0 → b < 256 → code ≡ S 0 b → IsFollowed S count entries (drop used text) 1 code
 followed_first entries a S count t text used b code low is byte e =
     let here : used ≡ used + 0 = omega arith in
     followed_on entries a S count (drop used text) 0 0 (at_root S count entries (drop used text) t) b code (omega (arith, length-drop used text)) (is ∙ ap (λ (k : ℕ). get_or text k 0) here ∙ sym (get_or-drop used text 0 0)) byte e
 
--- an entry to which the bytes lead stands there
+-- an entry to which the bytes of a text lead is its next item
 pub followed_stands : (entries : List Entry) (text : List ℕ) (size code : ℕ) → IsFound entries text size code → code < none → size ≤ length text → Stands (map_reads entries) read.Start text (taken size (Some (character_at entries code)) read.Start)
 followed_stands entries text size code f l fits =
     let e = f.leaf l in
@@ -59,7 +59,7 @@ followed_stands entries text size code f l fits =
     let front : Begins (bytes_at entries code) text = rw e (Begins-take size text) in
     subst (λ (n : ℕ). Stands (map_reads entries) read.Start text (taken n (Some (character_at entries code)) read.Start)) long (pair_stands entries read.Start text code (f.low l) front)
 
--- the entry whose bytes begin a text
+-- the entry with whose bytes a text begins
 pub begun_found : (entries : List Entry) (text : List ℕ) (place : ℕ) (x : Entry) → place < length entries → x ≡ get_or entries place x → Begins x.0 text → IsFound entries text (length x.0) place
 begun_found entries text place x low is front = record {
   low = λ _. low;
@@ -81,7 +81,7 @@ block_more reads text buffer n used m c b room s =
       next = sym (read_state-append read.Start b.chain (item ∷ []));
     }
 
--- one more character at the front of a text
+-- one more character is read from a text
 pub front_more : (entries : List Entry) (text buffer : List ℕ) (n used m c : ℕ) → IsReadFront entries text (record { n = n; used = used }) buffer → n < length buffer
     → Stands (map_reads entries) read.Start (drop used text) (taken m (Some c) read.Start) → m ≤ length (drop used text) → IsReadFront entries text (record { n = n + 1; used = used + m }) (slice_set buffer n c)
 front_more entries text buffer n used m c f room s fits = record {
@@ -89,6 +89,6 @@ front_more entries text buffer n used m c f room s fits = record {
   within = omega (arith, fits, length-drop used text, f.within);
 }
 
--- a text that begins with bytes
+-- a test that a text begins with bytes
 pub begins_test : (a b : List ℕ) (r : Bool) → r ≡ pointwise nat_eq a (take (length a) b) → r ≡ true → Begins a b
 begins_test a b r e h = let both = starts_is Decides-eqb b a r e in subst (λ (w : List ℕ). Begins a w) (sym (both.0 h)) (Begins-append a (drop (length a) b))

@@ -1,4 +1,4 @@
--- Characters of four bytes, read by a guess that is tested.
+-- Characters of four bytes: an entry is guessed, and its bytes are compared.
 use Rattle.std.proofs.Common.{◌≡◌, ℕ, ◌<◌, ◌≤◌, ◌+◌, List, [], ◌∷◌, length, take, drop, get_or, suc, refl, sym, ◌∙◌, ap, arith, Some}
 use Rattle.std.proofs.Math.Seq.{drop-cons}
 use Rattle.cv_base.specs.Items.{taken, Begins, Stands}
@@ -8,7 +8,7 @@ use Rattle.cv_byte_trie.proofs.ReadEntries.{entry_bytes, entry_character}
 use Rattle.cv_trie.specs.Charmaps.{map_reads}
 use Rattle.cv_trie.proofs.MapItems.{pair_stands}
 
--- four bytes that are those at a place of a text
+-- a text has four bytes at an index
 four_begin : (bytes own text : List ℕ) (p : ℕ) → length bytes ≡ 4 → 4 ≤ length own → take (length bytes) own ≡ bytes → p + 4 ≤ length text
     → get_or own 0 0 ≡ get_or text p 0 → get_or own 1 0 ≡ get_or text (p + 1) 0 → get_or own 2 0 ≡ get_or text (p + 2) 0 → get_or own 3 0 ≡ get_or text (p + 3) 0
     → Begins bytes (drop p text)
@@ -24,7 +24,7 @@ four_begin bytes (a ∷ b ∷ c ∷ d ∷ rest) text p long room is fits e f g h
     let spelled : a ∷ b ∷ c ∷ d ∷ [] ≡ bytes = rw long at is in
     rw (← spelled, here, second, third, fourth) (refl, (refl, (refl, (refl, tt))))
 
--- an entry of four bytes stands where its bytes are those of a text
+-- an entry of four bytes is the next item where a text has its bytes
 pub four_stands : (entries : List Entry) (x : Entry) (place : ℕ) (own text : List ℕ) (p : ℕ) → place < length entries → x ≡ get_or entries place x → length x.0 ≡ 4 → 4 ≤ length own → take (length x.0) own ≡ x.0 → p + 4 ≤ length text
     → get_or own 0 0 ≡ get_or text p 0 → get_or own 1 0 ≡ get_or text (p + 1) 0 → get_or own 2 0 ≡ get_or text (p + 2) 0 → get_or own 3 0 ≡ get_or text (p + 3) 0
     → Stands (map_reads entries) read.Start (drop p text) (taken 4 (Some x.1) read.Start)

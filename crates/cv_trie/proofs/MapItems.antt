@@ -1,4 +1,4 @@
--- What stands next in a text, by the pairs of a charmap.
+-- The next item of a text, by the pairs of a charmap.
 use Rattle.std.specs.Prelude.{IsTrue, IfSome}
 use Rattle.std.specs.Bool.{then_some}
 use Rattle.std.proofs.lemmas.Bool.Decides.{nat_tests}
@@ -16,7 +16,7 @@ use Rattle.cv_charmap.specs.Entries.{Pair}
 use Rattle.cv_trie.specs.Charmaps.{map_reads}
 use Rattle.cv_trie.proofs.MapLaws.{place_in, holds_place}
 
--- a pair whose bytes begin a text stands there
+-- a pair is the next item of a text that begins with its bytes
 pub pair_stands : (pairs : List Pair) (s : ReadState) (text : List ℕ) (k : ℕ) → k < length pairs → Begins (bytes_at pairs k) text → Stands (map_reads pairs) s text (taken (length (bytes_at pairs k)) (Some (character_at pairs k)) read.Start)
 pair_stands pairs s text k low front = record {
   bytes = bytes_at pairs k;
@@ -24,11 +24,11 @@ pair_stands pairs s text k low front = record {
   front = front;
 }
 
--- what stands is a pair whose bytes begin the text
+-- the next item is a pair with whose bytes the text begins
 pub stands_pair : (pairs : List Pair) (s : ReadState) (text : List ℕ) (i : Taken) → (p : Stands (map_reads pairs) s text i) → (p.is_item.1.0 < length pairs) × Begins (bytes_at pairs p.is_item.1.0) text
 stands_pair pairs s text i p = let x = place_in pairs p.bytes p.is_item.0 p.is_item.1 in (x.low, rw x.bytes_there p.front)
 
--- a text that ends inside of a pair's bytes is incomplete
+-- a text that is a proper prefix of a pair's bytes is incomplete
 pub inside_incomplete : (pairs : List Pair) → AreApart pairs → (s : ReadState) (text : List ℕ) (k : ℕ) → 0 < length text → GoesOnBehind pairs text k → IsNext (map_reads pairs) s text item.Incomplete
 inside_incomplete pairs apart s text k some on = (
   some,
@@ -56,11 +56,11 @@ none_ill pairs s text some none = (
   λ g. (let x = place_in pairs g.bytes g.is_item.0 g.is_item.1 in (none g.is_item.1.0 x.low).1 (rw x.bytes_there g.front)),
 )
 
--- what is not empty has a byte
+-- a text that is not empty has a byte
 pub some_bytes : (text : List ℕ) (empty : Bool) → empty ≡ (length text == 0) → empty ≡ false → 0 < length text
 some_bytes text empty e f = grind (arith, nat_tests)
 
--- a form that is given where a test holds
+-- a form that is returned only if a test holds
 pub form_given : (b : Bool) (P : AsciiForm → Type 0) → (IsTrue b → P Byte) → IfSome (then_some b Byte) P
 form_given true P h = h refl
 form_given false P h = tt

@@ -1,4 +1,4 @@
--- A charmap keeps what every codec keeps.
+-- A charmap satisfies the laws of codecs.
 use Rattle.std.proofs.Common.{◌≡◌, ◌==◌, ◌||◌, ℕ, ◌<◌, ◌≤◌, Bool, true, false, cond, List, [], ◌∷◌, suc, length, get_or, refl, sym, ◌∙◌, ap, arith, inl, inr, Some, option_map}
 use Rattle.std.specs.Prelude.{IsSome, IfSome, Contains}
 use Rattle.std.specs.List.{find, list_any}
@@ -16,23 +16,23 @@ use Rattle.cv_charmap.specs.Maps.{IsMap}
 use Rattle.cv_trie.specs.Charmaps.{map_reads, as_written, map_writes}
 use Rattle.cv_trie.specs.Private.Compiled.{HaveAtMost}
 
--- The place of a pair in a list.
+-- The index of a pair in a list.
 pub record IsPlaceOf (pairs : List Pair) (bytes : List ℕ) (character k : ℕ) : Type 0 where
   pub low : k < length pairs
   pub bytes_there : bytes_at pairs k ≡ bytes
   pub character_there : character_at pairs k ≡ character
 
--- a pair of the list has a place
+-- a pair of the list has an index
 pub place_in : (pairs : List Pair) (bytes : List ℕ) (character : ℕ) → (h : Contains pairs (bytes, character)) → IsPlaceOf pairs bytes character h.0
 place_in pairs bytes character h =
     let e : get_or pairs h.0 no_entry ≡ (bytes, character) = get_or_default pairs h.0 no_entry (bytes, character) h.1 ∙ h.2 in
     record { low = h.1; bytes_there = ap (λ (p : Pair). p.0) e; character_there = ap (λ (p : Pair). p.1) e }
 
--- the pair at a place is in the list
+-- the pair at an index is in the list
 pub holds_place : (pairs : List Pair) (k : ℕ) → k < length pairs → Contains pairs (bytes_at pairs k, character_at pairs k)
 holds_place pairs k low = (k, low, get_or_default pairs k (bytes_at pairs k, character_at pairs k) no_entry low)
 
--- of two byte strings that begin one text both are that of one place
+-- if a text begins with the bytes of two pairs, they are the same pair
 pub same_place : (pairs : List Pair) → AreApart pairs → (text a b : List ℕ) (c d j k : ℕ) → IsPlaceOf pairs a c j → IsPlaceOf pairs b d k → Begins a text → Begins b text → j ≡ k
 same_place pairs apart text a b c d j k p q f g =
     elim (cases_lt (length a) (length b)) [
@@ -56,7 +56,7 @@ uses pairs e s a i p =
     let some : 0 < length a = rw x.bytes_there at (e.some p.1.0 x.low) in
     (omega arith, omega arith)
 
--- one item stands at most, and it uses some of its bytes
+-- a text has at most one next item, which uses at least one of its bytes
 pub map_readable : (pairs : List Pair) → IsMap pairs → IsReadable (map_reads pairs)
 map_readable pairs m = record { one_item = one_item pairs m.entries.apart; uses = uses pairs m.entries }
 

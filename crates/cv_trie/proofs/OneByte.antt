@@ -14,7 +14,7 @@ use Rattle.cv_trie.specs.Private.Fronts.{IsReadFront}
 use Rattle.cv_trie.proofs.MapLaws.{holds_place}
 use Rattle.cv_trie.proofs.Following.{root_leaf, front_more}
 
--- a byte that is a character stands at its place of a text
+-- a byte that is a character is the next item where a text has it
 pub one_stands : (pairs : List Entry) (text : List ℕ) (p b character : ℕ) → p < length text → b ≡ get_or text p 0 → IsOne pairs b character → Stands (map_reads pairs) read.Start (drop p text) (taken 1 (Some character) read.Start)
 one_stands pairs text p b character low is one =
     let here : drop p text ≡ b ∷ drop (suc p) text = drop-cons text p 0 low ∙ ap (λ (d : ℕ). d ∷ drop (suc p) text) (sym is) in
@@ -29,14 +29,14 @@ one_more pairs ones text buffer n used k b all f room low is byte some =
     let fits : 1 ≤ length (drop (used + k) text) = omega (arith, length-drop (used + k) text) in
     rw (next_n, next_used) (front_more pairs text buffer (n + k) (used + k) 1 (get_or ones b 0) f room (one_stands pairs text (used + k) b (get_or ones b 0) low is (all b byte some)) fits)
 
--- a byte that leads from the root to an entry is its character by itself
+-- a byte that leads from the root to an entry's index is the entry's character by itself
 pub one_led : (entries : List Entry) → AreEntries entries → (S : StepsBy) (count : ℕ) → HasTrie S count entries → (b code v : ℕ) → b < 256 → code ≡ S 0 b → code < tails → v ≡ character_at entries code → IsOne entries b v
 one_led entries a S count t b code v byte e l is =
     let leaf = root_leaf entries S count t b code byte e l in
     let there : Contains entries (b ∷ [], character_at entries code) = subst (λ (w : List ℕ). Contains entries (w, character_at entries code)) leaf.1 (holds_place entries code leaf.0) in
     (rw is (a.scalar code leaf.0), rw is there)
 
--- a byte more has its character
+-- one more byte gets its number
 pub ones_more : (pairs : List Entry) (ones : List ℕ) (n v : ℕ) → n < length ones → AreOnes pairs ones n → (v < no_character → IsOne pairs n v) → AreOnes pairs (slice_set ones n v) (n + 1)
 ones_more pairs ones n v low p q b h l = elim (cases_lt b n) [
   | inl lower ↦ (
@@ -49,7 +49,7 @@ ones_more pairs ones n v low p q b h l = elim (cases_lt b n) [
       rw (e, same) (q (rw e at l)))
 ]
 
--- a byte more has no number above that of no character
+-- one more byte gets no number above that for no character
 pub plain_more : (ones : List ℕ) (n v : ℕ) → n < length ones → ((b : ℕ) → b < 256 → get_or ones b 0 ≤ no_character) → v ≤ no_character → (b : ℕ) → b < 256 → get_or (slice_set ones n v) b 0 ≤ no_character
 plain_more ones n v low p q b l = elim (cases_eq b n) [
   | inl same ↦ rw same (rw get_or-set_same q)

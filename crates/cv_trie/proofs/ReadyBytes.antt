@@ -1,4 +1,4 @@
--- What is written by bytes that stand ready.
+-- What is written for a character whose bytes the pages keep.
 use Rattle.std.proofs.Common.{◌≡◌, ℕ, ◌<◌, ◌≤◌, List, [], length, get_or, take, refl, Some}
 use Rattle.cv_base.specs.Chains.{output, written}
 use Rattle.cv_base.specs.declared.state.WriteState.TheVariants as write
@@ -8,7 +8,7 @@ use Rattle.cv_pages.specs.Shorts.{no_size, AreShorts}
 use Rattle.cv_trie.specs.Charmaps.{map_writes}
 use Rattle.cv_trie.proofs.Written.{chosen}
 
--- what stands ready for a character is what is written for it
+-- the bytes that the pages keep for a character are those written for it
 pub record IsReady (entries : List Entry) (c : ℕ) (w bytes : List ℕ) (size : ℕ) : Type 0 where
   pub few : size ≤ 4
   pub is : take size bytes ≡ w

@@ -1,4 +1,4 @@
--- Characters of three bytes, read by a guess that is tested.
+-- Characters of three bytes: an entry is guessed, and its bytes are compared.
 use Rattle.std.proofs.Common.{◌≡◌, ℕ, ◌<◌, ◌≤◌, ◌+◌, List, [], ◌∷◌, length, take, drop, get_or, suc, refl, sym, ◌∙◌, ap, arith, Some}
 use Rattle.std.proofs.Math.Seq.{drop-cons}
 use Rattle.cv_base.specs.Items.{taken, Begins, Stands}
@@ -8,7 +8,7 @@ use Rattle.cv_byte_trie.proofs.ReadEntries.{entry_bytes, entry_character}
 use Rattle.cv_trie.specs.Charmaps.{map_reads}
 use Rattle.cv_trie.proofs.MapItems.{pair_stands}
 
--- three bytes that are those at a place of a text
+-- a text has three bytes at an index
 three_begin : (bytes own text : List ℕ) (p : ℕ) → length bytes ≡ 3 → 3 ≤ length own → take (length bytes) own ≡ bytes → p + 3 ≤ length text
     → get_or own 0 0 ≡ get_or text p 0 → get_or own 1 0 ≡ get_or text (p + 1) 0 → get_or own 2 0 ≡ get_or text (p + 2) 0
     → Begins bytes (drop p text)
@@ -22,7 +22,7 @@ three_begin bytes (a ∷ b ∷ c ∷ rest) text p long room is fits e f g =
     let spelled : a ∷ b ∷ c ∷ [] ≡ bytes = rw long at is in
     rw (← spelled, here, second, third) (refl, (refl, (refl, tt)))
 
--- an entry of three bytes stands where its bytes are those of a text
+-- an entry of three bytes is the next item where a text has its bytes
 pub three_stands : (entries : List Entry) (x : Entry) (place : ℕ) (own text : List ℕ) (p : ℕ) → place < length entries → x ≡ get_or entries place x → length x.0 ≡ 3 → 3 ≤ length own → take (length x.0) own ≡ x.0 → p + 3 ≤ length text
     → get_or own 0 0 ≡ get_or text p 0 → get_or own 1 0 ≡ get_or text (p + 1) 0 → get_or own 2 0 ≡ get_or text (p + 2) 0
     → Stands (map_reads entries) read.Start (drop p text) (taken 3 (Some x.1) read.Start)

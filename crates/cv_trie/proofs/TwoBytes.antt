@@ -17,7 +17,7 @@ use Rattle.cv_trie.proofs.Following.{front_more}
 
 -- ---- numbering rows
 
--- a byte more that has no row
+-- one more byte, which has no row
 pub rows_same : (ones : List ℕ) (n size : ℕ) → AreRows ones n size → get_or ones n 0 ≤ no_character → AreRows ones (n + 1) size
 rows_same ones n size r none =
     let zero_row : row_of ones n ≡ 0 = omega arith in
@@ -37,7 +37,7 @@ rows_same ones n size r none =
       ];
     }
 
--- a byte more that has the next row
+-- one more byte, which has the next row
 pub rows_more : (ones : List ℕ) (n size v : ℕ) → AreRows ones n size → n < length ones → v ≡ no_character + size → AreRows (slice_set ones n v) (n + 1) (size + 256)
 rows_more ones n size v r low is =
     let there : get_or (slice_set ones n v) n 0 ≡ v = get_or-set_same ones n v 0 low in
@@ -62,7 +62,7 @@ rows_more ones n size v r low is =
       ];
     }
 
--- a place in a byte's own row is in that of no other
+-- an index in a byte's own row is in that of no other
 rows_own : (ones : List ℕ) (size a b c d : ℕ) → AreRows ones 256 size → a < 256 → b < 256 → c < 256 → d < 256 → 0 < row_of ones b → row_of ones a + c ≡ row_of ones b + d → a ≡ b
 rows_own ones size a b c d r la lb lc ld some e = elim (cases_lt a b) [
   | inl less ↦ absurd (let w = r.apart a b less lb some in omega arith)
@@ -88,7 +88,7 @@ ones_kept pairs ones n v low none p b byte l = elim (cases_eq b n) [
 
 -- ---- filling rows
 
--- rows that are all empty, and the cells behind them
+-- empty rows, and the cells after them
 pub twos_none : (pairs : List Entry) (ones : List ℕ) (size : ℕ) → AreRows ones 256 size → AreTwos pairs ones (replicate (size + 128) no_character)
 twos_none pairs ones size r = record {
   within = λ b l. (let w = r.within b l in rw length-replicate (omega arith));
@@ -98,14 +98,14 @@ twos_none pairs ones size r = record {
       omega arith);
 }
 
--- the bytes of an entry that has two
+-- a list of two bytes, by its elements
 two_bytes : (bytes : List ℕ) → length bytes ≡ 2 → bytes ≡ get_or bytes 0 0 ∷ get_or bytes 1 0 ∷ []
 two_bytes [] e = absurd (omega arith)
 two_bytes (b ∷ []) e = absurd (omega arith)
 two_bytes (b ∷ c ∷ []) e = refl
 two_bytes (b ∷ c ∷ d ∷ rest) e = absurd (omega arith)
 
--- the character of an entry in its place
+-- the character of one more entry is put into its cell
 pub twos_more : (pairs : List Entry) → AreEntries pairs → (ones twos : List ℕ) (size : ℕ) → AreRows ones 256 size → AreTwos pairs ones twos → (place cell v : ℕ) → place < length pairs → v ≡ character_at pairs place
     → IsCell ones (bytes_at pairs place) cell → AreTwos pairs ones (slice_set twos cell v)
 twos_more pairs a ones twos size r t place cell v low is here =
@@ -132,11 +132,11 @@ twos_more pairs a ones twos size r t place cell v low is here =
 
 -- ---- reading
 
--- what stands for two bytes, where the number of a row and that of a place in it are added up first
+-- the number of two bytes in the rows, if the number of the first and the second byte are added first
 pub two_read : (ones twos : List ℕ) (b c : ℕ) → no_character ≤ get_or ones b 0 → get_or twos (get_or ones b 0 + c - no_character) 0 ≡ two_at ones twos b c
 two_read ones twos b c some = ap (λ (k : ℕ). get_or twos k 0) (omega arith)
 
--- two bytes that are a character stand at their place of a text
+-- two bytes that are a character are the next item where a text has them
 pub two_stands : (pairs : List Entry) (text : List ℕ) (p b c character : ℕ) → p + 1 < length text → b ≡ get_or text p 0 → c ≡ get_or text (p + 1) 0 → IsTwo pairs b c character → Stands (map_reads pairs) read.Start (drop p text) (taken 2 (Some character) read.Start)
 two_stands pairs text p b c character low is next two =
     let first : p < length text = omega arith in

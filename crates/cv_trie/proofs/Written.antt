@@ -1,4 +1,4 @@
--- Characters that are written one after another.
+-- Characters that are written one after another, by the pages of a charmap.
 use Rattle.std.proofs.Common.{◌≡◌, ◌≢◌, ℕ, ◌+◌, ◌<◌, List, [], ◌∷◌, ◌++◌, length, take, get_or, refl, sym, ◌∙◌, ap, arith, Some, None, Option, length-append}
 use Rattle.std.proofs.Math.Seq.{drop-cons, take-add}
 use Rattle.std.specs.Prelude.{IsSome}
@@ -21,17 +21,17 @@ not_none (Some x) h e = cc
 not_none None h e = cc
 
 module _ (entries : List Entry) (place : ℕ → ℕ) (h : NameFirst place (length entries) entries) where
-  -- what is written for a character that has a place
+  -- what is written for a character that the charmap has
   pub chosen : (c k : ℕ) → k ≡ place c → k ≢ nowhere → written (map_writes entries) write.Start (Some c) ≡ output (bytes_at entries k) 0 write.Start
   chosen c k is has = ap (put_or (substituted write.Start (map_writes entries write.Start question))) (writes_place entries place h c k is has write.Start)
 
-  -- what is written for one that has none
+  -- what is written for one that it lacks
   pub chosen_substitute : (c j k : ℕ) → j ≡ place c → j ≡ nowhere → k ≡ place question → k ≢ nowhere → written (map_writes entries) write.Start (Some c) ≡ output (bytes_at entries k) 1 write.Start
   chosen_substitute c j k none lacks is has =
       ap (put_or (substituted write.Start (map_writes entries write.Start question))) (writes_nothing entries place h c j none lacks write.Start)
       ∙ ap (substituted write.Start) (writes_place entries place h question k is has write.Start)
 
-  -- `?` has a place
+  -- the charmap has `?`
   pub substitute_has : IsMap entries → (k : ℕ) → k ≡ place question → k ≢ nowhere
   substitute_has m k is none = not_none (map_writes entries write.Start question) (map_substitutes entries m write.Start) (writes_nothing entries place h question k is none write.Start)
 

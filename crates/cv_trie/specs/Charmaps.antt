@@ -8,12 +8,12 @@ use Rattle.cv_base.specs.declared.state.WriteState.{WriteState}
 use Rattle.cv_base.specs.declared.state.WriteState.TheVariants as write
 use Rattle.cv_charmap.specs.Entries.{Pair}
 
--- The bytes of a pair of the list read as its character, whatever the state; behind it is the start.
+-- The bytes of a pair of the list read as its character, whatever the state. The state after it is the start.
 abbrev pub map_reads : List Pair → ItemRelation
 map_reads pairs s bytes item =
     (character : ℕ) × Contains pairs (bytes, character) × (item ≡ taken (length bytes) (Some character) read.Start)
 
--- what is written for a pair: its bytes, and behind them is the start
+-- what is written for a pair: its bytes, after which the state is the start
 abbrev pub as_written : Pair → List ℕ × WriteState
 as_written pair = (pair.0, write.Start)
 
@@ -22,6 +22,6 @@ abbrev pub map_writes : List Pair → Writing
 map_writes pairs t character =
     option_map as_written (find (λ pair. pair.1 == character) pairs)
 
--- nothing has to be closed
+-- no bytes close a text
 abbrev pub map_closes : WriteState → List ℕ
 map_closes t = []

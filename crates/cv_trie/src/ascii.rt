@@ -1,4 +1,4 @@
-//! Whether ASCII stands for itself in a charmap.
+//! Whether a charmap reads and writes ASCII as itself.
 ghost use Rattle.std.specs.Prelude.{IsTrue};
 ghost use Rattle.cv_base.specs.Ascii.{ReadsAscii, WritesAscii};
 ghost use Rattle.cv_base.specs.declared.ascii_form.AsciiForm.{AsciiForm};
@@ -10,7 +10,7 @@ ghost use Rattle.cv_trie.specs.Charmaps.{map_reads, map_writes};
 use cv_byte_trie::{ByteTrie, Entry, TAIL};
 use cv_pages::{NOWHERE, Pages};
 
-/// Whether each ASCII byte is read as its character.
+/// Tells whether each ASCII byte is read as its character.
 pub(crate) fn does_read_ascii(trie: &ByteTrie) -> bool
     ensures { IsTrue result
         → ReadsAscii (map_reads trie.now.entries) ReadState.Start AsciiForm.Byte }
@@ -25,7 +25,7 @@ pub(crate) fn does_read_ascii(trie: &ByteTrie) -> bool
     true
 }
 
-/// Whether each ASCII character is written as its byte.
+/// Tells whether each ASCII character is written as its byte.
 pub(crate) fn does_write_ascii(pages: &Pages, entries: &[Entry]) -> bool
     requires names { AreFirst pages.now.tops.items pages.now.cells.items entries.now }
     ensures { IsTrue result

@@ -18,8 +18,8 @@ use cv_base::{ReadBlock, ReadState, Scalar};
 use cv_byte_trie::ByteTrie;
 use cv_pages::MANY;
 
-/// Reads the characters at the front of a text into the front of a buffer. Only where the next stands in no table are bytes
-/// followed through the trie. Where rows are there, and less than eight places of a buffer are left behind eight characters, these stay
+/// Reads characters from the start of a text into a buffer. It follows bytes through the trie only if no table has the
+/// next character. If eight characters at once were read and fewer than eight cells of the buffer are left, these stay
 /// empty: one by one they would take longer than as part of the next eight.
 #[inline(never)]
 pub(crate) fn read_front(
@@ -59,7 +59,7 @@ pub(crate) fn read_front(
             }
             front = read_mixed(trie, ones, twos, longs, input, buffer, front);
         }
-        // Else the loop over mixed characters has followed what is next already.
+        // Otherwise `read_mixed` has already followed the bytes that are next.
         if front.n == before && (twos.is_empty() || input.len() - front.used < 2) {
             front = read_longer(trie, input, buffer, front);
         }

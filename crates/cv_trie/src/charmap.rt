@@ -23,24 +23,27 @@ use cv_pages::Pages;
 use std::alloc::Global;
 use std::marker::Model;
 
-/// How many bytes a cell of a table takes.
+/// How many bytes a cell of `ones`, `twos` or `starts` takes.
 const CELL: usize = 4;
 
-/// A charmap that is read and written. Contracts see its name and its list of pairs.
+/// A compiled charmap, which reads and writes texts. Contracts see its name and its list of pairs.
 #[derive(Drop)]
 pub struct Charmap {
     name: Vec<u8>,
     /// The pairs, found by their bytes.
     trie: ByteTrie,
-    /// For each byte the character that it is by itself, or where its row begins.
+    /// For each byte the character that it is by itself, or `NO_CHARACTER` plus the index of its row in `twos`.
     ones: Vec<u32>,
-    /// Rows of the characters of two bytes, for bytes with which many begin, and behind them what single bytes below 128 are.
+    /// Rows of 256 cells, one for each second byte, for bytes with which many strings begin. A cell has the character
+    /// of the two bytes, or says where in `longs` the block of longer strings is. After the rows are 128 cells for
+    /// single bytes. It is empty if neither `starts` nor `longs` needs it.
     twos: Vec<u32>,
-    /// Where in this table each byte's row or its own cell stands. There are none where eight at once are not to be tried.
+    /// For each byte the index in `twos` of its row, or of its own cell if it is below 128. It is empty if eight
+    /// characters at once are not to be tried.
     starts: Vec<u32>,
-    /// Where the entries of three and of four bytes are likely to stand, by the first two and those behind them.
+    /// Guesses at the indices of entries of three and of four bytes, in blocks by the first two bytes.
     longs: Longs,
-    /// The place of each character's first pair.
+    /// For each character the index of its first pair.
     pages: Pages,
     /// How many bytes the longest pair has.
     most: usize,
@@ -62,7 +65,7 @@ impl Model for Charmap {
         m.pages.shorts.bytes.items m.pages.shorts.sizes.items m.most m.reads_ascii m.writes_ascii };
 }
 
-/// The rows, where eight characters at once or tables of longer strings need them.
+/// Returns the rows if eight characters at once or tables of longer strings need them, or else an empty table.
 fn needed(alloc: Global, twos: Vec<u32>, starts: &[u32], longs: &Longs) -> Vec<u32>
     ensures same { 0 < length result.items → result.items ≡ twos.items }
     ensures starts { 0 < length starts.now → result.items ≡ twos.items }
@@ -73,7 +76,7 @@ fn needed(alloc: Global, twos: Vec<u32>, starts: &[u32], longs: &Longs) -> Vec<u
     twos
 }
 
-/// How many bytes the tables of single bytes and of pairs take, with the room that is left for more.
+/// Returns how many bytes the tables of single bytes and of pairs take, with the spare capacity.
 fn cells_size(ones: &Vec<u32>, twos: &Vec<u32>, starts: &Vec<u32>) -> usize
     ensures { result ≡ min (4 * min (min (vec_capacity ones.now + vec_capacity starts.now) (2 ^ 64 - 1)
         + vec_capacity twos.now) (2 ^ 64 - 1)) (2 ^ 64 - 1) }
@@ -83,7 +86,8 @@ fn cells_size(ones: &Vec<u32>, twos: &Vec<u32>, starts: &Vec<u32>) -> usize
 }
 
 impl Charmap {
-    /// Compiles a charmap: it keeps the trie that its reader made, and adds the pages by which it is written.
+    /// Compiles a charmap. It keeps the trie that the charmap's reader made, and adds the tables by which blocks are
+    /// read and the pages by which it is written. If an allocation fails, it returns an error.
     pub fn build(alloc: Global, pairs: Pairs) -> Result<Charmap, Memory>
         ensures { IfOk result (λ m. m ≡ pairs) }
     {
@@ -112,14 +116,14 @@ impl Charmap {
         })
     }
 
-    /// The name of the code set.
+    /// Returns the name of the code set.
     pub fn name(&self) -> &[u8]
         ensures { result.now ≡ self.now.name }
     {
         self.name.as_slice()
     }
 
-    /// How many pairs there are.
+    /// Returns how many pairs there are.
     pub fn len(&self) -> usize
         ensures value { result ≡ length self.now.pairs }
         ensures map { IsMap self.now.pairs }
@@ -127,7 +131,8 @@ impl Charmap {
         self.trie.len()
     }
 
-    /// How many bytes it takes: those of its name, of its pairs and their trie, and of its tables, with the room that is left for more.
+    /// Returns how many bytes its name, its pairs with their trie, and its tables take, with the spare capacity: at
+    /// least 16 for each pair. It saturates at `usize::MAX`.
     pub fn size(&self) -> usize
         ensures { 16 * length self.now.pairs ≤ result }
     {

@@ -1,24 +1,25 @@
-//! With which bytes strings begin. It decides speed and memory alone.
+//! How many strings begin with each byte. It affects speed and memory alone.
 ghost use Rattle.std.specs.Prelude.{◌<◌};
 
 use cv_byte_trie::Entry;
 
-/// How many strings of two or of four bytes begin with a byte that has a row, at the least. A row takes a kilobyte, so a map grows
-/// by at most 32 bytes for each of its pairs, by the row that all other bytes share, and by what `starts` takes.
+/// A byte gets a row if at least this many strings of two or of four bytes begin with it. A row takes a kilobyte. So a
+/// map grows by at most 32 bytes for each of its pairs, by the row that all other bytes share, by the cells for single
+/// bytes, and by what `starts` takes.
 const DENSE: u16 = 32;
 
-/// How many strings of three bytes do, where fewer others do. Without a row they are read as fast as others of their size, so a row
-/// may take no more than a byte for each.
+/// A byte also gets a row if at least this many strings of three bytes begin with it. Without a row these are read as
+/// fast as others of their size, so a row may take no more than a byte for each.
 const DENSE_THREES: u16 = 1024;
 
-/// How many strings of two or of four bytes begin with each byte, and how many of three.
+/// For each byte how many strings of two or of four bytes begin with it, and how many of three.
 #[derive(Debug, Drop)]
 pub(crate) struct Firsts {
     others: [u16; 256],
     threes: [u16; 256],
 }
 
-/// Counts with which bytes strings begin.
+/// Counts the strings that begin with each byte. Counts saturate.
 pub(crate) fn firsts_of(entries: &[Entry]) -> Firsts {
     let mut others = [0u16; 256];
     let mut threes = [0u16; 256];
@@ -35,7 +36,7 @@ pub(crate) fn firsts_of(entries: &[Entry]) -> Firsts {
 }
 
 impl Firsts {
-    /// Whether so many strings begin with a byte that it has a row.
+    /// Tells whether enough strings begin with a byte for it to have a row.
     #[inline(always)]
     pub(crate) fn are_many(&self, byte: usize) -> bool
         requires { byte < 256 }
@@ -43,8 +44,8 @@ impl Firsts {
         self.others[byte] >= DENSE || self.threes[byte] >= DENSE_THREES
     }
 
-    /// Whether eight characters at once are to be tried: not where only strings of three bytes have rows, since their single bytes are
-    /// read faster without.
+    /// Tells whether eight characters at once are to be tried. They are not if all rows are for strings of three bytes,
+    /// since single bytes are then read faster without them.
     pub(crate) fn try_eight(&self) -> bool {
         for byte in 0..256 {
             if self.others[byte] >= DENSE {

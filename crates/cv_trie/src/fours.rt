@@ -17,14 +17,15 @@ use cv_byte_trie::{ByteTrie, Entry};
 use cv_pages::NOWHERE;
 use std::alloc::{AllocError, Global};
 
-/// How many cells a block has: for each third byte one for each value of the last four bits of the fourth.
+/// How many cells a block has: 16 for each third byte, one for each value of the last four bits of the fourth.
 const BLOCK: u32 = 4096;
 
-/// How many strings of four bytes begin with two bytes that have a block, at the least. A block takes 16 KiB, so a map grows by at
-/// most 32 bytes for each of its pairs.
+/// Two bytes get a block if at least this many strings of four bytes begin with them. A block takes 16 KiB, so a map
+/// grows by at most 32 bytes for each of its pairs.
 const DENSE: u32 = 512;
 
-/// The place in the rows of the first two of four bytes. 0: the first has no row, or there are not four.
+/// Returns the index in the rows of the first two bytes of a string of four. It is 0 if the first byte has no row, or
+/// the string has another size.
 fn front_of(ones: &[u32], entry: &Entry) -> usize
     requires { length ones.now ≡ 256 }
 {
@@ -39,8 +40,8 @@ fn front_of(ones: &[u32], entry: &Entry) -> usize
     (number - NO_CHARACTER) as usize + bytes[1] as usize
 }
 
-/// Counts how many strings of four bytes begin with each two bytes, as far as it matters, in the rows: what stands there for no
-/// character is then above its number by the count.
+/// Counts in the rows how many strings of four bytes begin with each two bytes, up to `DENSE`. The cell of two bytes
+/// that are no character has `NO_CHARACTER` plus the count.
 fn count_fronts(entries: &[Entry], ones: &[u32], twos: &mut [u32])
     requires long { length ones.now ≡ 256 }
     ensures size { length twos.new ≡ length twos.old }
@@ -58,8 +59,8 @@ fn count_fronts(entries: &[Entry], ones: &[u32], twos: &mut [u32])
     }
 }
 
-/// Gives a block to each two bytes with which enough strings begin: the number that stands for them in the rows says where. It
-/// answers how many cells all blocks have.
+/// Gives a block to each two bytes with which enough strings begin: their cell in the rows says where the block begins.
+/// Other counts are cleared. Returns how many cells the blocks have together.
 fn number_blocks(_ones: &[u32], twos: &mut [u32]) -> u32
     requires few { length twos.old ≤ most_cells }
     ensures size { length twos.new ≡ length twos.old }
@@ -79,7 +80,8 @@ fn number_blocks(_ones: &[u32], twos: &mut [u32]) -> u32
     size
 }
 
-/// The cell of the last two of four bytes, in the block of the first two.
+/// Returns the index of the cell for the last two of four bytes, in the block of the first two, which have this number
+/// in the rows.
 #[inline(always)]
 pub(crate) fn cell_of(number: u32, third: u8, fourth: u8) -> usize
     requires { no_character < number }
@@ -87,7 +89,7 @@ pub(crate) fn cell_of(number: u32, third: u8, fourth: u8) -> usize
     number as usize + third as usize * 16 + (fourth & 15) as usize - (NO_CHARACTER as usize + 1)
 }
 
-/// The cells of blocks, with the places of entries. Where two have one cell, it names the later.
+/// Makes the cells of the blocks, with the indices of entries. If two entries have the same cell, it has the later one.
 fn fill_blocks(
     alloc: Global,
     entries: &[Entry],
@@ -113,8 +115,9 @@ fn fill_blocks(
     Ok(cells)
 }
 
-/// The places of entries of four bytes, in blocks by their first two, where there are rows. The rows then say where each begins. A place is
-/// a guess, since bytes whose last four bits are the same have one cell: who takes it sees whether the entry has the bytes.
+/// Returns the indices of entries of four bytes, in blocks by their first two bytes, if the first byte has a row. The
+/// rows then say where each block begins. An index is a guess, since fourth bytes with the same last four bits share a
+/// cell: readers have to compare the entry's bytes.
 pub(crate) fn fours_of(
     alloc: Global,
     entries: &[Entry],
@@ -133,7 +136,7 @@ pub(crate) fn fours_of(
     fill_blocks(alloc, entries, ones, twos, size)
 }
 
-/// Whether so many bytes stand at a place of a text.
+/// Tells whether a text has the first `size` of these bytes at an index.
 #[inline(always)]
 pub(crate) fn are_there(own: &[u8; 8], input: &[u8], used: usize, size: usize) -> bool
     requires long { length own.now ≡ 8 }
@@ -150,7 +153,8 @@ pub(crate) fn are_there(own: &[u8; 8], input: &[u8], used: usize, size: usize) -
     true
 }
 
-/// The character of the entry that a cell names, if it has the four bytes at a place of a text.
+/// Returns the character of the entry that a cell names, if its four bytes are at an index of a text, or else
+/// `NO_CHARACTER`.
 #[inline(always)]
 pub(crate) fn four_at(
     entries: &[Entry],
@@ -178,8 +182,8 @@ pub(crate) fn four_at(
     entry.character().value()
 }
 
-/// Reads characters of one and of four bytes behind what was read, up to the first that stands in no table. As none has more
-/// bytes, the end of the text is looked for once, and the last of them may be left.
+/// Reads characters of one and of four bytes after those that were read, up to the first that is in no table. As none
+/// has more than four bytes, the end of the text is tested once for all, so the last characters may be left.
 #[inline(never)]
 pub(crate) fn read_fours(
     trie: &ByteTrie,

@@ -1,4 +1,4 @@
-//! The front of a text.
+//! The part of a text that was read.
 
 /// How much of a text was read.
 #[derive(Clone, Copy, Debug)]

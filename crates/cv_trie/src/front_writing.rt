@@ -1,4 +1,4 @@
-//! Writing characters at the front of a buffer, several at once.
+//! Writing characters at the start of a buffer, several at once.
 ghost use Rattle.std.specs.Prelude.{◌≡◌, ◌≢◌, ◌≤◌, ◌<◌, ◌+◌, ◌*◌, ◌/◌, ◌++◌, ℕ, length, take, slice_index, Some, IfSome};
 ghost use Rattle.cv_base.specs.Scalars.{question};
 ghost use Rattle.cv_base.specs.Chains.{output, written};
@@ -14,19 +14,20 @@ use cv_base::Scalar;
 use cv_byte_trie::Entry;
 use cv_pages::{MANY, NO_SIZE, NOWHERE, Pages, SHORT};
 
-/// The room in which the bytes of eight characters are put, whatever their sizes stand for.
+/// The room that eight characters need while their bytes are put, even if the size of each is `NO_SIZE`.
 const READY_ROOM: usize = MANY * NO_SIZE as usize;
 
-/// What was written at the front of a buffer.
+/// What was written at the start of a buffer.
 #[derive(Clone, Copy, Debug)]
 pub(crate) struct Written {
     /// How many bytes.
     pub(crate) used: usize,
-    /// For how many characters they are `?`.
+    /// For how many characters `?` was written.
     pub(crate) count: usize,
 }
 
-/// The place of the entry that is written for a character, or that of `?`, and for how many characters it is `?`.
+/// Returns the index of the entry that is written for a character, or that of `?`, and for how many characters it is
+/// `?`.
 #[inline(always)]
 fn choose(pages: &Pages, _entries: &[Entry], substitute: u32, c: Scalar) -> (u32, usize)
     requires names { AreFirst pages.now.tops.items pages.now.cells.items _entries.now }
@@ -45,9 +46,9 @@ fn choose(pages: &Pages, _entries: &[Entry], substitute: u32, c: Scalar) -> (u32
     }
 }
 
-/// Puts the bytes of an entry at a place, and answers how many they are. What is behind them may be anything: eight bytes are
-/// copied, whose number is known when the code is compiled, by an array of their own, since LLVM isn't told that an entry is no part of
-/// the buffer.
+/// Puts the bytes of an entry at an index, and returns how many they are. Any bytes may follow them: eight are copied,
+/// a number known at compile time. They are copied through an array, since LLVM does not know that the entry and the
+/// buffer do not overlap.
 #[inline(always)]
 fn put_entry(front: &mut [u8], used: usize, entry: &Entry) -> usize
     requires { used + 8 ≤ length front.old }
@@ -61,8 +62,9 @@ fn put_entry(front: &mut [u8], used: usize, entry: &Entry) -> usize
     entry.len()
 }
 
-/// Writes the characters from the `n`th to the `end`th one by one, behind those before them. No branch is taken for any of them. It stands
-/// where it is called, since there the compiler knows that the buffer is apart from the pages, and writes eight with no loop.
+/// Writes the characters from the `n`th up to the `end`th one by one, after those before them. There is no branch for
+/// each of them. It is inlined, since in its callers the compiler knows that the buffer and the pages do not overlap,
+/// and writes eight characters without a loop.
 #[inline(always)]
 fn put_few(
     pages: &Pages,
@@ -100,8 +102,9 @@ fn put_few(
     Written { used, count }
 }
 
-/// Writes eight characters from the `n`th on behind those before them, if the bytes of each stand ready. None is tested by itself, so
-/// that no branch is taken: the sizes of eight say together whether one has none. What is behind the bytes may be anything.
+/// Writes eight characters from the `n`th on after those before them, if each has at most four bytes, which the pages
+/// keep. It tests the sum of the eight sizes, not each of them, so that there is no branch for each. Any bytes may
+/// follow those written.
 #[inline(always)]
 fn put_ready(
     pages: &Pages,
@@ -138,7 +141,8 @@ fn put_ready(
     }
 }
 
-/// Writes eight characters from the `n`th on, behind those before them: at once, if that is to be tried.
+/// Writes eight characters from the `n`th on, after those before them. It tries all at once, unless this is known to be
+/// in vain.
 #[inline(always)]
 fn put_many(
     pages: &Pages,
@@ -183,12 +187,12 @@ fn put_many(
     )
 }
 
-/// The most bytes that eight characters have whose bytes stand ready.
+/// The most bytes that eight characters have if `put_ready` writes them.
 const MOST_READY: usize = MANY * SHORT;
 
-/// Writes characters at the front of a buffer, eight at once. In a text full of characters that the charmap lacks, or that have more bytes
-/// than stand ready, eight at once are tried in vain: after eight of which one was lacking, or which had more bytes than stand ready
-/// for so many, the next go one by one.
+/// Writes characters at the start of a buffer, eight at once. In a text full of characters that the charmap lacks, or
+/// that have many bytes, eight at once are tried in vain. So after eight of which one was lacking, or which had more
+/// than `MOST_READY` bytes together, the next eight are written one by one.
 #[inline(always)]
 pub(crate) fn write_front(
     pages: &Pages,

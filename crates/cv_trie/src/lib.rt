@@ -1,4 +1,4 @@
-//! Charmaps as encodings: read by a trie of their byte strings, and written by pages of their characters.
+//! Charmaps as encodings: read by a trie and tables of their byte strings, and written by pages of their characters.
 #![tactic(auto)]
 
 mod ascii;

@@ -1,10 +1,10 @@
-//! How long byte strings are.
+//! The length of the longest byte string.
 ghost use Rattle.cv_byte_trie.specs.Entries.{AreEntries};
 ghost use Rattle.cv_trie.specs.Private.Compiled.{HaveAtMost};
 
 use cv_byte_trie::Entry;
 
-/// How many bytes the longest entry has.
+/// Returns how many bytes the longest entry has, or 0 if there are no entries.
 pub(crate) fn longest(entries: &[Entry]) -> usize
     requires { AreEntries entries.now }
     ensures { HaveAtMost result entries.now }

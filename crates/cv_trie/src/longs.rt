@@ -13,22 +13,22 @@ use crate::threes::{THREES, three_at, threes_of};
 use cv_byte_trie::{ByteTrie, Entry, NONE};
 use std::alloc::{AllocError, Global};
 
-/// How many bytes a cell for a string of three bytes takes, and one for a string of four.
+/// How many bytes a cell for strings of three bytes takes, and one for strings of four.
 const SMALL_CELL: usize = 2;
 
 const CELL: usize = 4;
 
-/// The places of entries of three and of four bytes, in blocks by their first two. Each is a guess.
+/// The indices of entries of three and of four bytes, in blocks by their first two bytes. Each is a guess.
 #[derive(Debug, Drop)]
 pub(crate) struct Longs {
     threes: Vec<u16>,
     fours: Vec<u32>,
 }
 
-/// The character at a place of a text.
+/// The character at an index of a text.
 #[derive(Clone, Copy, Debug)]
 pub(crate) struct Long {
-    /// The character. [`NO_CHARACTER`]: none stands there.
+    /// The character, or `NO_CHARACTER` if none was found.
     pub(crate) character: u32,
     /// How many bytes it has.
     pub(crate) size: usize,
@@ -41,7 +41,7 @@ const NO_LONG: Long = Long {
 };
 
 impl Longs {
-    /// How many bytes they take, with the room that is left for more.
+    /// Returns how many bytes the cells take, with the spare capacity.
     pub(crate) fn size(&self) -> usize
         ensures { result ≡ min (min (2 * vec_capacity self.now.threes) (2 ^ 64 - 1)
             + min (4 * vec_capacity self.now.fours) (2 ^ 64 - 1)) (2 ^ 64 - 1) }
@@ -50,18 +50,18 @@ impl Longs {
         threes.saturating_add(self.fours.capacity().saturating_mul(CELL))
     }
 
-    /// Whether none has a cell.
+    /// Tells whether there are no cells.
     pub(crate) fn is_empty(&self) -> bool {
         self.threes.is_empty() && self.fours.is_empty()
     }
 
-    /// The places of entries of four bytes.
+    /// Returns the cells for entries of four bytes.
     #[inline(always)]
     pub(crate) fn fours(&self) -> &[u32] {
         self.fours.as_slice()
     }
 
-    /// The blocks of entries. The rows then say where each begins.
+    /// Makes the blocks of entries. The rows then say where each block begins.
     pub(crate) fn of(
         alloc: Global,
         entries: &[Entry],
@@ -81,7 +81,7 @@ impl Longs {
     }
 }
 
-/// The character at a place of a text, found by following its bytes through the trie.
+/// Returns the character at an index of a text, found by following its bytes through the trie.
 #[inline(never)]
 pub(crate) fn followed_at(trie: &ByteTrie, input: &[u8], used: usize) -> Long
     requires within { used < length input.now }
@@ -99,8 +99,8 @@ pub(crate) fn followed_at(trie: &ByteTrie, input: &[u8], used: usize) -> Long
     }
 }
 
-/// The character of more than two bytes at a place of a text, if a table has it. The number that stands in the rows for the first two bytes
-/// says where to look.
+/// Returns the character of three or four bytes at an index of a text, if a table has it and at least four bytes are
+/// left. The number in the rows for the first two bytes says where to look.
 #[inline(always)]
 pub(crate) fn tabled_at(
     trie: &ByteTrie,

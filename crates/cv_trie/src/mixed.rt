@@ -11,12 +11,13 @@ use crate::reading::read_longer;
 use cv_base::Scalar;
 use cv_byte_trie::ByteTrie;
 
-/// How many characters are read behind one of more than two bytes, before eight at once are tried again. It decides speed alone.
+/// How many characters of one or two bytes are read after a longer one, before eight at once are tried again. It
+/// affects speed alone.
 const AT_ONCE: usize = 32;
 
-/// Reads characters behind what was read, up to one that is none, or to some of one and of two bytes that follow a longer one. Where two
-/// stand in no table, with nothing but single bytes between, it asks none for the next. It stands apart, so that its loop has the
-/// registers.
+/// Reads characters after those that were read, up to bytes that are none, or up to `AT_ONCE` characters of one and of
+/// two bytes after a longer one. If two characters are in no table, with only single bytes between them, the trie alone
+/// reads the next. Kept out of line, so that its loop has the registers.
 #[inline(never)]
 pub(crate) fn read_mixed(
     trie: &ByteTrie,
@@ -37,7 +38,8 @@ pub(crate) fn read_mixed(
     let mut n = front.n;
     let mut used = front.used;
     let mut most = buffer.len();
-    // By how much there were more bytes than characters behind the last that was followed: single bytes leave it as it is.
+    // The number of bytes read less that of characters read, as it was after the last character that was followed.
+    // Single bytes leave the difference as it is.
     let mut followed = usize::MAX;
     while n < most && input.len() - used >= 2 {
         let first = ones[input[used] as usize];

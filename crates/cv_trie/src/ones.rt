@@ -11,11 +11,13 @@ use cv_byte_trie::{ByteTrie, Entry, TAIL};
 use cv_pages::{MANY, joined};
 use std::alloc::{AllocError, Global};
 
-/// Stands for no character, as each number above it does. It is a bit that no character has, so that the bits of several numbers
-/// tell whether such a one is among them. It is the lowest such bit: an address can then leave it out at no cost.
+/// The number for no character, as is each number above it. It is a bit that no character has, so that the joined bits
+/// of several numbers tell whether one of them is none. It is the lowest such bit, so that an address can subtract it
+/// at no cost.
 pub(crate) const NO_CHARACTER: u32 = 0x0020_0000;
 
-/// The character that a byte is by itself, by the code to which it leads from the root.
+/// Returns the character that a byte is by itself, by the code to which the byte leads from the root, or
+/// `NO_CHARACTER`.
 fn one_of(entries: &[Entry], code: u32) -> u32
     requires entries { AreEntries entries.now }
     requires low { code < tails → code < length entries.now }
@@ -30,7 +32,7 @@ fn one_of(entries: &[Entry], code: u32) -> u32
     }
 }
 
-/// For each byte the character that it is by itself.
+/// Returns for each byte the character that it is by itself, or `NO_CHARACTER`.
 pub(crate) fn ones_of(alloc: Global, trie: &ByteTrie) -> Result<Vec<u32>, AllocError>
     ensures long { IfOk result (λ ones. length ones.items ≡ 256) }
     ensures ones { IfOk result (λ ones. AreOnes trie.now.entries ones.items 256) }
@@ -48,7 +50,7 @@ pub(crate) fn ones_of(alloc: Global, trie: &ByteTrie) -> Result<Vec<u32>, AllocE
     Ok(ones)
 }
 
-/// What stands for each of eight bytes. None is tested, so that no branch is taken.
+/// Returns the numbers of eight bytes. None is tested, so that there is no branch.
 #[inline(always)]
 fn numbers_of(ones: &[u32], input: &[u8], at: usize) -> [u32; MANY]
     requires long { length ones.now ≡ 256 }
@@ -64,7 +66,8 @@ fn numbers_of(ones: &[u32], input: &[u8], at: usize) -> [u32; MANY]
     numbers
 }
 
-/// Puts the characters of eight bytes behind what was read. What they are characters of is there for the contract.
+/// Puts the characters of eight bytes after those that were read. The trie, the table and the text are for the contract
+/// alone.
 #[inline(always)]
 fn put_ones(
     _trie: &ByteTrie,
@@ -93,7 +96,7 @@ fn put_ones(
     }
 }
 
-/// Reads characters of one byte behind what was read, eight at a time.
+/// Reads characters of one byte after those that were read, eight at a time.
 #[inline(always)]
 fn read_many(
     trie: &ByteTrie,
@@ -119,7 +122,7 @@ fn read_many(
     now
 }
 
-/// Reads characters of one byte behind what was read, up to the first that is none, one by one.
+/// Reads characters of one byte after those that were read, one by one, up to the first byte that is none.
 #[inline(always)]
 fn read_few(
     _trie: &ByteTrie,
@@ -150,7 +153,7 @@ fn read_few(
     }
 }
 
-/// Reads characters of one byte behind what was read.
+/// Reads characters of one byte after those that were read.
 #[inline(always)]
 pub(crate) fn read_ones(
     trie: &ByteTrie,

@@ -1,4 +1,4 @@
-//! Following bytes through the trie, and reading characters so.
+//! Following bytes through the trie, and reading characters that way.
 ghost use Rattle.std.specs.Prelude.{◌≡◌, ◌≤◌, ◌<◌, ℕ, length, drop, slice_index};
 ghost use Rattle.cv_byte_trie.specs.Tries.{tails};
 ghost use Rattle.cv_byte_trie.specs.Tables.{edge_of};
@@ -9,19 +9,20 @@ use crate::front::Front;
 use cv_base::Scalar;
 use cv_byte_trie::{ByteTrie, Entry, NODE, NONE, TAIL};
 
-/// How many characters are read one after another, however long, before the tables are tried again. It decides speed alone.
+/// How many characters the trie reads, whatever their size, before the tables are tried again. It affects speed alone.
 const LONGER_AT_ONCE: usize = 32;
 
-/// The entry that stands at a place of a text, or none.
+/// Where the bytes at an index of a text lead.
 #[derive(Clone, Copy, Debug)]
 pub(crate) struct Followed {
-    /// The place of the entry, or the code of no edge, or that of the node at which the text ends.
+    /// The index of the entry, or the code of no edge, or that of the node at which the text ends.
     pub(crate) code: u32,
     /// How many bytes were followed.
     pub(crate) size: usize,
 }
 
-/// The entry at a place to which a front of its bytes leads, where all of them stand at a place of a text.
+/// Compares the text with the entry to which some of its bytes lead. The code is the entry's index if all its bytes are
+/// there, else [`NONE`].
 fn whole(entries: &[Entry], place: usize, input: &[u8], used: usize) -> Followed
     requires low { place < length entries.now }
     requires few { place < tails }
@@ -43,7 +44,8 @@ fn whole(entries: &[Entry], place: usize, input: &[u8], used: usize) -> Followed
     }
 }
 
-/// Follows the bytes at a place of a text through the trie. It answers two numbers and no option, which would go through memory.
+/// Follows the bytes at an index of a text through the trie. It returns two numbers, since an `Option` of them would be
+/// returned through memory.
 #[inline(always)]
 pub(crate) fn follow(trie: &ByteTrie, root: &[u32], input: &[u8], used: usize) -> Followed
     requires root { (b : ℕ) → b < 256 → slice_index root.now b ≡ edge_of trie.now.steps 0 b }
@@ -53,7 +55,7 @@ pub(crate) fn follow(trie: &ByteTrie, root: &[u32], input: &[u8], used: usize) -
     ensures within { result.size ≤ length (drop used input.now) }
 {
     trie.assert_leads();
-    // What it ensures says that the pairs can be looked up.
+    // Its contract says that the pairs can be looked up.
     let _pairs = trie.len();
     let mut code = root[input[used] as usize];
     let mut size = 1;
@@ -67,7 +69,8 @@ pub(crate) fn follow(trie: &ByteTrie, root: &[u32], input: &[u8], used: usize) -
     Followed { code, size }
 }
 
-/// Reads some characters behind what was read, however long. It stands apart, so that the loops around it keep their registers.
+/// Reads at most `LONGER_AT_ONCE` characters, whatever their size, after those that were read. Kept out of line to save
+/// registers in the callers' loops.
 #[inline(never)]
 pub(crate) fn read_longer(
     trie: &ByteTrie,

@@ -1,4 +1,4 @@
-//! Where what stands for bytes begins, in one table for single bytes and for pairs.
+//! For each byte the index of its row or cell, in one table for single bytes and for pairs.
 ghost use Rattle.std.specs.Prelude.{◌≡◌, ◌≤◌, ◌<◌, ◌+◌, ℕ, length, slice_index, IfOk};
 ghost use Rattle.cv_trie.specs.Private.Twos.{AreTwos, most_cells, row_of};
 ghost use Rattle.cv_trie.specs.Private.Starts.{AreStarts};
@@ -9,7 +9,7 @@ use crate::twos::SINGLES;
 use cv_byte_trie::Entry;
 use std::alloc::{AllocError, Global};
 
-/// Puts what each byte below 128 is by itself behind the rows, from a place on.
+/// Puts what each byte below 128 is by itself into the cells from an index on, after the rows.
 fn put_singles(_entries: &[Entry], ones: &[u32], twos: &mut [u32], place: usize)
     requires long { length ones.now ≡ 256 }
     requires twos { AreTwos _entries.now ones.now twos.old }
@@ -24,7 +24,7 @@ fn put_singles(_entries: &[Entry], ones: &[u32], twos: &mut [u32], place: usize)
     }
 }
 
-/// Where a byte's own cell stands, from a place on, or its row.
+/// Returns the index of a byte's own cell if it is below 128, of cells from `place` on, or else that of its row.
 fn start_of(ones: &[u32], place: usize, byte: usize) -> u32
     requires long { length ones.now ≡ 256 }
     requires byte { byte < 256 }
@@ -39,8 +39,8 @@ fn start_of(ones: &[u32], place: usize, byte: usize) -> u32
     }
 }
 
-/// Where each byte's own cell stands, for those below 128, and the row of any other. There are none where no byte has a row, or eight at
-/// once are not to be tried.
+/// Returns for each byte below 128 the index of its own cell, and for any other the index of its row. The table is
+/// empty if no byte has a row, or if eight characters at once are not to be tried.
 pub(crate) fn starts_of(
     alloc: Global,
     entries: &[Entry],

@@ -14,21 +14,23 @@ use crate::ones::NO_CHARACTER;
 use cv_byte_trie::Entry;
 use std::alloc::{AllocError, Global};
 
-/// What stands in the rows for two bytes that have a block of this kind is above this number. It is above all numbers of blocks for four
-/// bytes.
+/// Numbers in the rows above this one are for two bytes that have a block for strings of three. All numbers of blocks
+/// for four bytes are below it.
 pub(crate) const THREES: u32 = 0x4000_0000;
 
-/// What the numbers of blocks are counted from. A third byte below the lowest may lead before all blocks, to a cell that isn't there.
+/// The number for index 0 of the cells. A third byte below the lowest of its block may lead before all blocks, which
+/// gives an index past all cells.
 const BASE: u32 = 0x8000_0000;
 
-/// How many strings of three bytes begin with two bytes that have a block, at the least.
+/// Two bytes get a block only if at least this many strings of three bytes begin with them.
 const DENSE: u32 = 32;
 
-/// Stands for no place, and so do places from here on: a cell has 16 bits, so that a map grows by at most three bytes for each string.
+/// The number for no entry. An entry with this index or a higher one is in no cell, since a cell has 16 bits. So a map
+/// grows by at most three bytes for each string.
 const NO_PLACE: u16 = u16::MAX;
 
-/// What was seen of the strings of three bytes that begin with the same two: how many, up to 255, and the lowest and the highest third
-/// byte. While they are counted it stands in the rows.
+/// What the strings of three bytes have that begin with the same two: how many they are, up to 255, and their lowest
+/// and highest third byte. While they are counted, the cell of the two bytes has it as a number.
 #[derive(Clone, Copy, Debug)]
 struct Span {
     count: u8,
@@ -37,7 +39,7 @@ struct Span {
 }
 
 impl Span {
-    /// The span for which a number stands.
+    /// Returns the span of a number.
     fn of(number: u32) -> Span {
         Span {
             count: (number / 0x1_0000 % 0x100) as u8,
@@ -46,14 +48,14 @@ impl Span {
         }
     }
 
-    /// The number that stands for it.
+    /// Returns the number of the span.
     fn number(self) -> u32
         ensures { 0x40000000 ≤ result }
     {
         THREES + self.count as u32 * 0x1_0000 + self.low as u32 * 0x100 + self.high as u32
     }
 
-    /// One more string.
+    /// Returns the span with one more string.
     fn with(self, third: u8) -> Span {
         Span {
             count: self.count.saturating_add(1),
@@ -62,8 +64,8 @@ impl Span {
         }
     }
 
-    /// How many cells a block of them has, one for each third byte from the lowest to the highest. 0: they get no block, since they are
-    /// few, or a third of the cells would stay empty.
+    /// Returns how many cells a block of them has, one for each third byte from the lowest to the highest. It is 0, for
+    /// no block, if they are fewer than `DENSE`, or if more than a third of the cells would stay empty.
     fn cells(self) -> u32
         ensures { result ≤ 256 }
     {
@@ -76,7 +78,8 @@ impl Span {
     }
 }
 
-/// The place in the rows of the first two of three bytes. 0: the first has no row, or there are not three.
+/// Returns the index in the rows of the first two bytes of a string of three. It is 0 if the first byte has no row, or
+/// the string has another size.
 fn front_of(ones: &[u32], entry: &Entry) -> usize
     requires { length ones.now ≡ 256 }
 {
@@ -91,7 +94,8 @@ fn front_of(ones: &[u32], entry: &Entry) -> usize
     (number - NO_CHARACTER) as usize + bytes[1] as usize
 }
 
-/// Counts the strings of three bytes that begin with each two bytes, in the rows, where these have no block for four bytes.
+/// Counts in the rows the strings of three bytes that begin with each two bytes, unless these have a block for four
+/// bytes.
 fn count_fronts(entries: &[Entry], ones: &[u32], twos: &mut [u32])
     requires long { length ones.now ≡ 256 }
     ensures size { length twos.new ≡ length twos.old }
@@ -117,8 +121,8 @@ fn count_fronts(entries: &[Entry], ones: &[u32], twos: &mut [u32])
     }
 }
 
-/// Gives a block to each two bytes with which enough strings begin: the number that stands for them in the rows says where its cell of a
-/// third byte 0 would be. It answers how many cells all blocks have.
+/// Gives a block to each two bytes with which enough strings begin: their cell in the rows says where the block's cell
+/// for the third byte 0 would be. Returns how many cells the blocks have together.
 fn number_blocks(_ones: &[u32], twos: &mut [u32]) -> u32
     requires few { length twos.old ≤ most_cells }
     ensures size { length twos.new ≡ length twos.old }
@@ -142,13 +146,14 @@ fn number_blocks(_ones: &[u32], twos: &mut [u32]) -> u32
     size
 }
 
-/// The cell of the last of three bytes, in the block of the first two, or in another or none, where their block does not reach so far.
+/// Returns the index of the cell for the last of three bytes, in the block of the first two. If their block does not
+/// reach so far, it is in another block or past all cells.
 #[inline(always)]
 fn cell_of(number: u32, third: u8) -> usize {
     (number as usize + third as usize) & (BASE as usize - 1)
 }
 
-/// The cells of blocks, with the places of entries.
+/// Makes the cells of the blocks, with the indices of entries.
 fn fill_blocks(
     alloc: Global,
     entries: &[Entry],
@@ -173,8 +178,9 @@ fn fill_blocks(
     Ok(cells)
 }
 
-/// The places of entries of three bytes, in blocks by their first two, where there are rows and no block for four bytes. The rows then
-/// say where each begins. Who takes a place sees whether the entry has the bytes.
+/// Returns the indices of entries of three bytes, in blocks by their first two bytes, if the first byte has a row and
+/// the two have no block for four bytes. The rows then say where each block begins. Readers have to compare the entry's
+/// bytes.
 pub(crate) fn threes_of(
     alloc: Global,
     entries: &[Entry],
@@ -193,7 +199,8 @@ pub(crate) fn threes_of(
     fill_blocks(alloc, entries, ones, twos, size)
 }
 
-/// The character of the entry that a cell names, if it has the three bytes at a place of a text. The number is that of the first two.
+/// Returns the character of the entry that a cell names, if its three bytes are at an index of a text, or else
+/// `NO_CHARACTER`. The number is that of the first two bytes.
 #[inline(always)]
 pub(crate) fn three_at(
     entries: &[Entry],

@@ -10,14 +10,14 @@ use crate::ones::NO_CHARACTER;
 use cv_byte_trie::Entry;
 use std::alloc::{AllocError, Global};
 
-/// How many characters a row has, one for each second byte.
+/// How many cells a row has, one for each second byte.
 const ROW: u32 = 256;
 
-/// How many cells are left behind the rows, one for each byte below 128.
+/// How many cells follow the rows, one for each byte below 128.
 pub(crate) const SINGLES: usize = 128;
 
-/// Gives a row to each byte with which enough strings begin: the number that stands for the byte says where. It answers how many
-/// characters all rows have.
+/// Gives a row to each byte with which enough strings begin: its number says where the row begins. Returns how many
+/// cells the rows have together.
 fn number_rows(ones: &mut [u32], firsts: &Firsts) -> u32
     requires long { length ones.old ≡ 256 }
     requires plain { (b : ℕ) → b < 256 → slice_index ones.old b ≤ no_character }
@@ -35,7 +35,8 @@ fn number_rows(ones: &mut [u32], firsts: &Firsts) -> u32
     size
 }
 
-/// The place of an entry in the rows, or 0 where its first byte has none.
+/// Returns the index of an entry of two bytes in the rows. It is 0 if its first byte has no row, or it has another
+/// size.
 fn cell_for(ones: &[u32], entry: &Entry) -> usize
     requires { length ones.now ≡ 256 }
     ensures { 0 < result → IsCell ones.now entry.now.0 result }
@@ -51,7 +52,7 @@ fn cell_for(ones: &[u32], entry: &Entry) -> usize
     (number - NO_CHARACTER) as usize + bytes[1] as usize
 }
 
-/// The rows, with the characters of entries, and cells behind them.
+/// Makes the rows, with the characters of entries of two bytes, and the cells after them.
 fn fill_rows(
     alloc: Global,
     entries: &[Entry],
@@ -75,7 +76,7 @@ fn fill_rows(
     Ok(twos)
 }
 
-/// The characters of two bytes, in rows by their first byte. There are none where no byte has a row.
+/// Returns the characters of two bytes, in rows by their first byte. The table is empty if no byte has a row.
 pub(crate) fn twos_of(
     alloc: Global,
     entries: &[Entry],

@@ -13,7 +13,7 @@ use cv_byte_trie::ByteTrie;
 use cv_lead::{Cut, WINDOW, cut_eight};
 use cv_pages::{MANY, joined};
 
-/// What stands for each of eight characters. None is tested, so that no branch is taken.
+/// Returns the numbers of eight characters. None is tested, so that there is no branch.
 #[inline(always)]
 fn numbers_of(
     _trie: &ByteTrie,
@@ -39,7 +39,7 @@ fn numbers_of(
     numbers
 }
 
-/// Puts eight characters behind what was read. What they are characters of is there for the contract.
+/// Puts eight characters after those that were read. The trie, the tables and the text are for the contract alone.
 #[inline(always)]
 fn put_eight(
     _trie: &ByteTrie,
@@ -75,9 +75,9 @@ fn put_eight(
     }
 }
 
-/// Reads characters of one and of two bytes behind what was read, eight at a time, up to eight of which one stands in no table. Where a
-/// byte of 128 at least is a character by itself, or one below begins two, they are cut in another way than the map would, and none
-/// of the cells for what was cut is a character. It stands apart, so that its loop has the registers.
+/// Reads characters of one and of two bytes after those that were read, eight at a time, until one of eight is in no
+/// table. The text is cut as if each byte below 128 were a character and any other the first of two. If the charmap
+/// reads bytes otherwise, their cell has no character. Kept out of line, so that its loop has the registers.
 #[inline(never)]
 pub(crate) fn read_windows(
     trie: &ByteTrie,

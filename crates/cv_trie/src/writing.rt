@@ -1,4 +1,4 @@
-//! Writing, one character or several at once.
+//! Writing characters, one or several at once.
 ghost use Rattle.std.specs.Prelude.{◌≤◌, ◌+◌, ◌*◌, length};
 ghost use Rattle.cv_base.specs.Places.{IsPut, PutsAt};
 ghost use Rattle.cv_base.specs.Blocks.{MayWriteBlock};
@@ -13,7 +13,7 @@ use cv_base::{Policy, Put, Scalar, WriteState, WrittenBlock};
 use cv_byte_trie::Entry;
 use cv_pages::{NOWHERE, Pages};
 
-/// Puts bytes at a place.
+/// Copies bytes to an index of a slice.
 fn put_bytes(out: &mut [u8], at: usize, bytes: &[u8])
     requires { at + length bytes.now ≤ length out.old }
     ensures { IsPut bytes.now out.old at (length bytes.now) out.new }
@@ -22,7 +22,8 @@ fn put_bytes(out: &mut [u8], at: usize, bytes: &[u8])
     out[at..at + n].copy_from_slice(bytes);
 }
 
-/// Writes a character at a place of a slice. It is the same in every state.
+/// Writes a character at an index of a slice, in every state in the same way. It reports if the charmap lacks the
+/// character, or if the slice has no room for its bytes.
 pub(crate) fn put_character(
     pages: &Pages,
     entries: &[Entry],
@@ -50,7 +51,7 @@ pub(crate) fn put_character(
     }
 }
 
-/// Writes characters by a buffer of so many bytes, which are cleared.
+/// Writes characters through a buffer of `BYTES` bytes, which is zeroed first.
 #[inline(always)]
 fn write_by<const BYTES: usize>(
     pages: &Pages,
@@ -83,8 +84,9 @@ fn write_by<const BYTES: usize>(
     })
 }
 
-/// Writes at most 256 characters at a place, or `?` for each that the charmap lacks, where the policy allows it. Bytes of the
-/// slice around them stay. Few characters are written by a small buffer, which costs less to clear.
+/// Writes at most 256 characters at an index of a slice, with `?` for each that the charmap lacks. If there is such a
+/// character and the policy does not allow it, it returns `None` and the slice stays as it was. Few characters are
+/// written through a small buffer, which costs less to zero.
 #[inline(never)]
 pub(crate) fn write_run(
     pages: &Pages,

@@ -20,29 +20,31 @@ pub record IsUnchanged (old new : Steps) : Type 0 where
   pub edges : new.edges.items ≡ old.edges.items
   pub tables : new.tables.items ≡ old.tables.items
 
--- the code by which the byte behind `depth` others leads to the entry at a place, of so many bytes
+-- the code for the edge of the byte at `depth` to the entry at index `place`, which has `size` bytes
 abbrev pub end_code : (size depth place : ℕ) → ℕ
 end_code size depth place = if size == depth + 1 then place else tail_code place
 
--- the code that leads on over the last so many bytes of a chain, whose nodes begin at `count`
+-- the code that leads over the last `j` bytes of a chain to `code`, if the numbers of the chain's nodes begin at
+-- `count`
 abbrev pub code_behind : ℕ → ℕ → ℕ → ℕ
 code_behind code count j = if j == 0 then code else node_code (count + j - 1)
 
--- New nodes lead over bytes to a code, one for each byte, that of the last byte first.
+-- New nodes lead over bytes to a code. There is one for each byte, and that of the last byte comes first.
 pub record LeadsOver (old new : Steps) (bytes : List ℕ) (code : ℕ) : Type 0 where
   pub count : length new.nodes.items ≡ length old.nodes.items + length bytes
   pub same : (n : ℕ) → n < length old.nodes.items → node_at new n ≡ node_at old n
   pub chain : (j : ℕ) → j < length bytes → node_at new (length old.nodes.items + j)
       ≡ One (slice_index_or bytes (length bytes - 1 - j) 0) (code_behind code (length old.nodes.items) j)
 
--- New nodes lead over bytes to a code, and the one before the last byte leads by another byte to another code, and by no further one.
+-- New nodes lead over bytes to a code. That of the last byte also leads by the byte `other` to the code `place`. There
+-- are no other edges.
 pub record Branches (old new : Steps) (bytes : List ℕ) (code other place : ℕ) : Type 0 where
   pub count : length new.nodes.items ≡ length old.nodes.items + length bytes
   pub on : (j : ℕ) → j < length bytes → slice_index_or bytes (length bytes - 1 - j) 0 < 256 → edge_of new (length old.nodes.items + j) (slice_index_or bytes (length bytes - 1 - j) 0) ≡ code_behind code (length old.nodes.items) j
   pub fork : edge_of new (length old.nodes.items) other ≡ place
   pub off : (j c : ℕ) → j < length bytes → c < 256 → c ≢ slice_index_or bytes (length bytes - 1 - j) 0 → ((j ≡ 0) × (c ≡ other) → ⊥) → edge_of new (length old.nodes.items + j) c ≡ none
 
--- A byte of a node leads to the first of these nodes; all other edges stay.
+-- A byte of a node leads to the chain of the new nodes. All other edges stay.
 pub record Forks (old new : Steps) (n b : ℕ) (bytes : List ℕ) (code other place : ℕ) : Type 0 where
   pub branches : Branches old new bytes code other place
   pub set : edge_of new n b ≡ code_behind code (length old.nodes.items) (length bytes)

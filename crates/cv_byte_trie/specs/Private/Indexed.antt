@@ -1,4 +1,4 @@
--- What a byte trie keeps.
+-- The invariant of a byte trie.
 use Rattle.std.specs.Prelude.{◌+◌, ◌*◌, ◌≤◌, List, length}
 use Rattle.cv_byte_trie.specs.Entries.{Entry, AreEntries}
 use Rattle.cv_byte_trie.specs.Tries.{HasTrie}
@@ -6,7 +6,8 @@ use Rattle.cv_byte_trie.specs.Tables.{edge_of}
 use Rattle.cv_byte_trie.specs.Private.Sound.{IsSound}
 use Rattle.cv_byte_trie.specs.declared.steps.Steps.{Steps}
 
--- Entries with a trie of them, of so many nodes, edges and tables that each has a number.
+-- Entries and the steps of their trie. The number of entries bounds those of the nodes, of the edges and of the codes
+-- in tables, so that each has an index.
 pub record IsIndexed (entries : List Entry) (steps : Steps) : Type 0 where
   pub apart : AreEntries entries
   pub sound : IsSound steps

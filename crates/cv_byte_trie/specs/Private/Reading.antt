@@ -23,7 +23,7 @@ pub record IsVacant (step : StepsBy) (count : ℕ) (entries : List Entry) (text 
   pub byte : slice_index_or text depth 0 < 256
   pub vacant : step node (slice_index_or text depth 0) ≡ none
 
--- The next byte leads to an entry of which bytes are left.
+-- The next byte leads to an entry that has bytes after it.
 pub record IsTail (step : StepsBy) (count : ℕ) (entries : List Entry) (text : List ℕ) (tail : Tail) : Type 0 where
   pub here : IsAt step count entries text tail.depth tail.node
   pub more : tail.depth < length text

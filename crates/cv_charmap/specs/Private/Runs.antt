@@ -1,4 +1,4 @@
--- The meaning of a charmap as a run over its lines. It serves proofs: `RunMeaning` shows that both are one.
+-- The meaning of a charmap as a run over its lines, for proofs: `RunMeaning` shows that both are the same.
 use Rattle.std.specs.Prelude.{ℕ, ◌+◌, ◌-◌, min, Bool, ◌==◌, false, true, List, [], ◌∷◌, map, if◌then◌else◌, Option, Some, None, Result, Ok, Err}
 use Rattle.std.specs.List.{list_any, range_with_len}
 use Rattle.cv_base.specs.Scalars.{question}
@@ -13,7 +13,7 @@ use Rattle.cv_charmap.specs.declared.fault.MapFault.{MapFault}
 use Rattle.cv_charmap.specs.declared.phase.Phase.{Phase}
 use Rattle.cv_charmap.specs.declared.phase.Phase.TheVariants.{Above, Inside, Behind}
 
--- one step after another, as far as none is faulty
+-- one step after another, until one is faulty
 infixl 10 ◌>>=◌
 abbrev pub ◌>>=◌ : {A B : Type 0} → Result A MapFault → (A → Result B MapFault) → Result B MapFault
 Ok x >>= f = f x
@@ -22,7 +22,7 @@ Err fault >>= f = Err fault
 abbrev pub fault : ℕ → Cause → MapFault
 fault n why = record { line = n; cause = why }
 
--- the list behind an entry that isn't faulty
+-- the list after an entry, which a faulty one leaves as it is
 abbrev pub with_entry : List Pair → Result Pair Cause → List Pair
 with_entry all (Ok pair) = entered all pair
 with_entry all (Err cause) = all
@@ -31,7 +31,7 @@ abbrev pub unless : Option Cause → ℕ → Result (List Pair) MapFault → Res
 unless (Some cause) n rest = Err (fault n cause)
 unless None n rest = rest
 
--- the list behind some entries, or the first fault among them
+-- the list after some entries, or the first fault among them
 abbrev pub run_steps : List Pair → List Step → Result (List Pair) MapFault
 run_steps all [] = Ok all
 run_steps all (step ∷ steps) = unless (entry_cause all step.1) step.0 (run_steps (with_entry all step.1) steps)
@@ -40,7 +40,7 @@ run_steps all (step ∷ steps) = unless (entry_cause all step.1) step.0 (run_ste
 unfoldable pub run_entries : List Pair → ℕ → List (Result Pair Cause) → Result (List Pair) MapFault
 run_entries all n entries = run_steps all (map (λ entry. (n, entry)) entries)
 
--- the entries of a range from a place on
+-- the entries of a range from the `i`th on, of `count`
 abbrev pub entries_from : Bool → ℕ → List ℕ → ℕ → ℕ → List (Result Pair Cause)
 entries_from hex first bytes i count = map (entry_at hex first bytes) (range_with_len i (count - i))
 
@@ -88,12 +88,12 @@ abbrev pub lines_run : State → List (List ℕ) → Result State MapFault
 lines_run s [] = Ok s
 lines_run s (line ∷ lines) = line_run s line >>= λ t. lines_run t lines
 
--- a name and pairs, if they are enough
+-- the name and the pairs, if there is a name and `?` is among them
 abbrev pub whole_by : Option (List ℕ) → List Pair → Result Charmap MapFault
 whole_by None all = Err (fault 0 NoName)
 whole_by (Some name) all = if list_any (λ p. p.1 == question) all then Ok (record { name = name; pairs = all }) else Err (fault 0 NoSubstitute)
 
--- what all lines mean
+-- what the lines mean after the last
 abbrev pub finish_by : Phase → State → Result Charmap MapFault
 finish_by Above s = Err (fault 0 NoMap)
 finish_by Inside s = Err (fault 0 NoEnd)

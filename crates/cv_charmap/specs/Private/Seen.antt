@@ -1,4 +1,4 @@
--- How what is read of a charmap stands in the code: contracts of private functions cite it.
+-- How the code represents what was read of a charmap. Contracts of private functions cite it.
 use Rattle.std.specs.Prelude.{◌≡◌, ℕ, ◌<◌, ◌≤◌, Bool, false, true, List, length, take, Some, None, option_map, Result, Ok, Err}
 use Rattle.cv_lex.specs.Readings.{Reading, reading_of}
 use Rattle.cv_lex.specs.declared.cause.Cause.{Cause}
@@ -30,18 +30,19 @@ header_seen h = record {
   comment = h.comment;
 }
 
--- an entry whose bytes have others behind them
+-- an entry without the bytes that pad it
 abbrev pub padded_entry : ℕ → Result Pair Cause → Result Pair Cause
 padded_entry size (Ok p) = Ok (take size p.0, p.1)
 padded_entry size (Err cause) = Err cause
 
--- A pair was entered into a list, at a place, or refused. Want of memory says nothing.
+-- A pair was entered into a list, and is at an index, or was refused. Nothing is claimed if an allocation failed.
 abbrev pub Enters : List Pair → Pair → Result ℕ EntryFault → List Pair → Type 0
 Enters all p (Ok place) after = (pair_cause all p ≡ None) × (after ≡ entered all p) × (place < length after) × (pair_at after place ≡ p)
 Enters all p (Err (entry.Faulty cause)) after = pair_cause all p ≡ Some cause
 Enters all p (Err entry.Memory) after = Unit {0}
 
--- An entry of a range was entered, at a place, and those up to another are in the list. Want of memory says nothing.
+-- An entry of a range was entered, and is at an index. The entries from it up to another are in the list. Nothing is
+-- claimed if an allocation failed.
 abbrev pub Passes : List Pair → Bool → ℕ → List ℕ → ℕ → ℕ → Result (ℕ × ℕ) EntryFault → List Pair → Type 0
 Passes all hex first bytes i count (Ok passed) after =
     (i < passed.1) × (take (length all) after ≡ all)
@@ -52,7 +53,8 @@ Passes all hex first bytes i count (Err (entry.Faulty cause)) after =
     (n : ℕ) → run_entries all n (entries_from hex first bytes i count) ≡ Err (fault n cause)
 Passes all hex first bytes i count (Err entry.Memory) after = Unit {0}
 
--- Entries of a range were entered from one on, and those up to another are in the list; the first of them stand one behind another. Want of memory says nothing.
+-- Entries of a range from one on were entered. Those up to another are in the list, and the pairs of the first of them
+-- are one after another. Nothing is claimed if an allocation failed.
 abbrev pub PassesOn : List Pair → Bool → ℕ → List ℕ → ℕ → ℕ → Result (Stop × ℕ) EntryFault → List Pair → Type 0
 PassesOn all hex first bytes i count (Ok passed) after =
     (i < passed.1) × (take (length all) after ≡ all)
@@ -63,49 +65,49 @@ PassesOn all hex first bytes i count (Err (entry.Faulty cause)) after =
     (n : ℕ) → run_entries all n (entries_from hex first bytes i count) ≡ Err (fault n cause)
 PassesOn all hex first bytes i count (Err entry.Memory) after = Unit {0}
 
--- Entries were run over. Want of memory says nothing.
+-- Entries were entered, or one is at fault, as a run over them says. Nothing is claimed if an allocation failed.
 abbrev pub RunsTo : Result (List Pair) MapFault → ℕ → Result (Unit {0}) EntryFault → List Pair → Type 0
 RunsTo run n (Ok done) after = run ≡ Ok after
 RunsTo run n (Err (entry.Faulty cause)) after = run ≡ Err (record { line = n; cause = cause })
 RunsTo run n (Err entry.Memory) after = Unit {0}
 
--- what is read of a charmap
+-- what was read of a charmap so far
 abbrev pub state_seen : Header → List Pair → Phase → ℕ → State
 state_seen h all phase number = state (header_seen h) all phase number
 
--- A line above `CHARMAP` was taken.
+-- A line above `CHARMAP` was read.
 abbrev pub AboveTo : spec.Header → List ℕ → ℕ → Result (Header × Phase) MapFault → Type 0
 AboveTo h line n (Ok after) = (all : List Pair) (k : ℕ) → above_by (state h all Above k) n (reading_of (marks_by h false) line) ≡ Ok (state (header_seen after.0) all after.1 n)
 AboveTo h line n (Err fault) = (all : List Pair) (k : ℕ) → above_by (state h all Above k) n (reading_of (marks_by h false) line) ≡ Err fault
 
--- A line among the mappings was taken. Want of memory says nothing.
+-- A line among the mappings was read. Nothing is claimed if an allocation failed.
 abbrev pub InsideTo : spec.Header → List Pair → List ℕ → ℕ → Result Phase CompileFault → List Pair → Type 0
 InsideTo h all line n (Ok phase) after = (k : ℕ) → inside_by (state h all Inside k) n (reading_of (marks_by h true) line) ≡ Ok (state h after phase n)
 InsideTo h all line n (Err (compile.Map fault)) after = (k : ℕ) → inside_by (state h all Inside k) n (reading_of (marks_by h true) line) ≡ Err fault
 InsideTo h all line n (Err compile.Memory) after = Unit {0}
 
--- what came of a mapping
+-- what follows from entering a mapping
 abbrev pub after_entries : Result (Unit {0}) EntryFault → ℕ → Result Phase CompileFault
 after_entries (Ok done) n = Ok Inside
 after_entries (Err (entry.Faulty cause)) n = Err (compile.Map (record { line = n; cause = cause }))
 after_entries (Err entry.Memory) n = Err compile.Memory
 
--- what is left to decide at the end
+-- what the charmap means if it ends here
 abbrev pub finished : Phase → spec.Header → List Pair → Result Charmap MapFault
 finished phase h all = finish_by phase (state h all phase 0)
 
--- What a line among the mappings says was taken.
+-- What a line among the mappings says was done. Nothing is claimed if an allocation failed.
 abbrev pub TakesInside : spec.Header → List Pair → Reading → ℕ → Result Phase CompileFault → List Pair → Type 0
 TakesInside h all said n (Ok phase) after = (k : ℕ) → inside_by (state h all Inside k) n (Ok said) ≡ Ok (state h after phase n)
 TakesInside h all said n (Err (compile.Map fault)) after = (k : ℕ) → inside_by (state h all Inside k) n (Ok said) ≡ Err fault
 TakesInside h all said n (Err compile.Memory) after = Unit {0}
 
--- where a line that was taken led
+-- what the next line depends on, if the line was read
 abbrev pub taken : Place → Result (Unit {0}) CompileFault → Result Place CompileFault
 taken place (Ok done) = Ok place
 taken place (Err why) = Err why
 
--- A line was taken.
+-- A line was read. Nothing is claimed if an allocation failed.
 abbrev pub NextTo : State → List ℕ → Result Place CompileFault → List Pair → Type 0
 NextTo s line (Ok place) after = line_run s line ≡ Ok (state (header_seen place.header) after place.phase (next_number s.number))
 NextTo s line (Err (compile.Map fault)) after = line_run s line ≡ Err fault

@@ -12,7 +12,7 @@ pub record HasNumber (text : List ℕ) (number : ℕ) (rest : List ℕ) : Type 0
   pub all : are_digits 16 digits ≡ true
   pub value : number ≡ numeral 16 digits
 
--- The escape character is no blank, and not in such a text before what follows.
+-- The escape character is no blank, and not in the part of such a text that precedes `rest`.
 pub record IsApart (escape : ℕ) : Type 0 where
   pub high : 36 ≤ digit_value escape
   pub visible : is_blank escape ≡ false

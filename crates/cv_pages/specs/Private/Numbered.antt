@@ -2,7 +2,8 @@
 use Rattle.std.specs.Prelude.{◌≡◌, ℕ, ◌+◌, ◌/◌, ◌%◌, ◌<◌, ◌≤◌, List, slice_index}
 use Rattle.cv_byte_trie.specs.Entries.{Entry, character_at}
 
--- Pages have size cells together. The page at 0 is that of all characters that have no other, and no other page is that of two ranges of characters.
+-- Pages have `size` cells together. The page at 0 is shared by all characters that have no other. No other page is
+-- shared by two ranges of 64 characters.
 pub record AreNumbered (tops : List ℕ) (size : ℕ) : Type 0 where
   pub whole : size % 64 ≡ 0
   pub some : 64 ≤ size

@@ -1,4 +1,4 @@
--- What a compiled charmap keeps.
+-- The invariant of a compiled charmap.
 use Rattle.std.specs.Prelude.{◌≡◌, ℕ, ◌<◌, ◌≤◌, List, length, Bool, IsTrue}
 use Rattle.cv_base.specs.Ascii.{ReadsAscii, WritesAscii}
 use Rattle.cv_base.specs.declared.ascii_form.AsciiForm.TheVariants.{Byte}
@@ -14,12 +14,15 @@ use Rattle.cv_trie.specs.Private.Ones.{AreOnes}
 use Rattle.cv_trie.specs.Private.Twos.{AreTwos}
 use Rattle.cv_trie.specs.Private.Starts.{AreStarts}
 
--- No pair has more bytes than so many, and those have 8 at most.
+-- No pair has more than `most` bytes, which is 8 at most.
 pub record HaveAtMost (most : ℕ) (pairs : List Pair) : Type 0 where
   pub few : most ≤ 8
   pub each : (k : ℕ) → k < length pairs → length (bytes_at pairs k) ≤ most
 
--- The list is a charmap's; the bytes that are characters by themselves stand in their table, and characters of two bytes in the rows, if there are any; where starts are there, each byte has its own in these; its pages name the first place of each character and nothing else; bytes that stand ready are those of the entries there; and where ASCII stands for itself.
+-- The list is a charmap's. The numbers of single bytes in `ones`, and those of two bytes in the rows `twos` if there
+-- are any, are their characters or none. If there are `starts`, each byte has its cell or row in them. The pages name
+-- the first pair of each character, and nothing else. The bytes that they keep ready are those of these pairs. A flag
+-- that is set says that ASCII is read as itself, or written so.
 pub record IsCompiled (pairs : List Pair) (ones twos starts tops cells : List ℕ) (ready : List (List ℕ)) (lengths : List ℕ) (most : ℕ) (reads writes : Bool) : Type 0 where
   pub map : IsMap pairs
   pub long : length ones ≡ 256

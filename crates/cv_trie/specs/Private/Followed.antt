@@ -1,17 +1,18 @@
--- Where the bytes at a place of a text lead through a trie.
+-- Where the bytes at an index of a text lead through a trie.
 use Rattle.std.specs.Prelude.{◌≡◌, ℕ, ◌<◌, List, length, take}
 use Rattle.cv_byte_trie.specs.Entries.{Entry, bytes_at}
 use Rattle.cv_byte_trie.specs.Tries.{StepsBy, tails, tail_code, none, node_code}
 use Rattle.cv_byte_trie.specs.Private.Reading.{IsAt}
 
--- The first so many bytes of a text lead to this code: to the place of the entry that they are, or to an entry of which bytes are left, or to a node, or nowhere.
+-- The first `size` bytes of a text lead to this code: the index of the entry that they are, or the code of an entry
+-- that has more bytes, or that of a node, or that of no edge.
 pub record IsFollowed (step : StepsBy) (count : ℕ) (entries : List Entry) (text : List ℕ) (size code : ℕ) : Type 0 where
   pub low : code < tails → code < length entries
   pub leaf : code < tails → bytes_at entries code ≡ take size text
   pub tail : (p : ℕ) → code ≡ tail_code p → p < tails → p < length entries
   pub node : (n : ℕ) → code ≡ node_code n → IsAt step count entries text size n
 
--- The first so many bytes of a text are the entry at this place, if it is one.
+-- The first `size` bytes of a text are the entry at this index, if it is below the code of no edge.
 pub record IsFound (entries : List Entry) (text : List ℕ) (size place : ℕ) : Type 0 where
   pub low : place < none → place < length entries
   pub leaf : place < none → bytes_at entries place ≡ take size text

@@ -1,4 +1,4 @@
--- What was read at the front of a text, and what was written at the front of a buffer.
+-- What was read at the start of a text, and what was written at the start of a buffer.
 use Rattle.std.specs.Prelude.{◌≡◌, ◌≤◌, ℕ, List, length, take}
 use Rattle.cv_base.specs.Codecs.{Writing}
 use Rattle.cv_base.specs.Chains.{output_for}
@@ -9,12 +9,12 @@ use Rattle.cv_charmap.specs.Entries.{Pair}
 use Rattle.cv_trie.specs.Charmaps.{map_reads}
 use Rattle.cv_trie.specs.declared.front.Front.{Front}
 
--- Characters were read at the front of a text into the front of a buffer.
+-- Characters were read from the start of a text into the start of a buffer.
 pub record IsReadFront (pairs : List Pair) (text : List ℕ) (front : Front) (buffer : List ℕ) : Type 0 where
   pub block : IsReadBlock (map_reads pairs) read.Start text (record { n = front.n; used = front.used; next = read.Start }) buffer
   pub within : front.used ≤ length text
 
--- What is written for characters stands at the front of a buffer.
+-- A buffer begins with what is written for characters.
 pub record IsWrittenFront (writes : Writing) (characters buffer : List ℕ) (used count : ℕ) : Type 0 where
   pub bytes : take used buffer ≡ (output_for writes write.Start characters).bytes
   pub uses : used ≡ length (output_for writes write.Start characters).bytes

@@ -1,4 +1,4 @@
--- A character of any size at the front of a text.
+-- A character of any size at the start of a text.
 use Rattle.std.specs.Prelude.{ℕ, ◌≤◌, List, length, Some}
 use Rattle.cv_base.specs.Items.{taken, Stands}
 use Rattle.cv_base.specs.Scalars.{IsScalar}

@@ -3,13 +3,13 @@ use Rattle.std.specs.Prelude.{◌≡◌, ℕ, ◌+◌, ◌<◌, ◌≤◌, List,
 use Rattle.cv_lead.specs.Cuts.{second_of}
 use Rattle.cv_trie.specs.Private.Twos.{row_of}
 
--- A byte below 128 has a cell with what it is by itself, and any other has its row.
+-- A byte below 128 has a cell with its number in `ones`. Any other has its row.
 pub record AreStarts (ones twos starts : List ℕ) : Type 0 where
   pub long : length starts ≡ 256
   pub within : (b : ℕ) → b < 128 → slice_index starts b < length twos
   pub single : (b : ℕ) → b < 128 → slice_index twos (slice_index starts b) ≡ slice_index ones b
   pub first : (b : ℕ) → 128 ≤ b → b < 256 → slice_index starts b ≡ row_of ones b
 
--- what stands for the one or two bytes of the character at a place
+-- the number of the character at an index of a text, by its one or two bytes
 abbrev pub number_at : List ℕ → List ℕ → List ℕ → ℕ → ℕ
 number_at twos starts text place = slice_index twos (slice_index starts (slice_index text place) + second_of text place)

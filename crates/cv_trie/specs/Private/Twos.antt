@@ -8,26 +8,29 @@ use Rattle.cv_trie.specs.Private.Ones.{no_character}
 abbrev pub IsTwo : List Pair → ℕ → ℕ → ℕ → Type 0
 IsTwo pairs first second character = IsScalar character × Contains pairs (first ∷ second ∷ [], character)
 
--- where the row of a first byte begins: by how much the number that stands for the byte is above that of no character
+-- the index at which the row of a first byte begins: its number in `ones` less that for no character, or 0 if it is not
+-- above that
 abbrev pub row_of : List ℕ → ℕ → ℕ
 row_of ones first = slice_index ones first - no_character
 
--- what stands for two bytes in the rows
+-- the number of two bytes in the rows
 abbrev pub two_at : List ℕ → List ℕ → ℕ → ℕ → ℕ
 two_at ones twos first second = slice_index twos (row_of ones first + second)
 
--- how many numbers there are at most: those of 256 bytes, the row of all others, and 128 cells of single bytes
+-- how many numbers there are at most: a row of 256 for each byte, the row that all bytes without one share, and 128
+-- cells for single bytes
 abbrev pub most_cells : ℕ
 most_cells = 65920
 
--- Of the first so many bytes each has its row among so many numbers. Row 0 is that of all bytes that have no other, and the others come one behind another.
+-- Each of the first `n` bytes has its row among `size` numbers. The row at 0 is that of all bytes that have no other.
+-- The others follow it in the order of their bytes.
 pub record AreRows (ones : List ℕ) (n size : ℕ) : Type 0 where
   pub some : 256 ≤ size
   pub within : (b : ℕ) → b < n → row_of ones b + 256 ≤ size
   pub behind : (b : ℕ) → b < n → 0 < row_of ones b → 256 ≤ row_of ones b
   pub apart : (a b : ℕ) → a < b → b < n → 0 < row_of ones b → row_of ones a + 256 ≤ row_of ones b
 
--- This is the place of two bytes in a row of the first.
+-- This is the index of two bytes in the row of the first, which has one of its own.
 pub record IsCell (ones bytes : List ℕ) (cell : ℕ) : Type 0 where
   pub two : length bytes ≡ 2
   pub first : slice_index bytes 0 < 256
@@ -35,7 +38,8 @@ pub record IsCell (ones bytes : List ℕ) (cell : ℕ) : Type 0 where
   pub own : 0 < row_of ones (slice_index bytes 0)
   pub at : cell ≡ row_of ones (slice_index bytes 0) + slice_index bytes 1
 
--- Each first byte has a row, behind which 128 cells are left, and what stands there for a second byte is the character of the two, unless it is none.
+-- Each first byte has a row, which at least 128 numbers follow. The number of two bytes in the rows is their character,
+-- unless it is that for no character or above.
 pub record AreTwos (pairs : List Pair) (ones twos : List ℕ) : Type 0 where
   pub within : (b : ℕ) → b < 256 → row_of ones b + 384 ≤ length twos
   pub each : (b c : ℕ) → b < 256 → c < 256 → two_at ones twos b c < no_character → IsTwo pairs b c (two_at ones twos b c)

@@ -62,8 +62,8 @@ fn a_text_has_8388608_bytes_at_most(rt: HostRuntime) -> Result<(), Fail> {
     exchange(&rt, 2, TEXT)
 }
 
-/// The charmaps TOY of two callers, which differ in the character of the byte 80. The texts are long enough that two
-/// workers compile them on a thread each.
+/// The charmaps TOY of two callers, which differ in the character of the byte 80. Two or more workers compile them on a
+/// thread each.
 const LONG: &str = r"
 1 1 put #x{20000}|<code_set_name> TOY|CHARMAP|<question-mark> \x3F|<U0100> \x80|END CHARMAP => 1 1 OK 00000002
 2 1 put #x{20000}|<code_set_name> TOY|CHARMAP|<question-mark> \x3F|<U0142> \x80|END CHARMAP => 2 1 OK 00000002

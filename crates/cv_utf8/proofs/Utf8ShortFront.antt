@@ -32,7 +32,7 @@ two_more text n room p a b d e =
     let bytes : take 2 (drop n text) ≡ encode c = ap (λ (l : List ℕ). take 2 l) pair ∙ sym spelled in
     subst IsUtf8 (sym (take-add n 2 text)) (IsUtf8-append (take n text) (take 2 (drop n text)) p (subst IsUtf8 (sym bytes) (IsUtf8-encode c (low_scalar c (omega arith)))))
 
--- how many continuation bytes of the character before an offset are at it
+-- 1 if a continuation byte is at an offset, and 0 otherwise
 abbrev pub tail_at : List ℕ → ℕ → ℕ
 tail_at text n = cond (is_behind (get_or text n 0)) 1 0
 

@@ -9,8 +9,8 @@ use cv_base::Scalar;
 use cv_block::{ByteOrder, LittleEndian, MANY, Spelled};
 use std::simd::prelude::*;
 
-/// Sixteen words of four bytes, the lowest byte first, one from every third or every fourth byte of a text on. No early
-/// exit, so that all are loaded at once.
+/// Sixteen words of four bytes, the lowest byte first. One begins at every third or at every fourth byte of a text, as
+/// `size` says. No early exit, so that all are loaded at once.
 #[inline(always)]
 fn words_of(text: &[u8], size: usize) -> [u32; MANY]
     requires size { (size ≡ 3) ⊎ (size ≡ 4) }

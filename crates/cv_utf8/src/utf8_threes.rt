@@ -20,8 +20,8 @@ const THREE_BYTES: u8 = 0xe0;
 /// 0.
 const PLACES: [u8; 16] = [0, 1, 2, 128, 3, 4, 5, 128, 6, 7, 8, 128, 9, 10, 11, 128];
 
-/// Returns whether several characters of three bytes likely follow each other from `at` on, by two of their first
-/// bytes, and whether as many bytes are left as `three_units` loads. The former affects speed only.
+/// Returns whether `LOADED` bytes are left from `at` on, and several characters of three bytes likely follow each other
+/// there, by two of their first bytes. The latter affects speed only.
 #[inline(always)]
 pub(crate) fn may_be_several(text: &[u8], at: usize) -> bool
     requires { at ≤ length text.now }

@@ -132,7 +132,7 @@ fn output(answer: &Answer) -> Option<&[u8]> {
     }
 }
 
-/// Whether the wanted words are those that are told, and then the output.
+/// Whether the wanted words are `told`, and then the output.
 fn ends_in(alloc: Global, told: &str, output: &[u8], wanted: &str) -> Result<bool, Fail> {
     let Some((front, bytes)) = wanted.rsplit_once(' ') else {
         return Ok(false);

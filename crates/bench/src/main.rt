@@ -1,4 +1,4 @@
-//! How long conversions take. It prints figures only if it is asked to; see `bench/pairs`.
+//! Measures how long conversions take. It prints figures only if it is given its arguments. See `bench/pairs`.
 #![tactic(auto)]
 
 mod measure;

@@ -1,4 +1,4 @@
-//! Converting a text repeatedly.
+//! Converting a text several times.
 
 use cv_base::Policy;
 use cv_charmap::{CompileFault, read};
@@ -21,11 +21,13 @@ pub struct Asked<'a> {
     pub call: usize,
     /// How often the text is converted.
     pub rounds: u64,
-    /// How many bytes of standard input are the text of a charmap, before the text that is converted.
+    /// How many bytes at the start of standard input are the text of a charmap. The text that is converted follows
+    /// them.
     pub charmap: usize,
 }
 
-/// The encoding of a name: `charmap` is that of a charmap's text, and all others are built in.
+/// The encoding with a name: `charmap` is that of the charmap's text, and all others are built in. `None`: the name is
+/// unknown, or the text has a fault.
 fn encoding(alloc: Global, name: &str, charmap: &[u8]) -> io::Result<Option<Encoding>> {
     if name != "charmap" {
         return Ok(builtin(name.as_bytes()));
@@ -50,7 +52,8 @@ fn part(text: &[u8], at: usize, call: usize) -> &[u8] {
     rest.get(..call).unwrap_or(rest)
 }
 
-/// Converts all of a text once, `call` bytes at a time. What a call leaves is given to the next.
+/// Converts all of a text once, `call` bytes at a time. What a call leaves is given to the next. It stops at a call
+/// that uses no bytes.
 fn convert_all(conversion: &mut Conversion, text: &[u8], call: usize, out: &mut [u8]) {
     let mut at: usize = 0;
     for _call in 0..u64::MAX {
@@ -70,7 +73,8 @@ fn read_text<R: Input + AllocGlobal>(rt: &R, alloc: Global) -> io::Result<Vec<u8
     Ok(text)
 }
 
-/// The nanoseconds that the fastest round takes. `None`: an encoding is unknown.
+/// Returns the nanoseconds that the fastest round takes. `None`: an encoding is unknown, or the charmap's text has a
+/// fault.
 pub fn measure<R: Clock + Input + AllocGlobal>(
     rt: &R,
     asked: &Asked<'_>,

@@ -1,4 +1,5 @@
-//! How long reading a charmap takes. It prints figures only if it is asked to; see `bench/charmaps`.
+//! Measures how long it takes to read a charmap. It prints figures only if its argument is a number of rounds. See
+//! `bench/charmaps`.
 #![tactic(auto)]
 
 use cv_charmap::read;
@@ -20,7 +21,7 @@ fn words_of(alloc: Global, owned: &[String]) -> Result<Vec<&str>, AllocError> {
     owned.iter().map(|word| word.as_str()).collect(alloc)
 }
 
-/// The nanoseconds that the fastest round takes, and the result of the text.
+/// Prints, for each round, the nanoseconds that reading takes, and the number of pairs or the fault.
 fn measure<R: Clock + Input + Print + AllocGlobal>(rt: &R, rounds: u64) -> io::Result<()> {
     let alloc = rt.alloc();
     let mut text = Vec::new(alloc);

@@ -1,10 +1,10 @@
-//! Every form of every constant.
+//! Every form of every constant of one byte: decimal, octal and hexadecimal.
 
 use cv_charmap::{CompileFault, Pairs, read};
 use std::alloc::{AllocError, Global};
 use std::io;
 
-/// The digits of a number below sixteen.
+/// The hexadecimal digits of a number below sixteen, in both cases.
 fn digits(value: u8) -> &'static [u8] {
     const DIGITS: [&[u8]; 16] = [
         b"0", b"1", b"2", b"3", b"4", b"5", b"6", b"7", b"8", b"9", b"aA", b"bB", b"cC", b"dD",
@@ -33,7 +33,8 @@ fn constants(alloc: Global, byte: u8) -> Result<Vec<String>, AllocError> {
     Ok(all)
 }
 
-/// A charmap whose lines map each constant of each byte to the character of the byte's number, and how many lines these are.
+/// The text of a charmap in which each constant of each byte is mapped to the character with the byte's number, and how
+/// many lines these are.
 fn charmap(alloc: Global) -> Result<(String, u64), AllocError> {
     let mut text = format!(in alloc; "<code_set_name> CONSTANTS\nCHARMAP\n")?;
     let mut count = 0u64;
@@ -47,7 +48,7 @@ fn charmap(alloc: Global) -> Result<(String, u64), AllocError> {
     Ok((text, count))
 }
 
-/// Whether the mappings are those of each byte to the character of its number.
+/// Whether the mappings are those of each byte to the character with its number, in order.
 fn is_latin1(pairs: &Pairs) -> bool {
     pairs.len() == 256
         && (0..256).all(|place| match pairs.get(place) {
@@ -60,7 +61,8 @@ fn is_latin1(pairs: &Pairs) -> bool {
         })
 }
 
-/// Reads every form of every constant, and says how many are read as the bytes that they spell.
+/// Reads every form of every constant. Prints how many there are if all are read as the bytes that they denote, or else
+/// that some are not.
 pub fn read_each<R: Print + AllocGlobal>(rt: &R) -> io::Result<()> {
     let (text, count) = charmap(rt.alloc())?;
     match read(rt.alloc(), text.as_bytes()) {

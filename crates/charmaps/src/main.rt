@@ -1,4 +1,4 @@
-//! Charmap files, mapping by mapping, and every form in which a byte is written.
+//! Prints charmap files mapping by mapping, and reads every form in which a charmap can write a byte.
 #![tactic(auto)]
 
 mod constants;

@@ -1,4 +1,4 @@
-//! The result of compiling a charmap text.
+//! The result of reading a charmap text.
 
 use cv_byte_trie::Entry;
 use cv_charmap::{CompileFault, Pairs, read};

@@ -1,6 +1,6 @@
-//! Blocks by tables. A line of reading is `INPUT USED: CHARACTERS`: how many bytes of the input were read, and as what. A line of writing
-//! is `CHARACTERS: COUNT BYTES STATE`: for how many of them `?` was written, what all were written as, and the writer's state then; or
-//! `CHARACTERS: none`.
+//! Tables of blocks. To read, a line is `INPUT USED: CHARACTERS`: how many bytes of the input are read, and as which
+//! characters. To write, a line is `CHARACTERS: COUNT BYTES STATE`: for how many characters `?` is written, the bytes
+//! of all, and the writer's state after them. Or it is `CHARACTERS: none`, if no block is written.
 use crate::words::{bytes_of, scalars_of, sides};
 use crate::writing::state_name;
 use cv_base::{BlockCodec, Policy, ReadState, Scalar, WriteState};
@@ -8,7 +8,8 @@ use std::alloc::Global;
 use std::process::Abort;
 use std::test::Fail;
 
-/// Reads the input of each line in this state, which stays.
+/// Reads the input of each line as a block, and compares the characters. The reader is in `state` before and after
+/// each.
 pub fn read_blocks<R: Abort + AllocGlobal, C: BlockCodec>(
     rt: &R,
     codec: &C,
@@ -32,7 +33,8 @@ pub fn read_blocks<R: Abort + AllocGlobal, C: BlockCodec>(
     Ok(())
 }
 
-/// Writes the characters of each line in this state, at this place of a slice.
+/// Writes the characters of each line as a block, at offset `at` of a slice, and compares the bytes. The writer is in
+/// `state` before each.
 pub fn write_blocks<R: Abort + AllocGlobal, C: BlockCodec>(
     rt: &R,
     codec: &C,

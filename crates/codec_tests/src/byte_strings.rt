@@ -1,4 +1,4 @@
-//! A byte trie whose nodes have one edge, a few and many, compared with what was added to it.
+//! A byte trie whose nodes have one edge, a few edges or many, compared with the strings that were added to it.
 use crate::words::{bytes_of, sides};
 use cv_base::Scalar;
 use cv_byte_trie::{Added, ByteTrie, Found, NONE};
@@ -13,7 +13,7 @@ fn add(trie: &mut ByteTrie, bytes: &[u8]) -> Result<Added, Fail> {
     Ok(trie.add(bytes, Scalar::substitute())?)
 }
 
-/// What a text is to the trie.
+/// What the trie finds at the start of a text.
 fn find(trie: &ByteTrie, text: &[u8]) -> Result<Found, Fail> {
     if text.is_empty() {
         return Err("an empty text".into());
@@ -21,7 +21,8 @@ fn find(trie: &ByteTrie, text: &[u8]) -> Result<Found, Fail> {
     Ok(trie.find(text))
 }
 
-/// The place that a single step from the root leads to.
+/// The code of the entry that one step from the root leads to, if it leads to one. It is the entry's index if the
+/// string ends there.
 fn walked(trie: &ByteTrie, byte: u8) -> Option<usize> {
     trie.assert_leads();
     let code = trie.step(0, byte);
@@ -51,7 +52,7 @@ fn push(strings: &mut Vec<Vec<u8>>, alloc: Global, bytes: &[u8]) -> Result<(), A
     Ok(())
 }
 
-/// Whether a trie has a string at a place.
+/// Whether a trie has the string at index `place`.
 fn has(trie: &ByteTrie, place: usize, string: &[u8]) -> Result<bool, Fail> {
     let bytes = trie.get(place).map(|entry| entry.bytes());
     Ok(find(trie, string)? == Found::Entry(place) && bytes == Some(string))
@@ -72,7 +73,7 @@ fn strings_are_found_at_their_places(rt: HostRuntime) -> Result<(), Fail> {
     Ok(())
 }
 
-/// A call with a string, and its result.
+/// Calls with a string, and their results.
 const MEETING: &str = r#"
 add "abc": Entered
 add "abd": Entered

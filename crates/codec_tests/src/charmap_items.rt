@@ -1,4 +1,4 @@
-//! Small charmaps, read and written item by item and by blocks. Their texts are in `charmap_texts`.
+//! Small charmaps, read and written by items and by blocks. Their texts are in `charmap_texts`.
 use crate::blocks::{read_blocks, write_blocks};
 use crate::charmap_texts::charmap;
 use crate::items::read_items;
@@ -26,7 +26,7 @@ const MIXED: &str = r#"
 "?": ill
 "#;
 
-/// Reads the items of lines as those of a charmap. A charmap treats each state as the start.
+/// Reads the items of each line with a charmap, in two states: a charmap treats each state as the start.
 fn read_as<R: Abort + AllocGlobal>(rt: &R, name: &str, table: &str) -> Result<(), Fail> {
     let map = charmap(rt.alloc(), name)?;
     for state in [ReadState::Start, ReadState::Big] {
@@ -53,7 +53,7 @@ const MIXED_WRITTEN: &str = r#"
 10ffff: lacking
 "#;
 
-/// Writes the characters of lines as those of a charmap.
+/// Writes the characters of each line with a charmap.
 fn write_as<R: Abort + AllocGlobal>(rt: &R, name: &str, table: &str) -> Result<(), Fail> {
     let map = charmap(rt.alloc(), name)?;
     write_lines(rt, &map, WriteState::Start, table)
@@ -65,7 +65,7 @@ fn the_first_pair_of_a_character_is_written(rt: HostRuntime) -> Result<(), Fail>
     write_as(&rt, "MIXED", MIXED_WRITTEN)
 }
 
-/// Charmaps, how many pairs they have and how many bytes their strings have at most.
+/// Charmaps, how many pairs they have, and the size in bytes of their longest string.
 const SIZES: &str = r#"
 TOY: 5 2
 MIXED: 5 3
@@ -96,7 +96,7 @@ fn blocks_are_read(rt: HostRuntime) -> Result<(), Fail> {
     read_blocks(&rt, &mixed, ReadState::Big, "6f40814000fffe4000ffff 0:")
 }
 
-/// Writes the characters of a line as a block of the charmap MIXED.
+/// Writes the characters of a line as a block with the charmap MIXED.
 fn write_mixed<R: Abort + AllocGlobal>(
     rt: &R,
     policy: Policy,

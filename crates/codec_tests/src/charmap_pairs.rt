@@ -13,7 +13,7 @@ const TOY: &[u8] = b"<code_set_name> TOY\n\
     <U0100>...<U0103> \\d129\\d254 carried into the first byte\n\
     END CHARMAP\n";
 
-/// Its pairs in their order.
+/// Its pairs, in the order of the text.
 const PAIRS: &str = r#"
 "?": 3f
 81fe: 100
@@ -22,7 +22,7 @@ const PAIRS: &str = r#"
 8201: 103
 "#;
 
-/// Whether a charmap has a pair at a place.
+/// Whether the charmap has this pair at index `place`.
 fn has(alloc: Global, pairs: &Pairs, place: usize, pair: &str) -> Result<bool, Fail> {
     let (bytes, character) = sides(pair, ": ")?;
     let character = scalar_of(character)?;
@@ -47,7 +47,7 @@ fn a_charmap_has_its_pairs_in_order(rt: HostRuntime) -> Result<(), Fail> {
     Ok(())
 }
 
-/// The text of the fault of a charmap.
+/// The fault of the charmap in a text, as it is displayed.
 fn told_fault(alloc: Global, text: &[u8]) -> Result<String, Fail> {
     match read(alloc, text) {
         Ok(_) => Err("no fault".into()),

@@ -1,10 +1,10 @@
-//! Ranges whose mappings are entered at once, and where that ends.
+//! Ranges whose mappings are entered together, and what ends such a run.
 use crate::words::{bytes_of, scalar_of, sides};
 use cv_charmap::{Pairs, read};
 use std::alloc::{AllocError, Global};
 use std::test::Fail;
 
-/// A charmap with these mappings, of which each ends with `|`. They begin in line 5.
+/// The text of a charmap with these mappings, each of which ends with `|`. They begin in line 5.
 fn charmap(alloc: Global, mappings: &str) -> Result<Vec<u8>, AllocError> {
     let mut text = Vec::new(alloc);
     text.extend_from_slice(
@@ -17,7 +17,7 @@ fn charmap(alloc: Global, mappings: &str) -> Result<Vec<u8>, AllocError> {
     Ok(text)
 }
 
-/// Mappings, and how many pairs they are or their first fault.
+/// Mappings, and how many pairs their charmap has, with that of the question mark, or its first fault.
 const MAPPINGS: &str = r#"
 <U0100>..<U0357> \x80\xF0| = 601 pairs
 <U0120> \x81\x10|<U0100>..<U0357> \x80\xF0| = 601 pairs
@@ -55,7 +55,7 @@ fn runs_end_where_their_entries_do(rt: HostRuntime) -> Result<(), Fail> {
     Ok(())
 }
 
-/// Some pairs of the second charmap, at their places.
+/// Some pairs of a charmap with the second mappings above, after their indices.
 const PAIRS: &str = r#"
 1 8110 120
 2 80f0 100
@@ -66,7 +66,7 @@ const PAIRS: &str = r#"
 600 8347 357
 "#;
 
-/// Whether a charmap has the pair of a line at its place.
+/// Whether a charmap has the pair of a line at its index.
 fn has(alloc: Global, pairs: &Pairs, line: &str) -> Result<bool, Fail> {
     let (place, pair) = sides(line, " ")?;
     let (bytes, character) = sides(pair, " ")?;

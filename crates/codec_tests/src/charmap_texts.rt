@@ -4,7 +4,7 @@ use cv_trie::Charmap;
 use std::alloc::Global;
 use std::test::Fail;
 
-/// Two-byte letters whose numbers carry into the first byte.
+/// A range of two-byte strings, whose last byte carries into the first.
 const TOY: &[u8] = b"<code_set_name> TOY\n\
     <mb_cur_max> 2\n\
     CHARMAP\n\
@@ -12,7 +12,7 @@ const TOY: &[u8] = b"<code_set_name> TOY\n\
     <U0100>...<U0103> \\d129\\d254\n\
     END CHARMAP\n";
 
-/// Byte strings of one, two and three bytes, a character with three of them, and a question mark that isn't 3f.
+/// Byte strings of one, two and three bytes, a character that has three of them, and a question mark that isn't 3f.
 const MIXED: &[u8] = b"<code_set_name> MIXED\n\
     <mb_cur_max> 3\n\
     CHARMAP\n\
@@ -39,7 +39,7 @@ const WIDE: &[u8] = b"<code_set_name> WIDE\n\
     <U00010000>..<U0001FFFD> \\x80\\x00\\x00\n\
     END CHARMAP\n";
 
-/// The charmap of a name.
+/// Returns the charmap above that has this name.
 pub fn charmap(alloc: Global, name: &str) -> Result<Charmap, Fail> {
     let text = match name {
         "TOY" => TOY,

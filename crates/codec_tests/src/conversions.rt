@@ -1,4 +1,4 @@
-//! Worked conversions, compared with bytes from other sources. `converting` says how a line is read.
+//! Conversions, compared with bytes from other sources. `converting` says how a line is read.
 use crate::converting::convert;
 use cv_base::Policy;
 use cv_pivot::{Conversion, builtin};
@@ -62,7 +62,8 @@ fn a_shift_is_closed_by_reset(rt: HostRuntime) -> Result<(), Fail> {
     convert(&rt, Policy::Substitute, SHIFTS)
 }
 
-/// What UTF-7 is written as for UTF-8 that is cut after the bytes that `cuts` has a bit for, each call with so much room.
+/// Converts a text of four bytes of UTF-8 to UTF-7. It is cut after its first `k` bytes if bit `k` of `cuts` is set.
+/// Each call has an output of `room` bytes.
 fn written_in_parts(
     alloc: Global,
     text: &[u8],

@@ -1,5 +1,5 @@
-//! Conversions by tables. A line is `SOURCE TARGET: CALL; CALL ..`, and the calls are made one after the other. A call is
-//! `INPUT ROOM = STOP LEFT COUNT OUTPUT`, or `reset ROOM = CLOSING`, where `TooBig` stands for bytes that don't fit.
+//! Tables of conversions. A line is `SOURCE TARGET: CALL; CALL ..`, and the calls are made one after the other. A call
+//! is `INPUT ROOM = STOP LEFT COUNT OUTPUT` or `reset ROOM = CLOSING`. CLOSING is `TooBig` if the bytes don't fit.
 use crate::charmap_texts::charmap;
 use crate::words::{bytes_of, sides};
 use cv_base::{Memory, Policy};
@@ -9,7 +9,7 @@ use std::process::Abort;
 use std::sync::Arc;
 use std::test::Fail;
 
-/// Makes the calls of each line.
+/// Makes the calls of each line, and compares their results.
 pub fn convert<R: Abort + AllocGlobal>(rt: &R, policy: Policy, table: &str) -> Result<(), Fail> {
     for line in table.trim().lines() {
         let (names, calls) = sides(line, ": ")?;
@@ -23,14 +23,14 @@ pub fn convert<R: Abort + AllocGlobal>(rt: &R, policy: Policy, table: &str) -> R
     Ok(())
 }
 
-/// A conversion at its start, between encodings of these names.
+/// Returns a new conversion between the encodings with these names.
 pub fn conversion(alloc: Global, from: &str, to: &str, policy: Policy) -> Result<Conversion, Fail> {
     let from = encoding(alloc, from)?;
     let to = encoding(alloc, to)?;
     Ok(Conversion::new(to, from, policy))
 }
 
-/// The built-in encoding of a name, or else the charmap.
+/// Returns the built-in encoding with this name, or else the charmap of `charmap_texts`.
 pub fn encoding(alloc: Global, name: &str) -> Result<Encoding, Fail> {
     if let Some(encoding) = builtin(name.as_bytes()) {
         return Ok(encoding);
@@ -39,7 +39,7 @@ pub fn encoding(alloc: Global, name: &str) -> Result<Encoding, Fail> {
     Ok(Encoding::Charmap(shared))
 }
 
-/// Whether a call has the expected answer.
+/// Whether a call has the expected result.
 fn answers(alloc: Global, conversion: &mut Conversion, call: &str) -> Result<bool, Fail> {
     let (given, wanted) = sides(call, " = ")?;
     let (input, room) = sides(given, " ")?;

@@ -1,5 +1,5 @@
-//! The loops that convert straight from one encoding to another, and the reading of UTF-8 by windows: that they take a plain text whole.
-//! No clause says so, since what a loop leaves goes by blocks.
+//! The loops that convert directly from one encoding to another, and the reading of UTF-8 by windows. The tests show
+//! that they take all of a plain text. No contract says so, since what a loop leaves is converted by blocks.
 use crate::words::bytes_of;
 use cv_block::{BigEndian, LittleEndian};
 use cv_direct::{
@@ -10,7 +10,7 @@ use cv_utf8::read_units;
 use std::alloc::Global;
 use std::test::Fail;
 
-/// Sixteen characters, of one byte, two and three in UTF-8: `Словоa: 漢字仮名交ひらが`, as Python writes them.
+/// Sixteen characters of one, two and three bytes in UTF-8: `Словоa: 漢字仮名交ひらが`, as Python encodes them.
 const UTF8: &str = "d0a1d0bbd0bed0b2d0be613a20e6bca2e5ad97e4bbaee5908de4baa4e381b2e38289e3818c";
 
 const UTF16BE: &str = "0421043b043e0432043e0061003a00206f225b574eee540d4ea430723089304c";
@@ -25,14 +25,14 @@ const LATIN1: &str = "46fcdf6520e0206c61206372e86d6520";
 
 const LATIN1_AS_UTF8: &str = "46c3bcc39f6520c3a0206c61206372c3a86d6520";
 
-/// With a character of four bytes among them.
+/// The characters of `UTF8`, with one of four bytes among them.
 const MIXED: &str =
     "d0a1d0bbd0bed0b2d0be613a20e6bca2f09f9880e5ad97e4bbaee5908de4baa4e381b2e38289e3818c";
 
 const MIXED_AS_UTF16LE: &str =
     "21043b043e0432043e0461003a002000226f3dd800de575bee4e0d54a44e723089304c30";
 
-/// The words again and again: some hundred characters.
+/// The bytes of the words, 24 times: some hundreds of characters.
 fn repeated(alloc: Global, words: &str) -> Result<Vec<u8>, Fail> {
     let mut text = Vec::new(alloc);
     let bytes = bytes_of(alloc, words)?;
@@ -42,7 +42,7 @@ fn repeated(alloc: Global, words: &str) -> Result<Vec<u8>, Fail> {
     Ok(text)
 }
 
-/// The words, 600 times a letter of ASCII, and the words again.
+/// The words 24 times, a letter of ASCII 600 times, and the words 24 times again.
 fn apart(alloc: Global, words: &str, letter: &str) -> Result<Vec<u8>, Fail> {
     let mut text = repeated(alloc, words)?;
     let bytes = bytes_of(alloc, letter)?;
@@ -53,12 +53,13 @@ fn apart(alloc: Global, words: &str, letter: &str) -> Result<Vec<u8>, Fail> {
     Ok(text)
 }
 
-/// Room for what any of the texts here is converted to.
+/// An output with room for what any of the texts here is converted to.
 fn room(alloc: Global) -> Result<Vec<u8>, Fail> {
     Ok(vec![in alloc; 0u8; 8192]?)
 }
 
-/// Whether a loop took a text, up to its last `left` bytes, and wrote what is wanted.
+/// Whether a loop took a text but for at most `left` bytes at its end, and wrote a prefix of `wanted` that lacks at
+/// most twice as many.
 fn is_taken(run: Option<Direct>, text: &[u8], left: usize, out: &[u8], wanted: &[u8]) -> bool {
     let Some(run) = run else {
         return false;
@@ -119,7 +120,7 @@ fn latin1_to_utf8_takes_text(rt: HostRuntime) -> Result<(), Fail> {
     Ok(())
 }
 
-/// A run of ASCII ends windows, and they go on behind it.
+/// Windows end before a run of ASCII, and go on after it.
 #[test]
 fn runs_of_ascii_are_taken_from_utf32(rt: HostRuntime) -> Result<(), Fail> {
     let text = apart(rt.alloc(), UTF32LE, "61000000")?;
@@ -142,7 +143,7 @@ fn runs_of_ascii_are_taken_from_utf16(rt: HostRuntime) -> Result<(), Fail> {
     Ok(())
 }
 
-/// Its windows are not tried on the last bytes, which may not be whole characters.
+/// Up to 17 bytes are left at the end: no window is tried on them, since they may not be complete characters.
 #[test]
 fn utf8_to_utf16_takes_text(rt: HostRuntime) -> Result<(), Fail> {
     for (words, other) in [(UTF8, UTF16LE), (MIXED, MIXED_AS_UTF16LE)] {
@@ -164,7 +165,7 @@ fn five_of_four_bytes_are_seen(rt: HostRuntime) -> Result<(), Fail> {
     Ok(())
 }
 
-/// The units that windows read, as bytes of UTF-16BE.
+/// The units that windows read, as UTF-16BE.
 fn units_of(alloc: Global, text: &[u8]) -> Result<Vec<u8>, Fail> {
     let mut bytes = Vec::new(alloc);
     let mut at: usize = 0;

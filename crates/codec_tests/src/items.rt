@@ -1,12 +1,13 @@
-//! Items by tables. A line is `INPUT: ITEM, ITEM ..`, the items one after the other from the start of the input: `char NUMBER BYTES`,
-//! `shift BYTES`, `incomplete`, `ill` or `end`. `in STATE` after one is the reader's state then.
+//! Tables of items. A line is `INPUT: ITEM, ITEM ..`. The items follow each other from the start of the input. An item
+//! is `char NUMBER BYTES`, `shift BYTES`, `incomplete`, `ill` or `end`. After an item `in STATE` is the reader's state
+//! after it.
 use crate::words::{bytes_of, sides};
 use cv_base::{Codec, Item, ReadState};
 use std::alloc::{AllocError, Global};
 use std::process::Abort;
 use std::test::Fail;
 
-/// Reads the items of each line, the first of them in this state.
+/// Reads the items of each line, and compares them. The reader is in `state` before the first item of a line.
 pub fn read_items<R: Abort + AllocGlobal, C: Codec>(
     rt: &R,
     codec: &C,
@@ -22,7 +23,7 @@ pub fn read_items<R: Abort + AllocGlobal, C: Codec>(
     Ok(())
 }
 
-/// Whether these items are in a text, one after the other.
+/// Whether a text has these items, one after the other.
 fn are_read<C: Codec>(
     alloc: Global,
     codec: &C,
@@ -46,7 +47,7 @@ fn are_read<C: Codec>(
     Ok(true)
 }
 
-/// The text and the state after an item. One that ends the text has nothing after it.
+/// The text and the state after an item. Nothing is after an item that ends the text.
 fn behind<'a>(item: &Item, text: &'a [u8]) -> (&'a [u8], ReadState) {
     match *item {
         Item::Char { n, next, .. } | Item::Shift { n, next } => (
@@ -57,7 +58,7 @@ fn behind<'a>(item: &Item, text: &'a [u8]) -> (&'a [u8], ReadState) {
     }
 }
 
-/// A state in the words of a line.
+/// A state, in the words of a line.
 fn state_name(state: ReadState) -> &'static str {
     match state {
         ReadState::Start => "in Start",
@@ -67,7 +68,7 @@ fn state_name(state: ReadState) -> &'static str {
     }
 }
 
-/// An item in the words of a line.
+/// An item, in the words of a line.
 fn told_item(alloc: Global, item: &Item) -> Result<String, AllocError> {
     match *item {
         Item::Char { c, n, .. } => format!(in alloc; "char {:x} {n}", c.value()),

@@ -1,6 +1,6 @@
-//! Tests of the encodings, of charmaps and of conversions. A crate with tests is proved twice, so the tests of the crates that many others
-//! use are here, and say what a client of these crates could say. Proofs about nested arrays are expensive, so a table is a text:
-//! `words` reads its words, and `items`, `writing`, `blocks` and `converting` make the calls of its lines.
+//! Tests of the encodings, of charmaps and of conversions. A crate with tests is proved twice. So the tests of crates
+//! that many others use are here, and use only their public items. Proofs about nested arrays are expensive, so a table
+//! is a text: `words` reads its words, and `items`, `writing`, `blocks` and `converting` make the calls of its lines.
 #![tactic(auto)]
 
 #[cfg(test)]

@@ -38,7 +38,7 @@ fn scalar_values_are_no_surrogates(rt: HostRuntime) -> Result<(), Fail> {
     Ok(())
 }
 
-/// How much at the start of texts of ISO-8859-1 is US-ASCII.
+/// Texts of ISO-8859-1, how many bytes at their start are US-ASCII, and their characters.
 const FRONTS: &str = r#"
 "" 0:
 "A"007f 3: 41 0 7f
@@ -51,7 +51,7 @@ const LATIN1_TEXTS: &str = r#"
 "caf"e92080ff 7: 63 61 66 e9 20 80 ff
 "#;
 
-/// What US-ASCII has for their characters, one by one and as blocks.
+/// What their characters are in US-ASCII, one by one. The tables after it have blocks of them.
 const ONE_BY_ONE: &str = r#"
 41 0 7f: "A"007f Start ""
 63 61 66: "caf" Start ""

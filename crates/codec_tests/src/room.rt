@@ -1,4 +1,5 @@
-//! The room that a byte trie asks for ahead, by how many bytes it says that it takes: none of it is needed, and none of it is kept.
+//! The room that a byte trie reserves ahead. It may be refused, and is given back in the end. `size` says how many
+//! bytes the trie takes.
 use cv_byte_trie::ByteTrie;
 use cv_charmap::{Pairs, read};
 use std::alloc::Global;
@@ -22,7 +23,7 @@ fn room_is_there_until_it_is_given_back(rt: HostRuntime) -> Result<(), Fail> {
     Ok(())
 }
 
-/// A charmap of two pairs, with so many lines of comment.
+/// A charmap of two pairs, with `lines` lines of comment.
 fn commented(alloc: Global, lines: usize) -> Result<Pairs, Fail> {
     let mut text = Vec::from_slice(alloc, b"<code_set_name> TWO\nCHARMAP\n")?;
     for _ in 0..lines {

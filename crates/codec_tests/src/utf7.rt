@@ -1,4 +1,4 @@
-//! Vectors of RFC 2152's form, and of texts that are cut or ill-formed.
+//! Test vectors of UTF-7 (RFC 2152), and of texts that are cut off or ill-formed.
 use crate::items::read_items;
 use crate::writing::write_lines;
 use cv_base::{Codec, ReadState, WriteState};

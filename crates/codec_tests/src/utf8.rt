@@ -1,4 +1,4 @@
-//! Items and writing of UTF-8, and its form of ASCII.
+//! Items of UTF-8, how it is written, and its form of ASCII.
 use crate::items::read_items;
 use crate::writing::write_lines;
 use cv_base::{AsciiForm, Codec, ReadState, WriteState};

@@ -3,7 +3,7 @@ use cv_base::Scalar;
 use std::alloc::Global;
 use std::test::Fail;
 
-/// What is on the two sides of a mark.
+/// Returns the texts before and after the first `mark`.
 pub fn sides<'a>(text: &'a str, mark: &str) -> Result<(&'a str, &'a str), Fail> {
     Ok(
         text.split_once(mark)
@@ -11,7 +11,7 @@ pub fn sides<'a>(text: &'a str, mark: &str) -> Result<(&'a str, &'a str), Fail> 
     )
 }
 
-/// The bytes of a word: hexadecimal digits, and characters between quotation marks. So `""` means no bytes.
+/// Returns the bytes of a word: hexadecimal digits, and characters between quotation marks. So `""` means no bytes.
 pub fn bytes_of(alloc: Global, word: &str) -> Result<Vec<u8>, Fail> {
     let mut bytes = Vec::new(alloc);
     let mut quoted = false;
@@ -46,13 +46,13 @@ fn digit(byte: u8) -> Result<u8, Fail> {
     }
 }
 
-/// The character of a hexadecimal number.
+/// Returns the character with a hexadecimal number.
 pub fn scalar_of(word: &str) -> Result<Scalar, Fail> {
     let value = u32::from_str_radix(word, 16)?;
     Ok(Scalar::new(value).ok_or("no scalar value")?)
 }
 
-/// The characters of hexadecimal numbers.
+/// Returns the characters with these hexadecimal numbers.
 pub fn scalars_of(alloc: Global, words: &str) -> Result<Vec<Scalar>, Fail> {
     let mut scalars = Vec::new(alloc);
     for word in words.split_whitespace() {

@@ -1,12 +1,14 @@
-//! Writing by tables. A line is `CHARACTERS: BYTES STATE CLOSING`: the numbers of characters, what they are written as, the writer's
-//! state then, and what closes the text. In a line `CHARACTERS: lacking` the encoding lacks one of the characters.
+//! Tables of characters that are written. A line is `CHARACTERS: BYTES STATE CLOSING`: the numbers of characters, the
+//! bytes that they are written as, the writer's state after them, and the bytes that close the text. In a line
+//! `CHARACTERS: lacking` the encoding lacks one of the characters.
 use crate::words::{bytes_of, scalar_of, sides};
 use cv_base::{Codec, Put, Scalar, WriteState};
 use std::alloc::Global;
 use std::process::Abort;
 use std::test::Fail;
 
-/// Writes the characters of each line, the first of them in this state.
+/// Writes the characters of each line, and compares the bytes. The writer is in `state` before the first character of a
+/// line.
 pub fn write_lines<R: Abort + AllocGlobal, C: Codec>(
     rt: &R,
     codec: &C,
@@ -48,7 +50,8 @@ fn is_written<C: Codec>(
     )
 }
 
-/// Adds the bytes of a character, and answers the state after it, if both forms of writing agree on it.
+/// Appends the bytes of a character, and returns the state after it, or `None` if the encoding lacks it. Fails if `put`
+/// and `put_at` differ, or if the bytes are more than `most_bytes` says.
 fn written_both_ways<C: Codec>(
     codec: &C,
     state: WriteState,
@@ -69,7 +72,7 @@ fn written_both_ways<C: Codec>(
     Ok(Some(next))
 }
 
-/// A state in the words of a line.
+/// Returns a state in the words of a line.
 pub fn state_name(state: WriteState) -> &'static str {
     match state {
         WriteState::Start => "Start",

@@ -1,4 +1,4 @@
-//! `call_over` where the peer gives its replies in pieces, closes or fails, and where it takes no more.
+//! `call_over` with a peer that sends its replies in pieces, closes, fails, or takes only a part of the requests.
 use crate::tables::{Call, check_lines};
 use crate::words::sides;
 use cv_commands::call_over;
@@ -19,10 +19,10 @@ const REPLIES: &[u8] = b"\0\0\0\x0d\0\0\0\x07\0\0\0\x01\0\0\0\0\0\
     \0\0\0\x14\0\0\0\x07\0\0\0\x02\0\0\0\0\0\0\0\0\x01\x41\x3f\x42\
     \0\0\0\x09\0\0\0\x07\0\0\0\x03\0";
 
-/// What stands there before the call, and the lines of the replies behind it, which end at 7, 23, 53 and 62 bytes.
+/// What is in `lines` before the call, and the lines of the replies after it. They end at 7, 23, 53 and 62 bytes.
 const LINES: &[u8] = b"before\n7 1 OK 00000000\n7 2 OK 0000000000000001413f42\n7 3 OK -\n";
 
-/// The front of the replies, so many bytes a read, and then the end or a failure.
+/// A reader that gives these replies, at most `step` bytes a read, and then the end of the stream or a failure.
 #[derive(Drop)]
 struct Peer {
     replies: &'static [u8],
@@ -43,9 +43,9 @@ impl Read for Peer {
     }
 }
 
-/// A line is `NAME: REPLIES STEP ENDING ROOM => SENT SHOWN RESULT`. The peer gives so many bytes of the replies, or a length that is `bad`,
-/// with STEP bytes at most in a read, then it closes or fails, and it takes ROOM bytes. So many bytes of the requests are sent, so many
-/// stand in the lines, and this is the result.
+/// A line is `NAME: REPLIES STEP ENDING ROOM => SENT SHOWN RESULT`. The peer sends the first REPLIES bytes of the
+/// replies, or a bad length for `bad`, in reads of at most STEP bytes. Then it closes or fails. It takes ROOM bytes.
+/// SENT bytes of the requests are sent, SHOWN bytes are in the lines, and the call returns RESULT.
 const CALLS: &str = "
 a reply a read: 54 24 closes 100 => 74 62 Ok(())
 all replies in one read: 54 100 closes 100 => 74 62 Ok(())
@@ -60,7 +60,7 @@ takes a part: 54 24 closes 40 => 40 23 Err(Serve(Write { written: 40 }))
 takes two: 54 24 closes 57 => 57 53 Err(Serve(Write { written: 57 }))
 ";
 
-/// The front of the replies that a word names, or a bad length.
+/// The prefix of the replies that has as many bytes as a word says, or a bad length.
 fn replies_of(word: &str) -> Result<&'static [u8], Fail> {
     if word == "bad" {
         return Ok(b"\0\0\0\x08");
@@ -69,7 +69,7 @@ fn replies_of(word: &str) -> Result<&'static [u8], Fail> {
     Ok(REPLIES.get(..size).ok_or("more than there are")?)
 }
 
-/// A peer in the words of a line, and how many bytes it takes.
+/// The peer that the words of a line describe, and how many bytes it takes.
 fn peer_of(words: &str) -> Result<(Peer, usize), Fail> {
     let (replies, words) = sides(words, " ")?;
     let (step, words) = sides(words, " ")?;
@@ -88,7 +88,7 @@ fn peer_of(words: &str) -> Result<(Peer, usize), Fail> {
     ))
 }
 
-/// Whether a call of a peer comes to these words.
+/// Whether a call of a peer ends as these words say.
 fn ends_so(alloc: Global, script: &[u8], peer: &str, words: &str) -> Result<bool, Fail> {
     let (peer, room) = peer_of(peer)?;
     let room = vec![in alloc; 0u8; room]?;
@@ -103,7 +103,7 @@ fn ends_so(alloc: Global, script: &[u8], peer: &str, words: &str) -> Result<bool
     Ok(told.as_str() == words && requests == REQUESTS.get(..sent) && LINES.starts_with(&lines))
 }
 
-/// Whether a call of a peer with a name comes to these words.
+/// Returns whether the call of a line ends as these words say.
 pub fn is_called(alloc: Global, call: &str, words: &str) -> Result<bool, Fail> {
     let (_, peer) = sides(call, ": ")?;
     ends_so(alloc, SCRIPT, peer, words)

@@ -1,4 +1,4 @@
-//! Charmap texts, against what they have to come to. `checking` says how a text is read.
+//! Charmap texts, and the lines that `checkmap` prints for them. `checking` says how a text is written.
 use crate::tables::{Call, check_lines};
 use cv_commands::{RunFault, checkmap, status};
 use cv_loop::ServeFault;
@@ -65,7 +65,7 @@ fn charmaps_are_read(rt: HostRuntime) -> Result<(), Fail> {
     check_lines(&rt, Call::Check(""), CHARMAPS)
 }
 
-/// The status that `checkmap` gives for a file of this text.
+/// The exit status of `checkmap` for a file with this text.
 fn status_of_file<R: Files + Input + Print + AllocGlobal>(rt: &R, text: &str) -> Result<u8, Fail> {
     fs::write(rt, "charmap", text)?;
     let done = checkmap(rt, "charmap");

@@ -1,11 +1,12 @@
-//! Charmap texts, and what is said of them. In a text `|` stands for the end of a line. One that begins with a quotation mark is spelled in
-//! bytes, as `words` says.
+//! Charmap texts, and what `check_text` reports for them. In a text `|` means a line feed. A text that begins with a
+//! quotation mark is written as `words::bytes_of` reads it.
 use crate::words::bytes_of;
 use cv_commands::check_text;
 use std::alloc::Global;
 use std::test::Fail;
 
-/// Whether these words are said of a text behind a front, and it is said to be no charmap if they name a line.
+/// Returns whether `check_text` reports these words for a prefix and the text after it, and refuses them exactly if the
+/// words begin with `line `.
 pub fn is_said(alloc: Global, front: &str, text: &str, words: &str) -> Result<bool, Fail> {
     let text = text_behind(alloc, front, text)?;
     let checked = check_text(alloc, &text)?;
@@ -13,7 +14,7 @@ pub fn is_said(alloc: Global, front: &str, text: &str, words: &str) -> Result<bo
     Ok(line == Some(words.as_bytes()) && checked.good != words.starts_with("line "))
 }
 
-/// The bytes of a text behind a front.
+/// The bytes of a prefix and the text after it.
 fn text_behind(alloc: Global, front: &str, text: &str) -> Result<Vec<u8>, Fail> {
     let mut bytes = Vec::from_slice(alloc, front.as_bytes())?;
     if text.starts_with('"') {

@@ -1,16 +1,16 @@
-//! Command lines.
+//! Command lines, and what the program reads from them.
 use crate::tables::{Call, check_lines};
 use crate::words::sides;
 use cv_command_line::{VERSION, options, usage_status};
 use std::alloc::{AllocError, Global};
 use std::test::Fail;
 
-/// The words of a command line, of which the first is the program's name.
+/// The words of a command line. The first is the program's name.
 fn words_of(alloc: Global, line: &str) -> Result<Vec<&str>, AllocError> {
     line.split_whitespace().collect(alloc)
 }
 
-/// Whether a command line says this: the job, how many workers there are, and how many streams.
+/// Returns whether a command line is read as this: the job, the number of workers, and the number of streams.
 pub fn says(alloc: Global, line: &str, wanted: &str) -> Result<bool, Fail> {
     let words = words_of(alloc, line)?;
     let said = options(alloc, &words).map_err(|_| "refused")?;
@@ -18,7 +18,7 @@ pub fn says(alloc: Global, line: &str, wanted: &str) -> Result<bool, Fail> {
     Ok(told.as_str() == wanted)
 }
 
-/// What is said of a command line that gives no job. It is a fault of usage, or asks for help or the version.
+/// The text for a command line without a job. It has a usage error, or asks for help or the version.
 fn answer(alloc: Global, line: &str) -> Result<String, Fail> {
     let words = words_of(alloc, line)?;
     let fault = options(alloc, &words).err().ok_or("taken")?;
@@ -29,7 +29,7 @@ fn answer(alloc: Global, line: &str) -> Result<String, Fail> {
     }
 }
 
-/// Whether a command line is refused by a text that names what is wrong with it.
+/// Returns whether a command line is refused with a text that contains `named`.
 pub fn is_named(alloc: Global, line: &str, named: &str) -> Result<bool, Fail> {
     let said = answer(alloc, line)?;
     Ok(said.contains(named))
@@ -66,7 +66,7 @@ fn command_lines_are_read(rt: HostRuntime) -> Result<(), Fail> {
     check_lines(&rt, Call::Options, TAKEN)
 }
 
-/// Command lines of servers and clients, and what they say of streams at once, of waiting and of the log.
+/// Command lines of servers and clients, and what they say about `--at-once`, `--idle`, `--timeout` and the log.
 const WAITING: &str = "
 iconvd listen 127.0.0.1:0 => 1 None None Error Text
 iconvd listen 127.0.0.1:0 --at-once 1000 --idle 604800 => 1000 Some(604800) None Error Text
@@ -95,7 +95,7 @@ fn waiting_and_logging_are_read(rt: HostRuntime) -> Result<(), Fail> {
     Ok(())
 }
 
-/// Command lines of servers, and what they say of pages, of draining, of full servers and of what a stream may hold.
+/// Command lines, and what they say about `--admin`, `--drain`, `--when-full`, `--stream-memory` and `--callers`.
 const OPERATING: &str = r#"
 iconvd listen 127.0.0.1:0 => None 30 Wait None None
 iconvd listen 127.0.0.1:0 --admin 127.0.0.1:7880 => Some("127.0.0.1:7880") 30 Wait None None
@@ -126,7 +126,7 @@ fn operating_is_read(rt: HostRuntime) -> Result<(), Fail> {
     Ok(())
 }
 
-/// Command lines that are refused, and what is named then.
+/// Command lines that are refused, and what the error names.
 const REFUSED: &str = r#"
 iconvd => subcommand
 iconvd walk => 'walk'
@@ -211,7 +211,7 @@ fn help_is_shown(rt: HostRuntime) -> Result<(), Fail> {
     Ok(())
 }
 
-/// Command lines, and what they show the version of.
+/// Command lines, and the name before the version that they show.
 const VERSIONS: &str = "
 iconvd --version => iconvd
 iconvd -V => iconvd

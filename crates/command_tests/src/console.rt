@@ -1,4 +1,4 @@
-//! A standard input that holds bytes, and a standard output that keeps them.
+//! A runtime whose standard input is given bytes, and which keeps what is printed.
 ghost use Rattle.std.specs.Prelude.{◌≤◌};
 
 use cv_commands::{RunFault, ask, pipe, show};
@@ -10,7 +10,7 @@ use std::sync::{Mutex, Wait};
 use std::test::Fail;
 use std::thread::Threads;
 
-/// It waits, and starts threads, as the runtime does that it is made of.
+/// It waits, starts threads and draws random bytes as the runtime `rt` does.
 #[derive(Drop)]
 pub struct Console<'a, R> {
     rt: &'a R,
@@ -30,7 +30,7 @@ impl<'a, R: AllocGlobal> Console<'a, R> {
         }
     }
 
-    /// What was printed.
+    /// Returns what was printed.
     pub fn into_output(self) -> Vec<u8> {
         self.output.into_inner()
     }
@@ -87,7 +87,7 @@ impl<'a, R: Wait> Print for Console<'a, R> {
     }
 }
 
-/// What `pipe` writes, and why it ended if it did by a fault.
+/// Returns what `pipe` writes for these requests, and its fault, if it ended by one.
 pub fn piped<R: AllocGlobal + RandomSource + Threads + Wait + Sync>(
     rt: &R,
     requests: &[u8],
@@ -100,7 +100,7 @@ pub fn piped<R: AllocGlobal + RandomSource + Threads + Wait + Sync>(
     (console.into_output(), fault)
 }
 
-/// What `ask`, `pipe` and `show` print one after the other.
+/// Returns what `ask`, `pipe` and `show` print for a script, if each gets the output of the one before.
 pub fn chain<R: AllocGlobal + RandomSource + Threads + Wait + Sync>(
     rt: &R,
     script: &[u8],

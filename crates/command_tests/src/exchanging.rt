@@ -1,5 +1,5 @@
-//! Scripts and their replies. A line is `REQUEST => REPLY`, as they stand in scripts and in reply lines; `x{N}` in a request stands for so
-//! many letters. A line without a reply is one that scripts skip.
+//! Scripts and their replies. A line is `REQUEST => REPLY`, a line of a script and a reply line. In a request `x{N}`
+//! means the letter `x` N times. A line without a reply is one that scripts skip.
 use crate::words::written_out;
 use cv_commands::run_script;
 use std::alloc::Global;
@@ -8,7 +8,8 @@ use std::sync::Wait;
 use std::test::Fail;
 use std::thread::Threads;
 
-/// Serves the requests of a table in their order, by so many workers.
+/// Runs the requests of a table as a script with `workers` workers, 1 to 16, and compares the replies. Fails with the
+/// first line whose reply differs.
 pub fn exchange<R: AllocGlobal + RandomSource + Threads + Wait + Sync>(
     rt: &R,
     workers: u32,
@@ -22,7 +23,7 @@ pub fn exchange<R: AllocGlobal + RandomSource + Threads + Wait + Sync>(
     compare(table, &lines)
 }
 
-/// The requests of a table.
+/// The script with the requests of a table.
 fn script_of(alloc: Global, table: &str) -> Result<String, Fail> {
     let mut script = String::new(alloc);
     for line in table.lines() {
@@ -34,7 +35,7 @@ fn script_of(alloc: Global, table: &str) -> Result<String, Fail> {
     Ok(script)
 }
 
-/// Compares reply lines with those of a table. The first line whose reply is another is the failure.
+/// Compares reply lines with those of a table. Fails with the first line whose reply differs.
 fn compare(table: &str, lines: &[u8]) -> Result<(), Fail> {
     let mut replies = str::from_utf8(lines)?.split('\n');
     for line in table.lines() {

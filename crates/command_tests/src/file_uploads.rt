@@ -1,4 +1,4 @@
-//! Scripts that upload files by their names.
+//! Scripts that upload files by name.
 use cv_commands::{RunFault, ScriptFault, with_files};
 use std::fs;
 use std::test::Fail;
@@ -42,7 +42,7 @@ fn a_file_that_is_not_read_is_told_by_its_line(rt: HostRuntime) -> Result<(), Fa
     let script = Vec::from_slice(rt.alloc(), b"\n7 1 put @nowhere\n".as_slice())?;
     let read = with_files(&rt, script);
     assert!(rt; matches!(read, Err(ScriptFault::File { line: 2, .. })));
-    // The faults of the script come first.
+    // The script's own faults are reported first.
     let script = b"7 1 put @nowhere\n7 2 shut 0\n".as_slice();
     let read = with_files(&rt, Vec::from_slice(rt.alloc(), script)?);
     assert!(rt; matches!(read, Err(ScriptFault::Run(RunFault::Line(2)))));

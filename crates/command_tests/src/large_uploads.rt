@@ -1,4 +1,4 @@
-//! The largest uploads: as many bytes as there may be. A frame holds a part of 1,048,567 bytes.
+//! The largest uploads. A frame holds at most 1,048,567 bytes of a text.
 use crate::exchanging::exchange;
 use std::test::Fail;
 
@@ -41,7 +41,7 @@ fn a_part_that_is_refused_changes_nothing(rt: HostRuntime) -> Result<(), Fail> {
     exchange(&rt, 2, REFUSED)
 }
 
-/// The first part and the PUT have 1,048,567 bytes too.
+/// The texts of the first part and of the PUT have 1,048,567 bytes too.
 const TEXT: &str = r"
 1 1 part <code_set_name> L|CHARMAP|#x{1048540} => 1 1 OK 000ffff7
 1 2 part x{1048567} => 1 2 OK 001fffee
@@ -62,7 +62,7 @@ fn a_text_has_8388608_bytes_at_most(rt: HostRuntime) -> Result<(), Fail> {
     exchange(&rt, 2, TEXT)
 }
 
-/// Two callers' charmaps TOY, which differ in the character of the byte 80. The texts are long enough that two workers compile them by a
+/// The charmaps TOY of two callers, which differ in the character of the byte 80. Two or more workers compile them on a
 /// thread each.
 const LONG: &str = r"
 1 1 put #x{20000}|<code_set_name> TOY|CHARMAP|<question-mark> \x3F|<U0100> \x80|END CHARMAP => 1 1 OK 00000002

@@ -1,4 +1,4 @@
-//! Long words of hexadecimal digits, against digits that are written one by one.
+//! Long words of hexadecimal digits, compared with digits that are written one by one.
 use cv_commands::{ask_script, show_replies};
 use std::alloc::{AllocError, Global};
 use std::test::Fail;
@@ -14,8 +14,9 @@ fn digits_of(alloc: Global, bytes: &[u8]) -> Result<String, AllocError> {
     Ok(digits)
 }
 
-/// Whether these bytes are read from their digits, before a space and at the end of a script, and are shown by the same digits. The
-/// frames of requests are shown as those of replies: both have the same head, and no status is the number of these ops.
+/// Whether these bytes are read from their digits, before a space and at the end of a script, and are shown as the same
+/// digits. The requests are shown as if they were replies. Both have the same header, and the ops 16 and 17 are no
+/// statuses, so they are shown as numbers.
 fn comes_back(alloc: Global, bytes: &[u8]) -> Result<bool, Fail> {
     let digits = digits_of(alloc, bytes)?;
     let script = format!(in alloc; "7 2 raw 16 {digits} \n7 3 raw 17 {digits}")?;
@@ -25,7 +26,7 @@ fn comes_back(alloc: Global, bytes: &[u8]) -> Result<bool, Fail> {
     Ok(lines.as_slice() == wanted.as_bytes() && frames.ends_with(bytes))
 }
 
-/// Each byte stands at each place in a word of up to seventy bytes.
+/// Words of 1 to 70 bytes, with each byte at each index.
 #[test]
 fn words_of_all_bytes_come_back(rt: HostRuntime) -> Result<(), Fail> {
     let alloc = rt.alloc();

@@ -1,4 +1,4 @@
-//! The longest name, by docs/PROTOCOL.md.
+//! The longest name has 255 bytes, as docs/PROTOCOL.md says.
 use crate::exchanging::exchange;
 use std::test::Fail;
 

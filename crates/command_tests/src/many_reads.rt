@@ -5,7 +5,7 @@ use std::alloc::{AllocError, Global};
 use std::io::{self, Read};
 use std::test::Fail;
 
-/// Gives one byte a read.
+/// A reader that gives one byte a read.
 #[derive(Drop)]
 struct OneByOne<'a> {
     bytes: &'a [u8],
@@ -21,7 +21,7 @@ impl Read for OneByOne<'_> {
     }
 }
 
-/// What stands first, and then 300 times what stands behind it.
+/// The bytes of `first`, and then those of `next` 300 times.
 fn repeated(alloc: Global, first: &[u8], next: &[u8]) -> Result<Vec<u8>, AllocError> {
     let mut bytes = Vec::from_slice(alloc, first)?;
     for _ in 0..300u32 {
@@ -30,7 +30,7 @@ fn repeated(alloc: Global, first: &[u8], next: &[u8]) -> Result<Vec<u8>, AllocEr
     Ok(bytes)
 }
 
-/// Caller 7 opens UTF-8 from ISO-8859-1, and it is number 0.
+/// Caller 7 opens a descriptor from ISO-8859-1 to UTF-8, which gets the number 0.
 const OPEN: &[u8] = b"\0\0\0\x1a\0\0\0\x07\0\0\0\x01\x03\x05UTF-8\x0aISO-8859-1";
 
 const OPENED: &[u8] = b"\0\0\0\x0d\0\0\0\x07\0\0\0\x01\0\0\0\0\0";

@@ -1,4 +1,4 @@
-//! What the program does where its words are no text, or its streams take nothing.
+//! What the program does if an argument is not UTF-8, or if its standard output or standard error takes nothing.
 use cv_command_line::{arguments, explain, options, usage_status};
 use std::alloc::Global;
 use std::cell::Cell;
@@ -8,7 +8,7 @@ use std::io::{self, ErrorKind};
 use std::rt::Env;
 use std::test::Fail;
 
-/// A standard output that takes all or nothing, and a standard error that is kept, or takes nothing.
+/// A standard output that takes everything or nothing, and a standard error that keeps its text or takes nothing.
 #[derive(Drop)]
 struct Streams {
     alloc: Global,
@@ -63,7 +63,7 @@ impl Streams {
     }
 }
 
-/// The words that a program was started with.
+/// The arguments that a program was started with, the first of which is its name.
 #[derive(Clone, Copy)]
 struct Words(&'static [&'static [u8]]);
 
@@ -88,7 +88,7 @@ impl Env for Words {
     }
 }
 
-/// Longer than what is first taken for a word.
+/// A word that is longer than the buffer that words are first read into.
 const LONG: [u8; 700] = [b'x'; 700];
 
 #[test]

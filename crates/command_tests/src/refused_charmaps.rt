@@ -1,8 +1,9 @@
-//! Texts that are no charmaps, against the line and the cause that are said of them. `checking` says how a text is read.
+//! Texts that are no charmaps, and the line and the cause that are reported for them. `checking` says how a text is
+//! written.
 use crate::tables::{Call, check_lines};
 use std::test::Fail;
 
-/// Each cause.
+/// Texts with each of the causes.
 const REFUSED: &str = r#"
  => line 0: NoMap
 <code_set_name> BAD|<mb_cur_max> 9|CHARMAP|END CHARMAP => line 2: Declaration
@@ -26,7 +27,7 @@ CHARMAP|<question-mark> \x3F|END CHARMAP => line 0: NoName
 <code_set_name> BAD|CHARMAP|<A> \x41|END CHARMAP => line 0: NoSubstitute
 "#;
 
-/// Lines with two causes, behind a header of two lines at most, and the cause that decides.
+/// Texts in which a line has two causes, and the one that is reported.
 const TWO_CAUSES: &str = r#"
 CHARMAP|<foo> => line 2: Syntax
 CHARMAP|<UD800> => line 2: Syntax
@@ -77,7 +78,7 @@ CHARMAP => line 0: NoEnd
 CHARMAP|END CHARMAP => line 0: NoName
 "#;
 
-/// Lines that almost have a form that is read.
+/// Lines that differ a little from a form that is read.
 const FORMS: &str = r#"
 // a comment character counts from the line behind its declaration on, and `%` above the mappings alone
 ! x|<comment_char> ! => line 1: Declaration
@@ -127,7 +128,7 @@ CHARMAP
 <U10000>..<U4FFFE> \x00\x00\x00
 ";
 
-/// What a line comes to behind them.
+/// Lines after these mappings, and what is reported.
 const AT_FULL: &str = r#"
 END CHARMAP| => FULL 262144
 <question-mark> \x40|END CHARMAP| => FULL 262144

@@ -1,4 +1,4 @@
-//! Charmaps that are refused: the line that is at fault, and the cause's number. A `|` stands for the end of a line.
+//! Charmaps that are refused: the line at fault, and the number of the cause. In a text `|` means a line feed.
 use crate::exchanging::exchange;
 use crate::tables::{Call, check_lines};
 use std::random::RandomSource;
@@ -6,7 +6,8 @@ use std::sync::Wait;
 use std::test::Fail;
 use std::thread::Threads;
 
-/// Texts, and the bodies of the replies. Lines that begin with `//` name the causes.
+/// Texts, and the bodies of the replies: eight digits for the line, and two for the cause. Lines that begin with `//`
+/// name the causes.
 const REFUSED: &str = r#"
 // NoMap
  => 000000000c
@@ -43,7 +44,8 @@ CHARMAP|<question-mark> \x3F|END CHARMAP => 000000000e
 <code_set_name> BAD|CHARMAP|<A> \x41|END CHARMAP => 000000000f
 "#;
 
-/// Whether a text is answered by this body, and changes nothing. If not, `exchange` fails.
+/// Uploads a text. Returns `true` if the reply is BADMAP with this body, and the upload had no effect. Otherwise it
+/// fails, as `exchange` does.
 pub fn is_answered<R: AllocGlobal + RandomSource + Threads + Wait + Sync>(
     rt: &R,
     text: &str,

@@ -1,4 +1,4 @@
-//! Scripts and reply lines, against values from outside.
+//! Scripts and reply lines, compared with values from other sources.
 use crate::exchanging::exchange;
 use crate::tables::{Call, check_lines};
 use crate::words::{bytes_of, written_out};
@@ -50,7 +50,7 @@ const FRAMES: &str = r##"
 "1 2 bye " => 00000009 00000001 00000002 07
 "##;
 
-/// Whether a script gives these frames.
+/// Returns whether `ask_script` writes these frames for a script.
 pub fn gives(alloc: Global, script: &str, frames: &str) -> Result<bool, Fail> {
     let script = bytes_of(alloc, script)?;
     let wanted = bytes_of(alloc, frames)?;
@@ -63,7 +63,7 @@ fn scripts_give_frames(rt: HostRuntime) -> Result<(), Fail> {
     check_lines(&rt, Call::Ask, FRAMES)
 }
 
-/// The number of the line at which a script is refused, or 0 where it is taken.
+/// The number of the line at which a script is refused with exit status 2, or 0 if it is taken.
 fn refused_line(alloc: Global, script: &[u8]) -> Result<u32, Fail> {
     let Err(fault) = ask_script(alloc, script) else {
         return Ok(0);
@@ -74,7 +74,8 @@ fn refused_line(alloc: Global, script: &[u8]) -> Result<u32, Fail> {
     }
 }
 
-/// Whether a script, in which `x{N}` stands for so many letters, is refused at the line of this number, or taken if that is 0.
+/// Returns whether a script is refused at the line with this number, or is taken if that is 0. In the script `x{N}`
+/// means the letter `x` N times.
 pub fn is_refused_at(alloc: Global, script: &str, number: &str) -> Result<bool, Fail> {
     let number = number.parse::<u32>()?;
     let script = written_out(alloc, script)?;
@@ -82,7 +83,7 @@ pub fn is_refused_at(alloc: Global, script: &str, number: &str) -> Result<bool, 
     Ok(refused_line(alloc, &script)? == number)
 }
 
-/// Names and texts that are as long as they may be, and longer ones.
+/// Names and texts of the greatest length, and longer ones, with the line that is refused, or 0.
 const LIMITS: &str = r#"
 "1 1 drop x{255}" => 0
 "1 1 drop x{256}" => 1
@@ -97,7 +98,7 @@ fn names_and_texts_have_a_limit(rt: HostRuntime) -> Result<(), Fail> {
     check_lines(&rt, Call::Refuse, LIMITS)
 }
 
-/// Scripts with a line that is no command, and its number.
+/// Scripts with a line that is no command, and the number of this line.
 const NO_COMMANDS: &str = r##"
 " " => 1
 "7 1 close 0"0a 0a"# c"0a"7 2 shut 0"0a => 4

@@ -1,5 +1,5 @@
-//! Streams of frames that are cut off, or have a length that no frame has: `pipe` answers what stands before, and `show` prints nothing.
-//! What comes of a stream is told by the number of bytes that are written, the fault, and the exit status.
+//! Streams of frames that are cut off, or have a length that no frame can have. `pipe` answers the requests before
+//! that, and `show` prints nothing. A result is the number of bytes that are written, the fault, and the exit status.
 use crate::console::{Console, piped};
 use crate::tables::{Call, check_lines};
 use crate::words::{bytes_of, sides};
@@ -10,15 +10,16 @@ use std::sync::Wait;
 use std::test::Fail;
 use std::thread::Threads;
 
-/// Caller 7 opens UTF-8 from ISO-8859-1, and it is number 0; then it converts `41 e9 42`. The first request has 30 bytes, and both 54.
+/// Caller 7 opens a descriptor from ISO-8859-1 to UTF-8, which gets the number 0. Then it converts `41 e9 42`. The
+/// first request has 30 bytes, and both have 54.
 const REQUESTS: &[u8] = b"\0\0\0\x1a\0\0\0\x07\0\0\0\x01\x03\x05UTF-8\x0aISO-8859-1\
     \0\0\0\x14\0\0\0\x07\0\0\0\x02\x04\0\0\0\0\0\0\0\x08\x41\xe9\x42";
 
-/// The first reply has 17 bytes, and both 42.
+/// The first reply has 17 bytes, and both have 42.
 const REPLIES: &[u8] = b"\0\0\0\x0d\0\0\0\x07\0\0\0\x01\0\0\0\0\0\
     \0\0\0\x15\0\0\0\x07\0\0\0\x02\0\0\0\0\0\0\0\0\0\x41\xc3\xa9\x42";
 
-/// The first n bytes, or all where there are fewer.
+/// The first `n` bytes, or all if there are fewer.
 fn front(bytes: &[u8], n: usize) -> &[u8] {
     &bytes[..n.min(bytes.len())]
 }
@@ -30,7 +31,7 @@ pub enum Command {
     Show,
 }
 
-/// The stream that a command is given whole or in part.
+/// The stream of which a command is given all or a part.
 fn stream_of(command: Command) -> &'static [u8] {
     match command {
         Command::Pipe => REQUESTS,
@@ -54,7 +55,8 @@ fn run<R: AllocGlobal + RandomSource + Threads + Wait + Sync>(
     }
 }
 
-/// Whether a command comes to these words, given a stream. What it writes has to be a front of the replies.
+/// Whether a command has the result that these words say, given a stream. What it writes has to be a prefix of the
+/// replies.
 fn comes_to<R: AllocGlobal + RandomSource + Threads + Wait + Sync>(
     rt: &R,
     command: Command,
@@ -71,7 +73,8 @@ fn comes_to<R: AllocGlobal + RandomSource + Threads + Wait + Sync>(
     Ok(told.as_str() == words && replies.starts_with(&written))
 }
 
-/// Whether a command comes to these words, given so many bytes of its stream, or more, up to so many.
+/// Returns whether a command has this result for each prefix of its stream whose size is in a range. `sizes` has the
+/// first and the last size.
 pub fn cut_comes_to<R: AllocGlobal + RandomSource + Threads + Wait + Sync>(
     rt: &R,
     command: Command,
@@ -88,7 +91,7 @@ pub fn cut_comes_to<R: AllocGlobal + RandomSource + Threads + Wait + Sync>(
     Ok(true)
 }
 
-/// From so many bytes of the requests to so many, and what `pipe` makes of them.
+/// The first and the last size of prefixes of the requests, and the result of `pipe`.
 const CUT_REQUESTS: &str = "
 0 0 => 0 None 0
 1 29 => 0 Some(Serve(TruncatedFrame)) 1
@@ -102,7 +105,7 @@ fn pipe_answers_what_stands_before_a_cut(rt: HostRuntime) -> Result<(), Fail> {
     check_lines(&rt, Call::Cut(Command::Pipe), CUT_REQUESTS)
 }
 
-/// From so many bytes of the replies to so many, and what `show` makes of them.
+/// The first and the last size of prefixes of the replies, and the result of `show`.
 const CUT_REPLIES: &str = "
 0 0 => 0 None 0
 1 16 => 0 Some(TruncatedReply) 1
@@ -114,7 +117,8 @@ fn show_prints_no_part_of_a_stream_that_is_cut(rt: HostRuntime) -> Result<(), Fa
     check_lines(&rt, Call::Cut(Command::Show), CUT_REPLIES)
 }
 
-/// So many bytes of a stream, the bytes of a length, and the stream once more.
+/// A prefix of a stream, the bytes of a length, and then the whole stream. `start` has the size of the prefix, and the
+/// length.
 fn with_length(alloc: Global, stream: &[u8], start: &str) -> Result<Vec<u8>, Fail> {
     let (size, length) = sides(start, " ")?;
     let size = size.parse::<usize>()?;
@@ -125,7 +129,7 @@ fn with_length(alloc: Global, stream: &[u8], start: &str) -> Result<Vec<u8>, Fai
     Ok(bytes)
 }
 
-/// Whether a command comes to these words, given so many bytes of its stream, the bytes of a length, and the stream once more.
+/// Returns whether a command has this result for a stream that `with_length` makes of its own.
 pub fn spoilt_comes_to<R: AllocGlobal + RandomSource + Threads + Wait + Sync>(
     rt: &R,
     command: Command,
@@ -136,7 +140,7 @@ pub fn spoilt_comes_to<R: AllocGlobal + RandomSource + Threads + Wait + Sync>(
     comes_to(rt, command, &stream, REPLIES, words)
 }
 
-/// So many bytes of the requests, a length that no frame has, and what `pipe` makes of them.
+/// The size of a prefix of the requests, a length that no frame can have, and the result of `pipe`.
 const BAD_REQUESTS: &str = "
 0 00000000 => 0 Some(Serve(BadLength { length: 0 })) 1
 30 00000000 => 17 Some(Serve(BadLength { length: 0 })) 1
@@ -160,7 +164,7 @@ fn pipe_answers_what_stands_before_a_bad_length(rt: HostRuntime) -> Result<(), F
     check_lines(&rt, Call::Spoilt(Command::Pipe), BAD_REQUESTS)
 }
 
-/// The same of the replies and `show`.
+/// The same for the replies and `show`.
 const BAD_REPLIES: &str = "
 0 00000000 => 0 Some(BadReplyLength(0)) 1
 17 00000000 => 0 Some(BadReplyLength(0)) 1
@@ -184,7 +188,7 @@ fn show_prints_no_part_of_a_stream_with_a_bad_length(rt: HostRuntime) -> Result<
     check_lines(&rt, Call::Spoilt(Command::Show), BAD_REPLIES)
 }
 
-/// A raw request of so many bytes.
+/// The first `size` bytes of a request whose frame has the greatest length.
 fn raw_request(alloc: Global, size: usize) -> Result<Vec<u8>, AllocError> {
     let mut request = Vec::from_slice(alloc, b"\0\x10\0\0\0\0\0\x07\0\0\0\x01\x09")?;
     request.resize(size, b'x')?;

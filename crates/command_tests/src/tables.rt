@@ -1,5 +1,5 @@
-//! Tables. A line is `GIVEN => WANTED`: what is given to a call, and what has to come of it. The functions that `comes_to` names say how
-//! they read both. Lines that begin with `//` say what others show.
+//! Tables. A line is `GIVEN => WANTED`: what a call is given, and the expected result. The functions that `comes_to`
+//! calls say how they read both. Empty lines and lines that begin with `//` are skipped.
 use crate::calls::is_called;
 use crate::checking::is_said;
 use crate::command_lines::{is_named, says};
@@ -13,30 +13,30 @@ use std::sync::Wait;
 use std::test::Fail;
 use std::thread::Threads;
 
-/// What is done with what a line gives.
+/// What is done with the left side of a line.
 #[derive(Clone, Copy)]
 pub enum Call {
-    /// It is checked as a charmap, behind this front.
+    /// It is checked as a charmap, after this prefix.
     Check(&'static str),
     /// It is uploaded as a charmap.
     Upload,
-    /// It is taken for a script that gives frames.
+    /// It is a script, and the right side is its frames.
     Ask,
-    /// It is taken for a script that may be refused.
+    /// It is a script, and the right side is the line at which it is refused, or 0.
     Refuse,
-    /// It is taken for a command line that gives a job.
+    /// It is a command line, and the right side is its job and numbers.
     Options,
-    /// It is taken for a command line that is refused.
+    /// It is a command line that is refused, and the right side is named in the error.
     Usage,
     /// A peer of this kind is called.
     Peer,
-    /// A command is given a part of a stream.
+    /// A command is given a prefix of its stream.
     Cut(Command),
-    /// A command is given a stream with a length that no frame has.
+    /// A command is given a stream with a length that no frame can have.
     Spoilt(Command),
 }
 
-/// Makes a call for each line.
+/// Makes a call for each line, and compares its result.
 pub fn check_lines<R: Abort + AllocGlobal + RandomSource + Threads + Wait + Sync>(
     rt: &R,
     call: Call,
@@ -53,7 +53,7 @@ pub fn check_lines<R: Abort + AllocGlobal + RandomSource + Threads + Wait + Sync
     Ok(())
 }
 
-/// Whether a call comes to what it is to come to.
+/// Whether a call has the expected result.
 fn comes_to<R: Abort + AllocGlobal + RandomSource + Threads + Wait + Sync>(
     rt: &R,
     call: Call,

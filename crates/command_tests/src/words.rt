@@ -2,7 +2,7 @@
 use std::alloc::Global;
 use std::test::Fail;
 
-/// The two sides of what stands on either side of a mark.
+/// Returns the texts before and after the first `mark`.
 pub fn sides<'a>(text: &'a str, mark: &str) -> Result<(&'a str, &'a str), Fail> {
     Ok(
         text.split_once(mark)
@@ -10,7 +10,7 @@ pub fn sides<'a>(text: &'a str, mark: &str) -> Result<(&'a str, &'a str), Fail> 
     )
 }
 
-/// The text of a word in which `x{N}` stands for so many letters.
+/// Returns a word in which the first `x{N}`, if there is one, is replaced by the letter `x` N times.
 pub fn written_out(alloc: Global, word: &str) -> Result<String, Fail> {
     let Some((front, rest)) = word.split_once("x{") else {
         return Ok(String::from_str(alloc, word)?);
@@ -20,7 +20,8 @@ pub fn written_out(alloc: Global, word: &str) -> Result<String, Fail> {
     Ok(format!(in alloc; "{front}{letters}{back}")?)
 }
 
-/// The bytes of a word: hexadecimal digits, with blanks where they serve, and characters between quotation marks. So `""` is no bytes.
+/// Returns the bytes of a word: hexadecimal digits, with blanks between bytes if wanted, and characters between
+/// quotation marks. So `""` means no bytes.
 pub fn bytes_of(alloc: Global, word: &str) -> Result<Vec<u8>, Fail> {
     let mut bytes = Vec::new(alloc);
     let mut quoted = false;

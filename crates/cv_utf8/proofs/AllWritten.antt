@@ -1,4 +1,4 @@
--- UTF-8 has every character, and so every policy allows what it writes.
+-- UTF-8 has every character. So every policy allows what it writes.
 use Rattle.std.proofs.Common.{ℕ, List, refl}
 use Rattle.cv_base.specs.Chains.{output_for}
 use Rattle.cv_base.specs.Policies.{Allows}

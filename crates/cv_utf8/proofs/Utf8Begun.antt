@@ -48,7 +48,7 @@ left2 b c = cond b (cond c 2 1) 0
 abbrev reach_of : List ℕ → ℕ → ℕ → ℕ
 reach_of text at k = left2 (is_behind (get_or text (at + k) 0)) (is_behind (get_or text (at + k + 1) 0))
 
--- if a byte after a first does not follow, the bytes that are read have ended
+-- if a continuation byte is of no character before it, it is after the bytes that are read
 stops : (text : List ℕ) (at used k : ℕ) → AreWhole text at used → is_behind (get_or text (at + k) 0) ≡ true → (IsFollowing text at k → ⊥) → k < used ⊎ used ≤ k → used ≤ k
 stops text at used k w b never (inl l) = absurd (never (w.behind k l b))
 stops text at used k w b never (inr l) = l
@@ -125,7 +125,7 @@ first_lane text at used k v s room w l u e f b (inr (inr p)) =
     let next : min used (k + 1 + 2) ≡ min used (k + 0) + 3 = omega arith in
     inr (f, (3, ap₂ (λ c d. min used (k + 1 + left2 c d)) second third ∙ next, rw place (three_spelled text (at + k) v (omega arith) t e)))
 
--- 1 if a byte is of what is read and is not one after a first
+-- 1 if a byte is among those that are read and is no continuation byte, and 0 otherwise
 abbrev pub begins_if : Bool → Bool → ℕ
 begins_if b u = cond b 0 (cond u 1 0)
 
@@ -160,7 +160,7 @@ at_last text at used true false w e f (inl h) (inl g) =
     let place : at + 17 ≡ at + 16 + 1 = omega arith in
     absurd (clash _ (rw place at (w.over 17 (lit≤ tt) g)) f)
 
--- what begins in the lanes of whole characters is put one after the other
+-- the characters that begin in the lanes of complete characters are one after the other
 pub whole_begun : (text : List ℕ) (at used : ℕ) (vs : List ℕ) (begun : ℕ) → at + 18 ≤ length text → ((i : ℕ) → Fits w8 (get_or text i 0)) → AreWhole text at used → ((k : ℕ) → k < 16 → get_or vs k 0 ≡ whole_value text (at + k))
     → ((k : ℕ) → k < 16 → bit_at begun k ≡ begins_if (is_behind (get_or text (at + k) 0)) (ltb k used)) → AreBegun text at vs begun used
 whole_begun text at used vs begun room fits w are bits =

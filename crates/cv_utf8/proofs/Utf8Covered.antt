@@ -1,4 +1,4 @@
--- Which bytes of a window of UTF-8 are of whole characters.
+-- Which bytes of a window of UTF-8 are of complete characters.
 use Rattle.std.proofs.Common.{◌≡◌, ℕ, ◌+◌, ◌-◌, ◌*◌, ◌%◌, ◌^◌, ◌<◌, ◌≤◌, ◌⊎◌, inl, inr, Bool, true, false, cond, Fits, List, get_or, refl, sym, ◌∙◌, ap, arith, zero, suc, w8, w64, lit≤}
 use Rattle.std.specs.Int.{bit_at, trailing_ones}
 use Rattle.std.specs.Int.RustNames.{bit_or}
@@ -13,11 +13,11 @@ use Rattle.cv_utf8.proofs.Utf8Marks.{in_either, left_in, right_in}
 abbrev moved : ℕ → ℕ → ℕ
 moved m s = (m * 2 ^ s) % 2 ^ 64
 
--- the places at which marked characters begin
+-- a mask of the bytes at which marked characters begin
 abbrev pub firsts : ℕ → ℕ → ℕ → ℕ
 firsts one two three = bit_or (bit_or one two) three
 
--- the places that marked characters cover
+-- a mask of the bytes of marked characters
 abbrev pub covered : ℕ → ℕ → ℕ → ℕ
 covered one two three = bit_or (bit_or (firsts one two three) (moved (bit_or two three) 1)) (moved three 2)
 
@@ -62,7 +62,7 @@ from_two m (suc (suc j)) h e =
     let place : j + 2 ≡ suc (suc j) = omega arith in
     (j, omega arith, sym (moved_up m 2 j h (lit≤ tt)) ∙ ap (bit_at (moved m 2)) place ∙ e)
 
--- how a byte after a first is covered
+-- how a continuation byte is covered
 abbrev IsAfter : ℕ → ℕ → ℕ → Type 0
 IsAfter two three k = ((j : ℕ) × (k ≡ j + 1) × ((bit_at two j ≡ 1) ⊎ (bit_at three j ≡ 1))) ⊎ ((j : ℕ) × (k ≡ j + 2) × (bit_at three j ≡ 1))
 
@@ -94,7 +94,7 @@ cover_all one two three k h l (inr e) = inr (inr (inr (inr (from_two three k l e
 cover : (one two three k : ℕ) → two < 2 ^ 16 → three < 2 ^ 16 → bit_at (covered one two three) k ≡ 1 → IsCovered one two three k
 cover one two three k h l e = cover_all one two three k h l (in_either (bit_or (bit_or (bit_or one two) three) (moved (bit_or two three) 1)) (moved three 2) k e)
 
--- what is after a first is covered with it
+-- the byte after a marked first byte of two or three is covered
 next_covered : (one two three k : ℕ) → two < 2 ^ 16 → three < 2 ^ 16 → bit_at (bit_or two three) k ≡ 1 → bit_at (covered one two three) (k + 1) ≡ 1
 next_covered one two three k h l e = left_in (bit_or (bit_or (bit_or one two) three) (moved (bit_or two three) 1)) (moved three 2) (k + 1) (right_in (bit_or (bit_or one two) three) (moved (bit_or two three) 1) (k + 1) (moved_up (bit_or two three) 1 k (or_lt 16 two three h l) (lit≤ tt) ∙ e))
 
@@ -122,11 +122,11 @@ further m used k e f h (inr l) = absurd (not_there m used k e f (omega arith))
 goes_on : (m used k : ℕ) → bit_at m used ≡ 0 → bit_at m (k + 1) ≡ 1 → k < used → k + 1 < used
 goes_on m used k e f h = further m used (k + 1) e f (omega arith) (lt_or_le (k + 1) used)
 
--- a byte in the range is one after a first
+-- a byte in the range is a continuation byte
 pub tail_behind : (x : ℕ) → (0x80 ≤ x) × (x ≤ 0xbf) → is_behind x ≡ true
 tail_behind x p = lt-ltb _ _ (omega (arith, p.0, p.1))
 
--- a byte after a first is in the range
+-- a continuation byte is in the range
 pub behind_range : (x : ℕ) → x < 256 → is_behind x ≡ true → (0x80 ≤ x) × (x ≤ 0xbf)
 behind_range x h e =
     let near : (x + (256 - 0x80)) % 256 < 0x40 = ltb-true _ _ e in
@@ -137,7 +137,7 @@ pub clash : (b : Bool) → b ≡ true → b ≡ false → ⊥
 clash true e f = cc
 clash false e f = cc
 
--- a byte that is covered after a first
+-- a byte that is covered after a first byte is a continuation byte
 after_behind : (text : List ℕ) (at two three k : ℕ) → AreMarks (IsTwoAt text) at two → AreMarks (IsThreeAt text) at three → IsAfter two three k → is_behind (get_or text (at + k) 0) ≡ true
 after_behind text at two three k q r (inl (j, e, inl f)) =
     let t = q.1 j (place_lt two j q.0 f (lt_or_le j 16)) f in
@@ -164,7 +164,7 @@ of_first text at one two three used k p q r z h b (inr (inr (inl e))) =
     inr (inr (r.1 k (place_lt three k r.0 e (lt_or_le k 16)) e, omega arith))
 of_first text at one two three used k p q r z h b (inr (inr (inr a))) = absurd (clash _ (after_behind text at two three k q r a) b)
 
--- a first is not after one
+-- a marked first byte is no continuation byte
 not_first : (text : List ℕ) (at one two three k : ℕ) → AreMarks (IsOneAt text) at one → AreMarks (IsTwoAt text) at two → AreMarks (IsThreeAt text) at three → get_or text (at + k) 0 < 256 → is_behind (get_or text (at + k) 0) ≡ true
     → ((bit_at one k ≡ 1) ⊎ (bit_at two k ≡ 1)) ⊎ (bit_at three k ≡ 1) → ⊥
 not_first text at one two three k p q r h b (inl (inl e)) =
@@ -189,7 +189,7 @@ zero_unless zero h f = refl
 zero_unless (suc zero) h f = absurd (f refl)
 zero_unless (suc (suc n)) h f = absurd (omega arith)
 
--- which covered bytes are firsts
+-- which covered bytes are first bytes
 first_is : (text : List ℕ) (at one two three k : ℕ) (b : Bool) → AreMarks (IsOneAt text) at one → AreMarks (IsTwoAt text) at two → AreMarks (IsThreeAt text) at three → get_or text (at + k) 0 < 256 → is_behind (get_or text (at + k) 0) ≡ b → IsCovered one two three k
     → bit_at (firsts one two three) k ≡ cond b 0 1
 first_is text at one two three k true p q r h b is = zero_unless _ (bit_at-lt (firsts one two three) k) (λ e. not_first text at one two three k p q r h b (in_firsts one two three k (in_either (bit_or one two) three k e)))
@@ -235,7 +235,7 @@ at_most : (m used : ℕ) → m < 2 ^ 18 → ((i : ℕ) → i < used → bit_at m
 at_most m used h set (inl l) = absurd (omega (arith, set 18 l, bit_at_above m 18 18 h (lit≤ tt)))
 at_most m used h set (inr l) = l
 
--- up to the first place that is not covered the characters are whole
+-- up to the first byte that is not covered the characters are complete
 pub whole_of_marks : (text : List ℕ) (at one two three used : ℕ) → ((i : ℕ) → Fits w8 (get_or text i 0)) → AreMarks (IsOneAt text) at one → AreMarks (IsTwoAt text) at two → AreMarks (IsThreeAt text) at three → used ≡ trailing_ones w64 (covered one two three) → AreWhole text at used
 whole_of_marks text at one two three used fits p q r e =
     let m : ℕ = covered one two three in
@@ -251,7 +251,7 @@ whole_of_marks text at one two three used fits p q r e =
       behind = λ k h b. of_behind text at one two three k p q r (fits (at + k)).fits b (is k h);
     }
 
--- if they are whole, those that are marked begin them
+-- in complete characters the marked bytes are those that begin one
 pub firsts_of_marks : (text : List ℕ) (at one two three used k : ℕ) → ((i : ℕ) → Fits w8 (get_or text i 0)) → AreMarks (IsOneAt text) at one → AreMarks (IsTwoAt text) at two → AreMarks (IsThreeAt text) at three → used ≡ trailing_ones w64 (covered one two three) → k < used
     → bit_at (firsts one two three) k ≡ cond (is_behind (get_or text (at + k) 0)) 0 1
 firsts_of_marks text at one two three used k fits p q r e h =

@@ -1,4 +1,4 @@
--- Four characters of up to three bytes, whose bytes are packed from four for each.
+-- Four characters of up to three bytes. Each is computed as four bytes, and those that it has are packed.
 use Rattle.std.proofs.Common.{◌≡◌, ℕ, ◌+◌, ◌*◌, ◌/◌, ◌%◌, ◌^◌, ◌<◌, ◌≤◌, Bool, true, false, cond, List, [], ◌∷◌, ◌++◌, length, take, drop, get_or, get_or-take, get_or-drop, map, inl, inr, refl, sym, ◌∙◌, ap, ap₂, arith, zero, suc}
 use Rattle.std.specs.Prelude.{replicate, count_ones}
 use Rattle.std.specs.List.{flat_map}
@@ -26,7 +26,7 @@ behind_first v vs p k h = p (suc k) (omega arith)
 abbrev bits : ℕ → ℕ
 bits v = ((v / 4096 + ((v / 64 % 64) * 0x100) % 2 ^ 32) % 2 ^ 32 + ((v % 64) * 0x10000) % 2 ^ 32) % 2 ^ 32
 
--- one of two numbers, by whether a lane is a limit at least
+-- one of two numbers, by whether a lane is at least a limit
 abbrev least : ℕ → ℕ → ℕ → ℕ → ℕ
 least k v a b = cond (top 31 (cond (leb k v) 0xffffffff 0)) a b
 
@@ -173,7 +173,7 @@ packed_are (v ∷ vs) p =
 pub part_long : (characters values : List ℕ) (n : ℕ) → n + 4 ≤ length characters → values ≡ take 4 (drop n characters) → length values ≡ 4
 part_long characters values n room e = ap length e ∙ length-chunk n 4 characters room
 
--- they are below the limit, as all are
+-- they are below the limit
 pub part_middle : (characters values : List ℕ) (n : ℕ) → values ≡ take 4 (drop n characters) → ((k : ℕ) → k < 4 → get_or characters (n + k) 0 < 0x10000) → (k : ℕ) → k < 4 → get_or values k 0 < 0x10000
 part_middle characters values n e p k h = rw (e, get_or-take, get_or-drop) (p k h)
 

@@ -1,4 +1,4 @@
--- What std calls UTF-8 are the bytes of characters.
+-- What the standard library calls well-formed UTF-8 is the bytes of characters.
 use Rattle.std.proofs.Common.{◌≡◌, ℕ, ◌+◌, ◌≤◌, true, List, [], ◌∷◌, length, take, drop, refl, sym, ◌∙◌, ap, subst, arith, inl, inr, length-take}
 use Rattle.std.specs.Prelude.{IsUtf8}
 use Rattle.std.specs.List.{flat_map}
@@ -38,7 +38,7 @@ are_scalars (c ∷ characters) p =
     let both = and_parts (scalar c) (scalars characters) p in
     (is_scalar c both.0, are_scalars characters both.1)
 
--- well-formed bytes at the start of a text stay
+-- well-formed bytes at the start of a text are converted to themselves
 pub utf8_unchanged : (text : List ℕ) (n : ℕ) → n ≤ length text → IsUtf8 (take n text) → IsUnchanged utf8_reads utf8_writes read.Start write.Start text n
 utf8_unchanged text n h p =
     let same : flat_map utf8_bytes p.0 ≡ take n text = sym (all_same p.0) ∙ p.1.1 in
@@ -50,7 +50,7 @@ utf8_unchanged text n h p =
     } in
     spelled_unchanged utf8_reads utf8_writes read.Start write.Start utf8_bytes utf8_reads_spelled utf8_writes_spelled text n front
 
--- well-formed bytes after others
+-- well-formed bytes after well-formed bytes
 pub more_well_formed : (text : List ℕ) (n k : ℕ) → IsUtf8 (take n text) → IsUtf8 (take k (drop n text)) → IsUtf8 (take (n + k) text)
 more_well_formed text n k p q = subst IsUtf8 (sym (take-add n k text)) (IsUtf8-append (take n text) (take k (drop n text)) p q)
 

@@ -1,4 +1,4 @@
--- What is next in UTF-8.
+-- The next item of UTF-8.
 use Rattle.std.proofs.Common.{◌≡◌, ℕ, Bool, true, false, cond, nat_lt, ◌+◌, ◌*◌, ◌/◌, ◌%◌, ◌<◌, ◌≤◌, inl, inr, List, [], ◌∷◌, length, get_or, refl, sym, arith, Some}
 use Rattle.std.proofs.lemmas.Bool.{cases_lt}
 use Rattle.cv_base.specs.Scalars.{IsScalar}
@@ -14,7 +14,7 @@ use Rattle.cv_utf8.specs.Utf8.{table, carried, IsOfOne, utf8_reads, utf8_writes}
 use Rattle.cv_utf8.specs.Private.Utf8Bytes.{IsTail, IsSecond}
 use Rattle.cv_utf8.proofs.Utf8Laws.{IsSequence, sequence_of}
 
--- a sequence of a long first byte
+-- a sequence whose first byte is E0 or more has at least three bytes
 long : (w : List ℕ) (c : ℕ) → IsSequence w c → 0xe0 ≤ get_or w 0 0 → 3 ≤ length w
 long w c q h = elim (cases_lt (get_or w 0 0) 0xf0) [ inl l ↦ omega (arith, q.three h l) | inr l ↦ omega (arith, (q.four l).0) ]
 
@@ -32,7 +32,7 @@ incomplete_from s x n longer more c is front = (
   record { bytes = more; item = taken (length more) (Some c) read.Start; is_item = (c, is, refl); front = front },
 )
 
--- a first byte that no sequence has
+-- a first byte from 80 to C1, which no sequence has
 pub ill_low : (s : ReadState) (x : List ℕ) → 0 < length x → 0x80 ≤ get_or x 0 0 → get_or x 0 0 < 0xc2 → IsNext utf8_reads s x Ill
 ill_low s x n h k = ill_from s x n (λ w c q a. omega (arith, a 0 q.some n, q.no_tail))
 
@@ -40,7 +40,7 @@ ill_low s x n h k = ill_from s x n (λ w c q a. omega (arith, a 0 q.some n, q.no
 pub ill_high : (s : ReadState) (x : List ℕ) → 0 < length x → 0xf4 < get_or x 0 0 → IsNext utf8_reads s x Ill
 ill_high s x n h = ill_from s x n (λ w c q a. omega (arith, a 0 q.some n, q.lead))
 
--- a second byte that doesn't follow
+-- after a first byte of two, a second byte that is no continuation byte
 pub ill_of_two : (s : ReadState) (x : List ℕ) → 2 ≤ length x → 0xc2 ≤ get_or x 0 0 → get_or x 0 0 < 0xe0 → (IsTail (get_or x 1 0) → ⊥) → IsNext utf8_reads s x Ill
 ill_of_two s x n h k never = ill_from s x (omega arith) (λ w c q a.
     let e : get_or w 0 0 ≡ get_or x 0 0 = a 0 q.some (omega arith) in
@@ -56,7 +56,7 @@ ill_second s x n h k never = ill_from s x (omega arith) (λ w c q a.
     let f : get_or w 1 0 ≡ get_or x 1 0 = a 1 (omega arith) (omega arith) in
     never (rw (← e, ← f) (q.second (omega arith))))
 
--- a third byte that is not one after a first
+-- a third byte that is no continuation byte
 pub ill_third : (s : ReadState) (x : List ℕ) → 3 ≤ length x → 0xe0 ≤ get_or x 0 0 → get_or x 0 0 ≤ 0xf4 → (IsTail (get_or x 2 0) → ⊥) → IsNext utf8_reads s x Ill
 ill_third s x n h k never = ill_from s x (omega arith) (λ w c q a.
     let e : get_or w 0 0 ≡ get_or x 0 0 = a 0 q.some (omega arith) in
@@ -64,7 +64,7 @@ ill_third s x n h k never = ill_from s x (omega arith) (λ w c q a.
     let f : get_or w 2 0 ≡ get_or x 2 0 = a 2 (omega arith) (omega arith) in
     never (rw (← f) (q.third (omega arith))))
 
--- a fourth byte that is not one after a first
+-- a fourth byte that is no continuation byte
 pub ill_fourth : (s : ReadState) (x : List ℕ) → 4 ≤ length x → 0xf0 ≤ get_or x 0 0 → get_or x 0 0 ≤ 0xf4 → (IsTail (get_or x 3 0) → ⊥) → IsNext utf8_reads s x Ill
 ill_fourth s x n h k never = ill_from s x (omega arith) (λ w c q a.
     let e : get_or w 0 0 ≡ get_or x 0 0 = a 0 q.some (omega arith) in
@@ -72,7 +72,7 @@ ill_fourth s x n h k never = ill_from s x (omega arith) (λ w c q a.
     let f : get_or w 3 0 ≡ get_or x 3 0 = a 3 (omega arith) (omega arith) in
     never (rw (← f) t.1))
 
--- the rows of what the code accepts
+-- two bytes that fit are in the table
 pub row_2 : (a b : ℕ) → 0xc2 ≤ a → a < 0xe0 → IsTail b → IsOfOne table (a ∷ b ∷ []) (carried (a ∷ b ∷ []))
 row_2 a b h k t = inr (inl (((h, omega arith), (t, tt)), (omega arith, omega arith), refl))
 
@@ -101,7 +101,7 @@ row_4 a b d f h k t u v =
       ]
     ]
 
--- the characters
+-- a character of one byte
 pub char_1 : (s : ReadState) (x : List ℕ) (c : ℕ) → c ≡ get_or x 0 0 → 0 < length x → get_or x 0 0 < 0x80 → Stands utf8_reads s x (taken 1 (Some c) read.Start)
 char_1 s [] c e n h = absurd (omega arith)
 char_1 s (a ∷ x) c e n h = record { bytes = a ∷ []; is_item = (c, inl (((omega arith, omega arith), tt), (omega arith, omega arith), e), refl); front = (refl, tt) }
@@ -127,7 +127,7 @@ char_4 s (a ∷ b ∷ []) c e n h k t u v = absurd (omega arith)
 char_4 s (a ∷ b ∷ d ∷ []) c e n h k t u v = absurd (omega arith)
 char_4 s (a ∷ b ∷ d ∷ f ∷ x) c e n h k t u v = record { bytes = a ∷ b ∷ d ∷ f ∷ []; is_item = (c, rw e (row_4 a b d f h k t u v), refl); front = (refl, (refl, (refl, (refl, tt)))) }
 
--- what can grow
+-- a first byte has a second that fits
 some_second : (a : ℕ) → (b : ℕ) × IsSecond a b
 some_second a =
     elim (cases_lt a 0xf4) [
@@ -157,7 +157,7 @@ incomplete_1 s (a ∷ []) e h k =
       ]
     ]
 
--- two bytes of three or four
+-- the first two bytes of three or four
 pub incomplete_2 : (s : ReadState) (x : List ℕ) → length x ≡ 2 → 0xe0 ≤ get_or x 0 0 → get_or x 0 0 ≤ 0xf4 → IsSecond (get_or x 0 0) (get_or x 1 0) → IsNext utf8_reads s x Incomplete
 incomplete_2 s [] e h k t = absurd (omega arith)
 incomplete_2 s (a ∷ []) e h k t = absurd (omega arith)
@@ -171,7 +171,7 @@ incomplete_2 s (a ∷ b ∷ []) e h k t =
       | inr m ↦ incomplete_from s (a ∷ b ∷ []) (omega arith) longer (a ∷ b ∷ 0x80 ∷ 0x80 ∷ []) (carried (a ∷ b ∷ 0x80 ∷ 0x80 ∷ [])) (row_4 a b 0x80 0x80 m k t a_tail a_tail) (refl, (refl, tt))
     ]
 
--- three bytes of four
+-- the first three bytes of four
 pub incomplete_3 : (s : ReadState) (x : List ℕ) → length x ≡ 3 → 0xf0 ≤ get_or x 0 0 → get_or x 0 0 ≤ 0xf4 → IsSecond (get_or x 0 0) (get_or x 1 0) → IsTail (get_or x 2 0) → IsNext utf8_reads s x Incomplete
 incomplete_3 s [] e h k t u = absurd (omega arith)
 incomplete_3 s (a ∷ []) e h k t u = absurd (omega arith)
@@ -183,7 +183,7 @@ incomplete_3 s (a ∷ b ∷ d ∷ []) e h k t u =
     omega (arith, (q.four (omega arith)).0)) in
     incomplete_from s (a ∷ b ∷ d ∷ []) (omega arith) longer (a ∷ b ∷ d ∷ 0x80 ∷ []) (carried (a ∷ b ∷ d ∷ 0x80 ∷ [])) (row_4 a b d 0x80 h k t u a_tail) (refl, (refl, (refl, tt)))
 
--- what they carry is a scalar
+-- three bytes that fit carry a scalar
 pub scalar_3 : (a b d : ℕ) → 0xe0 ≤ a → a < 0xf0 → IsSecond a b → IsTail d → IsScalar ((a % 16) * 4096 + (b % 64) * 64 + d % 64)
 scalar_3 a b d h k t u = (omega arith, λ x. elim (cases_lt a 0xed) [ inl l ↦ absurd (omega arith) | inr l ↦ elim (cases_lt a 0xee) [ inl m ↦ (let e : a ≡ 0xed = omega arith in absurd (omega (arith, t.3 e))) | inr m ↦ omega arith ] ])
 

@@ -1,10 +1,10 @@
--- The bits of several characters, joined.
+-- The bitwise OR of several characters.
 use Rattle.std.proofs.Common.{◌≡◌, ℕ, ◌+◌, ◌<◌, ◌≤◌, List, length, get_or, arith, bit_or, inl, inr}
 use Rattle.std.proofs.lemmas.Bool.{cases_lt}
 use Rattle.std.proofs.lemmas.List.{get_or_read}
 use Rattle.std.proofs.lemmas.Nat.{le_or_l, le_or_r}
 
--- none of some characters is above the bits of all of them, joined
+-- none of some characters is above the bitwise OR of all of them
 pub joined_more : (characters : List ℕ) (n m joined c d : ℕ) → n + m < length characters → ((k : ℕ) → k < m → get_or characters (n + k) 0 ≤ joined) → c ≡ get_or characters (n + m) c → d ≡ c → (k : ℕ) → k < m + 1 → get_or characters (n + k) 0 ≤ bit_or joined d
 joined_more characters n m joined c d low p is same k h = elim (cases_lt k m) [
   | inl lower ↦ omega (arith, p k lower, le_or_l joined d)

@@ -1,4 +1,4 @@
--- Sixteen characters that are spelled at once, as vectors compute it.
+-- The bytes of sixteen characters at once, as vectors compute them.
 use Rattle.std.proofs.Common.{◌≡◌, ℕ, ◌+◌, ◌*◌, ◌/◌, ◌%◌, ◌^◌, ◌<◌, cond, List, [], ◌∷◌, length, get_or, map, refl, arith, zero, suc}
 use Rattle.std.specs.Prelude.{replicate}
 use Rattle.std.specs.Int.{to_le_bytes, w32}
@@ -34,7 +34,7 @@ words_at (suc n) [] k e h = cc
 words_at (suc n) (v ∷ vs) zero e h = refl
 words_at (suc n) (v ∷ vs) (suc k) e h = words_at n vs k (omega arith) (omega arith)
 
--- 1 if a number is a limit at least
+-- 1 if a number is at least a limit, and 0 otherwise
 abbrev pub above : ℕ → ℕ → ℕ
 above k v = cond (top 31 (cond (leb k v) 0xffffffff 0)) 1 0
 
@@ -46,7 +46,7 @@ lane_size v = (((1 + above 0x80 v) % 2 ^ 32 + above 0x800 v) % 2 ^ 32 + above 0x
 pub size_is : (v : ℕ) → lane_size v ≡ length (utf8_bytes v)
 size_is v = grind arith
 
--- 1 in each lane whose number is a limit at least
+-- 1 in each lane whose number is at least a limit, and 0 in the others
 abbrev pub above_all : ℕ → ℕ → List ℕ → List ℕ
 above_all n k vs = sel_l (map (top 31) (zip2 (λ a b. cond (leb a b) 0xffffffff 0) (replicate n k) vs)) (replicate n 1) (replicate n 0)
 

@@ -1,4 +1,4 @@
--- The table of UTF-8 keeps what a codec keeps.
+-- The table of UTF-8 has the properties of a codec.
 use Rattle.std.proofs.Common.{◌≡◌, ℕ, ◌<◌, ◌≤◌, inl, inr, List, [], ◌∷◌, length, get_or, refl, sym, ◌∙◌, ap, arith, Some}
 use Rattle.std.proofs.lemmas.Bool.{cases_lt}
 use Rattle.cv_base.specs.Items.{Taken, taken, Begins}
@@ -9,7 +9,7 @@ use Rattle.cv_base.proofs.Front.{Begins-same}
 use Rattle.cv_utf8.specs.Private.Utf8Bytes.{IsTail, IsSecond}
 use Rattle.cv_utf8.specs.Utf8.{table, carried, IsOfRow, IsOfOne, utf8_reads, row, range, tail}
 
--- What a sequence of the table is, by its first byte.
+-- What a sequence of the table is, for each first byte.
 pub record IsSequence (w : List ℕ) (c : ℕ) : Type 0 where
   pub some : 0 < length w
   pub lead : get_or w 0 0 ≤ 0xf4
@@ -22,7 +22,7 @@ pub record IsSequence (w : List ℕ) (c : ℕ) : Type 0 where
   pub four : 0xf0 ≤ get_or w 0 0 → (length w ≡ 4) × IsTail (get_or w 3 0)
   pub carries : c ≡ carried w
 
--- what each row gives, the table gives
+-- what follows from each row follows from the table
 by_row : (w : List ℕ) (c : ℕ) (P : Type 0)
     → (IsOfRow (row 0x0000 0x007F (range 0x00 0x7f ∷ [])) w c → P)
     → (IsOfRow (row 0x0080 0x07FF (range 0xc2 0xdf ∷ tail ∷ [])) w c → P)

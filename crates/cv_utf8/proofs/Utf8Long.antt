@@ -28,7 +28,7 @@ use Rattle.cv_utf8.specs.Private.Utf8Long.{AreWordsOf, IsNumberOf, AreNumbersOf}
 pub number_scalar : (size word number : ℕ) → IsNumberOf size word number → IsScalar number
 number_scalar size word number h = elim h [ inl e ↦ rw e (omega arith, λ p. omega arith) | inr p ↦ p.0 ]
 
--- A character that has size bytes is at a place.
+-- A character of `size` bytes is at an offset.
 pub record IsLongAt (size : ℕ) (text : List ℕ) (at number : ℕ) : Type 0 where
   pub scalar : IsScalar number
   pub begins : Begins (utf8_bytes number) (drop at text)
@@ -42,13 +42,13 @@ long_at size text at word number small unit is some = elim is [
       record { scalar = p.0; begins = rw p.1 front; long = ap length p.1 ∙ length-take-le size bytes small })
 ]
 
--- The bytes of the first n characters begin a text, and each has size bytes.
+-- A text begins with the bytes of the first n characters, and each has `size` bytes.
 pub record Begun (size : ℕ) (text numbers : List ℕ) (n : ℕ) : Type 0 where
   pub begins : Begins (flat_map utf8_bytes (take n numbers)) text
   pub uses : length (flat_map utf8_bytes (take n numbers)) ≡ size * n
   pub scalars : AreScalars (take n numbers)
 
--- characters that are at their places begin a text together
+-- if each character is at its offset, a text begins with all of them
 pub begun : (size : ℕ) (text numbers : List ℕ) (n : ℕ) → n ≤ length numbers → ((k : ℕ) → k < n → IsLongAt size text (size * k) (get_or numbers k 0)) → Begun size text numbers n
 begun size text numbers zero h at = record { begins = tt; uses = sym (mul-zero size); scalars = tt }
 begun size text numbers (suc n) h at =

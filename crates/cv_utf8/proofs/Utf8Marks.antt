@@ -19,19 +19,19 @@ either : (a b : ℕ) → max a b ≡ 1 → a < 2 → b < 2 → (a ≡ 1) ⊎ (b 
 either zero b e h k = inr (omega arith)
 either (suc a) b e h k = inl (omega arith)
 
--- a bit that two numbers have
+-- a bit of the AND of two numbers is in both
 pub in_both : (a b k : ℕ) → bit_at (bit_and a b) k ≡ 1 → (bit_at a k ≡ 1) × (bit_at b k ≡ 1)
 in_both a b k e = both (bit_at a k) (bit_at b k) (sym (bit_at_and a b k) ∙ e) (bit_at-lt a k) (bit_at-lt b k)
 
--- a bit that one of two numbers has
+-- a bit of the OR of two numbers is in one of them
 pub in_either : (a b k : ℕ) → bit_at (bit_or a b) k ≡ 1 → (bit_at a k ≡ 1) ⊎ (bit_at b k ≡ 1)
 in_either a b k e = either (bit_at a k) (bit_at b k) (sym (bit_at_or a b k) ∙ e) (bit_at-lt a k) (bit_at-lt b k)
 
--- a bit of the first of two numbers is one of both together
+-- a bit of the first of two numbers is in their OR
 pub left_in : (a b k : ℕ) → bit_at a k ≡ 1 → bit_at (bit_or a b) k ≡ 1
 left_in a b k e = omega (arith, bit_at_or a b k, bit_at-lt b k, bit_at-lt a k)
 
--- a bit of the second of two numbers is one of both together
+-- a bit of the second of two numbers is in their OR
 pub right_in : (a b k : ℕ) → bit_at b k ≡ 1 → bit_at (bit_or a b) k ≡ 1
 right_in a b k e = omega (arith, bit_at_or a b k, bit_at-lt b k, bit_at-lt a k)
 

@@ -1,4 +1,4 @@
--- Eight characters of up to two bytes, whose bytes are packed from two for each.
+-- Eight characters of up to two bytes. Each is computed as two bytes, and those that it has are packed.
 use Rattle.std.proofs.Common.{◌≡◌, ℕ, ◌+◌, ◌*◌, ◌/◌, ◌%◌, ◌^◌, ◌<◌, ◌≤◌, Bool, true, false, cond, List, [], ◌∷◌, ◌++◌, length, take, drop, get_or, get_or-take, get_or-drop, map, inl, inr, refl, sym, ◌∙◌, ap, ap₂, arith, zero, suc}
 use Rattle.std.specs.Prelude.{replicate, count_ones}
 use Rattle.std.specs.List.{flat_map}
@@ -107,7 +107,7 @@ packed_are (v ∷ vs) p =
 pub part_long : (characters values : List ℕ) (n : ℕ) → n + 8 ≤ length characters → values ≡ take 8 (drop n characters) → length values ≡ 8
 part_long characters values n room e = ap length e ∙ length-chunk n 8 characters room
 
--- they are short, as all are
+-- they are below the limit
 pub part_short : (characters values : List ℕ) (n : ℕ) → values ≡ take 8 (drop n characters) → ((k : ℕ) → k < 8 → get_or characters (n + k) 0 < 0x800) → (k : ℕ) → k < 8 → get_or values k 0 < 0x800
 part_short characters values n e p k h = rw (e, get_or-take, get_or-drop) (p k h)
 

@@ -17,7 +17,7 @@ use Rattle.cv_utf8.specs.Utf8.{utf8_bytes}
 use Rattle.cv_pack.specs.Packed.{kept}
 use Rattle.cv_utf8.specs.Private.Utf8Windows.{IsLane, AreBegun}
 
--- The bytes of some characters are at a place of a text, used bytes together.
+-- The bytes of some characters, `used` together, are at an offset of a text.
 abbrev pub IsRun : List ℕ → ℕ → List ℕ → ℕ → Type 0
 IsRun text at cs used = AreScalars cs × Begins (flat_map utf8_bytes cs) (drop at text) × (used ≡ length (flat_map utf8_bytes cs))
 
@@ -34,7 +34,7 @@ bit_set m h = grind (arith, bit_at_lowest m)
 bit_unset : (m : ℕ) → eqb (m % 2) 1 ≡ false → bit_at m 0 ≡ 0
 bit_unset m h = grind (arith, bit_at_lowest m)
 
--- lanes from a place on, whose bits are those of a number
+-- lanes from an offset on, whose bits are those of a number
 abbrev AreLanes : List ℕ → ℕ → List ℕ → ℕ → (ℕ → ℕ) → ℕ → Type 0
 AreLanes text at vs m reach k = (j : ℕ) → j < length vs → IsLane text at (get_or vs j 0) (bit_at m j) (reach (k + j)) (reach (k + j + 1))
 
@@ -81,7 +81,7 @@ high_at xs k h = low_at (take 8 (drop 8 xs)) k h ∙ get_or-chunk 8 8 xs k 0 h
 
 -- ---- in a buffer
 
--- What follows those that were kept may be anything.
+-- The kept characters are after the first n of the buffer. What follows them may be anything.
 pub front_kept : (before after packed kept : List ℕ) (n c : ℕ) → n ≤ length before → c ≤ 8 → take (n + 8) after ≡ take n before ++ packed → take c packed ≡ kept → take (n + c) after ≡ take n before ++ kept
 front_kept before after packed kept n c room few stand is =
     let front : List ℕ = take n before in
@@ -130,7 +130,7 @@ both_run text at numbers low high begun used p long also are these =
     let end : 8 + length high ≡ 16 = omega (arith, also) in
     rw (end, p.ends) at all
 
--- what was put into a buffer in two parts was read
+-- what is written to a buffer in two parts is what the text has
 pub both_read : (text : List ℕ) (at : ℕ) (numbers low high : List ℕ) (begun used : ℕ) (before mid after : List ℕ) (n a b : ℕ) → AreBegun text at numbers begun used → length low ≡ 8 → length high ≡ 8 → ((k : ℕ) → k < 8 → get_or low k 0 ≡ get_or numbers k 0)
     → ((k : ℕ) → k < 8 → get_or high k 0 ≡ get_or numbers (8 + k) 0) → n + a + b ≤ length before → a ≡ length (kept (begun % 256) low) → b ≡ length (kept (begun / 256) high) → length mid ≡ length before → length after ≡ length mid
     → take (n + a) mid ≡ take n before ++ kept (begun % 256) low → take (n + a + b) after ≡ take (n + a) mid ++ kept (begun / 256) high → IsReadSpelled utf8_bytes text at before n (spelled (a + b) used) after

@@ -1,4 +1,4 @@
--- Characters of one and of two bytes that are read at once, as vectors compute them.
+-- Characters of one or two bytes that are read at once, as vectors compute them.
 use Rattle.std.proofs.Common.{◌≡◌, ℕ, ◌+◌, ◌-◌, ◌*◌, ◌%◌, ◌^◌, ◌<◌, ◌≤◌, ◌⊎◌, inl, inr, Bool, true, false, cond, Fits, List, [], ◌∷◌, length, drop, get_or, map, refl, sym, ◌∙◌, ap, arith, suc, w8, lit≤}
 use Rattle.std.specs.Prelude.{replicate}
 use Rattle.std.specs.Simd.Lanes.{mask_l, top, zip2}
@@ -53,7 +53,7 @@ one_if b = cond b 1 0
 abbrev none_if : Bool → ℕ
 none_if b = cond b 0 1
 
--- a text from two of its bytes on
+-- a text from an offset on is its next two bytes and the rest
 pub two : (text : List ℕ) (at : ℕ) → at + 2 ≤ length text → drop at text ≡ get_or text at 0 ∷ get_or text (at + 1) 0 ∷ drop (suc (suc at)) text
 two text at h =
     let first : at < length text = omega arith in
@@ -110,11 +110,11 @@ pub byte_is : (b : Bool) → bool_byte b ≡ one_if b
 byte_is true = refl
 byte_is false = refl
 
--- how many bytes they have, as the code adds it up
+-- how many bytes they have, as the code computes it
 pub all_used : (text : List ℕ) (at : ℕ) (b : Bool) → b ≡ is_behind (get_or text (at + 16) 0) → 16 + bool_byte b ≡ 16 + left_over text (at + 16)
 all_used text at b e = ap (λ n. 16 + n) (byte_is b ∙ ap one_if e)
 
--- what begins in the lanes is put one after the other
+-- the characters that begin in the lanes are one after the other
 pub short_begun : (text : List ℕ) (at used : ℕ) (vs : List ℕ) (begun : ℕ) → at + 18 ≤ length text → ((i : ℕ) → Fits w8 (get_or text i 0)) → is_behind (get_or text at 0) ≡ false → used ≡ 16 + left_over text (at + 16) → ((k : ℕ) → k < 16 → IsShortAt text (at + k))
     → ((k : ℕ) → k < 16 → get_or vs k 0 ≡ short_value text (at + k)) → ((k : ℕ) → k < 16 → bit_at begun k ≡ cond (is_behind (get_or text (at + k) 0)) 0 1) → AreBegun text at vs begun used
 short_begun text at used vs begun room fits begins e short are bits =

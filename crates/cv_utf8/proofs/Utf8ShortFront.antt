@@ -1,4 +1,4 @@
--- Characters of one and of two bytes at the start of a text are well-formed.
+-- Characters of one or two bytes at the start of a text are well-formed.
 use Rattle.std.proofs.Common.{◌≡◌, ℕ, ◌+◌, ◌-◌, ◌*◌, ◌/◌, ◌%◌, ◌<◌, ◌≤◌, inl, inr, Bool, true, false, cond, Fits, List, [], ◌∷◌, length, take, drop, get_or, refl, sym, ◌∙◌, ap, subst, arith, suc, zero, w8}
 use Rattle.std.specs.Prelude.{IsUtf8}
 use Rattle.std.proofs.Math.Utf8.{encode, low_scalar}
@@ -32,7 +32,7 @@ two_more text n room p a b d e =
     let bytes : take 2 (drop n text) ≡ encode c = ap (λ (l : List ℕ). take 2 l) pair ∙ sym spelled in
     subst IsUtf8 (sym (take-add n 2 text)) (IsUtf8-append (take n text) (take 2 (drop n text)) p (subst IsUtf8 (sym bytes) (IsUtf8-encode c (low_scalar c (omega arith)))))
 
--- how many bytes of the character before a place are there
+-- 1 if a continuation byte is at an offset, and 0 otherwise
 abbrev pub tail_at : List ℕ → ℕ → ℕ
 tail_at text n = cond (is_behind (get_or text n 0)) 1 0
 
@@ -46,14 +46,14 @@ first_range x h e =
     let near : (x + (256 - 0xc2)) % 256 < 0x1e = ltb-true _ _ e in
     (omega arith, omega arith)
 
--- a byte that is neither one after a first nor a first is ASCII
+-- a byte that is neither a continuation byte nor C0 or above is ASCII
 ascii_range : (x : ℕ) → x < 256 → is_behind x ≡ false → is_among 0xc0 0x40 x ≡ false → x < 0x80
 ascii_range x h b e =
     let far : 0x40 ≤ (x + (256 - 0x80)) % 256 = ltb-false _ _ b in
     let other : 0x40 ≤ (x + (256 - 0xc0)) % 256 = ltb-false _ _ e in
     omega arith
 
--- a byte after a first is no first of two
+-- a continuation byte is no first byte of two
 not_both : (x : ℕ) → x < 256 → is_behind x ≡ true → is_among 0xc2 0x1e x ≡ true → ⊥
 not_both x h b e =
     let p = behind_range x h b in
@@ -63,7 +63,7 @@ not_both x h b e =
 abbrev IsFront : List ℕ → ℕ → Type 0
 IsFront text n = IsUtf8 (take (n + tail_at text n) text)
 
--- one byte further, by whether it is after a first, and whether it begins two
+-- one byte further, by whether it is a continuation byte, and whether it begins two
 further : (text : List ℕ) (n : ℕ) (behind first : Bool) → ((i : ℕ) → Fits w8 (get_or text i 0)) → n + 1 < length text → is_behind (get_or text n 0) ≡ behind → is_among 0xc2 0x1e (get_or text n 0) ≡ first → IsShortAt text n → IsFront text n → IsFront text (n + 1)
 further text n true true fits room b f s p = absurd (not_both (get_or text n 0) (fits n).fits b f)
 further text n true false fits room b f s p =
@@ -84,14 +84,15 @@ further text n false false fits room b f s p =
     let there : n + 1 ≡ n + 1 + tail_at text (n + 1) = rw next (omega arith) in
     subst (λ (m : ℕ). IsUtf8 (take m text)) there (one_more text n (omega arith) (subst (λ (m : ℕ). IsUtf8 (take m text)) here p) low)
 
--- if all bytes before a place are of characters of one and of two bytes, they are well-formed, with the second byte of the last
+-- if all bytes before an offset are of characters of one or two bytes, they are well-formed, with the second byte of
+-- the last
 pub short_well_formed : (text : List ℕ) (n : ℕ) → ((i : ℕ) → Fits w8 (get_or text i 0)) → n < length text → is_behind (get_or text 0 0) ≡ false → ((k : ℕ) → k < n → IsShortAt text k) → IsUtf8 (take (n + tail_at text n) text)
 short_well_formed text zero fits room b s = rw b IsUtf8-nil
 short_well_formed text (suc n) fits room b s =
     let next : n + 1 ≡ suc n = omega arith in
     subst (IsFront text) next (further text n (is_behind (get_or text n 0)) (is_among 0xc2 0x1e (get_or text n 0)) fits (omega arith) refl refl (s n (omega arith)) (short_well_formed text n fits (omega arith) b (λ k h. s k (omega arith))))
 
--- blocks more
+-- one block more
 pub short_more : (text : List ℕ) (n : ℕ) → ((k : ℕ) → k < n → IsShortAt text k) → ((k : ℕ) → k < 64 → IsShortAt text (n + k)) → (k : ℕ) → k < n + 64 → IsShortAt text k
 short_more text n s more k h = elim (cases_lt k n) [
   | inl l ↦ s k l

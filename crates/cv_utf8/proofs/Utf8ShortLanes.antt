@@ -1,4 +1,4 @@
--- By how much bytes of UTF-8 are above those of characters of one and of two bytes, as vectors compute it.
+-- By how much bytes of UTF-8 exceed those of characters of one or two bytes, as vectors compute it.
 use Rattle.std.proofs.Common.{◌≡◌, ℕ, ◌+◌, ◌-◌, ◌%◌, ◌^◌, ◌<◌, ◌≤◌, inl, inr, Bool, true, false, not, cond, Fits, List, [], ◌∷◌, length, take, drop, get_or, map, refl, sym, ◌∙◌, ap, arith, zero, suc, w8, eqb, lit≤}
 use Rattle.std.specs.Prelude.{replicate}
 use Rattle.std.specs.Int.RustNames.{bit_or}
@@ -18,15 +18,15 @@ difference a b = (a + (256 - b)) % 256
 abbrev are_below : List ℕ → List ℕ → List Bool
 are_below xs ys = map (top 7) (zip2 (λ a b. cond (ltb a b) 0xff 0) xs ys)
 
--- the lanes of bytes after a first
+-- which lanes have continuation bytes
 abbrev seconds : ℕ → List ℕ → List Bool
 seconds n ys = are_below (zip2 difference ys (replicate n 0x80)) (replicate n 0x40)
 
--- the bytes, from the least that may be there on
+-- the bytes, less the least that may be there
 abbrev from_least : ℕ → List ℕ → List ℕ → List ℕ
 from_least n xs ys = zip2 difference xs (sel_l (seconds n ys) (replicate n 0xc2) (replicate n 0))
 
--- the most that may be there, from the least on
+-- the most that may be there, less the least
 abbrev most : ℕ → List ℕ → List ℕ
 most n ys = sel_l (seconds n ys) (replicate n 0x1d) (replicate n 0xbf)
 
@@ -46,7 +46,7 @@ is_set b = top 7 (cond b 0xff 0)
 abbrev pub above : ℕ → ℕ → ℕ
 above a b = difference (cond (is_set (ltb a b)) b a) b
 
--- by whether the next is one after a first
+-- the excess of a byte, by whether the next is a continuation byte
 abbrev excess_if : Bool → ℕ → ℕ
 excess_if second x = above (difference x (cond (is_set second) 0xc2 0)) (cond (is_set second) 0x1d 0xbf)
 
@@ -64,11 +64,11 @@ excess_long (suc n) [] ys e f = cc
 excess_long (suc n) (x ∷ xs) [] e f = cc
 excess_long (suc n) (x ∷ xs) (y ∷ ys) e f = omega (arith, excess_long n xs ys (omega arith) (omega arith))
 
--- before one after a first, only a first of two is not above
+-- before a continuation byte, only a first byte of two has no excess
 first_of_two : (x : ℕ) → x < 256 → excess_if true x ≡ 0 → (is_among 0xc2 0x1e x ≡ is_among 0xc0 0x40 x) × (is_among 0xc2 0x1e x ≡ true)
 first_of_two x h e = grind arith
 
--- before any other, only what begins no character of more than one is not above
+-- before any other byte, only one below C0 has no excess
 no_first : (x : ℕ) → x < 256 → excess_if false x ≡ 0 → (is_among 0xc2 0x1e x ≡ is_among 0xc0 0x40 x) × (is_among 0xc2 0x1e x ≡ false)
 no_first x h e = grind arith
 
@@ -80,7 +80,7 @@ short x false h e = no_first x h e
 pub excess_size : (text : List ℕ) (at : ℕ) → at + 17 ≤ length text → length (excess_all 16 (take 16 (drop at text)) (take 16 (drop (at + 1) text))) ≡ 16
 excess_size text at room = excess_long 16 (take 16 (drop at text)) (take 16 (drop (at + 1) text)) (length-chunk at 16 text (omega arith)) (length-chunk (at + 1) 16 text (omega arith))
 
--- A byte whose lane is 0 is that of a character of one or of two bytes.
+-- A byte whose lane is 0 is that of a character of one or two bytes.
 pub excess_short : (text : List ℕ) (at k : ℕ) → at + 17 ≤ length text → ((i : ℕ) → Fits w8 (get_or text i 0)) → k < 16 → get_or (excess_all 16 (take 16 (drop at text)) (take 16 (drop (at + 1) text))) k 0 ≡ 0 → IsShortAt text (at + k)
 excess_short text at k room fits h e =
     let xs : List ℕ = take 16 (drop at text) in
@@ -108,14 +108,14 @@ none_above zs k long none h =
     let whole = leading_from_mask_l (λ x. differs x 0) zs bits in
     eqb-true (get_or zs k 0) 0 (not-false _ (not-true _ (prefix_len_passes (λ x. not (differs x 0)) zs k 0 (omega arith))))
 
--- two vectors, joined
+-- the OR of two vectors
 abbrev either : List ℕ → List ℕ → List ℕ
 either xs ys = zip2 bit_or xs ys
 
 either_long : (xs ys : List ℕ) → length xs ≡ 16 → length ys ≡ 16 → length (either xs ys) ≡ 16
 either_long xs ys e f = length-zip2 bit_or xs ys (e ∙ sym f) ∙ e
 
--- a lane is 0 in two vectors that are joined only if it is 0 in both
+-- a lane is 0 in the OR of two vectors only if it is 0 in both
 either_at : (xs ys : List ℕ) (k : ℕ) → length xs ≡ 16 → length ys ≡ 16 → k < 16 → get_or (either xs ys) k 0 ≡ 0 → (get_or xs k 0 ≡ 0) × (get_or ys k 0 ≡ 0)
 either_at xs ys k e f h none =
     let is : get_or (either xs ys) k 0 ≡ bit_or (get_or xs k 0) (get_or ys k 0) = get_or-zip2 bit_or xs ys k 0 0 0 (omega arith) (omega arith) in
@@ -125,7 +125,7 @@ either_at xs ys k e f h none =
 abbrev IsExcess : List ℕ → ℕ → List ℕ → Type 0
 IsExcess text at zs = (length zs ≡ 16) × ((k : ℕ) → k < 16 → get_or zs k 0 ≡ 0 → IsShortAt text (at + k))
 
--- If no bit of four vectors is set, the sixty-four bytes of their lanes are those of characters of one and of two bytes.
+-- If no bit of four vectors is set, the 64 bytes of their lanes are those of characters of one or two bytes.
 pub four_short : (text : List ℕ) (at : ℕ) (ws bs cs ds : List ℕ) → IsExcess text at ws → IsExcess text (at + 16) bs → IsExcess text (at + 32) cs → IsExcess text (at + 48) ds
     → eqb (bits_above (either (either ws bs) (either cs ds))) 0 ≡ true → (k : ℕ) → k < 64 → IsShortAt text (at + k)
 four_short text at ws bs cs ds p q r s none k h =

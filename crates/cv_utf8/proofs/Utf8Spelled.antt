@@ -51,7 +51,7 @@ joined front xs n k e h = subst (λ (m : ℕ). take (m + k) (front ++ take 16 xs
 length-put : (before block : List ℕ) (at m : ℕ) → at + m ≤ length before → length block ≡ m → length (put_mid at m before block) ≡ length before
 length-put before block at m h e = simp (length-append, length-take, length-drop) (omega arith)
 
--- Sixteen bytes were put into a buffer, and their prefix was read.
+-- If sixteen bytes are written to a buffer, and the first k are ASCII, k characters are read.
 pub read_front : (text : List ℕ) (at : ℕ) (before after : List ℕ) (n k : ℕ) → at + 16 ≤ length text → k ≤ 16 → ((j : ℕ) → j < k → get_or text (at + j) 0 < 128) → n + 16 ≤ length before → length after ≡ length before
     → take (n + 16) after ≡ take n before ++ take 16 (drop at text) → IsReadSpelled utf8_bytes text at before n (as_many k) after
 read_front text at before after n k within most p room size put =
@@ -71,7 +71,7 @@ read_front text at before after n k within most p room size put =
       size = size;
     }
 
--- Sixteen characters were written.
+-- If the bytes of sixteen characters of ASCII are written, the characters are.
 pub written_all : (characters : List ℕ) (n : ℕ) (before block : List ℕ) (at m : ℕ) → n + 16 ≤ length characters → ((j : ℕ) → j < 16 → get_or characters (n + j) 0 < 128) → at + 64 ≤ length before → m ≡ 16
     → block ≡ take 16 (drop n characters) → IsWrittenSpelled utf8_bytes characters n before at (as_many 16) (put_mid at m before block)
 written_all characters n before block at m within p room e is =

@@ -252,7 +252,7 @@ three_at text at k c room is some = elim is [
       record { scalar = p.0; begins = rw (drop-drop (3 * k) at text) front; long = ap length p.1 })
 ]
 
--- characters of three bytes are read, those of the second eight if all of the first are
+-- characters of three bytes are read, and those of the second eight only if all of the first are
 pub threes_read : (text : List ℕ) (at : ℕ) (first second : List ℕ) (firsts seconds : ℕ) → at + 52 ≤ length text → length first ≡ 8 → length second ≡ 8 → AreThrees text at first 8 → AreThrees text (at + 24) second 8 → firsts ≤ 8 → seconds ≤ 8
     → ((k : ℕ) → k < firsts → 0 < get_or first k 0) → ((k : ℕ) → k < seconds → 0 < get_or second k 0) → (firsts ≡ 8) ⊎ (seconds ≡ 0)
     → AreRead text at (record { first = first; firsts = firsts; second = second; seconds = seconds; used = 3 * (firsts + seconds) })

@@ -3,7 +3,7 @@ use Rattle.std.proofs.Common.{◌≡◌, ℕ, ◌≤◌, List, ◌++◌, take, s
 use Rattle.cv_utf8.specs.Units.{AreRead}
 use Rattle.cv_utf8.proofs.Utf8PutBegun.{IsRun}
 
--- both parts, packed
+-- if each part has its characters first, the units are those that were read
 pub units_read : (text : List ℕ) (at : ℕ) (first second lows highs : List ℕ) (used a b : ℕ) → a ≤ 8 → b ≤ 8 → take a first ≡ lows → take b second ≡ highs → IsRun text at (lows ++ highs) used
     → AreRead text at (record { first = first; firsts = a; second = second; seconds = b; used = used })
 units_read text at first second lows highs used a b few others f g run =

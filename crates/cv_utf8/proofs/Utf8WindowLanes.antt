@@ -18,7 +18,7 @@ use Rattle.cv_utf8.proofs.Utf8ShortLanes.{above, above_all}
 use Rattle.cv_utf8.proofs.Utf8Covered.{covered, firsts, firsts_of_marks, lt_or_le}
 use Rattle.cv_utf8.proofs.Utf8Begun.{begins_if, not_read}
 
--- the lanes that are not after a first
+-- the test for bytes that are no continuation bytes
 not_behind : (x : ℕ) → x < 256 → is_among 0xc0 0xc0 x ≡ not (is_behind x)
 not_behind x h = grind arith
 
@@ -26,7 +26,7 @@ lane_bit : (b : Bool) → one_if (not b) ≡ cond b 0 1
 lane_bit true = refl
 lane_bit false = refl
 
--- which lanes begin a character
+-- in which lanes a character begins
 pub beginning_at : (text : List ℕ) (at m k : ℕ) → at + 16 ≤ length text → ((i : ℕ) → Fits w8 (get_or text i 0)) → m ≡ mask_l (map (is_among 0xc0 0xc0) (take 16 (drop at text))) → k < 16 → bit_at m k ≡ cond (is_behind (get_or text (at + k) 0)) 0 1
 beginning_at text at m k room fits e h =
     let xs : List ℕ = take 16 (drop at text) in
@@ -42,7 +42,7 @@ below a k u b s e (inr h) =
     let is : min a (bit_at (2 ^ u - 1) k) ≡ 0 = omega (arith, bit_at_ones_above u k h) in
     is ∙ sym (ap (begins_if b) (le-ltb k u h) ∙ not_read b)
 
--- which lanes begin a character of those that are whole
+-- in which lanes a complete character begins
 pub whole_beginning_at : (text : List ℕ) (at one two three used k : ℕ) → ((i : ℕ) → Fits w8 (get_or text i 0)) → AreMarks (IsOneAt text) at one → AreMarks (IsTwoAt text) at two → AreMarks (IsThreeAt text) at three → used ≡ trailing_ones w64 (covered one two three)
     → bit_at (bit_and (firsts one two three) (2 ^ used - 1)) k ≡ begins_if (is_behind (get_or text (at + k) 0)) (ltb k used)
 whole_beginning_at text at one two three used k fits p q r e =
@@ -78,11 +78,11 @@ product_of a b = (a * b) % 2 ^ 8
 abbrev sum_of : ℕ → ℕ → ℕ
 sum_of a b = (a + b) % 2 ^ 8
 
--- the low byte of two
+-- the low byte of two bytes
 abbrev low_two : ℕ → List ℕ → List ℕ → List ℕ
 low_two n xs ys = zip2 sum_of (splat n product_of 64 xs) (splat n rem_of 64 ys)
 
--- the high byte of three, whatever it is
+-- the high byte of three bytes, if they are no surrogate
 abbrev high_three : ℕ → List ℕ → List ℕ → List ℕ
 high_three n xs ys = zip2 sum_of (splat n product_of 16 xs) (splat n part_of 4 (splat n rem_of 64 ys))
 

@@ -1,4 +1,4 @@
--- What the contracts of private functions say, which no public contract cites.
+-- Definitions that contracts of private functions cite, and no public contract.
 pub mod Utf8Bytes
 pub mod Utf8Short
 pub mod Utf8Threes

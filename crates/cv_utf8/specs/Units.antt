@@ -1,4 +1,5 @@
--- Characters of UTF-8 that were read as units of sixteen bits. It exists for speed: no contract of a conversion cites it.
+-- Characters of UTF-8 that are read as units of sixteen bits. It exists for speed: no contract of a conversion cites
+-- it.
 use Rattle.std.specs.Prelude.{◌≡◌, ℕ, ◌≤◌, List, ◌++◌, take, drop, length}
 use Rattle.std.specs.List.{flat_map}
 use Rattle.cv_base.specs.Items.{Begins}
@@ -10,7 +11,7 @@ use Rattle.cv_utf8.specs.declared.utf8_units.Units.{Units}
 abbrev pub characters_of : Units → List ℕ
 characters_of units = take units.firsts units.first ++ take units.seconds units.second
 
--- The bytes of the characters are at a place of a text.
+-- The bytes of the characters, `used` together, are at offset `at` of a text.
 pub record AreRead (text : List ℕ) (at : ℕ) (units : Units) : Type 0 where
   pub few : units.firsts ≤ 8
   pub others : units.seconds ≤ 8

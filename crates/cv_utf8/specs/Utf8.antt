@@ -6,7 +6,7 @@ use Rattle.cv_base.specs.declared.state.ReadState.TheVariants as read
 use Rattle.cv_base.specs.declared.state.WriteState.{WriteState}
 use Rattle.cv_base.specs.declared.state.WriteState.TheVariants as write
 
--- from the first to the last
+-- the numbers from the first to the last
 pub record Range : Type 0 where
   pub first : ℕ
   pub last : ℕ
@@ -15,7 +15,7 @@ pub record Range : Type 0 where
 abbrev pub range : ℕ → ℕ → Range
 range first last = record { first = first; last = last }
 
--- between the two, or one of them
+-- the number is in the range, whose ends belong to it
 abbrev pub IsIn : Range → ℕ → Type 0
 IsIn r n = (r.first ≤ n) × (n ≤ r.last)
 
@@ -45,7 +45,7 @@ table =
     row 0x40000 0xFFFFF (range 0xf1 0xf3 ∷ tail ∷ tail ∷ tail ∷ []) ∷
     row 0x100000 0x10FFFF (range 0xf4 0xf4 ∷ range 0x80 0x8f ∷ tail ∷ tail ∷ []) ∷ []
 
--- each byte is in its range, and there are no more
+-- each byte is in its range, and there are as many bytes as ranges
 abbrev pub AreIn : List Range → List ℕ → Type 0
 AreIn [] [] = Unit {0}
 AreIn [] (b ∷ bytes) = ⊥
@@ -60,16 +60,16 @@ carried (a ∷ b ∷ []) = (a % 32) * 64 + b % 64
 carried (a ∷ b ∷ c ∷ []) = (a % 16) * 4096 + (b % 64) * 64 + c % 64
 carried (a ∷ b ∷ c ∷ d ∷ bytes) = (a % 8) * 262144 + (b % 64) * 4096 + (c % 64) * 64 + d % 64
 
--- the bytes are of this row, and carry one of its scalars
+-- the bytes are in the ranges of this row, and carry c, which is one of its scalars
 abbrev pub IsOfRow : Row → List ℕ → ℕ → Type 0
 IsOfRow r bytes c = AreIn r.bytes bytes × IsIn r.scalars c × (c ≡ carried bytes)
 
--- the bytes are of one of the rows
+-- the bytes are of one of the rows, and carry c
 abbrev pub IsOfOne : List Row → List ℕ → ℕ → Type 0
 IsOfOne [] bytes c = ⊥
 IsOfOne (r ∷ rows) bytes c = IsOfRow r bytes c ⊎ IsOfOne rows bytes c
 
--- The whole byte string is of a row of the table.
+-- The item is the character of the whole byte string, which is of a row of the table. The state after it is Start.
 abbrev pub utf8_reads : ReadState → List ℕ → Taken → Type 0
 utf8_reads s bytes item = (c : ℕ) × IsOfOne table bytes c × (item ≡ taken (length bytes) (Some c) read.Start)
 
@@ -81,6 +81,6 @@ utf8_bytes c =
     else if nat_lt c 0x10000 then (0xe0 + c / 4096) ∷ (0x80 + c / 64 % 64) ∷ (0x80 + c % 64) ∷ []
     else (0xf0 + c / 262144) ∷ (0x80 + c / 4096 % 64) ∷ (0x80 + c / 64 % 64) ∷ (0x80 + c % 64) ∷ []
 
--- Every scalar is written, in one way.
+-- Every scalar is written, in one way, and the state after it is Start.
 abbrev pub utf8_writes : WriteState → ℕ → Option (List ℕ × WriteState)
 utf8_writes t c = Some (utf8_bytes c, write.Start)

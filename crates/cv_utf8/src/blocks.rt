@@ -1,4 +1,4 @@
-//! UTF-8 by blocks.
+//! UTF-8 read and written in blocks of characters.
 
 use crate::utf8::Utf8;
 use crate::utf8_front::well_formed_front;

@@ -1,4 +1,4 @@
-//! The encoding form UTF-8.
+//! The encoding form UTF-8 (Unicode Standard, section 3.9).
 #![tactic(auto)]
 
 mod blocks;

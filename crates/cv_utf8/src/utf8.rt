@@ -7,8 +7,8 @@ ghost use Rattle.cv_utf8.specs.Private.Utf8Bytes.{IsTail, IsSecond};
 use cv_base::place::write_slice;
 use cv_base::{AsciiForm, Codec, Item, Piece, Put, ReadState, Scalar, WriteState, character};
 
-/// UTF-8 (Unicode Standard, section 3.9, D92): one to four bytes for each character. It has no mark: an initial U+FEFF is a character.
-/// Its only state is `Start`.
+/// UTF-8 (Unicode Standard, section 3.9, D92): one to four bytes for each character. It has no byte order mark: an
+/// initial U+FEFF is a character. Its only state is `Start`.
 #[derive(Clone, Copy, Debug, PartialEq, Eq)]
 pub struct Utf8;
 
@@ -19,7 +19,7 @@ fn is_tail(byte: u8) -> bool
     byte >= 0x80 && byte <= 0xbf
 }
 
-/// Whether the second byte fits after a first byte of three or four.
+/// Whether `second` may follow `first` in a sequence of three or four bytes (Table 3-7).
 #[inline]
 fn fits_second(first: u8, second: u8) -> bool
     ensures { IsTrue result ↔ IsSecond first second }
@@ -33,7 +33,7 @@ fn fits_second(first: u8, second: u8) -> bool
     }
 }
 
-/// What is next after a first byte of three or four.
+/// The next item, if the first byte is that of a sequence of three or four bytes.
 #[inline]
 #[tactic(auto, using(crate::proofs::Utf8Items::steps))]
 fn long_item(input: &[u8]) -> Item
@@ -75,7 +75,7 @@ fn long_item(input: &[u8]) -> Item
     )
 }
 
-/// The byte that carries the lowest six bits after the first byte.
+/// The continuation byte that carries the lowest six bits of a number.
 #[inline]
 fn tail(bits: u32) -> u8
     ensures { result ≡ 0x80 + bits % 64 }

@@ -7,7 +7,8 @@ use cv_base::Scalar;
 use cv_block::{MANY, Spelled, is_ascii_block};
 use std::simd::prelude::*;
 
-/// Puts sixteen bytes into a buffer, each as the character of its number. All are read before any is put, so that all are stored at once.
+/// Writes sixteen bytes to a buffer, each as the character of its number. It loads all before it stores any, so that
+/// all are stored at once.
 #[inline(always)]
 fn put_bytes(input: &[u8], at: usize, buffer: &mut [Scalar], n: usize)
     requires within { at + 16 ≤ length input.now }
@@ -37,7 +38,7 @@ pub(crate) fn read_ascii(input: &[u8], at: usize, buffer: &mut [Scalar], n: usiz
     }
 }
 
-/// Reads sixteen characters of ASCII among the last bytes, if they are there.
+/// Reads sixteen characters of ASCII at `at`, or none if fewer bytes are left or one of them is not ASCII.
 #[inline(always)]
 pub(crate) fn read_last(input: &[u8], at: usize, buffer: &mut [Scalar], n: usize) -> Spelled
     requires within { at ≤ length input.now }

@@ -1,4 +1,4 @@
-//! Putting the characters that begin among sixteen bytes one after the other.
+//! Writing the characters that begin among sixteen bytes one after the other to a buffer.
 ghost use Rattle.std.specs.Prelude.{◌≡◌, ◌+◌, ◌++◌, ◌≤◌, ◌<◌, ℕ, List, length, take, get_or};
 ghost use Rattle.cv_base.specs.Scalars.{IsScalar};
 ghost use Rattle.cv_block.specs.Spelled.{IsReadSpelled};
@@ -11,10 +11,10 @@ use cv_block::{MANY, Spelled};
 use cv_pack::packed_numbers;
 use std::simd::prelude::*;
 
-/// How many numbers are put at once.
+/// How many numbers are written at once.
 const EIGHT: usize = 8;
 
-/// Puts eight characters into a buffer, after its first `n`.
+/// Writes eight characters to a buffer, after its first `n`.
 #[inline(always)]
 fn put_eight(numbers: &[u16; EIGHT], buffer: &mut [Scalar], n: usize)
     requires room { n + 8 ≤ length buffer.old }
@@ -27,8 +27,8 @@ fn put_eight(numbers: &[u16; EIGHT], buffer: &mut [Scalar], n: usize)
     }
 }
 
-/// Puts those of eight characters whose bit is set into a buffer, after its first `n`, and answers how many they are. What
-/// follows them may be any character.
+/// Writes those of eight characters whose bit is set to a buffer, after its first `n`, and returns how many they are.
+/// The entries after them, up to eight in all, may be any characters.
 #[inline(always)]
 fn put_kept(numbers: u16x8, begun: u64, buffer: &mut [Scalar], n: usize) -> usize
     requires few { begun < 256 }
@@ -43,7 +43,9 @@ fn put_kept(numbers: u16x8, begun: u64, buffer: &mut [Scalar], n: usize) -> usiz
     begun.count_ones() as usize
 }
 
-/// Puts the characters that begin among sixteen bytes into a buffer, those of eight bytes at once, without a branch.
+/// Writes the characters that begin among sixteen bytes to a buffer, after its first `n`. It takes those of eight bytes
+/// at once and has no branch. Bit `k` of `begun` says whether a character begins at byte `k`, and `used` is how many
+/// bytes they have together.
 #[inline(always)]
 pub(crate) fn put_begun(
     numbers: &[u16; MANY],

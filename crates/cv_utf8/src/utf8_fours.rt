@@ -28,7 +28,7 @@ fn numbers_of(characters: &[Scalar], n: usize) -> [u32; FOUR]
     numbers
 }
 
-/// Four bytes for each of four characters. After the bytes that one has they are 0.
+/// Four bytes for each of four characters: its bytes in UTF-8, and then zeros.
 #[inline(always)]
 fn fours(numbers: u32x4) -> u8x16
     requires { (k : ℕ) → k < 4 → get_or numbers k 0 < 0x10000 }
@@ -47,7 +47,8 @@ fn fours(numbers: u32x4) -> u8x16
         .to_le_bytes()
 }
 
-/// Which of four characters have two bytes or more, as bits, the lowest for the first, and which have three, as the next four.
+/// A mask of eight bits. The lower four say which of four characters have two bytes or more, the higher four which have
+/// three. The lowest bit of each four is that of the first character.
 #[inline(always)]
 fn sizes(numbers: u32x4) -> u64
     ensures few { result < 256 }
@@ -58,7 +59,8 @@ fn sizes(numbers: u32x4) -> u64
     twos + 16 * threes
 }
 
-/// Writes four characters of up to three bytes, and answers how many bytes they have. What follows them may be anything.
+/// Writes four characters of up to three bytes, and returns how many bytes they have. The bytes after them, up to
+/// sixteen in all, may be anything.
 #[inline(always)]
 fn write_four(characters: &[Scalar], n: usize, out: &mut [u8], at: usize) -> usize
     requires within { n + 4 ≤ length characters.now }
@@ -75,7 +77,8 @@ fn write_four(characters: &[Scalar], n: usize, out: &mut [u8], at: usize) -> usi
     FOUR + sizes.count_ones() as usize
 }
 
-/// Writes sixteen characters of up to three bytes.
+/// Writes sixteen characters of up to three bytes. There is room for 64 bytes from `at` on, and those after the
+/// characters may be overwritten.
 #[inline(always)]
 pub(crate) fn write_middle(characters: &[Scalar], n: usize, out: &mut [u8], at: usize) -> Spelled
     requires within { n + 16 ≤ length characters.now }

@@ -8,12 +8,13 @@ use simdutf8::compat::from_utf8;
 /// How many bytes are tested at once if no character has more than two.
 const BLOCK: usize = 64;
 
-/// How many bytes are tested at once at first if some character has more. If not all are well-formed, they are read once more, so
-/// they are few. Each next part is twice as long, so that the bytes read in vain are never many more than the well-formed ones.
+/// The length in bytes of the first part that is tested at once, if some character has more than two bytes. A part that
+/// is not well-formed is read twice, so the first part is short. Each later part is twice as long, so that the bytes
+/// that are read twice are never many more than the well-formed ones.
 const FIRST_PART: usize = 256;
 
-/// How many of the bytes precede a character that they cut off, if its prefix is well-formed. It affects speed only: a part that ends
-/// within a character isn't well-formed.
+/// How many of the bytes precede a character that is cut off at their end, or all if none is. It affects speed only: a
+/// part that ends within a character isn't well-formed.
 #[inline(always)]
 fn uncut(bytes: &[u8]) -> usize
     ensures { result ≤ length bytes.now }
@@ -31,7 +32,7 @@ fn uncut(bytes: &[u8]) -> usize
     n
 }
 
-/// A prefix of a text of at most `most` bytes, up to its last whole character.
+/// A prefix of a text of at most `most` bytes, without a character that is cut off at its end.
 #[inline(always)]
 fn uncut_part(text: &[u8], most: usize) -> &[u8]
     ensures within { length result.now ≤ length text.now }
@@ -41,8 +42,8 @@ fn uncut_part(text: &[u8], most: usize) -> &[u8]
     &part[..uncut(part)]
 }
 
-/// How many bytes at the start of a text are blocks in which no character has more than two bytes. If a character begins with the last of
-/// them, its second byte is counted too.
+/// How many bytes at the start of a text are in blocks in which no character has more than two bytes. If the last of
+/// them is the first byte of a character, its second byte is counted too.
 #[inline(always)]
 fn short_front(text: &[u8]) -> usize
     ensures within { result ≤ length text.now }
@@ -58,8 +59,8 @@ fn short_front(text: &[u8]) -> usize
     n + is_behind(text[n]) as usize
 }
 
-/// How many bytes at the start of a text are well-formed. Text in which few characters have more than two bytes is tested by
-/// the cheaper test, and testing returns to it after each part that needs the other.
+/// Returns how many bytes at the start of a text are well-formed. It uses the cheaper test for blocks in which no
+/// character has more than two bytes, and tries it again after each part that needs the other.
 #[inline(never)]
 pub(crate) fn well_formed_front(input: &[u8]) -> usize
     ensures within { result ≤ length input.now }

@@ -9,7 +9,8 @@ use cv_base::Scalar;
 use cv_block::{ByteOrder, LittleEndian, MANY, Spelled};
 use std::simd::prelude::*;
 
-/// The words of a text, one at each third or each fourth byte. None is tested, so that all are loaded at once.
+/// Sixteen words of four bytes, the lowest byte first. One begins at every third or at every fourth byte of a text, as
+/// `size` says. No early exit, so that all are loaded at once.
 #[inline(always)]
 fn words_of(text: &[u8], size: usize) -> [u32; MANY]
     requires size { (size ≡ 3) ⊎ (size ≡ 4) }
@@ -87,7 +88,7 @@ fn before_none(numbers: &[u32; MANY]) -> usize
     MANY.min(none.trailing_zeros() as usize)
 }
 
-/// Puts the characters of the numbers into a buffer, after its first `n`.
+/// Writes the characters of the numbers to a buffer, after its first `n`.
 #[inline(always)]
 fn put_numbers(numbers: &[u32; MANY], buffer: &mut [Scalar], n: usize)
     requires long { length numbers.now ≡ 16 }
@@ -101,7 +102,8 @@ fn put_numbers(numbers: &[u32; MANY], buffer: &mut [Scalar], n: usize)
     }
 }
 
-/// Reads the characters of `size` bytes each at the start of a text, up to sixteen. It reads none if the last word would not be there.
+/// Reads up to sixteen characters of `size` bytes each that follow each other from `at` on. It reads none if the input
+/// ends before the last of sixteen words.
 #[inline(always)]
 fn read_long(input: &[u8], at: usize, buffer: &mut [Scalar], n: usize, size: usize) -> Spelled
     requires size { (size ≡ 3) ⊎ (size ≡ 4) }
@@ -123,7 +125,7 @@ fn read_long(input: &[u8], at: usize, buffer: &mut [Scalar], n: usize, size: usi
     }
 }
 
-/// Reads characters of three bytes each. Kept out of line to save registers in the callers' loops.
+/// Reads up to sixteen characters of three bytes each. Kept out of line to save registers in the callers' loops.
 #[inline(never)]
 pub(crate) fn read_threes(input: &[u8], at: usize, buffer: &mut [Scalar], n: usize) -> Spelled
     requires within { at ≤ length input.now }
@@ -134,7 +136,7 @@ pub(crate) fn read_threes(input: &[u8], at: usize, buffer: &mut [Scalar], n: usi
     read_long(input, at, buffer, n, 3)
 }
 
-/// Reads characters of four bytes each.
+/// Reads up to sixteen characters of four bytes each.
 #[inline(never)]
 pub(crate) fn read_fours(input: &[u8], at: usize, buffer: &mut [Scalar], n: usize) -> Spelled
     requires within { at ≤ length input.now }

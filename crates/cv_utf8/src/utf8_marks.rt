@@ -1,4 +1,4 @@
-//! Which of sixteen bytes of UTF-8 are of a kind, as bits, and how many are whole characters.
+//! Masks of sixteen bytes of UTF-8: which of them are of a kind, and how many are complete characters.
 ghost use Rattle.std.specs.Prelude.{◌≡◌, ◌+◌, ◌-◌, ◌*◌, ◌/◌, ◌%◌, ◌≤◌, ◌<◌, ℕ, length, get_or, cond, nat_lt, map, false};
 ghost use Rattle.std.specs.Int.{bit_at};
 ghost use Rattle.std.specs.Simd.Lanes.{mask_l};
@@ -8,7 +8,8 @@ ghost use Rattle.cv_utf8.specs.Private.Utf8Windows.{AreWhole, AreMarks, IsTwoAt,
 use cv_block::MANY;
 use std::simd::prelude::*;
 
-/// Which of sixteen bytes are among the `many` from `least` on, as bits.
+/// Returns a mask of those of sixteen bytes that are among the `many` values from `least` on. The lowest bit is the
+/// first byte's.
 #[inline(always)]
 pub(crate) fn among(bytes: u8x16, least: u8, many: u8) -> u64
     ensures { result ≡ mask_l (map (is_among least many) bytes) }
@@ -18,7 +19,7 @@ pub(crate) fn among(bytes: u8x16, least: u8, many: u8) -> u64
         .to_bitmask()
 }
 
-/// Which of sixteen bytes begin a character, as bits.
+/// Returns a mask of those of sixteen bytes that are no continuation bytes.
 #[inline(always)]
 pub(crate) fn beginnings(input: &[u8], at: usize) -> u64
     requires { at + 16 ≤ length input.now }
@@ -29,7 +30,7 @@ pub(crate) fn beginnings(input: &[u8], at: usize) -> u64
     among(u8x16::from_slice(&input[at..]), 0xc0, 0xc0)
 }
 
-/// Whether the byte is one after a first.
+/// Returns whether the byte is a continuation byte, 80 to BF.
 #[inline(always)]
 pub(crate) fn is_behind(byte: u8) -> bool
     ensures { result ≡ is_behind byte }
@@ -37,7 +38,7 @@ pub(crate) fn is_behind(byte: u8) -> bool
     byte / 64 == 2
 }
 
-/// Which of sixteen bytes begin a character of two bytes, as bits.
+/// A mask of those of sixteen bytes that begin a character of two bytes.
 #[inline(always)]
 fn twos(input: &[u8], at: usize) -> u64
     requires { at + 18 ≤ length input.now }
@@ -47,7 +48,8 @@ fn twos(input: &[u8], at: usize) -> u64
     firsts & among(u8x16::from_slice(&input[at + 1..]), 0x80, 0x40)
 }
 
-/// The high bytes of the numbers of characters of three bytes, by the first two. In place of a surrogate's it is 0.
+/// Returns the high bytes of the numbers of characters of three bytes, from their first and second bytes. A surrogate
+/// has 0 instead.
 #[inline(always)]
 pub(crate) fn three_high(first: u8x16, second: u8x16) -> u8x16
     ensures long { length result ≡ 16 }
@@ -59,8 +61,8 @@ pub(crate) fn three_high(first: u8x16, second: u8x16) -> u8x16
     are_surrogates.select(u8x16::splat(0), high)
 }
 
-/// Which of sixteen bytes begin a character of three bytes, as bits. If it needs as many and is no surrogate, the high byte of its
-/// number is 8 at least.
+/// A mask of those of sixteen bytes that begin a character of three bytes. The high byte of its number is at least 8:
+/// an overlong sequence has a lower one, and a surrogate has 0 instead.
 #[inline(always)]
 fn threes(input: &[u8], at: usize) -> u64
     requires { at + 18 ≤ length input.now }
@@ -73,13 +75,14 @@ fn threes(input: &[u8], at: usize) -> u64
     firsts & high & among(u8x16::from_slice(&input[at + 2..]), 0x80, 0x40)
 }
 
-/// How many bytes at the start are whole characters that begin among sixteen bytes and have up to three, and which begin one, as bits.
+/// The complete characters of up to three bytes at the start of sixteen bytes: how many bytes they have together, which
+/// may be up to two more than sixteen, and a mask of the bytes that begin one.
 pub(crate) struct Front {
     pub(crate) used: usize,
     pub(crate) begun: u64,
 }
 
-/// The whole characters at the start of sixteen bytes.
+/// Returns the complete characters of up to three bytes at the start of sixteen bytes.
 #[inline(always)]
 pub(crate) fn whole(input: &[u8], at: usize) -> Front
     requires { at + 18 ≤ length input.now }

@@ -28,7 +28,7 @@ fn numbers_of(characters: &[Scalar], n: usize) -> [u16; EIGHT]
     numbers
 }
 
-/// Two bytes for each of eight characters. If one has a single byte, the second is 0.
+/// Two bytes for each of eight characters. The second is 0 if the character has one byte.
 #[inline(always)]
 fn pairs(numbers: u16x8) -> u8x16
     requires { (k : ℕ) → k < 8 → get_or numbers k 0 < 0x800 }
@@ -43,7 +43,7 @@ fn pairs(numbers: u16x8) -> u8x16
         .to_le_bytes()
 }
 
-/// Which of eight characters have two bytes, as bits, the lowest for the first.
+/// A mask of those of eight characters that have two bytes. The lowest bit is the first character's.
 #[inline(always)]
 fn twos(numbers: u16x8) -> u64
     ensures few { result < 256 }
@@ -52,7 +52,8 @@ fn twos(numbers: u16x8) -> u64
     numbers.simd_ge(u16x8::splat(0x80)).to_bitmask()
 }
 
-/// Writes eight characters of up to two bytes, and answers how many bytes they have. What follows them may be anything.
+/// Writes eight characters of up to two bytes, and returns how many bytes they have. The bytes after them, up to
+/// sixteen in all, may be anything.
 #[inline(always)]
 fn write_eight(characters: &[Scalar], n: usize, out: &mut [u8], at: usize) -> usize
     requires within { n + 8 ≤ length characters.now }
@@ -69,7 +70,8 @@ fn write_eight(characters: &[Scalar], n: usize, out: &mut [u8], at: usize) -> us
     EIGHT + twos.count_ones() as usize
 }
 
-/// Writes sixteen characters of up to two bytes.
+/// Writes sixteen characters of up to two bytes. There is room for 64 bytes from `at` on, and those after the
+/// characters may be overwritten.
 #[inline(always)]
 pub(crate) fn write_short(characters: &[Scalar], n: usize, out: &mut [u8], at: usize) -> Spelled
     requires within { n + 16 ≤ length characters.now }

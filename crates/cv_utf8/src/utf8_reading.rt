@@ -5,7 +5,7 @@ ghost use Rattle.cv_utf8.specs.Utf8.{utf8_bytes};
 
 use cv_base::Scalar;
 
-/// The character of two bytes.
+/// The character of two bytes at `at`, and its length, or `None` if no such character is there.
 #[inline(always)]
 fn two_at(input: &[u8], at: usize) -> Option<(Scalar, usize)>
     requires within { at + 2 ≤ length input.now }
@@ -23,7 +23,8 @@ fn two_at(input: &[u8], at: usize) -> Option<(Scalar, usize)>
     Some((Scalar::known(number), 2))
 }
 
-/// The character of three bytes, the first of which is at least E0.
+/// The character of three bytes at `at`, and its length, or `None` if the bytes are ill-formed. The first byte is E0 to
+/// EF.
 #[inline(always)]
 fn three_at(input: &[u8], at: usize) -> Option<(Scalar, usize)>
     requires within { at + 3 ≤ length input.now }
@@ -44,7 +45,8 @@ fn three_at(input: &[u8], at: usize) -> Option<(Scalar, usize)>
     Some((Scalar::known(number), 3))
 }
 
-/// The character of four bytes, the first of which is at least F0.
+/// The character of four bytes at `at`, and its length, or `None` if the bytes are ill-formed. The first byte is at
+/// least F0.
 #[inline(always)]
 fn four_at(input: &[u8], at: usize) -> Option<(Scalar, usize)>
     requires within { at + 4 ≤ length input.now }
@@ -66,7 +68,7 @@ fn four_at(input: &[u8], at: usize) -> Option<(Scalar, usize)>
     Some((Scalar::known(number), 4))
 }
 
-/// The next character, if at least four bytes are left.
+/// Returns the next character and its length, or `None` if the bytes are ill-formed. At least four bytes are left.
 #[inline(always)]
 pub(crate) fn inner_at(input: &[u8], at: usize) -> Option<(Scalar, usize)>
     requires { at + 4 ≤ length input.now }
@@ -85,7 +87,8 @@ pub(crate) fn inner_at(input: &[u8], at: usize) -> Option<(Scalar, usize)>
     four_at(input, at)
 }
 
-/// The next character among the last bytes.
+/// Returns the next character and its length, or `None` if no bytes are left, or those that are left are ill-formed or
+/// cut off.
 #[inline(never)]
 pub(crate) fn last_at(input: &[u8], at: usize) -> Option<(Scalar, usize)>
     requires { at ≤ length input.now }

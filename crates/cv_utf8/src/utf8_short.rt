@@ -1,11 +1,13 @@
-//! Whether bytes of UTF-8 are those of characters of one and of two bytes, by vectors that are joined before the result becomes bits.
+//! Tests whether bytes of UTF-8 are characters of one or two bytes. The vectors are combined by OR before the result
+//! becomes bits.
 ghost use Rattle.std.specs.Prelude.{◌≡◌, ◌+◌, ◌≤◌, ◌<◌, ℕ, length, get_or, IsTrue};
 ghost use Rattle.cv_utf8.specs.Private.Utf8Short.{IsShortAt};
 
 use std::simd::prelude::*;
 
-/// By how much each of sixteen bytes is above the most that may be there, if each character has one or two bytes. Before a byte after
-/// a first that is 0xc2 to 0xdf, and before any other 0 to 0xbf. The least is subtracted first, so a smaller byte wraps and is above too.
+/// By how much each of sixteen bytes exceeds the range that it may be in if each character has one or two bytes, or 0
+/// if it is in the range. The range is C2 to DF before a continuation byte, and 00 to BF before any other. The range's
+/// least byte is subtracted first, so a smaller byte wraps and exceeds the range too.
 #[inline(always)]
 fn excess(input: &[u8], at: usize) -> u8x16
     requires { at + 17 ≤ length input.now }
@@ -20,7 +22,7 @@ fn excess(input: &[u8], at: usize) -> u8x16
     (bytes - least).saturating_sub(most)
 }
 
-/// Whether sixteen bytes are those of characters of one and of two bytes. The last may be the first of two.
+/// Returns whether sixteen bytes are those of characters of one or two bytes. The last may be the first byte of two.
 #[inline(always)]
 pub(crate) fn are_short(input: &[u8], at: usize) -> bool
     requires { at + 17 ≤ length input.now }
@@ -30,7 +32,7 @@ pub(crate) fn are_short(input: &[u8], at: usize) -> bool
     above.simd_ne(u8x16::splat(0)).to_bitmask() == 0
 }
 
-/// Whether sixty-four bytes are those of characters of one and of two bytes. The last may be the first of two.
+/// Returns whether 64 bytes are those of characters of one or two bytes. The last may be the first byte of two.
 #[inline(always)]
 pub(crate) fn are_short_block(input: &[u8], at: usize) -> bool
     requires { at + 65 ≤ length input.now }

@@ -18,8 +18,8 @@ use std::simd::prelude::*;
 /// The spelling of characters in UTF-8 (Unicode Standard, section 3.9, Table 3-6).
 pub(crate) struct Utf8Spelling;
 
-/// The spelling of a character, as a number whose lowest byte is the first. What follows the spelling may be anything.
-/// The bits of four bytes are spread once, and a shorter spelling has the last of them. Its length is computed without a branch.
+/// The bytes of a character, as a number whose lowest byte is the first. The bytes after those of the character may be
+/// anything. The bits are spread to four bytes once, and a shorter character has the last of these.
 #[inline(always)]
 fn word(value: u32) -> u32
     requires { IsScalar value }
@@ -41,7 +41,7 @@ fn word(value: u32) -> u32
     }
 }
 
-/// How many bytes a character has.
+/// How many bytes a character has. Computed without a branch.
 #[inline(always)]
 fn size(value: u32) -> usize
     ensures { result ≡ length (utf8_bytes value) }
@@ -49,7 +49,8 @@ fn size(value: u32) -> usize
     1 + (value >= 0x80) as usize + (value >= 0x800) as usize + (value >= 0x1_0000) as usize
 }
 
-/// The bits of sixteen characters, joined. No early exit, so that LLVM vectorizes the loop.
+/// The bitwise OR of the numbers of sixteen characters, so none of them is above it. No early exit, so that LLVM
+/// vectorizes the loop.
 #[inline(always)]
 fn joined(characters: &[Scalar], n: usize) -> u32
     requires { n + 16 ≤ length characters.now }
@@ -62,7 +63,7 @@ fn joined(characters: &[Scalar], n: usize) -> u32
     joined
 }
 
-/// The spellings of sixteen characters, each as `word` computes it.
+/// The bytes of sixteen characters, each as `word` computes them.
 #[inline(always)]
 fn words(values: u32x16) -> u32x16
     requires { AreScalarsBelow values 16 }
@@ -139,7 +140,7 @@ impl Spelling for Utf8Spelling {
         if input.len() - at >= 4 {
             return inner_at(input, at);
         }
-        // `?` tests it here, so that it is not tested again if four bytes were left.
+        // `?` tests the result here alone, so that the result of `inner_at` is not tested twice.
         let read = last_at(input, at)?;
         Some(read)
     }

@@ -1,4 +1,4 @@
-//! Characters of UTF-8 that have three bytes each, sixteen at once.
+//! Reading characters of UTF-8 that have three bytes each, sixteen at once.
 ghost use Rattle.std.specs.Prelude.{◌≡◌, ◌+◌, ◌/◌, ◌%◌, ◌≤◌, ◌<◌, ℕ, length, get_or, IfSome, IsTrue};
 ghost use Rattle.cv_utf8.specs.Units.{AreRead};
 ghost use Rattle.cv_utf8.specs.Private.Utf8Threes.{AreParts, AreThrees, IsThreeOf};
@@ -6,19 +6,22 @@ ghost use Rattle.cv_utf8.specs.Private.Utf8Threes.{AreParts, AreThrees, IsThreeO
 use crate::utf8_units::{EIGHT, Units};
 use std::simd::prelude::*;
 
-/// How many bytes are looked at for sixteen characters: the last four are read by sixteen bytes.
+/// How many bytes are loaded for sixteen characters, which have 48: the last four are read by a load of sixteen bytes.
 pub(crate) const LOADED: usize = 52;
 
-/// With fewer characters a window has as many.
+/// The least number of characters of three bytes that are read so. If they are fewer, a window of sixteen bytes has as
+/// many.
 const FEW: usize = 6;
 
-/// From this byte on a character that begins with it has three bytes or more.
+/// The least first byte of a character of three bytes or more.
 const THREE_BYTES: u8 = 0xe0;
 
-/// The places of four times three bytes, and after each a place that is none, for which a 0 is put.
+/// The indices of four times three bytes, and after each three an index outside the vector, for which the lane becomes
+/// 0.
 const PLACES: [u8; 16] = [0, 1, 2, 128, 3, 4, 5, 128, 6, 7, 8, 128, 9, 10, 11, 128];
 
-/// Whether several characters of three bytes likely follow each other at a place, by two of their first bytes. It affects speed only.
+/// Returns whether `LOADED` bytes are left from `at` on, and several characters of three bytes likely follow each other
+/// there, by two of their first bytes. The latter affects speed only.
 #[inline(always)]
 pub(crate) fn may_be_several(text: &[u8], at: usize) -> bool
     requires { at ≤ length text.now }
@@ -27,7 +30,7 @@ pub(crate) fn may_be_several(text: &[u8], at: usize) -> bool
     text.len() - at >= LOADED && text[at] & text[at + 15] >= THREE_BYTES
 }
 
-/// The bytes of four characters in two numbers each, of the first two and of the third.
+/// The bytes of four characters of three bytes, as two numbers each: one has the first two bytes, the other the third.
 #[inline(always)]
 fn parts(text: &[u8], at: usize) -> u16x8
     requires { at + 16 ≤ length text.now }
@@ -37,7 +40,8 @@ fn parts(text: &[u8], at: usize) -> u16x8
     u16x8::from_le_bytes(bytes.swizzle_dyn_within::<16>(u8x16::from_array(PLACES)))
 }
 
-/// The numbers of eight characters by their first two bytes and their third, and 0 for those that are not well-formed.
+/// The numbers of eight characters of three bytes, from their first two bytes and their third, or 0 for an ill-formed
+/// one.
 #[inline(always)]
 fn numbers_of(fronts: u16x8, lasts: u16x8) -> u16x8
     requires { (k : ℕ) → k < 8 → get_or lasts k 0 < 256 }
@@ -67,7 +71,7 @@ fn numbers_of(fronts: u16x8, lasts: u16x8) -> u16x8
     numbers.simd_lt(u16x8::splat(0x800)).select(zero, scalars)
 }
 
-/// The numbers of eight characters of three bytes each from a place on, and 0 for those that are not well-formed.
+/// The numbers of eight characters of three bytes each from `at` on, or 0 for an ill-formed one.
 #[inline(always)]
 fn eight_of(text: &[u8], at: usize) -> u16x8
     requires { at + 28 ≤ length text.now }
@@ -88,7 +92,7 @@ fn before_none(numbers: u16x8) -> usize
     EIGHT.min(none.trailing_zeros() as usize)
 }
 
-/// The characters of three bytes each from a place on, up to sixteen, if they are several.
+/// Reads up to sixteen characters of three bytes each, or returns `None` if fewer than `FEW` follow each other.
 #[inline(always)]
 pub(crate) fn three_units(text: &[u8], at: usize) -> Option<Units>
     requires { at + 52 ≤ length text.now }

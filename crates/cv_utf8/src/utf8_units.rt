@@ -1,4 +1,4 @@
-//! Reading UTF-8 by windows as units of sixteen bits.
+//! Reading windows of UTF-8 as units of sixteen bits.
 ghost use Rattle.std.specs.Prelude.{◌≡◌, ◌+◌, ◌≤◌, ◌<◌, ℕ, List, length, get_or, IfSome, false};
 ghost use Rattle.cv_utf8.specs.Units.{AreRead};
 ghost use Rattle.cv_utf8.specs.Private.Utf8Short.{is_behind, IsShortAt};
@@ -15,18 +15,18 @@ use std::simd::prelude::*;
 /// How many lanes a part has.
 pub(crate) const EIGHT: usize = 8;
 
-/// Characters of up to three bytes, in two parts.
+/// Up to sixteen characters of up to three bytes, as units of sixteen bits in two parts.
 #[derive(Clone, Copy)]
 pub struct Units {
-    /// A part. What follows its characters may be anything.
+    /// The first part. The lanes after its characters may be anything.
     pub first: u16x8,
-    /// How many characters the part has.
+    /// How many characters the first part has, at most 8.
     pub firsts: usize,
-    /// The part behind.
+    /// The second part, whose characters follow those of the first. The lanes after them may be anything.
     pub second: u16x8,
-    /// How many it has.
+    /// How many characters the second part has, at most 8.
     pub seconds: usize,
-    /// How many bytes all of them have.
+    /// How many bytes all the characters have in UTF-8.
     pub used: usize,
 }
 
@@ -50,7 +50,7 @@ fn begun_units(numbers: &[u16; MANY], begun: u64, used: usize) -> Units
     }
 }
 
-/// The characters of sixteen bytes, which have one or two bytes.
+/// The characters that begin among sixteen bytes, if all have one or two bytes.
 #[inline(always)]
 fn short_units(input: &[u8], at: usize) -> Units
     requires within { at + 18 ≤ length input.now }
@@ -62,7 +62,7 @@ fn short_units(input: &[u8], at: usize) -> Units
     begun_units(&short_values(input, at), beginnings(input, at), used)
 }
 
-/// The whole characters of up to three bytes at the start of sixteen bytes.
+/// The complete characters of up to three bytes at the start of sixteen bytes.
 #[inline(always)]
 fn whole_units(input: &[u8], at: usize) -> Units
     requires { at + 18 ≤ length input.now }
@@ -72,8 +72,9 @@ fn whole_units(input: &[u8], at: usize) -> Units
     begun_units(&whole_values(input, at), begun, used)
 }
 
-/// Reads up to sixteen characters of three bytes, if several follow each other, or the whole characters of up to three bytes that
-/// begin among sixteen bytes, up to one that has four.
+/// Reads up to sixteen characters of three bytes from `at` on, if several follow each other. Otherwise it reads the
+/// characters of up to three bytes that begin among the sixteen bytes from `at` on, up to the first that has four bytes
+/// or is ill-formed. The input has at least 18 bytes from `at` on.
 #[inline(always)]
 pub fn read_units(input: &[u8], at: usize) -> Units
     requires { at + 18 ≤ length input.now }

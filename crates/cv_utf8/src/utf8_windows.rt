@@ -1,4 +1,4 @@
-//! Reading UTF-8 by windows of sixteen bytes, with no branch on which characters they are.
+//! Reading UTF-8 in windows of sixteen bytes, without a branch for each character.
 ghost use Rattle.std.specs.Prelude.{◌≡◌, ◌+◌, ◌*◌, ◌/◌, ◌%◌, ◌≤◌, ◌<◌, ℕ, length, get_or, IsTrue, false};
 ghost use Rattle.cv_block.specs.Spelled.{IsReadSpelled};
 ghost use Rattle.cv_utf8.specs.Utf8.{utf8_bytes};
@@ -14,7 +14,7 @@ use cv_base::Scalar;
 use cv_block::{MANY, Spelled, is_ascii_block};
 use std::simd::prelude::*;
 
-/// The numbers whose low and high bytes are given.
+/// The numbers of sixteen bits that have these low and high bytes.
 #[inline(always)]
 fn numbers_of(low: u8x16, high: u8x16) -> [u16; MANY]
     ensures { (k : ℕ) → k < 16 → get_or result k 0 ≡ get_or low k 0 + 256 * get_or high k 0 }
@@ -22,7 +22,7 @@ fn numbers_of(low: u8x16, high: u8x16) -> [u16; MANY]
     (low.cast::<u16>() + high.cast::<u16>() * u16x16::splat(256)).to_array()
 }
 
-/// The low bytes of the numbers of characters that have the bytes, one or two.
+/// The low bytes of the numbers of characters of one or two bytes, from their first and second bytes.
 #[inline(always)]
 fn short_low(first: u8x16, second: u8x16) -> u8x16
     ensures { (k : ℕ) → k < 16 → get_or result k 0
@@ -32,7 +32,7 @@ fn short_low(first: u8x16, second: u8x16) -> u8x16
     first.simd_lt(u8x16::splat(0xc0)).select(first, two)
 }
 
-/// The high bytes of the numbers of characters that begin with the bytes and have one or two: none if the byte is below 0xc0.
+/// The high bytes of the numbers of characters of one or two bytes, from their first bytes: 0 if the byte is below C0.
 #[inline(always)]
 fn short_high(first: u8x16) -> u8x16
     ensures long { length result ≡ 16 }
@@ -41,8 +41,8 @@ fn short_high(first: u8x16) -> u8x16
     first.saturating_sub(u8x16::splat(0xc0)) / u8x16::splat(4)
 }
 
-/// The numbers of the characters that begin at sixteen places, if they have one or two bytes. They are computed by bytes, because a
-/// vector has twice as many of them.
+/// Returns the numbers of the characters that begin at each of sixteen bytes, if they have one or two bytes. It
+/// computes their low and high bytes, because a vector has twice as many lanes of bytes as of numbers.
 #[inline(always)]
 pub(crate) fn short_values(input: &[u8], at: usize) -> [u16; MANY]
     requires { at + 17 ≤ length input.now }
@@ -53,7 +53,7 @@ pub(crate) fn short_values(input: &[u8], at: usize) -> [u16; MANY]
     numbers_of(short_low(first, second), short_high(first))
 }
 
-/// Reads the characters of sixteen bytes, which have one or two bytes.
+/// Reads the characters that begin among sixteen bytes, if all have one or two bytes.
 #[inline(always)]
 fn read_short(input: &[u8], at: usize, buffer: &mut [Scalar], n: usize) -> Spelled
     requires within { at + 18 ≤ length input.now }
@@ -68,7 +68,7 @@ fn read_short(input: &[u8], at: usize, buffer: &mut [Scalar], n: usize) -> Spell
     put_begun(&short_values(input, at), begun, used, buffer, n)
 }
 
-/// The low bytes of the numbers of characters that have the bytes, up to three.
+/// The low bytes of the numbers of characters of up to three bytes, from their first, second and third bytes.
 #[inline(always)]
 fn low_bytes(first: u8x16, second: u8x16, third: u8x16) -> u8x16
     ensures { (k : ℕ) → k < 16 → get_or result k 0
@@ -81,7 +81,7 @@ fn low_bytes(first: u8x16, second: u8x16, third: u8x16) -> u8x16
     first.simd_lt(u8x16::splat(0x80)).select(first, many)
 }
 
-/// The high bytes of the numbers of characters that have the bytes, up to three.
+/// The high bytes of the numbers of characters of up to three bytes, from their first and second bytes.
 #[inline(always)]
 fn high_bytes(first: u8x16, second: u8x16) -> u8x16
     ensures { (k : ℕ) → k < 16 → get_or result k 0
@@ -91,7 +91,8 @@ fn high_bytes(first: u8x16, second: u8x16) -> u8x16
     are_three.select(three_high(first, second), short_high(first))
 }
 
-/// The numbers of the characters that begin at sixteen places, if they have up to three bytes. All are scalar values, whatever the bytes are.
+/// Returns the numbers of the characters that begin at each of sixteen bytes, if they have up to three bytes. All are
+/// scalar values, whatever the bytes are.
 #[inline(always)]
 pub(crate) fn whole_values(input: &[u8], at: usize) -> [u16; MANY]
     requires { at + 18 ≤ length input.now }
@@ -103,8 +104,8 @@ pub(crate) fn whole_values(input: &[u8], at: usize) -> [u16; MANY]
     numbers_of(low_bytes(first, second, third), high_bytes(first, second))
 }
 
-/// Reads the whole characters of up to three bytes at the start of sixteen bytes. Kept out of line to save registers in the
-/// callers' loops.
+/// Reads the complete characters of up to three bytes at the start of sixteen bytes. Kept out of line to save registers
+/// in the callers' loops.
 #[inline(never)]
 fn read_whole(input: &[u8], at: usize, buffer: &mut [Scalar], n: usize) -> Spelled
     requires within { at + 18 ≤ length input.now }
@@ -116,8 +117,8 @@ fn read_whole(input: &[u8], at: usize, buffer: &mut [Scalar], n: usize) -> Spell
     put_begun(&whole_values(input, at), begun, used, buffer, n)
 }
 
-/// Whether a character of three or of four bytes may begin among sixteen bytes. It affects speed only, and texts of one
-/// script rarely change the branch that they take.
+/// Returns whether a character of three or four bytes may begin among sixteen bytes. It affects speed only. In a text
+/// of one script the branch on it is mostly the same, and so well predicted.
 #[inline(always)]
 pub(crate) fn may_be_high(input: &[u8], at: usize) -> bool
     requires { at + 16 ≤ length input.now }
@@ -125,8 +126,8 @@ pub(crate) fn may_be_high(input: &[u8], at: usize) -> bool
     among(u8x16::from_slice(&input[at..]), 0xe0, 0x20) != 0
 }
 
-/// Whether sixteen characters of three bytes may follow each other, by the first byte of some of them. It affects speed only: to read
-/// them as scalars at once costs as much if they are fewer.
+/// Whether sixteen characters of three bytes may follow each other, by the first bytes of five of them. It affects
+/// speed only: `read_threes` costs as much if they are fewer.
 #[inline(always)]
 fn may_be_threes(input: &[u8], at: usize) -> bool
     requires { at ≤ length input.now }
@@ -135,8 +136,9 @@ fn may_be_threes(input: &[u8], at: usize) -> bool
     text.len() > 48 && text[0] & text[12] & text[24] & text[36] & text[45] >= 0xe0
 }
 
-/// Reads characters among which one of three or of four bytes may be: those of four bytes if one is at the start, or those of three if many
-/// likely follow each other. Otherwise it reads the characters of sixteen bytes, up to one of four bytes.
+/// Reads characters among which some may have three or four bytes: those of four bytes if one is at the start, or those
+/// of three if many likely follow each other. It reads none if one of four bytes may begin at the second byte.
+/// Otherwise it reads the characters that begin among sixteen bytes, up to one of four bytes.
 #[inline(always)]
 fn read_high(input: &[u8], at: usize, buffer: &mut [Scalar], n: usize) -> Spelled
     requires within { at + 18 ≤ length input.now }
@@ -156,8 +158,9 @@ fn read_high(input: &[u8], at: usize, buffer: &mut [Scalar], n: usize) -> Spelle
     read_whole(input, at, buffer, n)
 }
 
-/// Reads the characters of up to three bytes that begin among sixteen bytes, up to one that has four. If one of four bytes
-/// is at the start, or one of three and likely many more after it, those with as many bytes are read.
+/// Reads the characters of up to three bytes that begin among sixteen bytes, up to one that has four. If one of four
+/// bytes is at the start, or one of three and likely many more after it, it reads those with as many bytes. It may read
+/// none, and reads only ASCII if fewer than 18 bytes are left.
 #[inline(always)]
 pub(crate) fn read_many(input: &[u8], at: usize, buffer: &mut [Scalar], n: usize) -> Spelled
     requires within { at ≤ length input.now }

@@ -1,5 +1,6 @@
-//! Scripts on standard input, with an empty line between them, each behind a comment that says what it shows. The comment and the reply
-//! lines of each are printed, which the gate compares, and whatever several workers, or a stream that is served, answer otherwise.
+//! Runs the scripts on standard input. There is an empty line between them, and each begins with a comment that says
+//! what it shows. It prints the comment and the reply lines of each script, which the gate compares. It prints a line
+//! more if several workers, or a stream that is served, give other replies.
 #![tactic(auto)]
 
 ghost use Rattle.std.specs.Prelude.{◌≤◌};
@@ -15,7 +16,7 @@ use std::random::RandomSource;
 use std::sync::Wait;
 use std::thread::Threads;
 
-/// The reply lines of a script whose frames are served as a stream by so many workers.
+/// The reply lines of a script whose frames are served as a stream by `workers` workers.
 fn streamed<R: RandomSource + Threads + Wait + Sync>(
     rt: &R,
     alloc: Global,
@@ -31,7 +32,7 @@ fn streamed<R: RandomSource + Threads + Wait + Sync>(
     show_replies(alloc, &sink.into_inner())
 }
 
-/// Whether so many workers answer a script by these lines, at once and as a stream.
+/// Whether `workers` workers answer a script with these lines, as a script and as a stream.
 fn answers<R: RandomSource + Threads + Wait + Sync>(
     rt: &R,
     alloc: Global,
@@ -46,7 +47,7 @@ fn answers<R: RandomSource + Threads + Wait + Sync>(
     Ok(at_once.as_slice() == lines && read.as_slice() == lines)
 }
 
-/// What is printed of a script.
+/// What is printed for a script.
 fn told<R: RandomSource + Threads + Wait + Sync>(
     rt: &R,
     alloc: Global,

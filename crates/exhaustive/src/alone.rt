@@ -1,11 +1,11 @@
-//! Each scalar value written and read by itself.
+//! Each scalar value, written and read by itself.
 
 use crate::spelling::{is_read_as, write_text};
 use cv_base::Scalar;
 use cv_pivot::Encoding;
 use std::alloc::{AllocError, Global};
 
-/// How many scalar values are written from the start, closed, and read from the start as themselves.
+/// Returns how many scalar values are written as a text of their own, and read back as themselves.
 pub fn read_back(alloc: Global, encoding: &Encoding) -> Result<usize, AllocError> {
     let mut text = Vec::new(alloc);
     let mut count: usize = 0;

@@ -11,7 +11,7 @@ use cv_pivot::builtin;
 use std::io;
 use std::process::ExitCode;
 
-/// The encodings that are built in.
+/// The built-in encodings.
 const ENCODINGS: [&str; 10] = [
     "US-ASCII",
     "ISO-8859-1",

@@ -6,8 +6,8 @@ use cv_base::Scalar;
 use cv_pivot::Encoding;
 use std::alloc::{AllocError, Global};
 
-/// Characters of one code unit each, which leave a shifted sequence in the state that `k` counts: the pending bits are the last bits of
-/// the last character, four after one character, two after two, none after three.
+/// How many characters of one code unit each leave a shifted sequence in state `k` of 21, and the last four bits of the
+/// last of them. The pending bits are its last bits: four after one character, two after two, none after three.
 fn front(k: u32) -> (usize, u32)
     ensures length { result.0 ≤ 3 }
     ensures last { k < 21 → result.1 < 16 }
@@ -19,7 +19,7 @@ fn front(k: u32) -> (usize, u32)
     }
 }
 
-/// How many of the scalar values are read back after each of the 21 prefixes.
+/// Returns how many scalar values are read back after each of the 21 prefixes, in all.
 pub fn read_back(alloc: Global, encoding: &Encoding) -> Result<usize, AllocError> {
     let mut text = Vec::new(alloc);
     let mut count: usize = 0;

@@ -10,7 +10,7 @@ enum Front {
     Character(usize, u32),
     /// A prefix of a character.
     Open,
-    /// Neither.
+    /// Neither of these.
     Never,
 }
 
@@ -53,7 +53,7 @@ fn found(input: &[u8]) -> Front {
     }
 }
 
-/// How many of the inputs are as the table says.
+/// Returns how many of the inputs are as the table says.
 pub fn as_the_table_says() -> usize {
     let ones = (0..=255u8)
         .filter(|a| found(&[*a]) == expected(&[*a]))

@@ -1,10 +1,10 @@
-//! Texts of a few characters, written from the start and closed, and read from the start.
+//! Texts of a few characters, which are written from the start and closed, and read from the start.
 
 use cv_base::{Codec, Item, ReadState, Scalar, WriteState};
 use cv_pivot::Encoding;
 use std::alloc::AllocError;
 
-/// The text of characters, closed. It is left empty if one of them is lacking.
+/// Writes characters to `text`, and closes it. Leaves it empty if the encoding lacks one of them.
 pub fn write_text(
     encoding: &Encoding,
     characters: &[Scalar],
@@ -23,7 +23,7 @@ pub fn write_text(
     text.extend_from_slice(encoding.close(state).as_slice())
 }
 
-/// Whether a text is read to its end as these characters.
+/// Returns whether a text is read to its end as these characters.
 pub fn is_read_as(encoding: &Encoding, text: &[u8], characters: &[Scalar]) -> bool {
     let mut state = ReadState::Start;
     let mut rest = text;

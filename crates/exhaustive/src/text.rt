@@ -1,4 +1,4 @@
-//! All scalar values in one text, converted and converted back.
+//! A text of all scalar values, converted and converted back.
 
 use cv_base::Policy;
 use cv_pivot::{Conversion, Encoding, builtin};
@@ -7,7 +7,7 @@ use std::alloc::{AllocError, Global};
 /// How many bytes each call is given.
 const CALL: usize = 10_007;
 
-/// All scalar values in their order, as UTF-32BE.
+/// Returns all scalar values in their order, as UTF-32BE.
 pub fn every_scalar(alloc: Global) -> Result<Vec<u8>, AllocError> {
     let mut text = Vec::with_capacity(alloc, 4_448_256)?;
     for value in (0..0xD800u32).chain(0xE000..0x11_0000) {
@@ -16,7 +16,7 @@ pub fn every_scalar(alloc: Global) -> Result<Vec<u8>, AllocError> {
     Ok(text)
 }
 
-/// The whole text converted, in calls of a size that cuts characters anywhere, and closed.
+/// Converts the whole text, in calls of a size that cuts characters at any byte, and closes it.
 fn converted(
     alloc: Global,
     to: Encoding,
@@ -44,7 +44,7 @@ fn converted(
     Ok(output)
 }
 
-/// How many scalar values come back as themselves, of a text of all of them.
+/// Returns how many scalar values of a text are the same after it is converted to an encoding and back.
 pub fn read_back(alloc: Global, encoding: Encoding, text: &[u8]) -> Result<usize, AllocError> {
     let Some(wide) = builtin(b"UTF-32BE") else {
         return Ok(0);

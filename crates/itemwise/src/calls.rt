@@ -1,20 +1,21 @@
-//! Calls compared with their items.
+//! Calls whose results are compared with those of their items.
 
 use crate::chain::{Chain, Expected};
 use crate::trials::{Part, Trial};
 use cv_pivot::{Conversion, Outcome, States};
 use std::alloc::{AllocError, Global};
 
-/// What each byte of a room is before a call.
+/// The value of each byte of an output before a call.
 pub const UNWRITTEN: u8 = 0xC1;
 
-/// The fewest bytes of a text from which a long block is taken.
+/// The least size in bytes of a text that may have a long block.
 const LONG: usize = 256;
 
-/// By how much ample room is more than the output has, so that no short block ends because it is full: 64 characters have eight bytes each.
+/// By how many bytes an ample output is larger than what is written, so that no short block ends because the output is
+/// full: it has 64 characters of at most eight bytes.
 const AMPLE: usize = 64 * 8;
 
-/// By how much it is more than the output of a long text, so that no long block ends because it is full.
+/// The same for the output of a long text, so that no long block ends because the output is full.
 const AMPLE_FOR_LONG: usize = 256 * 8;
 
 /// How the result of a call differs from that of its items.
@@ -28,7 +29,7 @@ pub enum Found {
 /// A call whose result differs from that of its items.
 #[derive(Clone, Copy, Debug)]
 pub struct Difference {
-    /// How many bytes it was given.
+    /// How many bytes the call was given.
     pub given: usize,
     pub room: usize,
     pub expected: Outcome,
@@ -48,13 +49,13 @@ impl From<AllocError> for Fault {
     }
 }
 
-/// Whether a room begins with these bytes, and after them has what it had before.
+/// Whether an output begins with these bytes, and is unwritten after them.
 fn has(room: &[u8], written: &[u8]) -> bool {
     room.strip_prefix(written)
         .is_some_and(|behind| behind.iter().all(|byte| *byte == UNWRITTEN))
 }
 
-/// What is not as it must be after a call, if anything isn't.
+/// The first difference between the results of a call and those that it must have, or `None`.
 fn compare(
     expected: &Expected<'_>,
     outcome: Outcome,
@@ -72,7 +73,7 @@ fn compare(
     }
 }
 
-/// The size of the room of a call that is given a text and whose items have `most` bytes.
+/// The size of the output of a call that is given a text for whose items `most` bytes are written.
 fn size_of(room: Part, input: &[u8], most: usize) -> usize {
     match room {
         Part::All if input.len() < LONG => most.saturating_add(AMPLE),
@@ -81,7 +82,8 @@ fn size_of(room: Part, input: &[u8], most: usize) -> usize {
     }
 }
 
-/// Makes a call, and answers how many bytes of the input it leaves. The buffer is unwritten before the call and after it.
+/// Makes a call, compares its results, and returns how many bytes of the input it leaves. The buffer is unwritten
+/// before the call, and is made so after it.
 fn call(
     alloc: Global,
     conversion: &mut Conversion,
@@ -106,8 +108,8 @@ fn call(
     Ok(outcome.left)
 }
 
-/// Makes the calls of a trial, and answers how many they are: one with the text up to where it is cut, and if it leaves something,
-/// another with that and with what was cut off, in ample room.
+/// Makes the calls of a trial, and returns how many they are. The first gets the text up to the cut. If bytes were left
+/// or cut off, a second gets these, with an ample output.
 pub fn make_calls(
     alloc: Global,
     mut conversion: Conversion,

@@ -1,4 +1,4 @@
-//! A conversion item by item, which knows no blocks.
+//! Conversions item by item, without blocks.
 
 use cv_base::{Codec, Item, Policy, Put, Scalar, WriteState};
 use cv_pivot::{Conversion, Encoding, Outcome, States, Stop};
@@ -13,7 +13,7 @@ struct Reached {
     states: States,
 }
 
-/// The items at the start of a text one after the other, and what is written for them, whatever the room.
+/// The items at the start of a text, one after the other, and what is written for them if there is room for all.
 #[derive(Drop)]
 pub struct Chain {
     start: Reached,
@@ -35,7 +35,7 @@ pub struct Expected<'a> {
 /// The most bytes of a character in any encoding.
 const MOST_BYTES: usize = 8;
 
-/// Appends the bytes of a character, and answers the state after them. None are appended if the encoding lacks it.
+/// Appends the bytes of a character, and returns the state after them, or `None` if the encoding lacks the character.
 fn put(
     to: &Encoding,
     state: WriteState,
@@ -53,7 +53,7 @@ fn put(
 }
 
 impl Chain {
-    /// The items of a text that comes next in a conversion.
+    /// Returns the items of a text that comes next in a conversion.
     pub fn of(alloc: Global, conversion: &Conversion, text: &[u8]) -> Result<Chain, AllocError> {
         let start = Reached {
             used: 0,
@@ -98,7 +98,7 @@ impl Chain {
         Ok(chain)
     }
 
-    /// Writes a character, or `?` if the encoding lacks it and the policy allows that; whether it was written.
+    /// Writes a character, or `?` if the encoding lacks it and the policy allows that. Returns whether it was written.
     fn write(
         &mut self,
         conversion: &Conversion,
@@ -120,12 +120,13 @@ impl Chain {
         Ok(true)
     }
 
-    /// How many bytes are written if there is room for all.
+    /// Returns how many bytes are written if there is room for all.
     pub fn most(&self) -> usize {
         self.written.len()
     }
 
-    /// The result that a call must have with so much room: the longest run of these items whose bytes fit.
+    /// Returns the result that a call must have with an output of `room` bytes: that of the longest run of these items
+    /// whose bytes fit.
     pub fn within(&self, text: &[u8], room: usize) -> Expected<'_> {
         let fit = self.reached.partition_point(|r| r.wrote <= room);
         let last = match fit.checked_sub(1) {

@@ -8,10 +8,10 @@ use std::alloc::AllocError;
 /// The longest run in which long blocks end: a short block, two long ones, and some characters.
 const LONG_BLOCKS: usize = 600;
 
-/// The numbers of characters around which a long block ends, or the first one begins.
+/// The numbers of characters after which the first long block begins, or one ends.
 const LONG_BOUNDS: [usize; 4] = [64, 256, 320, 576];
 
-/// How a text is cut, and its room, so that it ends with a block.
+/// Where a text is cut, and its room, so that it ends near the end of a block.
 const ENDS: [(Part, Part); 5] = [
     (Part::All, Part::All),
     (Part::AllBut(1), Part::All),
@@ -20,8 +20,8 @@ const ENDS: [(Part, Part); 5] = [
     (Part::All, Part::AllBut(1)),
 ];
 
-/// Runs that end around the end of a long block: whole, cut in their last character, and in a room that is too small or just large
-/// enough.
+/// Adds runs that end near the end of a long block: whole, cut in their last character, and with an output that is too
+/// small or just large enough.
 pub fn long_runs(trials: &mut Vec<Trial>) -> Result<(), AllocError> {
     for script in SCRIPTS {
         for bound in LONG_BOUNDS {
@@ -39,7 +39,7 @@ pub fn long_runs(trials: &mut Vec<Trial>) -> Result<(), AllocError> {
     Ok(())
 }
 
-/// Runs of several long blocks with something around the end of one.
+/// Adds runs of several long blocks, with `middle` near the end of one.
 pub fn long_stops(trials: &mut Vec<Trial>, middle: Middle) -> Result<(), AllocError> {
     for script in SCRIPTS {
         for bound in LONG_BOUNDS {

@@ -1,5 +1,5 @@
-//! Conversions between every two encodings, and to some of them under the strict policy, compared with conversions item by item: texts
-//! around the bounds of every loop that takes several characters at once.
+//! Conversions between every two built-in encodings, and to some of them under the strict policy, compared with
+//! conversions item by item. The texts end near the bounds of every loop that takes several characters at once.
 #![tactic(auto)]
 
 mod calls;

@@ -7,13 +7,14 @@ use crate::trials::{Trial, inner_trials, trials};
 use cv_pivot::{Conversion, States};
 use std::alloc::{AllocError, Global};
 
-/// How many bytes the largest room has: that of some 1,030 characters of at most six bytes, and ample room after them.
+/// The size in bytes of the largest output: room for about 1,050 characters of at most six bytes, and what makes it
+/// ample.
 const BUFFER: usize = 12_288;
 
 /// Why not all calls were compared.
 #[derive(Debug, Drop)]
 pub enum Unfinished {
-    /// One of them had a result that differs from that of its items: which one, in words.
+    /// The results of one of them differ from those of its items. The text says which one.
     Differs(String),
     Memory(AllocError),
 }
@@ -24,7 +25,7 @@ impl From<AllocError> for Unfinished {
     }
 }
 
-/// Compares the calls of a trial for each target, and answers how many they are.
+/// Compares the calls of a trial for each target, and returns how many they are.
 fn compare_trial(
     alloc: Global,
     source: &Source,
@@ -62,7 +63,7 @@ fn compare_trial(
     Ok(count)
 }
 
-/// Compares the calls of trials for each target, and answers how many they are.
+/// Compares the calls of trials for each target, and returns how many they are.
 fn compare_trials(
     alloc: Global,
     source: &Source,
@@ -79,7 +80,7 @@ fn compare_trials(
     Ok(count)
 }
 
-/// Compares all calls, and answers how many they are.
+/// Compares all calls, and returns how many they are.
 pub fn compare_all(alloc: Global) -> Result<usize, Unfinished> {
     let targets = targets(alloc)?;
     let inner = inner_trials(alloc)?;

@@ -1,13 +1,13 @@
-//! Characters that texts are made of.
+//! The characters of texts.
 
 use cv_base::Scalar;
 
 /// Characters of one kind.
 #[derive(Clone, Copy, Debug, PartialEq, Eq)]
 pub enum Script {
-    /// ASCII that stands for itself in UTF-7 too.
+    /// Letters of ASCII, which are direct characters in UTF-7.
     Letters,
-    /// All of ASCII. Some of it is shifted in UTF-7, and some may be read differently from how it is written.
+    /// All of ASCII. UTF-7 shifts some of it, and some is read in a form in which it is not written.
     Ascii,
     /// One byte in ISO-8859-1, two in UTF-8.
     Latin,
@@ -17,7 +17,7 @@ pub enum Script {
     Han,
     /// Four bytes in UTF-8, a surrogate pair in UTF-16.
     Emoji,
-    /// One of each of these in turn.
+    /// Characters of these sizes in turn.
     Turns,
     /// The first and the last character of each size.
     Limits,
@@ -25,7 +25,7 @@ pub enum Script {
     Words,
 }
 
-/// All of them.
+/// All scripts.
 pub const SCRIPTS: [Script; 9] = [
     Script::Letters,
     Script::Ascii,
@@ -38,7 +38,7 @@ pub const SCRIPTS: [Script; 9] = [
     Script::Words,
 ];
 
-/// Those whose characters have one size, for long runs.
+/// Scripts whose characters all have the same size, for long runs.
 pub const PLAIN: [Script; 5] = [
     Script::Letters,
     Script::Latin,
@@ -76,7 +76,7 @@ fn by_turns(list: &[char], place: usize) -> u32 {
 }
 
 impl Script {
-    /// The character at a place of a text of this kind.
+    /// Returns the character at index `place` of a text of this kind.
     pub fn character(self, place: usize) -> Scalar {
         let number = match self {
             Script::Letters => 0x61 + (place % 26) as u32,

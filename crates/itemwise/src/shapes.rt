@@ -1,4 +1,4 @@
-//! What a text has, and how it is spelled.
+//! What a text consists of, and how it is written in an encoding.
 
 use crate::scripts::Script;
 use cv_base::{Codec, Scalar, WriteState};
@@ -31,7 +31,7 @@ pub struct Shape {
     pub back: Run,
 }
 
-/// Why a text can't be spelled.
+/// Why a text can't be written.
 #[derive(Debug, Drop)]
 pub enum Unspelled {
     /// The encoding lacks a character.
@@ -45,7 +45,7 @@ impl From<AllocError> for Unspelled {
     }
 }
 
-/// A text that is being spelled.
+/// A text that is being written.
 #[derive(Drop)]
 pub struct Speller {
     encoding: Encoding,
@@ -54,7 +54,7 @@ pub struct Speller {
 }
 
 impl Speller {
-    /// A text that begins with these bytes.
+    /// Returns a text that begins with these bytes.
     pub fn new(encoding: Encoding, bytes: Vec<u8>) -> Speller {
         Speller {
             encoding,
@@ -63,7 +63,7 @@ impl Speller {
         }
     }
 
-    /// The text.
+    /// Returns the text.
     pub fn into_bytes(self) -> Vec<u8> {
         self.bytes
     }
@@ -77,7 +77,7 @@ impl Speller {
         Ok(())
     }
 
-    /// Spells the characters of a run after what is there.
+    /// Appends the characters of a run.
     pub fn run(&mut self, run: Run) -> Result<(), Unspelled> {
         for place in 0..run.length {
             self.put(run.script.character(place))?;
@@ -85,7 +85,7 @@ impl Speller {
         Ok(())
     }
 
-    /// Spells a shape after what is there.
+    /// Appends the text of a shape.
     pub fn shape(&mut self, shape: &Shape) -> Result<(), Unspelled> {
         self.run(shape.front)?;
         match shape.middle {

@@ -6,13 +6,13 @@ use cv_base::{Codec, Item, ReadState};
 use cv_pivot::{Encoding, builtin};
 use std::alloc::{AllocError, Global};
 
-/// An encoding to read from, and how its texts are spelled.
+/// An encoding to read from, and how its texts are written.
 #[derive(Clone, Copy, Debug)]
 pub struct Source {
     pub name: &'static str,
     /// What its texts begin with.
     mark: &'static [u8],
-    /// The encoding in which the rest is spelled.
+    /// The encoding in which the rest is written.
     pub spelling: &'static str,
     /// Texts are tried after 0 to this many characters, because the state differs after each.
     pub leads: usize,
@@ -55,7 +55,7 @@ impl Text {
         self.bytes.get(self.read..).unwrap_or(&[])
     }
 
-    /// Reads this many characters, and what precedes them.
+    /// Reads this many characters, with the marks and shifts before them.
     fn read(&mut self, characters: usize) {
         let mut left = characters;
         for _item in 0..self.bytes.len() {
@@ -93,7 +93,7 @@ impl Source {
         Ok(speller.into_bytes())
     }
 
-    /// A text of a shape after a lead of this many characters, if the encoding has all of them.
+    /// Returns a text of a shape after a lead of this many characters, or `None` if the encoding lacks one of them.
     pub fn text(
         &self,
         alloc: Global,

@@ -1,6 +1,7 @@
 //! What stops a conversion, or a loop in it, in the middle of a text.
 
-/// Characters that some targets lack, that are shifted in UTF-7, or that are a mark at the start of a text, beside the limits.
+/// Characters that are tried besides the limits. Some targets lack some of them, UTF-7 shifts some, and U+FEFF is a
+/// mark at the start of a text.
 pub const CHARACTERS: [char; 5] = ['a', '+', '漢', '😀', '\u{feff}'];
 
 const UTF_8: &[&[u8]] = &[
@@ -69,7 +70,7 @@ const UTF_7: &[&[u8]] = &[
     b"+3gA-",
 ];
 
-/// Bytes that begin no item in an encoding, or that begin one differently from how it is written.
+/// Returns ill-formed byte strings of an encoding, and for UTF-7 also well-formed shifted sequences.
 pub fn bytes_in(encoding: &str) -> &'static [&'static [u8]] {
     match encoding {
         "UTF-8" => UTF_8,

@@ -5,8 +5,8 @@ use cv_base::{Codec, Policy, WriteState};
 use cv_pivot::{Encoding, builtin};
 use std::alloc::{AllocError, Global};
 
-/// The encodings that are built in, and after how many characters the state of a writer differs from the states before.
-/// In UTF-7 4, 2 and 0 bits are pending after the first, the second and the third character of a shifted sequence.
+/// The built-in encodings, and after how many first characters the writer is in a state in which it was not before. In
+/// UTF-7 4, 2 and 0 bits are pending after the first, the second and the third character of a shifted sequence.
 const ENCODINGS: [(&str, usize); 10] = [
     ("US-ASCII", 0),
     ("ISO-8859-1", 0),
@@ -32,7 +32,7 @@ pub struct Target {
     pub writing: WriteState,
 }
 
-/// Each encoding in each of the states of its writer, and those under the strict policy.
+/// Returns each encoding in each of the states of its writer, and those under the strict policy.
 pub fn targets(alloc: Global) -> Result<Vec<Target>, AllocError> {
     let mut targets = Vec::new(alloc);
     for (name, leads) in ENCODINGS {

@@ -1,4 +1,4 @@
-//! Which texts are converted, how they are cut, and into what room.
+//! The texts that are converted, where they are cut, and the room of their outputs.
 
 use crate::long_trials::{long_runs, long_stops};
 use crate::scripts::{LIMITS, PLAIN, SCRIPTS, Script};
@@ -6,7 +6,7 @@ use crate::shapes::{Middle, Run, Shape};
 use crate::stops::{CHARACTERS, bytes_in};
 use std::alloc::{AllocError, Global};
 
-/// How much of a whole.
+/// A part of a whole.
 #[derive(Clone, Copy, Debug, PartialEq, Eq)]
 pub enum Part {
     All,
@@ -24,8 +24,8 @@ impl Part {
     }
 }
 
-/// A text, how much of it the first call is given, and its room as a part of the whole output; the room is larger than the output if the
-/// part is all of it.
+/// A text, how much of it the first call is given, and the room of that call as a part of what is written for the
+/// whole. If the part is all of it, the room is ample.
 #[derive(Clone, Copy, Debug, PartialEq, Eq)]
 pub struct Trial {
     pub shape: Shape,
@@ -39,10 +39,11 @@ const BOUNDS: [usize; 4] = [16, 32, 64, 128];
 /// The longest run: two blocks, and one more character.
 const LONGEST: usize = 129;
 
-/// Runs that are interrupted: one shorter than the smallest block, one of two such blocks, and one of two blocks of a conversion.
+/// The lengths of runs that are interrupted: one shorter than the smallest block, one of two such blocks, and one of
+/// two short blocks of a conversion.
 const INTERRUPTED: [usize; 3] = [12, 32, 128];
 
-/// How many bytes of UTF-8 are tested at once.
+/// A size in bytes of UTF-8 near which runs end. Blocks of 64 bytes are tested at once, and one of them ends there.
 const PART: usize = 1024;
 
 /// How many bytes each character of a script has in UTF-8.
@@ -54,26 +55,27 @@ const SIZES: [(Script, usize); 5] = [
     (Script::Emoji, 4),
 ];
 
-/// How near to its ends each place of a text is tried: more than the smallest block.
+/// How near to the ends of a text each index is tried: more than the smallest block.
 const NEAR: usize = 20;
 
-/// How long the run after another one is.
+/// The length of a run after another one.
 const BEHIND: usize = 40;
 
-/// The most by which a room is more than nothing, or less than the output: a character has eight bytes at most.
+/// The most bytes of a small room, and the most that a room may lack: more than a character has, which is eight at
+/// most.
 const CHARACTER: usize = 9;
 
-/// Whether a loop may end at a length.
+/// Whether a loop may end at this length.
 fn is_bound(length: usize) -> bool {
     BOUNDS.iter().any(|bound| length.abs_diff(*bound) <= 1)
 }
 
-/// Whether a place is near one of the ends of a text of this length, or near where a block ends.
+/// Whether an index is near one of the ends of a text of this length, or near the end of a block.
 fn is_tried(place: usize, length: usize) -> bool {
     place < NEAR || length.saturating_sub(place) <= NEAR || place.abs_diff(64) <= 2
 }
 
-/// A text of one run.
+/// Returns a text of one run.
 pub fn run(script: Script, length: usize) -> Shape {
     Shape {
         front: Run { script, length },
@@ -82,7 +84,7 @@ pub fn run(script: Script, length: usize) -> Shape {
     }
 }
 
-/// Runs of each length near which a loop may end, and of each short length.
+/// Adds runs of each length near which a loop may end, and of each short length.
 fn lengths(trials: &mut Vec<Trial>) -> Result<(), AllocError> {
     for script in SCRIPTS {
         for length in (0..=LONGEST).filter(|n| *n <= NEAR || is_bound(*n)) {
@@ -96,7 +98,7 @@ fn lengths(trials: &mut Vec<Trial>) -> Result<(), AllocError> {
     Ok(())
 }
 
-/// Texts that are cut.
+/// Adds texts that are cut.
 fn cuts(trials: &mut Vec<Trial>) -> Result<(), AllocError> {
     for script in SCRIPTS {
         let shape = run(script, LONGEST);
@@ -118,7 +120,7 @@ fn cuts(trials: &mut Vec<Trial>) -> Result<(), AllocError> {
     Ok(())
 }
 
-/// Rooms of a few bytes, and a few bytes too small.
+/// Adds rooms of a few bytes, and rooms that are a few bytes too small.
 fn rooms(trials: &mut Vec<Trial>) -> Result<(), AllocError> {
     for script in SCRIPTS {
         for bound in BOUNDS {
@@ -137,8 +139,8 @@ fn rooms(trials: &mut Vec<Trial>) -> Result<(), AllocError> {
     Ok(())
 }
 
-/// Runs that end near the end of the bytes of UTF-8 that are tested at once: whole, cut in their last character, in a room that is
-/// a little too small, and with a byte after them that begins nothing.
+/// Adds runs of about `PART` bytes of UTF-8: whole, cut in their last character, with an output that is a little too
+/// small, and with a byte after them that begins no character.
 fn parts(trials: &mut Vec<Trial>) -> Result<(), AllocError> {
     for (script, size) in SIZES {
         let length = PART.checked_div(size).unwrap_or(0);
@@ -172,7 +174,7 @@ fn parts(trials: &mut Vec<Trial>) -> Result<(), AllocError> {
     Ok(())
 }
 
-/// A long run after another one.
+/// Adds two runs of different scripts, one after the other.
 fn seams(trials: &mut Vec<Trial>) -> Result<(), AllocError> {
     for script in PLAIN {
         for behind in PLAIN.iter().filter(|other| **other != script) {
@@ -195,7 +197,7 @@ fn seams(trials: &mut Vec<Trial>) -> Result<(), AllocError> {
     Ok(())
 }
 
-/// A run with something after this many of its characters.
+/// Returns a run with `middle` after its first `place` characters.
 pub fn interrupted(script: Script, length: usize, place: usize, middle: Middle) -> Shape {
     Shape {
         front: Run {
@@ -210,8 +212,8 @@ pub fn interrupted(script: Script, length: usize, place: usize, middle: Middle) 
     }
 }
 
-/// Something in the middle of a run, at each place near its ends and near the end of a block. The room is ample, or holds the output
-/// and no more.
+/// Adds runs with `middle` at each index near their ends and near the end of a block. The room is ample, or holds
+/// exactly what is written.
 fn interruptions(trials: &mut Vec<Trial>, middle: Middle) -> Result<(), AllocError> {
     for script in PLAIN {
         for length in INTERRUPTED {
@@ -229,7 +231,7 @@ fn interruptions(trials: &mut Vec<Trial>, middle: Middle) -> Result<(), AllocErr
     Ok(())
 }
 
-/// Each byte in the middle of a run.
+/// Adds runs with each byte in the middle.
 fn bytes(trials: &mut Vec<Trial>) -> Result<(), AllocError> {
     for script in PLAIN {
         for byte in 0..=255u8 {
@@ -243,7 +245,7 @@ fn bytes(trials: &mut Vec<Trial>) -> Result<(), AllocError> {
     Ok(())
 }
 
-/// The trials of texts that are spelled in an encoding, if the reader may be inside of a text.
+/// Returns the trials of texts before which the reader may have read characters.
 pub fn inner_trials(alloc: Global) -> Result<Vec<Trial>, AllocError> {
     let mut trials = Vec::new(alloc);
     lengths(&mut trials)?;
@@ -254,7 +256,7 @@ pub fn inner_trials(alloc: Global) -> Result<Vec<Trial>, AllocError> {
     Ok(trials)
 }
 
-/// All trials of texts that are spelled in an encoding.
+/// Returns all trials of texts that are written in the encoding `spelling`.
 pub fn trials(alloc: Global, spelling: &str) -> Result<Vec<Trial>, AllocError> {
     let mut trials = inner_trials(alloc)?;
     bytes(&mut trials)?;

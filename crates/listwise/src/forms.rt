@@ -1,4 +1,4 @@
-//! Forms of charmaps, and the texts of them.
+//! Forms of charmaps, and their texts.
 
 use cv_base::Scalar;
 use std::alloc::{AllocError, Global};
@@ -12,18 +12,18 @@ pub enum Form {
     Mixed { count: u32 },
     /// `count` byte strings of three bytes, all of one character except the first.
     Crowded { count: u32 },
-    /// `count` byte strings of four bytes, as in GB18030, except the first 32, which have one. Twenty values of the fourth byte are
-    /// adjacent, and four of them have the last four bits of others.
+    /// `count` byte strings of four bytes, as in GB18030, except the first 32, which have one. Twenty values of the
+    /// fourth byte are adjacent, and the last four of them have the same last four bits as the first four.
     Dense { count: u32 },
-    /// `count` byte strings of two bytes, as in EUC-KR and GBK, except the first 32, which have one. One in the middle of the first bytes
-    /// is a single byte too. Second bytes are 0x40 or above.
+    /// `count` byte strings of two bytes, as in EUC-KR and GBK, except the first 32, which have one. 0xA0, which is in
+    /// the middle of the first bytes, is one of these 32. Second bytes are 0x40 or above.
     Led { count: u32 },
     /// `count` byte strings of one to four bytes, as in EUC-JP and GB18030: the first 32 have one, and of each four others two have two
     /// bytes, one has three and one has four.
     Various { count: u32 },
 }
 
-/// Each form, and its name.
+/// All forms, with their names.
 pub const FORMS: [(&str, Form); 15] = [
     (
         "1 byte",
@@ -119,13 +119,14 @@ pub struct Bytes {
     size: u8,
 }
 
-/// Spreads numbers, so that those in order are far from each other: an odd factor keeps the last bits of different numbers different.
+/// Spreads numbers, so that consecutive ones are far from each other. Since the factor is odd, numbers with different
+/// last bits keep different last bits.
 fn spread(n: u32) -> u64 {
     u64::from(n).wrapping_mul(0x9E37_79B9_7F4A_7C15)
 }
 
 impl Bytes {
-    /// Bytes of a size, different for different numbers that as many bits can hold.
+    /// Bytes of a size, which are different for different numbers that fit in as many bits.
     fn of(size: u8, n: u32) -> Bytes {
         Bytes {
             all: spread(n).to_le_bytes(),
@@ -133,7 +134,7 @@ impl Bytes {
         }
     }
 
-    /// One or four bytes: the first 32 numbers have one, and then each 20 numbers have the first three in common.
+    /// One or four bytes: the first 32 numbers have one, and then each 20 numbers have the same first three.
     fn dense(n: u32) -> Bytes {
         let rest = n.saturating_sub(32);
         let first = 0x81 + (rest / 12_600 % 64) as u8;
@@ -153,8 +154,8 @@ impl Bytes {
         }
     }
 
-    /// One or two bytes: the first 31 numbers have one below 128, the next has 0xA0, and then each 190 have the first in common, which is
-    /// none of these.
+    /// One or two bytes: the first 31 numbers have one below 128, the next has 0xA0, and then each 190 numbers have the
+    /// same first byte, which is none of these.
     fn led(n: u32) -> Bytes {
         let rest = n.saturating_sub(32);
         let first = 0x81 + (rest / 190 % 126) as u8;
@@ -203,7 +204,7 @@ impl Bytes {
         }
     }
 
-    /// The same with the size in the first three bits, so that none begins another.
+    /// Bytes of a size, with the size in the first three bits, so that none begins another.
     fn marked(size: u8, n: u32) -> Bytes {
         let mark = size.saturating_sub(1) % 8 * 32;
         let front = (spread(n) % 32) as u8;
@@ -214,13 +215,13 @@ impl Bytes {
         }
     }
 
-    /// The bytes.
+    /// Returns the bytes.
     pub fn as_slice(&self) -> &[u8] {
         self.all.get(..usize::from(self.size)).unwrap_or(&[])
     }
 }
 
-/// The character of a number, counted from the question mark so that no surrogate is among them.
+/// The character with a number, counted from the question mark, without the surrogates.
 fn counted(n: u32, step: u32) -> Scalar {
     let value = n.saturating_mul(step).saturating_add(0x3F);
     let past = if value < 0xD800 {
@@ -232,7 +233,7 @@ fn counted(n: u32, step: u32) -> Scalar {
 }
 
 impl Form {
-    /// How many pairs there are.
+    /// Returns how many pairs there are.
     pub fn count(self) -> u32 {
         match self {
             Form::Sized { count, .. } => count,
@@ -269,7 +270,7 @@ impl Form {
         }
     }
 
-    /// The charmap's text.
+    /// Returns the charmap's text.
     pub fn text(self, alloc: Global) -> Result<String, AllocError> {
         let mut text = format!(in alloc; "<code_set_name> FORM\n<mb_cur_max> 8\nCHARMAP\n")?;
         for n in 0..self.count() {

@@ -1,4 +1,5 @@
-//! Charmaps of every form compared with their lists: what each byte string is read as, and what each scalar value is written as.
+//! Charmaps of every form, compared with their lists of pairs: what each byte string is read as, and what each scalar
+//! value is written as.
 #![tactic(auto)]
 
 mod forms;

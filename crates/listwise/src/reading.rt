@@ -1,11 +1,11 @@
-//! Byte strings that are read.
+//! Reading byte strings.
 
 use crate::forms::Form;
 use cv_base::{BlockCodec, Codec, Item, ReadState, Scalar};
 use cv_trie::Charmap;
 use std::alloc::{AllocError, Global};
 
-/// Whether the bytes of a pair are read as its character, and a prefix of them as no item yet.
+/// Whether the bytes of a pair are read as its character, and each shorter prefix of them as incomplete.
 fn is_read(map: &Charmap, form: Form, n: u32) -> bool {
     let bytes = form.bytes(n);
     let whole = bytes.as_slice();
@@ -21,7 +21,7 @@ fn is_read(map: &Charmap, form: Form, n: u32) -> bool {
     fronts && map.item(ReadState::Start, whole) == item
 }
 
-/// How many pairs are read alone.
+/// Returns how many pairs are read alone.
 pub fn read_alone(map: &Charmap, form: Form) -> usize {
     (0..form.count()).filter(|n| is_read(map, form, *n)).count()
 }
@@ -35,7 +35,7 @@ fn joined(alloc: Global, form: Form, pairs: &[u32]) -> Result<Vec<u8>, AllocErro
     Ok(text)
 }
 
-/// How many of some pairs are read from their joined bytes by blocks, up to the first that isn't.
+/// How many of some pairs are read by blocks from their bytes, one after another, up to the first that isn't.
 fn read_in_blocks(
     alloc: Global,
     map: &Charmap,
@@ -59,13 +59,14 @@ fn read_in_blocks(
     Ok(count)
 }
 
-/// How many pairs are read from the joined bytes of all, up to the first that isn't.
+/// Returns how many pairs are read by blocks from the bytes of all, one after another, up to the first that isn't.
 pub fn read_joined(alloc: Global, map: &Charmap, form: Form) -> Result<usize, AllocError> {
     let all: Vec<u32> = (0..form.count()).collect(alloc)?;
     read_in_blocks(alloc, map, form, &all)
 }
 
-/// Some of the first pairs, which are those of one byte if a form has several sizes; another twice; and some of the first again.
+/// `front` of the first 32 pairs in turn, then another pair twice, and then `back` of the first 32. These have one byte
+/// if a form has several sizes.
 fn around(alloc: Global, front: u32, other: u32, back: u32) -> Result<Vec<u32>, AllocError> {
     let mut pairs = Vec::new(alloc);
     for n in 0..front {
@@ -79,7 +80,7 @@ fn around(alloc: Global, front: u32, other: u32, back: u32) -> Result<Vec<u32>, 
     Ok(pairs)
 }
 
-/// How many texts are read whole, of those with two others after some number of the first pairs.
+/// How many texts are read whole, of those with `front` of the first pairs before two others.
 fn read_behind(alloc: Global, map: &Charmap, form: Form, front: u32) -> Result<usize, AllocError> {
     let mut count = 0usize;
     for other in 32..46 {
@@ -92,8 +93,8 @@ fn read_behind(alloc: Global, map: &Charmap, form: Form, front: u32) -> Result<u
     Ok(count)
 }
 
-/// How many texts are read whole, of those that change from the first pairs to others around the bounds of the loops that read many at
-/// once.
+/// Returns how many texts are read whole, of those that change from the first pairs to others near the bounds of the
+/// loops that read many at once.
 pub fn read_around(alloc: Global, map: &Charmap, form: Form) -> Result<usize, AllocError> {
     let mut count = 0usize;
     for front in 0..35 {

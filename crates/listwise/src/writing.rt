@@ -1,4 +1,4 @@
-//! Characters that are written.
+//! Writing characters.
 ghost use Rattle.std.specs.Prelude.{◌<◌, ◌≤◌, length};
 
 use crate::forms::Form;
@@ -6,16 +6,16 @@ use cv_base::{BlockCodec, Codec, Policy, Scalar, WriteState};
 use cv_trie::Charmap;
 use std::alloc::{AllocError, Global};
 
-/// How many characters a block has at most.
+/// The most characters of a block.
 const MOST: usize = 256;
 
-/// How many bytes those have at most.
+/// The most bytes of so many characters.
 const MOST_BYTES: usize = 2048;
 
 /// The value for no pair.
 const NONE: u32 = u32::MAX;
 
-/// For each number the first pair whose character it is.
+/// Returns, for each number up to 10FFFF, the first pair whose character has it, or `NONE`.
 pub fn firsts(alloc: Global, form: Form) -> Result<Vec<u32>, AllocError> {
     let mut firsts = vec![in alloc; NONE; 0x11_0000]?;
     for n in 0..form.count() {
@@ -36,7 +36,7 @@ fn is_written(map: &Charmap, form: Form, first: u32, character: Scalar) -> bool 
     }
 }
 
-/// How many scalar values are written as the list says.
+/// Returns how many scalar values are written as the list says.
 pub fn written_alone(map: &Charmap, form: Form, firsts: &[u32]) -> u32 {
     let mut count = 0u32;
     for value in 0..0x11_0000u32 {
@@ -48,7 +48,8 @@ pub fn written_alone(map: &Charmap, form: Form, firsts: &[u32]) -> u32 {
     count
 }
 
-/// What some numbers are written as, and for how many it is `?`: the first pair replaces what the list lacks.
+/// The bytes that some characters are written as, how many these are, and for how many characters they are those of
+/// `?`: the first pair replaces what the list lacks.
 fn wanted(form: Form, firsts: &[u32]) -> ([u8; MOST_BYTES], usize, usize) {
     let mut bytes = [0u8; MOST_BYTES];
     let mut end = 0usize;
@@ -104,7 +105,7 @@ fn is_block_written(map: &Charmap, form: Form, top: u32, firsts: &[u32]) -> bool
         && is_written_under(map, Policy::Strict, characters, form, firsts)
 }
 
-/// How many blocks of `size` numbers are written as the list says. Blocks of surrogates count, too.
+/// Returns how many blocks of `size` numbers are written as the list says. Blocks of surrogates count too.
 pub fn written_in_blocks(map: &Charmap, form: Form, firsts: &[u32], size: u32) -> u32
     requires { 0 < size }
 {

@@ -1,5 +1,6 @@
-//! How long building a charmap takes, and reading and writing by it. It prints figures only if it is asked to: of each round the
-//! nanoseconds of building and how many pairs there are, and those of reading and of writing half a million random characters of the map.
+//! Measures how long it takes to build a charmap, and to read and write with it. It prints figures only if its argument
+//! is a number of rounds. For each round it prints the nanoseconds of building and the number of pairs, and then the
+//! nanoseconds of reading and of writing half a million pseudorandom characters of the charmap.
 #![tactic(auto)]
 
 use cv_base::{BlockCodec, Policy, ReadState, Scalar, WriteState};
@@ -15,7 +16,7 @@ use std::{env, io};
 /// How many characters are read and written.
 const CHARACTERS: u32 = 500_000;
 
-/// Random characters, and the bytes of their pairs.
+/// Pseudorandom characters, and the bytes of their pairs.
 #[derive(Drop)]
 struct Sample {
     bytes: Vec<u8>,
@@ -39,7 +40,7 @@ fn drawn(alloc: Global, pairs: &Pairs) -> Result<Sample, AllocError> {
     Ok(Sample { bytes, characters })
 }
 
-/// Reads all bytes by blocks, and says how many characters they are.
+/// Reads all bytes by blocks, and returns how many characters they are.
 fn read_all(map: &Charmap, bytes: &[u8]) -> usize {
     let mut rest = bytes;
     let mut buffer = [Scalar::substitute(); 64];
@@ -55,7 +56,8 @@ fn read_all(map: &Charmap, bytes: &[u8]) -> usize {
     count
 }
 
-/// Writes all characters by blocks, and says how many bytes they are.
+/// Writes all characters by blocks of 64, and returns how many bytes they have. The last block is filled up with
+/// characters of the one before.
 fn write_all(map: &Charmap, characters: &[Scalar]) -> usize {
     let mut block = [Scalar::substitute(); 64];
     let mut out = [0u8; 512];
@@ -82,7 +84,7 @@ fn map_of(alloc: Global, pairs: Pairs) -> io::Result<Charmap> {
     Charmap::build(alloc, pairs).map_err(|_| io::ErrorKind::OutOfMemory.into())
 }
 
-/// Builds the map, and prints the nanoseconds and the number of pairs while the map exists.
+/// Builds the charmap, and prints the nanoseconds and the number of pairs before it is dropped.
 fn build<R: Clock + Print + AllocGlobal>(rt: &R, text: &[u8]) -> io::Result<()> {
     let pairs = pairs_of(rt.alloc(), text)?;
     let start = Instant::now(rt)?;
@@ -91,7 +93,7 @@ fn build<R: Clock + Print + AllocGlobal>(rt: &R, text: &[u8]) -> io::Result<()> 
     println!(rt; "build {spent} {}", map.len())
 }
 
-/// The nanoseconds of reading and of writing the sample.
+/// The nanoseconds of reading and of writing a sample.
 fn convert<R: Clock + AllocGlobal>(rt: &R, text: &[u8]) -> io::Result<(u128, u128)> {
     let pairs = pairs_of(rt.alloc(), text)?;
     let sample = drawn(rt.alloc(), &pairs)?;

@@ -1,14 +1,14 @@
-//! What is asked.
+//! The batches that are measured.
 
 use cv_frame::ops::{BYE, CONV, OPEN, PUT};
 use cv_frame::{MOST_BODY, Request};
 use std::alloc::{AllocError, Global};
 use std::fmt::{self, Display, Formatter, Write};
 
-/// How many callers ask.
+/// How many callers there are.
 const CALLERS: u32 = 16;
 
-/// The body of an OPEN to UTF-16BE from UTF-8.
+/// The body of an OPEN from UTF-8 to UTF-16BE.
 const TO_UTF16: &[u8] = b"\x08UTF-16BE\x05UTF-8";
 
 /// A kind of batch.
@@ -32,7 +32,7 @@ impl Display for Kind {
     }
 }
 
-/// A request with this body, or as much of it as a frame holds.
+/// A request with this body, or with as much of it as a frame holds.
 fn request(caller: u32, op: u8, body: &[u8]) -> Request<'_> {
     Request {
         caller,
@@ -42,7 +42,7 @@ fn request(caller: u32, op: u8, body: &[u8]) -> Request<'_> {
     }
 }
 
-/// The body of a CONV of so many Cyrillic letters, with room for them.
+/// The body of a CONV of `letters` Cyrillic letters, with exactly the room that they need.
 fn conversion(alloc: Global, letters: u32) -> Result<Vec<u8>, AllocError> {
     let mut body = Vec::new(alloc);
     body.extend_from_slice(&[0; 4])?;
@@ -53,7 +53,7 @@ fn conversion(alloc: Global, letters: u32) -> Result<Vec<u8>, AllocError> {
     Ok(body)
 }
 
-/// A charmap of this number with 20,000 mappings.
+/// The text of a charmap with this number, `?` and 20,000 mappings.
 fn charmap(alloc: Global, number: u32) -> Result<Vec<u8>, AllocError> {
     let mut text = format!(in alloc;
         "<code_set_name> MAP{number}\n<mb_cur_max> 2\nCHARMAP\n<question-mark> \\x3F\n"
@@ -67,7 +67,7 @@ fn charmap(alloc: Global, number: u32) -> Result<Vec<u8>, AllocError> {
     Ok(text.into_bytes())
 }
 
-/// An OPEN of each caller.
+/// Returns an OPEN of each caller.
 pub fn opens(alloc: Global) -> Result<Vec<Request<'static>>, AllocError> {
     let mut requests = Vec::new(alloc);
     for caller in 0..CALLERS {
@@ -76,7 +76,7 @@ pub fn opens(alloc: Global) -> Result<Vec<Request<'static>>, AllocError> {
     Ok(requests)
 }
 
-/// A BYE of each caller.
+/// Returns a BYE of each caller.
 pub fn byes(alloc: Global) -> Result<Vec<Request<'static>>, AllocError> {
     let mut requests = Vec::new(alloc);
     for caller in 0..CALLERS {
@@ -86,7 +86,7 @@ pub fn byes(alloc: Global) -> Result<Vec<Request<'static>>, AllocError> {
 }
 
 impl Kind {
-    /// The bodies that requests of this kind have, each in turn.
+    /// Returns the bodies that requests of this kind have in turn.
     pub fn bodies(self, alloc: Global) -> Result<Vec<Vec<u8>>, AllocError> {
         let mut bodies = Vec::new(alloc);
         match self {
@@ -101,7 +101,7 @@ impl Kind {
         Ok(bodies)
     }
 
-    /// A batch of this kind: the callers ask in turn.
+    /// Returns a batch of this kind, with requests of the callers in turn.
     pub fn requests(
         self,
         alloc: Global,

@@ -1,5 +1,5 @@
-//! How long a pool takes for a batch, by how many workers it has. It gives figures only where it is asked for them: of each kind of batch
-//! the microseconds of the fastest of so many rounds, with 1, 2 and 4 workers.
+//! Measures how long a pool of 1, 2 and 4 workers takes for a batch. It prints figures only if its argument is a number
+//! of rounds: for each kind of batch the microseconds of the fastest round, the first time and again.
 #![tactic(auto)]
 
 ghost use Rattle.std.specs.Prelude.{◌≤◌};
@@ -17,10 +17,10 @@ use std::thread::Threads;
 use std::time::Instant;
 use std::{cmp, env, io};
 
-/// How many workers are compared.
+/// The numbers of workers that are compared.
 const WORKERS: [u32; 3] = [1, 2, 4];
 
-/// The nanoseconds that a batch takes, of which each request is answered OK.
+/// The nanoseconds that a batch takes. Fails if a reply is not OK.
 fn timed<R: Threads + Wait + Sync + Clock + AllocGlobal>(
     rt: &R,
     pool: &mut Pool<Cached, Open>,
@@ -38,7 +38,7 @@ fn timed<R: Threads + Wait + Sync + Clock + AllocGlobal>(
     }
 }
 
-/// The nanoseconds of a batch of one kind, by a new pool: the first time, and again.
+/// The nanoseconds that a new pool takes for a batch of one kind: the first time, and again after all callers sent BYE.
 fn round<R: Threads + Wait + Sync + Clock + AllocGlobal>(
     rt: &R,
     workers: u32,
@@ -60,7 +60,7 @@ fn round<R: Threads + Wait + Sync + Clock + AllocGlobal>(
     Ok((first, again))
 }
 
-/// The fastest of so many rounds.
+/// The nanoseconds of the fastest of `rounds` rounds.
 fn fastest<R: Threads + Wait + Sync + Clock + AllocGlobal>(
     rt: &R,
     workers: u32,

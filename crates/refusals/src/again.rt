@@ -1,4 +1,4 @@
-//! Calls that are made again where memory lacked.
+//! Calls that are made again if an allocation failed.
 
 use cv_base::Memory;
 use cv_charmap::CompileFault;
@@ -6,12 +6,12 @@ use cv_commands::RunFault;
 use cv_loop::ServeFault;
 use std::alloc::AllocError;
 
-/// Why there is nothing to tell of a layer.
+/// Why a layer has no result.
 #[derive(Clone, Copy, Debug, PartialEq, Eq)]
 pub enum Trouble {
-    /// Memory lacked beside the calls that are made again, for what they are called with.
+    /// An allocation failed outside of the calls that are made again, for what they are given.
     Memory,
-    /// A call answered otherwise than where memory is ample.
+    /// A call gave another result than with ample memory.
     Fault,
 }
 
@@ -55,12 +55,12 @@ impl From<RunFault> for Trouble {
     }
 }
 
-/// Says on standard error that memory lacked for a call.
+/// Prints to standard error the name of a call in which an allocation failed.
 pub fn say_lacking<R: Eprint>(rt: &R, name: &str) {
     let _ = eprintln!(rt; "{name}");
 }
 
-/// The answer of a call that was made again. By then there is memory, so that any refusal is a fault.
+/// Returns the result of a call that was made again. There is memory then, so any error is a fault.
 pub fn ample<T, E: Drop>(told: Result<T, E>) -> Result<T, Trouble> {
     match told {
         Ok(told) => Ok(told),
@@ -68,7 +68,7 @@ pub fn ample<T, E: Drop>(told: Result<T, E>) -> Result<T, Trouble> {
     }
 }
 
-/// Whether memory lacked for a request, of whose reply there is a line.
+/// Returns whether one of the reply lines has the status ENOMEM.
 pub fn has_refusal(lines: &[u8]) -> bool {
     let word = b"ENOMEM".as_slice();
     lines.windows(word.len()).any(|front| front == word)

@@ -1,4 +1,4 @@
-//! What two callers ask.
+//! The requests of two callers.
 
 use crate::texts::{HEAD, REST, WHOLE, long};
 use cv_frame::ops::{BYE, CLOSE, CONV, DROP, OPEN, PART, PUT, RESET};
@@ -21,7 +21,7 @@ impl Texts {
     }
 }
 
-/// A request with this body, or as much of it as a frame holds.
+/// A request with this body, or with as much of it as a frame holds.
 fn request(caller: u32, tag: u32, op: u8, body: &[u8]) -> Request<'_> {
     Request {
         caller,
@@ -31,7 +31,7 @@ fn request(caller: u32, tag: u32, op: u8, body: &[u8]) -> Request<'_> {
     }
 }
 
-/// The requests of two callers in turn, so that of two that follow each other none hangs on the other.
+/// Returns the requests of two callers in turn, so that no request depends on the one before it.
 pub fn requests(alloc: Global, texts: &Texts) -> Result<Vec<Request<'_>>, AllocError> {
     let asked: [(u8, &[u8]); 16] = [
         (PART, HEAD),

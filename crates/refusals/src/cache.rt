@@ -1,4 +1,4 @@
-//! Charmaps that are kept.
+//! Charmaps that are kept with their texts.
 
 use crate::again::{Trouble, ample, say_lacking};
 use crate::lines::add_count;
@@ -8,7 +8,7 @@ use cv_cache::{Cached, Compiler, Maps, Plain};
 use std::alloc::Global;
 use std::sync::{Arc, Wait};
 
-/// Keeps the charmap of a text. Where memory lacked the charmap is gone, and what was kept stays.
+/// Keeps the charmap of a text. If an allocation fails, the charmap is dropped, and what was kept stays.
 fn keep<R: Eprint>(rt: &R, alloc: Global, maps: &mut Maps, text: &[u8]) -> Result<(), Trouble> {
     let charmap = again!(rt, "Plain::compile", Plain.compile(&(), alloc, text))?;
     let shared = Arc::try_clone(&charmap)?;
@@ -21,7 +21,7 @@ fn keep<R: Eprint>(rt: &R, alloc: Global, maps: &mut Maps, text: &[u8]) -> Resul
     }
 }
 
-/// How many mappings the charmap has that is kept for a text: none where there is none.
+/// How many mappings the charmap has that is kept for a text, or 0 if none is kept.
 fn look<R: Eprint>(rt: &R, maps: &mut Maps, text: &[u8]) -> Result<usize, Trouble> {
     match again!(rt, "Maps::look", maps.look(text))? {
         Some(charmap) => Ok(charmap.len()),
@@ -29,7 +29,7 @@ fn look<R: Eprint>(rt: &R, maps: &mut Maps, text: &[u8]) -> Result<usize, Troubl
     }
 }
 
-/// Two texts that are kept and found.
+/// Keeps two texts, and finds them.
 fn tell_maps<R: Eprint>(
     rt: &R,
     alloc: Global,
@@ -45,7 +45,7 @@ fn tell_maps<R: Eprint>(
     Ok(())
 }
 
-/// How many mappings a text has that is compiled by a cache.
+/// Compiles a text with a cache, and returns how many mappings it has.
 fn compiled<R: Eprint + Wait>(
     rt: &R,
     alloc: Global,
@@ -56,8 +56,8 @@ fn compiled<R: Eprint + Wait>(
     Ok(charmap.len())
 }
 
-/// A text that is compiled until the cache has it, and how often it was found then. A cache that had no memory to keep it answers all the
-/// same, and has it from the next time on.
+/// Compiles a text until the cache holds it, and tells how often it was found. A cache that has no memory to keep a
+/// text returns its charmap all the same, and keeps it the next time.
 fn tell_cached<R: Eprint + Wait>(
     rt: &R,
     alloc: Global,
@@ -76,7 +76,7 @@ fn tell_cached<R: Eprint + Wait>(
     Ok(())
 }
 
-/// What maps and a cache have.
+/// Returns the lines about `Maps` and about `Cached`.
 pub fn tell<R: Eprint + Wait>(rt: &R, alloc: Global) -> Result<Vec<u8>, Trouble> {
     let mut lines = Vec::new(alloc);
     let text = joined(alloc)?;

@@ -9,7 +9,8 @@ use cv_charmap::{CompileFault, MapFault, Pairs, read};
 use cv_trie::Charmap;
 use std::alloc::Global;
 
-/// The charmap of pairs that were read from a text. Building takes the pairs, so where memory lacked they are read anew.
+/// Builds the charmap of the pairs of a text. Building consumes the pairs, so they are read again if an allocation
+/// failed.
 fn built<R: Eprint>(rt: &R, alloc: Global, pairs: Pairs, text: &[u8]) -> Result<Charmap, Trouble> {
     match Charmap::build(alloc, pairs) {
         Ok(charmap) => Ok(charmap),
@@ -30,7 +31,7 @@ fn fault_of(alloc: Global) -> Result<MapFault, Trouble> {
     }
 }
 
-/// What a text is read and built to.
+/// Reads a text, builds its charmap, and tells what they have.
 fn tell_built<R: Eprint>(
     rt: &R,
     alloc: Global,
@@ -45,7 +46,7 @@ fn tell_built<R: Eprint>(
     Ok(())
 }
 
-/// What a text is compiled to.
+/// Compiles a text, and tells what its charmap has.
 fn tell_compiled<R: Eprint>(
     rt: &R,
     alloc: Global,
@@ -58,7 +59,7 @@ fn tell_compiled<R: Eprint>(
     Ok(())
 }
 
-/// A charmap, and the line of the first fault of a text that is none.
+/// Returns the lines about a charmap, and about the first fault of a text that is none.
 pub fn tell<R: Eprint>(rt: &R, alloc: Global) -> Result<Vec<u8>, Trouble> {
     let mut lines = Vec::new(alloc);
     let text = roomy(alloc)?;

@@ -1,4 +1,4 @@
-//! The calls behind the commands.
+//! The calls that the commands make.
 ghost use Rattle.std.specs.Prelude.{◌≤◌};
 
 use crate::again::{Trouble, ample, has_refusal, say_lacking};
@@ -23,8 +23,8 @@ const SCRIPT: &[u8] = b"7 1 part <code_set_name> TOY|CHARMAP|<question-mark> \\x
 7 8 bye\n\
 8 4 bye\n";
 
-/// The reply lines of the script, served by a new pool of so many workers. Where memory lacked, for all of it or for a request, all of it is
-/// served again.
+/// Returns the reply lines of the script, which a new pool of `workers` workers serves. If an allocation fails, for the
+/// whole script or for a request, the whole script is served again.
 pub fn tell_run<R: Eprint + RandomSource + Threads + Wait + Sync>(
     rt: &R,
     alloc: Global,
@@ -40,21 +40,21 @@ pub fn tell_run<R: Eprint + RandomSource + Threads + Wait + Sync>(
     ample(run_script(rt, alloc, SCRIPT, workers))
 }
 
-/// The frames of the script.
+/// Returns the frames of the script.
 pub fn tell_ask<R: Eprint>(rt: &R, alloc: Global) -> Result<Vec<u8>, Trouble> {
     let frames = again!(rt, "ask_script", ask_script(alloc, SCRIPT))?;
     let told = format!(in alloc; "{}\n", frames.escape_ascii())?;
     Ok(told.into_bytes())
 }
 
-/// The lines of replies: that to an OPEN, and one with a status that has no name.
+/// Returns the lines of two replies: the reply to an OPEN, and one with a status that has no name.
 pub fn tell_show<R: Eprint>(rt: &R, alloc: Global) -> Result<Vec<u8>, Trouble> {
     let replies = b"\x00\x00\x00\x0d\x00\x00\x00\x07\x00\x00\x00\x01\x00\x00\x00\x00\x00\
 \x00\x00\x00\x09\x00\x00\x00\x07\x00\x00\x00\x02\xff";
     again!(rt, "show_replies", show_replies(alloc, replies))
 }
 
-/// What is said of a charmap, and of a text that is none.
+/// Returns what `check_text` reports for a charmap, and for a text that is none.
 pub fn tell_check<R: Eprint>(rt: &R, alloc: Global) -> Result<Vec<u8>, Trouble> {
     let mut lines = again!(rt, "check_text", check_text(alloc, WHOLE))?.line;
     let faulty = again!(rt, "check_text", check_text(alloc, FAULTY))?;

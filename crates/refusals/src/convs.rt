@@ -1,4 +1,4 @@
-//! Conversions whose replies are appended: where there is no memory for twice what there was, there is for what is needed.
+//! Conversions whose replies are appended. If there is no memory to double the buffer, there is for what is needed.
 
 use crate::again::Trouble;
 use crate::lines::add_count;
@@ -11,7 +11,7 @@ use std::alloc::{AllocError, Global};
 /// How many letters each CONV has.
 const SIZES: [usize; 5] = [0, 40, 300, 3_000, 20_000];
 
-/// A request with this body, or as much of it as a frame holds.
+/// A request with this body, or with as much of it as a frame holds.
 fn request(op: u8, body: &[u8]) -> Request<'_> {
     Request {
         caller: 7,
@@ -34,14 +34,14 @@ fn opened(alloc: Global) -> Result<World, Trouble> {
     }
 }
 
-/// The body of a CONV of so many letters on the descriptor 0.
+/// The body of a CONV of `size` letters on descriptor 0.
 fn body(alloc: Global, size: usize) -> Result<Vec<u8>, AllocError> {
     let mut body = Vec::from_slice(alloc, b"\0\0\0\0\0\x0f\0\0")?;
     body.resize(size.saturating_add(8), b'A')?;
     Ok(body)
 }
 
-/// Appends the reply to a CONV of so many letters. Memory may not lack for it.
+/// Appends the reply to a CONV of `size` letters, which must not fail for memory.
 fn convert(
     alloc: Global,
     world: &mut World,
@@ -54,7 +54,7 @@ fn convert(
     told.map_err(|_| Trouble::Fault)
 }
 
-/// How many bytes the replies are: 21 each beside the letters. One that was refused has 13.
+/// Returns the line with the size of all replies: each has 21 bytes besides its letters. A refusal would have 13.
 pub fn tell(alloc: Global) -> Result<Vec<u8>, Trouble> {
     let mut world = opened(alloc)?;
     let mut replies = Replies::new(alloc);

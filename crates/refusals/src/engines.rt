@@ -1,4 +1,4 @@
-//! Batches of each engine.
+//! Batches that each engine runs.
 
 use crate::again::{Trouble, ample, say_lacking};
 use crate::asked::{Texts, requests};
@@ -14,7 +14,8 @@ use std::slice;
 use std::sync::Wait;
 use std::thread::Threads;
 
-/// The replies to a batch. Where memory lacked for all of it none of its requests has run, and it is made again.
+/// Returns the replies to a batch. If the whole batch failed for memory, none of its requests has run, and it is run
+/// again.
 fn batched<R: Eprint, E: Engine<R>>(
     rt: &R,
     alloc: Global,
@@ -34,7 +35,7 @@ fn batched<R: Eprint, E: Engine<R>>(
     }
 }
 
-/// Appends the reply to a request; where memory lacked, that to the request made again alone.
+/// Appends the reply to a request. If it is ENOMEM, the request is made again alone, and its new reply is appended.
 fn settle<R: Eprint, E: Engine<R>>(
     rt: &R,
     alloc: Global,
@@ -58,8 +59,8 @@ fn settle<R: Eprint, E: Engine<R>>(
     Ok(())
 }
 
-/// Answers a batch, and appends the replies. No request of it hangs on another, so one that is made again behind it is answered as if it had
-/// run in it.
+/// Runs a batch, and appends the replies. No request of it depends on another, so one that is made again after it gets
+/// the reply that it would have got in it.
 fn answer<R: Eprint, E: Engine<R>>(
     rt: &R,
     alloc: Global,
@@ -78,7 +79,7 @@ fn answer<R: Eprint, E: Engine<R>>(
     Ok(())
 }
 
-/// The lines of the replies to requests, two in a batch.
+/// Returns the reply lines of all requests, which run in batches of two.
 fn lines<R: Eprint, E: Engine<R>>(
     rt: &R,
     alloc: Global,
@@ -96,24 +97,24 @@ fn lines<R: Eprint, E: Engine<R>>(
     Ok(show_replies(alloc, &out)?)
 }
 
-/// A world that compiles each text.
+/// Returns the reply lines of a world that compiles each text.
 pub fn tell_world<R: Eprint>(rt: &R, alloc: Global) -> Result<Vec<u8>, Trouble> {
     lines(rt, alloc, "World::batch", &mut World::new(alloc))
 }
 
-/// A world with a cache.
+/// Returns the reply lines of a world with a cache.
 pub fn tell_world_with<R: Eprint + Wait>(rt: &R, alloc: Global) -> Result<Vec<u8>, Trouble> {
     let cached = again!(rt, "Cached::new", Cached::new(alloc))?;
     let mut engine = WorldWith::new(alloc, cached);
     lines(rt, alloc, "WorldWith::batch", &mut engine)
 }
 
-/// Two workers with a cache.
+/// A pool of two workers with a cache.
 fn new_pool(alloc: Global) -> Result<Pool<Cached, Open>, Memory> {
     Pool::new(alloc, 2, Cached::new(alloc)?, Open)
 }
 
-/// A pool, whose uploads are compiled by two threads.
+/// Returns the reply lines of a pool, which compiles uploads on two threads.
 pub fn tell_pool<R: Eprint + Threads + Wait + Sync>(
     rt: &R,
     alloc: Global,

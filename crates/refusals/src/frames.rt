@@ -1,4 +1,5 @@
-//! Writing frames. Each stands behind what its buffer has: were that not as it was where memory lacked, the frame would stand behind more.
+//! Writing frames. Each is appended to a buffer that has bytes already. If a failed call left bytes in the buffer, they
+//! would be printed.
 
 use crate::again::{Trouble, say_lacking};
 use crate::lines::add_bytes;
@@ -27,7 +28,7 @@ fn tell_request<R: Eprint>(rt: &R, alloc: Global, lines: &mut Vec<u8>) -> Result
     Ok(())
 }
 
-/// A reply and a request.
+/// Returns the lines with the frames of a reply and of a request.
 pub fn tell<R: Eprint>(rt: &R, alloc: Global) -> Result<Vec<u8>, Trouble> {
     let mut lines = Vec::new(alloc);
     tell_reply(rt, alloc, &mut lines)?;

@@ -1,4 +1,4 @@
-//! Kinds of engines, and what one refused request for memory may come to where they are asked.
+//! Kinds of engines, and what one failed allocation may lead to.
 
 use crate::again::Trouble;
 use crate::serving::Way;
@@ -8,7 +8,7 @@ use cv_loop::ServeFault;
 use std::alloc::Global;
 use std::sync::Wait;
 
-/// Who is asked.
+/// The engine that is asked.
 #[derive(Clone, Copy)]
 pub enum Kind {
     World,
@@ -21,20 +21,20 @@ pub enum Kind {
     HoldingTwo,
 }
 
-/// What lacked, for want of memory.
+/// What is missing because an allocation failed.
 #[derive(Clone, Copy, PartialEq, Eq)]
 pub enum Lacking {
     Nothing,
-    /// Requests of which each is answered ENOMEM.
+    /// The results of requests, each of which got ENOMEM.
     Requests,
-    /// What comes behind some of the requests.
+    /// The replies to the last requests: the engine broke off.
     Rest,
-    /// There is another fault.
+    /// There was another fault.
     Other,
 }
 
 impl Lacking {
-    /// What lacked where an engine told this, and a reply of it was a refusal or none.
+    /// Returns what is missing, from the result of an engine, and from whether one of its replies is ENOMEM.
     pub fn of(told: Result<(), ServeFault>, has_refusal: bool) -> Lacking {
         match told {
             Ok(()) if has_refusal => Lacking::Requests,
@@ -54,7 +54,7 @@ impl Kind {
         matches!(self, Kind::HoldingOne | Kind::HoldingTwo)
     }
 
-    /// Has a new cache hold a text, where one has to.
+    /// Puts a text into a new cache, if the cache of this kind holds one.
     pub fn fill<R: Wait>(self, rt: &R, alloc: Global, cached: &Cached) -> Result<(), Trouble> {
         if !self.holds() {
             return Ok(());
@@ -67,8 +67,9 @@ impl Kind {
         Ok(())
     }
 
-    /// Whether one refused request may come to this. Where a cache holds a text, it gives it up, and the request that is answered is tried
-    /// once more, so that none is refused. A world has nothing but the replies to ask memory for, and that in two ways.
+    /// Returns whether one failed allocation may lead to this. A cache that holds a text drops it, and the request is
+    /// tried once more, so none gets ENOMEM. Outside of requests, a world that appends asks for memory only for its
+    /// replies, and for them in two ways, so it does not break off.
     pub fn may(self, way: Way, lacking: Lacking) -> bool {
         match lacking {
             Lacking::Nothing => true,

@@ -1,4 +1,4 @@
-//! Lines of what is told.
+//! The lines that are printed.
 
 use std::alloc::{AllocError, Global};
 

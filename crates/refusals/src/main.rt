@@ -1,9 +1,10 @@
-//! Each library call that takes memory, made again where memory lacked. What is printed is the same whichever request for memory is refused:
-//! what is printed where none is. Standard error has the name of the call that was made again. See `tools/refuse/sweep.py`.
+//! Each library call that allocates memory. A call is made again if an allocation failed in it. Whichever allocation
+//! fails, standard output is the same as if none does. Standard error has the name of the call that was made again. See
+//! `tools/refuse/sweep.py`.
 #![tactic(auto)]
 
-/// Makes a call, and where memory lacked once more; by then there is memory, so that any refusal is a fault. The answer is a `Result` whose
-/// error is a `Trouble`.
+/// Makes a call, and makes it once more if an allocation failed. There is memory then, so any error is a fault. The
+/// result is a `Result` whose error is a `Trouble`.
 macro_rules! again {
     ($rt:expr, $name:expr, $call:expr) => {
         match $call {
@@ -46,7 +47,7 @@ use std::random::RandomSource;
 use std::sync::Wait;
 use std::thread::Threads;
 
-/// What is told of.
+/// The calls that one part of the output is about.
 #[derive(Clone, Copy)]
 enum Layer {
     Frames,
@@ -58,7 +59,7 @@ enum Layer {
     WorldWith,
     Pool,
     Convs,
-    /// An engine of a kind, which is asked in a way.
+    /// An engine of this kind, which is asked in this way.
     Asked(Kind, Way),
     AskScript,
     ShowReplies,
@@ -140,7 +141,7 @@ fn tell<R: Eprint + RandomSource + Threads + Wait + Sync>(
     }
 }
 
-/// Prints what a layer comes to. Where memory lacked for what its calls are given, it is gone through anew.
+/// Prints the result of a layer. If an allocation failed for what its calls are given, the whole layer is run again.
 fn show<R: Print + Eprint + RandomSource + Threads + Wait + Sync>(
     rt: &R,
     alloc: Global,

@@ -1,4 +1,4 @@
-//! Batches whose replies are appended, and streams, by engines of each kind.
+//! Batches whose replies are appended, and streams, with engines of each kind.
 
 use crate::again::{Trouble, has_refusal, say_lacking};
 use crate::asked::{Texts, requests};
@@ -14,13 +14,13 @@ use std::alloc::Global;
 use std::sync::Wait;
 use std::thread::Threads;
 
-/// How many reads there may be.
+/// The most reads of a stream.
 const MAX_READS: u64 = 10;
 
-/// Room for all replies.
+/// At least the size of all replies in bytes.
 const ROOM: usize = 1_000;
 
-/// Whether an engine answered all, and the frames that it wrote.
+/// Whether an engine answered all requests, and the frames that it wrote.
 type Outcome = (Result<(), ServeFault>, Vec<u8>);
 
 /// The frames of requests.
@@ -41,13 +41,13 @@ fn frames(alloc: Global, requests: &[Request]) -> Result<Vec<u8>, Memory> {
 pub enum Way {
     /// By batches of two requests.
     Appended,
-    /// By a stream from a reader to a writer that has its room, so that no write is refused.
+    /// By a stream from a reader to a writer that has its room already, so that no write fails.
     Through,
     /// By a stream in memory.
     InMemory,
 }
 
-/// What an engine appends for batches of two requests, up to one for which memory lacks.
+/// Appends the replies of an engine to batches of two requests, up to a batch that fails for memory.
 fn appended<R, E: Engine<R>>(
     rt: &R,
     alloc: Global,
@@ -64,7 +64,7 @@ fn appended<R, E: Engine<R>>(
 }
 
 impl Way {
-    /// What comes of asking an engine so.
+    /// Asks an engine in this way.
     fn ask<R, E: Engine<R>>(
         self,
         rt: &R,
@@ -98,7 +98,7 @@ impl Way {
     }
 }
 
-/// What comes of asking a new engine of a kind.
+/// Asks a new engine of this kind.
 fn outcome<R: Threads + Wait + Sync>(
     rt: &R,
     alloc: Global,
@@ -119,8 +119,8 @@ fn outcome<R: Threads + Wait + Sync>(
     }
 }
 
-/// The lines of what was written. Where memory lacked, a new engine is asked the same; and where it broke off, what was written before is a
-/// front of what is written then.
+/// Returns the lines of what an engine writes. If an allocation failed, a new engine is asked the same. If the first
+/// one broke off, what it wrote must be a prefix of what the new one writes.
 pub fn tell<R: Eprint + Threads + Wait + Sync>(
     rt: &R,
     alloc: Global,

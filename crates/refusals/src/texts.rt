@@ -2,10 +2,10 @@
 
 use std::alloc::{AllocError, Global};
 
-/// How a charmap begins, of one, two and three bytes a character.
+/// The first part of a charmap whose strings have one, two and three bytes.
 pub const HEAD: &[u8] = b"<code_set_name> TOY\n<mb_cur_max> 3\nCHARMAP\n<question-mark> \\x3F\n";
 
-/// How it goes on: with bytes that are dense, and such that share their front.
+/// The rest of it: strings that are adjacent, and strings that share a prefix.
 pub const REST: &[u8] =
     b"<U0100>...<U0145> \\x80\\x30\n<U0200> \\x81\\x40\\x41\n<U0201> \\x81\\x42\\x43\nEND CHARMAP\n";
 
@@ -16,27 +16,28 @@ pub const WHOLE: &[u8] =
 /// A text with a fault.
 pub const FAULTY: &[u8] = b"CHARMAP\n<U0041> \\x41\n<U0042> \\x41\nEND CHARMAP\n";
 
-/// So many bytes that two uploads of them in one batch are worth threads.
+/// The size in bytes of each of two uploads. Two workers compile them on a thread each if they are in one batch.
 const LONG: usize = 20_000;
 
-/// So many bytes that room for the pairs of a text of them is large.
+/// The size in bytes of a text for whose pairs much room is reserved.
 const GUESSED: usize = 100_000;
 
-/// The first charmap, whole.
+/// Returns the whole text of the first charmap.
 pub fn joined(alloc: Global) -> Result<Vec<u8>, AllocError> {
     let mut text = Vec::from_slice(alloc, HEAD)?;
     text.extend_from_slice(REST)?;
     Ok(text)
 }
 
-/// The first charmap, with so long a comment behind it that room is asked for many more pairs than it has.
+/// Returns the text of the first charmap with a comment after it that is so long that room is reserved for many more
+/// pairs than there are.
 pub fn roomy(alloc: Global) -> Result<Vec<u8>, AllocError> {
     let mut text = joined(alloc)?;
     text.resize(GUESSED.max(text.len()), b'#')?;
     Ok(text)
 }
 
-/// A charmap's text, with a long comment behind it.
+/// Returns a charmap's text with a long comment after it.
 pub fn long(alloc: Global, text: &[u8]) -> Result<Vec<u8>, AllocError> {
     let mut text = Vec::from_slice(alloc, text)?;
     text.resize(LONG.max(text.len()), b'#')?;

@@ -14,10 +14,10 @@ use cv_world::{Answer, Op, World};
 use std::alloc::Global;
 use std::sync::Arc;
 
-/// Who asks.
+/// The caller.
 const CALLER: u32 = 7;
 
-/// A step, but for PUT.
+/// A step other than PUT.
 #[derive(Clone, Copy)]
 enum Step {
     Part,
@@ -29,7 +29,7 @@ enum Step {
     Bye,
 }
 
-/// What comes behind the PUT.
+/// The steps after the PUT.
 const STEPS: [Step; 7] = [
     Step::Open,
     Step::Conv,
@@ -66,7 +66,7 @@ fn is_lacking(answer: &Answer) -> bool {
     matches!(answer, Answer::Refused(Status::NoMemory))
 }
 
-/// One event, and where memory lacked the same event of the world, which is as it was.
+/// Makes a step, and makes it again if it got ENOMEM. The world has not changed then.
 fn stepped<R: Eprint>(rt: &R, alloc: Global, world: &mut World, step: Step) -> Answer
     ensures { AnswerFits result }
 {
@@ -78,7 +78,7 @@ fn stepped<R: Eprint>(rt: &R, alloc: Global, world: &mut World, step: Step) -> A
     world.step(alloc, CALLER, op_of(step))
 }
 
-/// A PUT of the part that is held and of this text.
+/// Makes a PUT of the part that is held and of this text.
 fn put<R: Eprint>(rt: &R, alloc: Global, world: &mut World, rest: &[u8]) -> Result<Answer, Trouble>
     ensures { IfOk result AnswerFits }
 {
@@ -93,7 +93,7 @@ fn put<R: Eprint>(rt: &R, alloc: Global, world: &mut World, rest: &[u8]) -> Resu
     Ok(world.step(alloc, CALLER, Op::Put(Ok(shared))))
 }
 
-/// The replies that spell the answers to steps.
+/// Appends the replies to all steps.
 fn replies_to_steps<R: Eprint>(
     rt: &R,
     alloc: Global,
@@ -111,14 +111,14 @@ fn replies_to_steps<R: Eprint>(
     Ok(())
 }
 
-/// The lines of the answers to steps.
+/// Returns the reply lines of all steps.
 pub fn tell_steps<R: Eprint>(rt: &R, alloc: Global) -> Result<Vec<u8>, Trouble> {
     let mut replies = Vec::new(alloc);
     replies_to_steps(rt, alloc, &mut replies)?;
     Ok(show_replies(alloc, &replies)?)
 }
 
-/// The answer to a request, and where memory lacked that to the same request, made again.
+/// Makes a request, and makes it again if it got ENOMEM.
 fn answered<R: Eprint>(rt: &R, alloc: Global, world: &mut World, request: &Request) -> Reply {
     let reply = world.answer(&Plain, rt, alloc, request);
     if reply.status != Status::NoMemory {
@@ -128,7 +128,7 @@ fn answered<R: Eprint>(rt: &R, alloc: Global, world: &mut World, request: &Reque
     world.answer(&Plain, rt, alloc, request)
 }
 
-/// The lines of the answers to requests.
+/// Returns the reply lines of all requests.
 pub fn tell_answers<R: Eprint>(rt: &R, alloc: Global) -> Result<Vec<u8>, Trouble> {
     let texts = Texts::new(alloc)?;
     let mut world = World::new(alloc);

@@ -1,4 +1,4 @@
-//! Charmaps compiled, and texts that are held.
+//! Charmaps that are compiled, and the cache that holds them with their texts.
 use crate::charmap_texts::{charmap_text, text_of_size};
 use crate::words::{sides, text_of};
 use cv_cache::{Cached, Compiler, HashKeys, Maps, Plain};
@@ -8,7 +8,7 @@ use std::alloc::{AllocError, Global};
 use std::sync::{Arc, Wait};
 use std::test::Fail;
 
-/// A text of the charmap TOY, with five mappings.
+/// The text of a charmap TOY with five mappings.
 fn toy_text(alloc: Global) -> Result<String, AllocError> {
     charmap_text(alloc, "TOY", "<U0100>...<U0103> \\x80")
 }
@@ -22,7 +22,7 @@ fn a_text_is_compiled_to_what_it_means(rt: HostRuntime) -> Result<(), Fail> {
     Ok(())
 }
 
-/// Texts, in which `|` stands for a line feed, and the first fault of each.
+/// Texts, in which `|` means a line feed, and the first fault of each.
 const FAULTS: &str = r#"
 "CHARMAP|<U0041> \x41|<U0042> \x41|END CHARMAP|<" = line 3: Clash
 "<mb_cur_max> 9|CHARMAP|" = line 1: Declaration
@@ -50,7 +50,7 @@ fn is_told<R: Wait>(rt: &R, alloc: Global, cached: &Cached, line: &str) -> Resul
     Ok(plain && first && again)
 }
 
-/// Whether a text was refused for a fault that is reported so.
+/// Whether a text was refused for the fault that is displayed so.
 fn has_fault(
     alloc: Global,
     compiled: Result<Arc<Charmap>, CompileFault>,
@@ -63,9 +63,9 @@ fn has_fault(
     Ok(told.as_str() == wanted)
 }
 
-/// A line says how many other texts come between two compilations of one text, and how many texts were found compiled then. It says how
-/// many owners the charmap of the second compilation has: itself, the cache, and the first if it has the same charmap. Last it says how
-/// many texts were found after a third compilation.
+/// A line says how many other texts are compiled between two compilations of one text. Then it says how many texts were
+/// found in the cache, and how many owners the second charmap has: itself, the cache, and the first if it is the same.
+/// Last it says how many texts were found after a third compilation.
 const OTHERS: &str = "
 0 others: 1 found, 3 owners, then 2 found
 1 others: 1 found, 3 owners, then 2 found
@@ -100,7 +100,7 @@ fn told_behind<R: Wait>(rt: &R, alloc: Global, others: u32) -> Result<String, Fa
     Ok(format!(in alloc; "{found} found, {owners} owners, then {then} found")?)
 }
 
-/// The charmap TOY with its five mappings.
+/// Compiles the charmap TOY, which has five mappings.
 fn toy<R: Wait>(rt: &R, alloc: Global, cached: &Cached) -> Result<Arc<Charmap>, Fail> {
     let text = toy_text(alloc)?;
     let charmap = cached.compile(rt, alloc, text.as_bytes())?;
@@ -159,7 +159,7 @@ fn found_of_size<R: Wait>(
     Ok(cached.found(rt))
 }
 
-/// Names of charmaps whose texts have one sum of bytes.
+/// Names of charmaps whose texts have the same sum of bytes.
 const ONE_SUM: &str = "ABC ACB BAC BCA CAB CBA";
 
 #[test]
@@ -176,7 +176,8 @@ fn texts_of_one_sum_are_told_apart(rt: HostRuntime) -> Result<(), Fail> {
     Ok(())
 }
 
-/// Mappings of 16,384 characters, each alone among 64: so few can take no more.
+/// Mappings of 16,384 characters, each alone in its page of 64. No other mappings of as many characters take more
+/// memory.
 fn wide_mappings(alloc: Global) -> Result<String, AllocError> {
     let mut lines = String::new(alloc);
     for place in 0..16_384u32 {
@@ -188,7 +189,7 @@ fn wide_mappings(alloc: Global) -> Result<String, AllocError> {
     Ok(lines)
 }
 
-/// Compiles the text of a charmap of this number with the mappings, and gives how many bytes the cache holds then.
+/// Compiles the text of a charmap with this number and the mappings. Returns how many bytes the cache holds after it.
 fn bytes_behind<R: Wait>(
     rt: &R,
     alloc: Global,
@@ -205,7 +206,7 @@ fn bytes_behind<R: Wait>(
     Ok(cached.bytes(rt))
 }
 
-/// Each of these charmaps takes some nine megabytes.
+/// Each of these charmaps takes about nine megabytes.
 #[test]
 fn texts_and_charmaps_have_64_mib_at_most(rt: HostRuntime) -> Result<(), Fail> {
     let cached = Cached::new(rt.alloc())?;
@@ -214,7 +215,7 @@ fn texts_and_charmaps_have_64_mib_at_most(rt: HostRuntime) -> Result<(), Fail> {
         let bytes = bytes_behind(&rt, rt.alloc(), &cached, number, mappings.as_str())?;
         assert!(rt; bytes <= 67_108_864, "{bytes}");
     }
-    // The last is held, and the first has gone.
+    // The last is held, and the first was dropped.
     let bytes = bytes_behind(&rt, rt.alloc(), &cached, 7, mappings.as_str())?;
     assert!(rt; bytes > 50_331_648, "{bytes}");
     assert_eq!(rt; cached.found(&rt), 1);
@@ -223,7 +224,7 @@ fn texts_and_charmaps_have_64_mib_at_most(rt: HostRuntime) -> Result<(), Fail> {
     Ok(())
 }
 
-/// Room is asked for as many pairs as a text of so many bytes may have, and what they don't need goes back.
+/// Room is reserved for as many pairs as a text of this size may have, and the rest is given back.
 #[test]
 fn a_long_comment_makes_no_charmap_larger(rt: HostRuntime) -> Result<(), Fail> {
     let short = text_of_size(rt.alloc(), 100)?;
@@ -235,7 +236,7 @@ fn a_long_comment_makes_no_charmap_larger(rt: HostRuntime) -> Result<(), Fail> {
     Ok(())
 }
 
-/// A text of the charmap A, with one mapping.
+/// The text of a charmap A with one mapping.
 const SMALL: &[u8] = b"<code_set_name> A\nCHARMAP\n<question-mark> \\x6F\nEND CHARMAP\n";
 
 #[test]
@@ -252,7 +253,8 @@ fn what_is_kept_is_found(rt: HostRuntime) -> Result<(), Fail> {
     Ok(())
 }
 
-/// Whatever growth is refused, the answer is out of memory, or the one with ample memory; and the same holds the next time.
+/// Whichever allocation fails, the result is out of memory, or the one with ample memory. The same is true the next
+/// time.
 #[test]
 fn memory_lacks_or_it_is_compiled(rt: HostRuntime) -> Result<(), Fail> {
     let Ok(cached) = Cached::new(rt.alloc()) else {

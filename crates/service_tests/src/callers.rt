@@ -1,6 +1,7 @@
-//! One caller's table, with ample memory. A line is `CALL = ANSWER`: a method and what it is given, and its answer as Rust prints it.
-//! `add_map NAME MAPPINGS` adds a charmap of such a line. `encoding NAME` answers how many mappings it has. `bind KEY TO FROM` binds the
-//! least free number, by the names of the encodings. `add_part TIMES TEXT` adds a text that many times.
+//! One caller's table, with ample memory. A line is `CALL = ANSWER`: a method with its arguments, and its result as
+//! `{:?}` prints it. `add_map NAME MAPPINGS` adds a charmap with this name and these mappings. `encoding NAME` is how
+//! many mappings the charmap has. `bind KEY TO FROM` binds the least free number to a key and to the encodings with
+//! these names. `add_part TIMES TEXT` adds a text TIMES times.
 ghost use Rattle.cv_caller.specs.Keyed.{IsHeld};
 
 use crate::words::{first_word, sides};
@@ -15,7 +16,7 @@ use std::process::Abort;
 use std::sync::Arc;
 use std::test::Fail;
 
-/// Makes the call of each line.
+/// Makes the call of each line, and compares the answers.
 fn call<R: Abort + AllocGlobal>(rt: &R, table: &mut Table, calls: &str) -> Result<(), Fail> {
     for line in calls.trim().lines() {
         let (call, wanted) = sides(line, " = ")?;
@@ -55,7 +56,7 @@ fn add_map(alloc: Global, table: &mut Table, rest: &str) -> Result<String, Fail>
     printed(alloc, added.map(|_| ()))
 }
 
-/// A charmap of this name with `?` and the mappings of this line.
+/// A charmap with this name, `?` and the mappings of this line.
 fn charmap(alloc: Global, name: &str, mappings: &str) -> Result<Arc<Charmap>, Fail> {
     let text = format!(in alloc;
         "<code_set_name> {name}\n<mb_cur_max> 3\nCHARMAP\n<question-mark> \\x40\n{mappings}\nEND CHARMAP\n"
@@ -74,7 +75,7 @@ fn mappings(table: &Table, name: &str) -> Option<usize> {
     }
 }
 
-/// What a name stands for.
+/// What a name is bound to, in the words of a line.
 fn told_found(alloc: Global, table: &Table, name: &str) -> Result<String, AllocError> {
     match table.find(name.as_bytes()) {
         Some(Found::Map(map)) => format!(in alloc; "Map({map})"),
@@ -100,7 +101,7 @@ fn bind_line(alloc: Global, table: &mut Table, rest: &str) -> Result<String, Fai
     printed(alloc, bind(table, key, to, from))
 }
 
-/// Binds the least free number to a key and to encodings. Returns the number, if it then stands for them.
+/// Binds the least free number to a key and to encodings. Returns the number if it is bound to them then.
 fn bind(table: &mut Table, key: u32, to: &str, from: &str) -> Option<u32> {
     let to = map(table, to);
     let from = map(table, from);
@@ -114,7 +115,7 @@ fn bind(table: &mut Table, key: u32, to: &str, from: &str) -> Option<u32> {
     }
 }
 
-/// The place of the charmap of a name, if it is no built-in encoding's.
+/// The slot of the charmap with this name, or `None` if the name is a built-in encoding's or unknown.
 fn map(table: &Table, name: &str) -> Option<u8>
     ensures { IsHeld table.now.charmaps result }
 {
@@ -129,7 +130,7 @@ fn a_table_is_small() {
     const _: () = prove!(size_of::<Table>() <= 208);
 }
 
-/// All numbers are bound, each to itself.
+/// The calls after all numbers are bound, each to the key that is equal to it.
 const NUMBERS: &str = "
 least_free = None
 place 16 = None

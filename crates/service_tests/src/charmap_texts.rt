@@ -1,14 +1,14 @@
 //! Texts of charmaps.
 use std::alloc::{AllocError, Global};
 
-/// The text of a charmap of this name, with `?` and the mappings of this line.
+/// Returns the text of a charmap with this name, `?` and the mappings of this line.
 pub fn charmap_text(alloc: Global, name: &str, line: &str) -> Result<String, AllocError> {
     format!(in alloc;
         "<code_set_name> {name}\nCHARMAP\n<question-mark> \\x3F\n{line}\nEND CHARMAP\n"
     )
 }
 
-/// A text of `size` bytes, which ends in a comment. Its charmap is TOY, and has only `?`.
+/// Returns a charmap text of `size` bytes, which ends in a comment. The charmap is TOY, and has only `?`.
 pub fn text_of_size(alloc: Global, size: usize) -> Result<Vec<u8>, AllocError> {
     let mut text = Vec::new(alloc);
     text.extend_from_slice(b"<code_set_name> TOY\nCHARMAP\n<question-mark> \\x3F\nEND CHARMAP\n")?;

@@ -8,7 +8,7 @@ use cv_frame::{
 use std::alloc::{AllocError, Global};
 use std::test::Fail;
 
-/// Requests as scripts have them, and their frames: the length, the caller, the tag, the op and the body.
+/// Requests as scripts write them, and their frames: the length, the caller, the tag, the op and the body.
 const REQUESTS: &str = r#"
 7 1 open US-ASCII ISO-8859-1 = 0000001d 00000007 00000001 03 08"US-ASCII" 0a"ISO-8859-1"
 1 1 open US-ASCII UTF-8 strict = 00000019 00000001 00000001 03 08"US-ASCII" 05"UTF-8" 01
@@ -114,7 +114,8 @@ fn write_text(
     Ok(())
 }
 
-/// Bodies of requests, and what they read as: the words of a script, with names and inputs as Rust escapes them, or `none`.
+/// Commands, the bodies of their requests, and what these are read as, or `none`. Names and inputs are escaped as Rust
+/// does.
 const BODIES: &str = r#"
 open 01"a" 01"b" = a b Substitute
 open 01"a" 01"b" 00 = a b Substitute
@@ -174,7 +175,7 @@ fn told(alloc: Global, op: &str, body: &[u8]) -> Result<String, AllocError> {
     String::from_str(alloc, "none")
 }
 
-/// Caller 7 opens a descriptor to US-ASCII from ISO-8859-1.
+/// Caller 7 opens a descriptor from ISO-8859-1 to US-ASCII.
 const OPEN: &[u8] = b"\0\0\0\x1d\0\0\0\x07\0\0\0\x01\x03\x08US-ASCII\x0aISO-8859-1";
 
 #[test]
@@ -188,7 +189,7 @@ fn a_request_is_read(rt: HostRuntime) -> Result<(), Fail> {
     Ok(())
 }
 
-/// The descriptor has the number 0.
+/// The reply: the descriptor has the number 0.
 const OPENED: &[u8] = b"\0\0\0\x0d\0\0\0\x07\0\0\0\x01\0\0\0\0\0";
 
 #[test]

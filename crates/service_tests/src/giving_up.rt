@@ -1,4 +1,4 @@
-//! Memory that is refused, and had again once the compiler has given up what it keeps.
+//! Requests that get ENOMEM unless the compiler drops what it keeps.
 use cv_cache::{Compiler, Plain};
 use cv_caller::CALLER_BYTES;
 use cv_charmap::CompileFault;
@@ -9,7 +9,7 @@ use std::alloc::Global;
 use std::sync::{Arc, Mutex, Wait};
 use std::test::Fail;
 
-/// A compiler that has no memory until it has given up so many things, one each time that it is asked.
+/// A compiler that is out of memory until it has dropped `kept` things. It drops one each time that it is asked.
 #[derive(Drop)]
 struct Hoard {
     kept: Mutex<u32>,
@@ -31,7 +31,7 @@ impl<R: Wait> Compiler<R> for Hoard {
     }
 }
 
-/// A compiler that always has memory, and counts what it is asked.
+/// A compiler that always has memory, and counts its calls.
 #[derive(Drop)]
 struct Ample {
     compiled: Mutex<u32>,
@@ -61,10 +61,10 @@ impl<R: Wait> Compiler<R> for Ample {
     }
 }
 
-/// A text of the charmap A, with one mapping.
+/// The text of a charmap A with one mapping.
 const SMALL: &[u8] = b"<code_set_name> A\nCHARMAP\n<question-mark> \\x6F\nEND CHARMAP\n";
 
-/// The upload of a charmap, by the op 1.
+/// The upload of this charmap: PUT, which is op 1.
 const UPLOAD: Request = Request {
     caller: 1,
     tag: 1,
@@ -72,7 +72,7 @@ const UPLOAD: Request = Request {
     body: SMALL,
 };
 
-/// Uploads a charmap to a new world, and gives the status, and how many things the compiler keeps then.
+/// Uploads a charmap to a new world. Returns the status, and how many things the compiler keeps after it.
 fn put<R: Wait>(rt: &R, alloc: Global, kept: u32) -> (Status, u32) {
     let hoard = Hoard {
         kept: Mutex::new(kept),
@@ -83,7 +83,7 @@ fn put<R: Wait>(rt: &R, alloc: Global, kept: u32) -> (Status, u32) {
     (reply.status, hoard.kept.into_inner())
 }
 
-/// The same, with the reply appended: its status is the thirteenth byte.
+/// The same, if the reply is appended: its status is the thirteenth byte of the frame.
 fn put_into<R: Wait>(rt: &R, alloc: Global, kept: u32) -> Result<(u8, u32), Fail> {
     let hoard = Hoard {
         kept: Mutex::new(kept),
@@ -98,7 +98,8 @@ fn put_into<R: Wait>(rt: &R, alloc: Global, kept: u32) -> Result<(u8, u32), Fail
     Ok((*status, hoard.kept.into_inner()))
 }
 
-/// The same where the reply is appended to others.
+/// A request that finds no memory is tried once more if the compiler dropped something, and only once. The reply is
+/// appended.
 #[test]
 fn what_is_kept_is_given_up_before_a_reply_is_appended(rt: HostRuntime) -> Result<(), Fail> {
     let (status, kept) = put_into(&rt, rt.alloc(), 0)?;
@@ -113,7 +114,8 @@ fn what_is_kept_is_given_up_before_a_reply_is_appended(rt: HostRuntime) -> Resul
     Ok(())
 }
 
-/// A request that finds no memory is tried once more, where something was given up, and no oftener.
+/// A request that finds no memory is tried once more if the compiler dropped something, and only once. The reply is
+/// returned.
 #[test]
 fn what_is_kept_is_given_up_before_memory_lacks(rt: HostRuntime) -> Result<(), Fail> {
     let (status, kept) = put(&rt, rt.alloc(), 0);
@@ -128,8 +130,8 @@ fn what_is_kept_is_given_up_before_memory_lacks(rt: HostRuntime) -> Result<(), F
     Ok(())
 }
 
-/// Uploads a charmap to a new world with a budget for one caller, twice: it is returned the first time and appended the second. Gives the
-/// statuses, and how many times the compiler was asked to compile, and to give up.
+/// Uploads a charmap to two new worlds, each with this budget for one caller. The first returns its reply, the second
+/// appends it. Returns both statuses, and how often the compiler was asked to compile and to give up what it keeps.
 fn put_within<R: Wait>(rt: &R, alloc: Global, bytes: u64) -> Result<(u8, u8, u32, u32), Fail> {
     let ample = Ample::new();
     let budget = Budget { bytes, callers: 1 };
@@ -146,18 +148,19 @@ fn put_within<R: Wait>(rt: &R, alloc: Global, bytes: u64) -> Result<(u8, u8, u32
     Ok((first.status.number(), *second, compiled, given_up))
 }
 
-/// For how many bytes the caller of the charmap is counted.
+/// How many bytes are counted for a caller with this charmap.
 fn bytes_of_one<R>(rt: &R, alloc: Global) -> u64 {
     let mut world = World::within(alloc, UNLIMITED);
     world.answer(&Plain, rt, alloc, &UPLOAD);
     world.usage().bytes
 }
 
-/// Where the budget refuses, memory would not help: the compiler keeps what it has. Where no charmap fits, none is compiled.
+/// If the budget refuses a request, more memory would not help, so the compiler keeps what it has. If no charmap could
+/// fit in the budget, none is compiled.
 #[test]
 fn nothing_is_given_up_for_a_budget(rt: HostRuntime) -> Result<(), Fail> {
     let bytes = bytes_of_one(&rt, rt.alloc());
-    // No charmap is smaller than what the budget is tried for before one is compiled.
+    // Before a charmap is compiled, the budget must have room for 1,024 bytes. No charmap is smaller.
     assert!(rt; bytes >= CALLER_BYTES + 1_024, "{bytes}");
     let refused = Status::NoMemory.number();
     let held = Status::Ok.number();

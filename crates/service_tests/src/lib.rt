@@ -1,6 +1,6 @@
-//! Tests of frames, callers' tables, the cache and worlds. A crate with tests is proved twice, so the tests of the crates that others use
-//! are here, and say what a client of these crates could say. Proofs about nested arrays are expensive, so a table is a text: `words`
-//! reads its words.
+//! Tests of frames, callers' tables, the cache and worlds. A crate with tests is proved twice. So the tests of crates
+//! that others use are here, and use only their public items. Proofs about nested arrays are expensive, so a table is a
+//! text: `words` reads its words.
 #![tactic(auto)]
 
 #[cfg(test)]

@@ -1,13 +1,13 @@
-//! Made numbers.
+//! Pseudorandom numbers.
 
-/// Numbers that are made by a rule.
+/// A linear congruential generator: the same seed gives the same numbers.
 #[derive(Drop)]
 pub struct Numbers {
     pub state: u64,
 }
 
 impl Numbers {
-    /// A number below a limit.
+    /// Returns the next number, which is below `limit`, or 0 if the limit is 0.
     pub fn below(&mut self, limit: u32) -> u32 {
         self.state = self
             .state
@@ -17,7 +17,7 @@ impl Numbers {
         u32::try_from((self.state >> 33) % limit).unwrap_or(0)
     }
 
-    /// One of some numbers.
+    /// Returns one of `numbers`, or 0 if there are none.
     pub fn one_of(&mut self, numbers: &[u32]) -> u32 {
         let count = u32::try_from(numbers.len()).unwrap_or(0);
         let place = self.below(count);

@@ -1,5 +1,5 @@
-//! A world that appends its replies answers as one that returns them: many made requests, whose rooms and lengths lie around the
-//! sizes at which conversions go another way.
+//! A world that appends its replies gives the same replies as one that returns them. The requests are pseudorandom.
+//! Their rooms and sizes are near the sizes at which conversions take another path.
 use crate::numbers::Numbers;
 use cv_cache::Plain;
 use cv_frame::{Frame, Reply, next_request, write_reply};
@@ -7,7 +7,7 @@ use cv_world::{Replies, World};
 use std::alloc::{AllocError, Global};
 use std::test::Fail;
 
-/// The bodies of what isn't a conversion, each behind its op. Some are of no form.
+/// The ops and bodies of requests that are no conversions. Some bodies are malformed.
 const OTHERS: [&[u8]; 20] = [
     b"\x03\x05UTF-8\x08UTF-16LE",
     b"\x03\x08UTF-16LE\x05UTF-8",
@@ -31,7 +31,7 @@ const OTHERS: [&[u8]; 20] = [
     b"\x63",
 ];
 
-/// Text of one to four bytes a character.
+/// A text whose characters have one to four bytes.
 const TEXT: &str =
     "Les caf\u{e9}s de \u{41a}\u{438}\u{435}\u{432}, \u{4e2d}\u{6587} and \u{1f600}. All plain from here on, for some time. ";
 
@@ -60,7 +60,8 @@ fn push_frame(
     frames.extend_from_slice(body)
 }
 
-/// Appends a CONV. Every third text has a bad byte somewhere, and every eighth no body of its form.
+/// Appends the frame of a CONV. About one text in three has a bad byte, and about one body in eight has neither a
+/// number nor a room.
 fn push_conversion(
     alloc: Global,
     numbers: &mut Numbers,
@@ -76,7 +77,7 @@ fn push_conversion(
     }
     let size = numbers.one_of(&SIZES);
     let start = body.len();
-    // The text has more than 64 bytes.
+    // `TEXT` has more than 64 bytes, so these are at least `size` bytes.
     for _time in 0..=size / 64 {
         body.extend_from_slice(TEXT.as_bytes())?;
     }
@@ -88,7 +89,7 @@ fn push_conversion(
     push_frame(frames, caller, tag, 4, &body)
 }
 
-/// Requests of three callers.
+/// The frames of `count` pseudorandom requests of three callers.
 fn made(alloc: Global, numbers: &mut Numbers, count: u32) -> Result<Vec<u8>, AllocError> {
     let mut frames = Vec::new(alloc);
     for tag in 0..count {
@@ -105,7 +106,8 @@ fn made(alloc: Global, numbers: &mut Numbers, count: u32) -> Result<Vec<u8>, All
     Ok(frames)
 }
 
-/// Answers so many frames by both worlds, and says whether their replies are the same.
+/// Gives the requests of `count` frames to both worlds. The first returns its replies, and the second appends them.
+/// Returns whether their frames are the same.
 fn are_same(
     alloc: Global,
     worlds: &mut (World, World),
@@ -142,7 +144,7 @@ fn appended_replies_are_those_that_are_returned(rt: HostRuntime) -> Result<(), F
     Ok(())
 }
 
-/// Opens a descriptor of caller 0 in both worlds, whose number is 0.
+/// Opens a descriptor of caller 0 in both worlds. Returns whether their replies are the same.
 fn open_both(
     alloc: Global,
     worlds: &mut (World, World),
@@ -154,7 +156,7 @@ fn open_both(
     are_same(alloc, worlds, &frames, 1, replies)
 }
 
-/// Conversions that have room for much more than they write are answered alike, again and again.
+/// Conversions that have room for much more than they write get the same replies, each time.
 #[test]
 fn room_to_spare_changes_no_reply(rt: HostRuntime) -> Result<(), Fail> {
     let alloc = rt.alloc();
@@ -165,7 +167,8 @@ fn room_to_spare_changes_no_reply(rt: HostRuntime) -> Result<(), Fail> {
     let mut body = Vec::new(alloc);
     body.extend_from_slice(b"\0\0\0\0\x00\x0F\x42\x40")?;
     body.resize(150_000, b'a')?;
-    // It is behind the front of the text, so that room is cleared for all of it.
+    // The bad byte is after the first 1,024 bytes, which are converted first, so that room is cleared for the whole
+    // text.
     if let Some(byte) = body.get_mut(1_500) {
         *byte = 0xFF;
     }
@@ -179,7 +182,7 @@ fn room_to_spare_changes_no_reply(rt: HostRuntime) -> Result<(), Fail> {
     Ok(())
 }
 
-/// A text whose rest takes much more room for each byte than its front does, behind another reply.
+/// A text whose rest needs much more room for each byte than its first 1,024 bytes, after another reply.
 #[test]
 fn rest_that_needs_more_than_the_front_says(rt: HostRuntime) -> Result<(), Fail> {
     let alloc = rt.alloc();
@@ -194,7 +197,7 @@ fn rest_that_needs_more_than_the_front_says(rt: HostRuntime) -> Result<(), Fail>
     for _letter in 0..512u32 {
         body.extend_from_slice(b"a\0")?;
     }
-    // Each shift is a sequence of its own.
+    // Each U+4E2D is a shifted sequence of its own.
     for _pair in 0..6_000u32 {
         body.extend_from_slice(b"a\0\x2D\x4E")?;
     }

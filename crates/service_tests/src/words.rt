@@ -3,7 +3,7 @@ use cv_base::Policy;
 use std::alloc::Global;
 use std::test::Fail;
 
-/// What is on the two sides of a mark.
+/// Returns the texts before and after the first `mark`.
 pub fn sides<'a>(text: &'a str, mark: &str) -> Result<(&'a str, &'a str), Fail> {
     Ok(
         text.split_once(mark)
@@ -11,7 +11,7 @@ pub fn sides<'a>(text: &'a str, mark: &str) -> Result<(&'a str, &'a str), Fail> 
     )
 }
 
-/// The first word of a text, and what follows it.
+/// Returns the first word of a text, and what follows it.
 pub fn first_word(text: &str) -> (&str, &str) {
     match text.split_once(' ') {
         Some(parts) => parts,
@@ -19,7 +19,7 @@ pub fn first_word(text: &str) -> (&str, &str) {
     }
 }
 
-/// The policy of an `open`, by the word after its names.
+/// Returns the policy of an `open` from the word after its names.
 pub fn policy_of(word: &str) -> Policy {
     if word == "strict" {
         Policy::Strict
@@ -28,7 +28,7 @@ pub fn policy_of(word: &str) -> Policy {
     }
 }
 
-/// A text in a line, with a line feed for each `|`.
+/// Returns a text with a line feed for each `|` of a line.
 pub fn text_of(alloc: Global, line: &str) -> Result<Vec<u8>, Fail> {
     let mut text = Vec::new(alloc);
     for byte in line.bytes() {
@@ -37,7 +37,8 @@ pub fn text_of(alloc: Global, line: &str) -> Result<Vec<u8>, Fail> {
     Ok(text)
 }
 
-/// The bytes of words, one word after the other: hexadecimal digits, and characters between quotation marks. So `""` means no bytes.
+/// Returns the bytes of words, one word after the other: hexadecimal digits, and characters between quotation marks. So
+/// `""` means no bytes.
 pub fn bytes_of(alloc: Global, words: &str) -> Result<Vec<u8>, Fail> {
     let mut bytes = Vec::new(alloc);
     for word in words.split_whitespace() {

@@ -10,18 +10,18 @@ use std::test::Fail;
 /// How an engine is asked.
 #[derive(Clone, Copy, Debug)]
 pub enum Way {
-    /// By a batch, whose replies are spelled behind it.
+    /// By a batch that returns its replies, whose frames are written after it.
     Batch,
     /// By a batch that appends the frames of its replies.
     Appended,
-    /// By a stream of the requests.
+    /// By serving a stream of the requests.
     Served,
 }
 
 /// All ways.
 pub const WAYS: [Way; 3] = [Way::Batch, Way::Appended, Way::Served];
 
-/// The frames of an engine's replies to requests.
+/// Returns the frames of an engine's replies to requests.
 pub fn told<R, E: Engine<R>>(
     rt: &R,
     alloc: Global,

@@ -20,7 +20,7 @@ pub enum Kind {
 /// All kinds.
 pub const KINDS: [Kind; 3] = [Kind::Alone, Kind::WithCache, Kind::TwoWorkers];
 
-/// What comes of serving a stream by a new engine of a kind.
+/// Serves a stream by a new engine of this kind, with at most `reads` reads.
 pub fn serve_by<R: Threads + Wait + Sync, S: Source, W: Sink>(
     rt: &R,
     alloc: Global,

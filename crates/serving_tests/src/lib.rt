@@ -1,5 +1,5 @@
-//! Tests of serving and of pools: streams of frames, and batches by several workers. They say what a client of cv_loop and cv_pool could,
-//! and stand here since a crate with tests is proved twice.
+//! Tests of serving and of pools: streams of frames, and batches by several workers. They use only the public items of
+//! cv_loop and cv_pool. They are in a crate of their own, since a crate with tests is proved twice.
 #![tactic(auto)]
 
 #[cfg(test)]

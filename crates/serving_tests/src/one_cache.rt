@@ -1,4 +1,5 @@
-//! Charmaps of several callers over one cache, by a world and by a pool of two workers, however they are asked.
+//! The charmaps of several callers with one cache, in a world and in a pool of two workers, asked in each of three
+//! ways.
 use crate::asking::{WAYS, Way, told};
 use crate::charmap_texts::charmap_text;
 use crate::ops::{CONV, DROP, OK, OPEN, PUT};
@@ -20,7 +21,7 @@ enum Looked<'a> {
 }
 
 impl Looked<'_> {
-    /// Asks in a way, and fails where other frames come than are wanted.
+    /// Asks in one way, and fails if the frames of the replies are not `wanted`.
     fn ask<R: Threads + Wait + Sync>(
         &mut self,
         rt: &R,
@@ -62,8 +63,8 @@ fn a_pool_compiles_a_text_once_for_all_callers(rt: HostRuntime) -> Result<(), Fa
     Ok(())
 }
 
-/// Callers 1 and 2 put one text; caller 3 puts and drops 33 others; then callers 4 and 5 put the first text. Answers how many texts were
-/// found behind each of the last two.
+/// Callers 1 and 2 put the same text. Then caller 3 puts and drops 33 others, and callers 4 and 5 put the first text
+/// again. Returns how many texts were found in the cache after caller 4, and after caller 5.
 fn counts_of<R: Threads + Wait + Sync>(
     rt: &R,
     alloc: Global,
@@ -82,7 +83,8 @@ fn counts_of<R: Threads + Wait + Sync>(
     Ok((first, second))
 }
 
-/// A caller puts one text of the charmap TOY. It is a batch of its own: texts that are put at once may be compiled at once.
+/// A caller puts the text of the charmap TOY, in a batch of its own: texts of one batch may be compiled at the same
+/// time.
 fn put_toy<R: Threads + Wait + Sync>(
     rt: &R,
     alloc: Global,
@@ -130,7 +132,7 @@ fn put_and_drop<R: Threads + Wait + Sync>(
     engine.ask(rt, alloc, way, &requests, &wanted)
 }
 
-/// The bytes 3f and 80 of TOY are `?` and U+0100 in UTF-8, for each caller that has it.
+/// Each caller that has TOY converts the bytes 3f and 80 to `?` and U+0100.
 fn read_toys<R: Threads + Wait + Sync>(
     rt: &R,
     alloc: Global,

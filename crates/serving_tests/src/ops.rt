@@ -21,5 +21,5 @@ pub const BYE: u8 = 7;
 /// Holds a part of a charmap's text.
 pub const PART: u8 = 8;
 
-/// The status of a reply to a request that was done. It stands in the frame where a request has its op.
+/// The status of a reply to a request that succeeded. It is at the offset of the frame at which a request has its op.
 pub const OK: u8 = 0;

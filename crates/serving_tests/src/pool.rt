@@ -12,7 +12,7 @@ use cv_pool::{Open, Pool};
 use std::alloc::Global;
 use std::test::Fail;
 
-/// A pool of so many workers, with a cache of its own.
+/// A pool of `workers` workers, with a cache of its own.
 fn pool_of(alloc: Global, workers: u32) -> Result<Pool<Cached, Open>, Fail> {
     if workers == 0 || workers > 16 {
         return Err("no pool has so many workers".into());

@@ -2,10 +2,10 @@
 use cv_frame::Request;
 use std::alloc::AllocError;
 
-/// How many bytes the longest body has.
+/// The greatest size of a body in bytes.
 const LONGEST: usize = 1_048_567;
 
-/// A request with this body, or as much of it as a frame holds.
+/// Returns a request with this body, or with as much of it as a frame holds.
 pub fn request(caller: u32, tag: u32, op: u8, body: &[u8]) -> Request<'_> {
     Request {
         caller,
@@ -15,7 +15,7 @@ pub fn request(caller: u32, tag: u32, op: u8, body: &[u8]) -> Request<'_> {
     }
 }
 
-/// Appends the frame of a request with this body, or as much of it as a frame holds.
+/// Appends the frame of a request with this body, or with as much of it as a frame holds.
 pub fn push_frame(
     stream: &mut Vec<u8>,
     caller: u32,

@@ -11,11 +11,11 @@ use cv_loop::{Engine, FromReader, ServeFault, Served, ToWriter, serve};
 use cv_world::World;
 use std::test::Fail;
 
-/// Caller 7 opens a conversion to US-ASCII from ISO-8859-1.
+/// Caller 7 opens a descriptor from ISO-8859-1 to US-ASCII.
 const FRAME: &[u8] =
     b"\x00\x00\x00\x1d\x00\x00\x00\x07\x00\x00\x00\x01\x03\x08US-ASCII\x0aISO-8859-1";
 
-/// What a world replies that was asked the same before: the descriptor has the number 1.
+/// The reply to the second such request: the descriptor has the number 1.
 const SECOND_REPLY: &[u8] = b"\x00\x00\x00\x0d\x00\x00\x00\x07\x00\x00\x00\x01\x00\x00\x00\x00\x01";
 
 #[test]
@@ -40,7 +40,7 @@ fn world_is_an_engine(rt: HostRuntime) -> Result<(), Fail> {
     Ok(())
 }
 
-/// Why serving ends, and the text of it.
+/// The faults that end serving, and their texts.
 const TEXTS: &str = "
 TruncatedFrame: truncated frame
 BadLength { length: 8 }: bad length 8

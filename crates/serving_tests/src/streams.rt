@@ -1,7 +1,7 @@
 //! Readers that give their bytes in parts, writers that take some of them, and a stream of two callers.
 use std::io::{self, ErrorKind, Read, Write};
 
-/// Gives its bytes and then more of them, a few at a time, and then ends or fails.
+/// A reader that gives `bytes` and then `more`, at most `step` at a time, and then ends or fails.
 #[derive(Drop)]
 pub struct Slow<'a> {
     pub bytes: &'a [u8],
@@ -27,7 +27,7 @@ impl Read for Slow<'_> {
     }
 }
 
-/// Takes so many bytes, a few at a time, and then fails or takes none.
+/// A writer that takes `room` bytes, at most `step` at a time, and then fails or takes none.
 #[derive(Drop)]
 pub struct Narrow {
     pub taken: Vec<u8>,
@@ -52,8 +52,8 @@ impl Write for Narrow {
     }
 }
 
-/// Callers 1 and 2 upload a charmap TOY, in which the byte 80 is U+0100 for the one and U+0142 for the other; each opens a descriptor
-/// from it, and converts the byte 80.
+/// Callers 1 and 2 upload a charmap TOY, in which the byte 80 is U+0100 for the one and U+0142 for the other. Each
+/// opens a descriptor from it to UTF-8, and converts the byte 80.
 pub const TWO_CALLERS: &[u8] = b"\
     \0\0\0R\0\0\0\x01\0\0\0\x01\x01<code_set_name> TOY\nCHARMAP\n<question-mark> \\x3F\n<U0100> \\x80\nEND CHARMAP\
     \0\0\0R\0\0\0\x02\0\0\0\x01\x01<code_set_name> TOY\nCHARMAP\n<question-mark> \\x3F\n<U0142> \\x80\nEND CHARMAP\
@@ -62,7 +62,8 @@ pub const TWO_CALLERS: &[u8] = b"\
     \0\0\0\x12\0\0\0\x01\0\0\0\x03\x04\0\0\0\0\0\0\0\x09\x80\
     \0\0\0\x12\0\0\0\x02\0\0\0\x03\x04\0\0\0\0\0\0\0\x09\x80";
 
-/// What they are told. The charmaps have two mappings, the descriptors the number 0, and the characters two bytes in UTF-8.
+/// The replies to them. The charmaps have two mappings, the descriptors the number 0, and the characters two bytes in
+/// UTF-8.
 pub const TOLD: &[u8] = b"\
     \0\0\0\x0d\0\0\0\x01\0\0\0\x01\0\0\0\0\x02\
     \0\0\0\x0d\0\0\0\x02\0\0\0\x01\0\0\0\0\x02\

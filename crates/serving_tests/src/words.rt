@@ -1,7 +1,7 @@
 //! The words of tables. A table is a text in which each line is a case.
 use std::test::Fail;
 
-/// The two sides of what stands on either side of a mark.
+/// Returns the texts before and after the first `mark`.
 pub fn sides<'a>(text: &'a str, mark: &str) -> Result<(&'a str, &'a str), Fail> {
     Ok(
         text.split_once(mark)
@@ -9,7 +9,7 @@ pub fn sides<'a>(text: &'a str, mark: &str) -> Result<(&'a str, &'a str), Fail> 
     )
 }
 
-/// The first word of a text, and what stands behind it.
+/// Returns the first word of a text, and what follows it.
 pub fn first_word(text: &str) -> (&str, &str) {
     match text.split_once(' ') {
         Some(parts) => parts,

@@ -56,7 +56,7 @@ fn all_of_wide(alloc: Global) -> Result<(Vec<u8>, Vec<u8>), Fail> {
     Ok((scalars, strings))
 }
 
-/// Whether all of the input is converted, without `?` in any place, and fills as much room as the output has.
+/// Whether the whole input is converted to this output, and no `?` is written for a character.
 fn is_converted(
     alloc: Global,
     encodings: (&Encoding, &Encoding),

@@ -73,12 +73,12 @@ fn encodings_write_the_blocks_that_they_have(rt: HostRuntime) -> Result<(), Fail
 /// How many characters a long text has.
 const LONG: usize = 200;
 
-/// The number of the character at a place of a long text that repeats the sixteen characters from `first` on.
+/// The number of the character at index `place` of a long text, which repeats the sixteen characters from `first` on.
 fn number_at(first: u16, place: usize) -> u16 {
     first.saturating_add((place % 16) as u16)
 }
 
-/// A long text as UTF-16BE in which another character is at one place.
+/// A long text in UTF-16BE, in which `other` is the character at index `place`.
 fn text_with(alloc: Global, first: u16, place: usize, other: u16) -> Result<Vec<u8>, AllocError> {
     let mut text = Vec::new(alloc);
     for k in 0..LONG {
@@ -92,13 +92,14 @@ fn text_with(alloc: Global, first: u16, place: usize, other: u16) -> Result<Vec<
     Ok(text)
 }
 
-/// Whether the bytes are those of the first characters of a long text, one byte each.
+/// Whether the bytes are the first characters of a long text, one byte each.
 fn are_bytes(bytes: &[u8], first: u16) -> bool {
     let mut places = bytes.iter().enumerate();
     places.all(|(place, byte)| u16::from(*byte) == number_at(first, place))
 }
 
-/// Whether what precedes a character that the target lacks is written into so much room, and the conversion stops there.
+/// Whether a conversion writes what is before the character that the target lacks, as far as `out` has room, and then
+/// stops.
 fn is_written_before(
     conversion: &mut Conversion,
     text: &[u8],

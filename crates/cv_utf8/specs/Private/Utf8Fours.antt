@@ -1,11 +1,11 @@
 -- Characters of up to three bytes in UTF-8, of which four are written at once.
 use Rattle.std.specs.Prelude.{ℕ, ◌+◌, ◌/◌, ◌%◌, Bool, not, nat_lt, if◌then◌else◌, List, [], ◌∷◌}
 
--- The character has three bytes, or more.
+-- The character has three bytes or more.
 abbrev pub has_three : ℕ → Bool
 has_three c = not (nat_lt c 0x800)
 
--- four bytes for a character of up to three: after those that it has they are 0
+-- four bytes for a character of up to three: its bytes, and then zeros
 abbrev pub four_of : ℕ → List ℕ
 four_of c =
     if nat_lt c 0x80 then c ∷ 0 ∷ 0 ∷ 0 ∷ []

@@ -1,7 +1,7 @@
--- Characters of one and of two bytes in UTF-8, of which eight are written at once.
+-- Characters of one or two bytes in UTF-8, of which eight are written at once.
 use Rattle.std.specs.Prelude.{ℕ, ◌+◌, ◌/◌, ◌%◌, Bool, not, nat_lt, if◌then◌else◌, List, [], ◌∷◌}
 
--- The character has two bytes, or more.
+-- The character has two bytes or more.
 abbrev pub has_two : ℕ → Bool
 has_two c = not (nat_lt c 0x80)
 

@@ -1,4 +1,5 @@
-//! Many made requests of a few callers within a budget, beside a count that is made anew after each.
+//! Many pseudorandom requests of a few callers within a budget, compared with a model that counts everything anew after
+//! each.
 use crate::numbers::Numbers;
 use cv_base::Policy;
 use cv_cache::{Compiler, Plain};
@@ -35,7 +36,7 @@ impl Own {
         self.numbers == 0 && self.maps == 0 && self.part == 0
     }
 
-    /// For how many bytes it is counted, where each charmap is counted for so many.
+    /// How many bytes are counted for this, if `map` bytes are counted for each charmap.
     fn bytes(&self, map: u64) -> u64 {
         if self.is_nothing() {
             return 0;
@@ -49,12 +50,12 @@ impl Own {
     }
 }
 
-/// What all callers have, and what they may.
+/// What all callers have, and their budget.
 #[derive(Drop)]
 struct Model {
     own: Vec<Own>,
     budget: Budget,
-    /// For how many bytes each charmap is counted.
+    /// How many bytes are counted for each charmap.
     map: u64,
 }
 
@@ -77,7 +78,7 @@ impl Model {
         count
     }
 
-    /// A caller has this if all have no more than they may then, and it is said whether they have.
+    /// Gives a caller this, if all callers are within the budget then. Returns whether they are.
     fn accept(&mut self, caller: u32, new: Own) -> bool {
         let Some(own) = self.own.get_mut(caller as usize) else {
             return false;
@@ -101,7 +102,7 @@ fn is_refused(answer: &Answer, wanted: Status) -> bool {
     }
 }
 
-/// A charmap of one mapping, as a PUT has it.
+/// A compiled charmap of one mapping, as a PUT has it.
 fn compiled(alloc: Global, name: &str) -> Result<Result<Arc<Charmap>, CompileFault>, Fail> {
     let text = format!(in alloc;
         "<code_set_name> {name}\nCHARMAP\n<question-mark> \\x3F\nEND CHARMAP\n"
@@ -109,7 +110,7 @@ fn compiled(alloc: Global, name: &str) -> Result<Result<Arc<Charmap>, CompileFau
     Ok(Plain.compile(&(), alloc, text.as_bytes()))
 }
 
-/// OPEN, and whether the answer is the one that is due.
+/// Sends OPEN, and returns whether the answer is the expected one.
 fn opens(alloc: Global, world: &mut World, model: &mut Model, caller: u32, own: Own) -> bool {
     let op = Op::Open {
         to: b"UTF-8",
@@ -128,7 +129,7 @@ fn opens(alloc: Global, world: &mut World, model: &mut Model, caller: u32, own: 
     matches!(answer, Answer::Number(number) if number == free)
 }
 
-/// CLOSE, and whether the answer is the one that is due.
+/// Sends CLOSE, and returns whether the answer is the expected one.
 fn closes(
     alloc: Global,
     world: &mut World,
@@ -146,7 +147,7 @@ fn closes(
     model.accept(caller, Own { numbers, ..own }) && matches!(answer, Answer::Empty)
 }
 
-/// PART, and whether the answer is the one that is due.
+/// Sends PART, and returns whether the answer is the expected one.
 fn parts(
     alloc: Global,
     world: &mut World,
@@ -166,7 +167,7 @@ fn parts(
     matches!(answer, Answer::Count(count) if u64::from(count) == part)
 }
 
-/// PUT, and whether the answer is the one that is due.
+/// Sends PUT, and returns whether the answer is the expected one.
 fn puts(
     alloc: Global,
     world: &mut World,
@@ -193,7 +194,7 @@ fn puts(
     Ok(matches!(answer, Answer::Count(1)))
 }
 
-/// DROP, and whether the answer is the one that is due.
+/// Sends DROP, and returns whether the answer is the expected one.
 fn drops(
     alloc: Global,
     world: &mut World,
@@ -212,13 +213,13 @@ fn drops(
     model.accept(caller, Own { maps, ..own }) && matches!(answer, Answer::Empty)
 }
 
-/// BYE, and whether the answer is the one that is due.
+/// Sends BYE, and returns whether the answer is the expected one.
 fn leaves(alloc: Global, world: &mut World, model: &mut Model, caller: u32) -> bool {
     let answer = world.step(alloc, caller, Op::Bye);
     model.accept(caller, NOTHING) && matches!(answer, Answer::Empty)
 }
 
-/// Makes a request, and says whether the answer is the one that is due.
+/// Sends a pseudorandom request, and returns whether the answer is the expected one.
 fn turn(
     alloc: Global,
     world: &mut World,
@@ -240,7 +241,7 @@ fn turn(
     })
 }
 
-/// For how many bytes a charmap of one mapping is counted.
+/// How many bytes are counted for a charmap of one mapping.
 fn map_bytes(alloc: Global) -> Result<u64, Fail> {
     let mut world = World::within(alloc, UNLIMITED);
     world.step(alloc, 1, Op::Put(compiled(alloc, "A")?));

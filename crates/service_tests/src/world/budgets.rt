@@ -1,4 +1,4 @@
-//! Callers of a world that has a budget: what it refuses, and what gives back.
+//! A world with a budget: what it refuses, and which requests give back what was counted.
 use super::scripts::is_answered;
 use cv_caller::{CALLER_BYTES, DESCRIPTOR_BYTES};
 use cv_world::{Budget, UNLIMITED, World};
@@ -6,7 +6,8 @@ use std::alloc::Global;
 use std::process::Abort;
 use std::test::Fail;
 
-/// Sends the request of each line to a new world with this budget. A line `held BYTES CALLERS` says what the callers hold then.
+/// Sends the requests of all lines to one new world with this budget, and compares the answers. After each the callers
+/// must hold no more than the budget.
 fn ask<R: Abort + AllocGlobal>(rt: &R, budget: Budget, script: &str) -> Result<(), Fail> {
     let mut world = World::within(rt.alloc(), budget);
     for line in script.trim().lines() {
@@ -18,7 +19,7 @@ fn ask<R: Abort + AllocGlobal>(rt: &R, budget: Budget, script: &str) -> Result<(
     Ok(())
 }
 
-/// So many bytes for two callers.
+/// A budget of so many bytes for two callers.
 const fn two(bytes: u64) -> Budget {
     Budget { bytes, callers: 2 }
 }
@@ -100,7 +101,7 @@ fn callers_are_counted(rt: HostRuntime) -> Result<(), Fail> {
 const UPLOAD: &str =
     r"1 put <code_set_name> A|CHARMAP|<question-mark> \x3F||END CHARMAP| = count 1";
 
-/// For how many bytes a charmap of one mapping is counted.
+/// How many bytes are counted for a charmap of one mapping.
 fn map_bytes(alloc: Global) -> Result<u64, Fail> {
     let mut world = World::within(alloc, UNLIMITED);
     if !is_answered(alloc, &mut world, UPLOAD)? {
@@ -148,7 +149,7 @@ const PART_THEN_PUT: &str = r"
 1 open P UTF-8 = ENOMEM
 ";
 
-/// A charmap takes the place of its part.
+/// The charmap is counted, and the part from which it is built no more.
 #[test]
 fn a_part_gives_back_what_it_held(rt: HostRuntime) -> Result<(), Fail> {
     let bytes = CALLER_BYTES.saturating_add(map_bytes(rt.alloc())?);
@@ -163,7 +164,7 @@ const PART_STAYS: &str = r"
 1 part  = count 0
 ";
 
-/// An upload that is refused leaves its part.
+/// A refused upload leaves the part, which stays counted.
 #[test]
 fn a_refused_upload_leaves_the_part(rt: HostRuntime) -> Result<(), Fail> {
     let bytes = CALLER_BYTES.saturating_add(map_bytes(rt.alloc())?);

@@ -1,4 +1,4 @@
-//! One text, cut in each possible way and converted into rooms of several sizes, while another caller converts.
+//! One text, cut in every way and converted with room for several sizes of output, while another caller converts.
 use super::scripts::is_answered;
 use cv_pivot::Stop;
 use cv_world::{Answer, Op, World};
@@ -8,19 +8,19 @@ use std::test::Fail;
 /// U+1F600 in UTF-8.
 const TEXT: [u8; 4] = *b"\xf0\x9f\x98\x80";
 
-/// The ends of the pieces that the text comes in.
+/// The ways to cut the text: the offsets at which its pieces end.
 const WAYS: &str = "4, 1 4, 2 4, 3 4, 1 2 4, 1 3 4, 2 3 4, 1 2 3 4";
 
-/// The caller's descriptor that writes UTF-7, under either policy.
+/// Opens the caller's descriptor, which writes UTF-7, under either policy.
 const OPENINGS: &str = "
 1 open UTF-7 UTF-8 = number 0
 1 open UTF-7 UTF-8 strict = number 0
 ";
 
-/// The request that closes it.
+/// Closes the shift of the text.
 const CLOSING: &str = r#"1 reset 0 2 = written "A-""#;
 
-/// The other caller's descriptor, which writes UTF-7 too.
+/// Opens the other caller's descriptor, which writes UTF-7 too.
 const OTHER: &str = "2 open UTF-7 ISO-8859-1 = number 0";
 
 /// The other caller's calls, one after each piece.
@@ -44,7 +44,7 @@ fn cuts_and_rooms_do_not_show(rt: HostRuntime) -> Result<(), Fail> {
     Ok(())
 }
 
-/// Whether a new world writes all of the text, and answers the other caller as it does alone.
+/// Whether a new world writes the whole text, and answers the other caller as if that were alone.
 fn is_written(alloc: Global, opening: &str, ends: &str, room: u32) -> Result<bool, Fail> {
     let mut world = World::new(alloc);
     let mut written = Vec::new(alloc);
@@ -54,8 +54,8 @@ fn is_written(alloc: Global, opening: &str, ends: &str, room: u32) -> Result<boo
     Ok(opened && fed && closed && written.as_slice() == b"+2D3eA".as_slice())
 }
 
-/// Feeds the text in these pieces, each after what the call before it left, and adds what is written. Answers whether the other caller was
-/// answered after each.
+/// Converts the text in these pieces, each together with the bytes that the call before it left, and appends what is
+/// written. Returns whether the other caller got the expected answer after each.
 fn feed(
     alloc: Global,
     world: &mut World,
@@ -74,7 +74,8 @@ fn feed(
     Ok(true)
 }
 
-/// Converts a piece, and adds what is written. Returns where the bytes that are left begin. At the end of the text none are left.
+/// Converts a piece, and appends what is written. Returns the offset at which the bytes that are left begin. Fails if
+/// any are left at the end of the text.
 fn feed_piece(
     alloc: Global,
     world: &mut World,

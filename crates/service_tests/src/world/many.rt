@@ -1,4 +1,4 @@
-//! Many callers of one world: what each may have is its own.
+//! Many callers of one world: each has limits of its own.
 use super::scripts::is_answered;
 use cv_world::World;
 use std::alloc::Global;
@@ -19,7 +19,7 @@ fn each_of_100_callers_has_16_descriptors(rt: HostRuntime) -> Result<(), Fail> {
     Ok(())
 }
 
-/// Whether a caller is given all numbers in their order, and then no more.
+/// Whether a caller gets the numbers 0 to 15 in this order, and then EMFILE.
 fn opens_all(alloc: Global, world: &mut World, caller: u32) -> Result<bool, Fail> {
     for number in 0..16 {
         let line = format!(in alloc; "{caller} open UTF-8 US-ASCII = number {number}")?;

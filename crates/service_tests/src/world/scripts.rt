@@ -1,6 +1,6 @@
-//! Scripts of requests to a world. A line is `CALLER REQUEST = ANSWER`, and the request is as in scripts: in its text `|` stands for a line
-//! feed. An answer is `empty`, `number NUMBER`, `count COUNT`, `STOP LEFT COUNT OUTPUT`, `written CLOSING`, `BADMAP LINE`, or the
-//! name of another status.
+//! Scripts of requests to a world. A line is `CALLER REQUEST = ANSWER`. The request is written as in the program's
+//! scripts, and in its text `|` means a line feed. An answer is `empty`, `number NUMBER`, `count COUNT`, `STOP LEFT
+//! COUNT OUTPUT`, `written CLOSING`, `BADMAP LINE`, or the name of another status.
 use crate::words::{bytes_of, first_word, policy_of, sides, text_of};
 use cv_cache::{Compiler, Plain};
 use cv_world::{Answer, Op, World};
@@ -8,7 +8,7 @@ use std::alloc::{AllocError, Global};
 use std::process::Abort;
 use std::test::Fail;
 
-/// Sends the request of each line to a new world.
+/// Sends the requests of all lines to one new world, and compares the answers.
 pub fn ask<R: Abort + AllocGlobal>(rt: &R, script: &str) -> Result<(), Fail> {
     let mut world = World::new(rt.alloc());
     for line in script.trim().lines() {
@@ -18,7 +18,7 @@ pub fn ask<R: Abort + AllocGlobal>(rt: &R, script: &str) -> Result<(), Fail> {
     Ok(())
 }
 
-/// Whether a world's answer is the one of a line.
+/// Sends the request of a line to a world, and returns whether the answer is the one of the line.
 pub fn is_answered(alloc: Global, world: &mut World, line: &str) -> Result<bool, Fail> {
     let (asked, wanted) = sides(line, " = ")?;
     let (caller, request) = sides(asked, " ")?;
@@ -132,7 +132,7 @@ fn output(answer: &Answer) -> Option<&[u8]> {
     }
 }
 
-/// Whether a text is these words, and then the output.
+/// Whether the wanted words are `told`, and then the output.
 fn ends_in(alloc: Global, told: &str, output: &[u8], wanted: &str) -> Result<bool, Fail> {
     let Some((front, bytes)) = wanted.rsplit_once(' ') else {
         return Ok(false);

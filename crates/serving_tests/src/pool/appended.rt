@@ -1,4 +1,4 @@
-//! What engines append for a batch, and write for a stream: the frames of the replies that such an engine gives.
+//! Engines append for a batch, and write for a stream, the frames of the replies that they would return.
 use super::in_order::{convs, letters, opens};
 use super::pool_of;
 use crate::asking::{WAYS, Way, told};
@@ -13,8 +13,8 @@ use std::sync::Wait;
 use std::test::Fail;
 use std::thread::Threads;
 
-/// How many workers there are, and how many bytes each CONV has: of the small ones a batch runs on the thread that is there, of the
-/// others by threads.
+/// The number of workers, and how many bytes each CONV has. A batch of small ones runs on the calling thread, and one
+/// of the others on several threads if there are several workers.
 const POOLS: &str = "1 1, 2 1, 16 1, 1 5000, 2 5000, 3 20000, 16 20000";
 
 #[test]
@@ -32,7 +32,8 @@ fn pools_append_what_they_reply(rt: HostRuntime) -> Result<(), Fail> {
     Ok(())
 }
 
-/// What a pool of so many workers tells 64 callers, each of which opens a descriptor and converts these letters.
+/// The replies of a pool of `workers` workers to 64 callers, each of which opens a descriptor and converts these
+/// letters.
 fn answers_of<R: Threads + Wait + Sync>(
     rt: &R,
     alloc: Global,
@@ -47,7 +48,7 @@ fn answers_of<R: Threads + Wait + Sync>(
     Ok(frames)
 }
 
-/// Two callers' uploads, OPENs and CONVs in one batch, which two workers answer by two threads.
+/// The uploads, OPENs and CONVs of two callers in one batch, which two workers answer on two threads.
 #[test]
 fn two_callers_are_told_in_each_way(rt: HostRuntime) -> Result<(), Fail> {
     let requests = requests_in(rt.alloc(), TWO_CALLERS)?;

@@ -1,4 +1,4 @@
-//! Shards that wait for one another: a pool that ran them one after another, or under one lock, would be late.
+//! Shards that wait for each other. A pool that ran them one after the other, or under one lock, would be late.
 ghost use Rattle.std.specs.Thread.{IsSync};
 
 use super::watched::Watched;
@@ -21,10 +21,10 @@ use std::sync::{Arc, Wait};
 use std::test::Fail;
 use std::thread::{self, Threads};
 
-/// How long one waits for another.
+/// How often a flag is looked at before it counts as late.
 const MOST_LOOKS: u32 = 1_000_000;
 
-/// Waits until a flag is set, or sets that it was late.
+/// Waits until `flag` is set, or sets `late` after `MOST_LOOKS` looks.
 fn wait_for(flag: &AtomicU64, late: &AtomicU64) {
     for _ in 0..MOST_LOOKS {
         if flag.load(Ordering::SeqCst) == 1 {
@@ -35,7 +35,7 @@ fn wait_for(flag: &AtomicU64, late: &AtomicU64) {
     late.store(1, Ordering::SeqCst);
 }
 
-/// Holds a shard's first request until the other shard has answered its own.
+/// A gate that holds the first request of one shard until the other shard has answered its own.
 #[derive(Drop)]
 struct Held<'a> {
     held: usize,
@@ -82,10 +82,11 @@ impl<R: Threads + Wait + Sync> Engine<R> for Watched<Plain, Held<'_>> {
     }
 }
 
-/// How many workers there are, and which two callers ask: neighbours, those at the ends, and two whose numbers are larger than the pool.
+/// The number of workers and two callers: neighbours, those of the first and the last shard, and two whose numbers are
+/// larger than the number of workers.
 const PAIRS: &str = "2 0 1, 3 1 2, 16 3 4, 16 0 15, 5 12 19";
 
-/// They ask as little as may be.
+/// The requests are small. Threads are started because the gate says that a shard may wait.
 #[test]
 fn a_shard_runs_while_another_is_held(rt: HostRuntime) -> Result<(), Fail> {
     for way in WAYS {
@@ -97,8 +98,8 @@ fn a_shard_runs_while_another_is_held(rt: HostRuntime) -> Result<(), Fail> {
     Ok(())
 }
 
-/// They ask so much that threads are started where nothing may wait, however many workers there are. No stream has so much in one batch:
-/// what a read of it brought is answered before the next.
+/// The requests are so large that threads are started although the gate says that no shard may wait. A stream is left
+/// out, since it has no such batch: what one read brought is answered before the next read.
 #[test]
 fn much_is_answered_at_once(rt: HostRuntime) -> Result<(), Fail> {
     for way in [Way::Batch, Way::Appended] {
@@ -110,7 +111,8 @@ fn much_is_answered_at_once(rt: HostRuntime) -> Result<(), Fail> {
     Ok(())
 }
 
-/// Whether one of two callers waits in vain for the other, whichever is held. Their requests have so many bytes.
+/// Whether one of two callers waits in vain for the other, if the first or if the second is held. The bodies of their
+/// requests have `size` bytes.
 fn one_is_late<R: Threads + Wait + Sync>(
     rt: &R,
     alloc: Global,
@@ -134,7 +136,7 @@ fn one_is_late<R: Threads + Wait + Sync>(
     )
 }
 
-/// Whether one of two callers waits in vain for the other, of a pool of so many workers.
+/// Whether the shard of caller `held` waits in vain for the other one, in a pool of `workers` workers.
 fn is_late<R: Threads + Wait + Sync>(
     rt: &R,
     alloc: Global,
@@ -156,11 +158,12 @@ fn is_late<R: Threads + Wait + Sync>(
     };
     let pool = Pool::new(alloc, workers, Plain, gate)?;
     let frames = told(rt, alloc, way, &mut Watched { pool }, requests)?;
-    // Each of two replies has no body.
+    // The two replies have no bodies.
     Ok(frames.len() != 26 || late.load(Ordering::SeqCst) != 0)
 }
 
-/// Compiles a text once another text is being compiled too.
+/// A compiler that waits with a text until another one, of even size if the first is of odd size, is being compiled
+/// too.
 #[derive(Drop)]
 struct Meeting<'a> {
     even: &'a AtomicU64,
@@ -212,7 +215,7 @@ fn texts_are_compiled_at_once(rt: HostRuntime) -> Result<(), Fail> {
     Ok(())
 }
 
-/// Whether one of two texts that two callers put waits in vain for the other, or one is compiled to another charmap.
+/// Whether one of the texts that two callers put waits in vain for the other, or a reply is wrong.
 fn one_text_is_late<R: Threads + Wait + Sync>(
     rt: &R,
     alloc: Global,

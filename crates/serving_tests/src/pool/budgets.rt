@@ -1,4 +1,4 @@
-//! A pool within a budget: each worker has a part of it, and what the callers hold is told after each batch.
+//! A pool within a budget: each worker has a part of it, and what the callers hold is reported after each batch.
 use crate::asking::{WAYS, told};
 use crate::ops::{BYE, OK, OPEN};
 use crate::requests::{push_frame, request};
@@ -10,13 +10,13 @@ use cv_world::{Budget, Usage};
 use std::sync::atomic::{AtomicU64, Ordering};
 use std::test::Fail;
 
-/// To UTF-8, from US-ASCII.
+/// The body of an OPEN from US-ASCII to UTF-8.
 const NAMES: &[u8] = b"\x05UTF-8\x08US-ASCII";
 
-/// For how many bytes a caller with one descriptor is counted.
+/// How many bytes are counted for a caller with one descriptor.
 const ONE: u64 = CALLER_BYTES + DESCRIPTOR_BYTES;
 
-/// What the callers of a pool hold, as it was told last.
+/// What the callers of a pool hold, as it was reported last.
 #[derive(Drop)]
 struct Holdings {
     bytes: AtomicU64,
@@ -32,7 +32,7 @@ impl Holdings {
         }
     }
 
-    /// How many bytes they are counted for.
+    /// How many bytes are counted for them.
     fn bytes(&self) -> u64 {
         self.bytes.load(Ordering::SeqCst)
     }
@@ -51,7 +51,7 @@ impl Tally for Holdings {
     }
 }
 
-/// One caller of each worker has room for one descriptor.
+/// Each worker has room for one caller with one descriptor.
 #[test]
 fn each_worker_has_a_part_of_the_budget(rt: HostRuntime) -> Result<(), Fail> {
     let refused = Status::NoMemory.number();

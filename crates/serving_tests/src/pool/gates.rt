@@ -1,4 +1,4 @@
-//! What a gate is told where no thread is started.
+//! The calls of a gate if no thread is started.
 ghost use Rattle.std.specs.Thread.{IsSync};
 
 use super::watched::Watched;
@@ -18,7 +18,8 @@ use std::sync::atomic::{AtomicU64, Ordering};
 use std::test::Fail;
 use std::thread::Threads;
 
-/// Writes down what passes it, one pass behind another in decimal digits. Nothing waits at it, so no thread is started for little work.
+/// A gate that records its calls as a decimal number: two digits for each, the shard and the turn. Nothing waits at it,
+/// so no thread is started for little work.
 #[derive(Drop)]
 struct Noting<'a> {
     passes: &'a AtomicU64,
@@ -58,7 +59,8 @@ impl<R: Threads + Wait + Sync> Engine<R> for Watched<Plain, Noting<'_>> {
     }
 }
 
-/// How many workers there are and whose requests a batch has, and the passes: of each the shard and the turn, behind a 9.
+/// The number of workers, the callers of the requests of a batch, and the calls of the gate: a 9, and then the shard
+/// and the turn of each.
 const PASSES: &str = "
 1 5: 90001
 1 5 6 5: 900010203
@@ -78,7 +80,8 @@ fn each_request_passes_the_gate(rt: HostRuntime) -> Result<(), Fail> {
     Ok(())
 }
 
-/// What passes the gate of a pool of so many workers in a batch of these callers.
+/// The calls of the gate of a pool for a batch of these callers. `asked` has the number of workers, and then the
+/// callers.
 fn passes_of<R: Threads + Wait + Sync>(
     rt: &R,
     alloc: Global,
@@ -100,7 +103,7 @@ fn passes_of<R: Threads + Wait + Sync>(
     Ok(passes.load(Ordering::SeqCst))
 }
 
-/// A CLOSE of each of these callers, of no form.
+/// A CLOSE of each of these callers, with a malformed body.
 fn closes(alloc: Global, callers: &str) -> Result<Vec<Request<'static>>, Fail> {
     let mut requests = Vec::new(alloc);
     for caller in callers.split(' ') {

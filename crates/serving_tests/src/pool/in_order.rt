@@ -1,4 +1,4 @@
-//! The replies to a batch, in the order of its requests, for any number of workers.
+//! The replies to a batch are in the order of its requests, for any number of workers.
 use super::pool_of;
 use crate::ops::{CONV, OPEN};
 use crate::requests::request;
@@ -11,14 +11,14 @@ use std::sync::Wait;
 use std::test::Fail;
 use std::thread::Threads;
 
-/// The body of an OPEN to UTF-8 from US-ASCII.
+/// The body of an OPEN from US-ASCII to UTF-8.
 const TO_UTF8: &[u8] = b"\x05UTF-8\x08US-ASCII";
 
-/// How many callers ask.
+/// How many callers there are.
 const CALLERS: u32 = 64;
 
-/// How many workers there are, and how many bytes each CONV has: of the small ones a batch runs on the thread that is there, of the
-/// others by threads.
+/// The number of workers, and how many bytes each CONV has. A batch of small ones runs on the calling thread, and one
+/// of the others on several threads if there are several workers.
 const SIZES: &str = "1 1, 2 1, 16 1, 1 5000, 2 5000, 3 20000, 16 20000, 16 40000";
 
 #[test]
@@ -32,7 +32,8 @@ fn replies_stand_in_the_order_of_the_requests(rt: HostRuntime) -> Result<(), Fai
     Ok(())
 }
 
-/// The body of a CONV of so many letters A on descriptor 0, with just the room that they need.
+/// Returns the body of a CONV of `size` letters A on descriptor 0, with exactly the room that they need, up to 65,535
+/// bytes.
 pub fn letters(alloc: Global, size: usize) -> Result<Vec<u8>, AllocError> {
     let mut body = Vec::new(alloc);
     body.extend_from_slice(b"\0\0\0\0")?;
@@ -41,7 +42,7 @@ pub fn letters(alloc: Global, size: usize) -> Result<Vec<u8>, AllocError> {
     Ok(body)
 }
 
-/// Whether a pool of so many workers answers each caller's OPEN and CONV of letters.
+/// Whether a pool of `workers` workers gives the right replies to each caller's OPEN and CONV of letters.
 fn all_answered<R: Threads + Wait + Sync>(
     rt: &R,
     alloc: Global,
@@ -57,7 +58,7 @@ fn all_answered<R: Threads + Wait + Sync>(
     Ok(opened && converted)
 }
 
-/// OPENs of all callers in order.
+/// Returns OPENs of all callers in order.
 pub fn opens(alloc: Global) -> Result<Vec<Request<'static>>, Fail> {
     let mut opens = Vec::new(alloc);
     for caller in 0..CALLERS {
@@ -66,7 +67,7 @@ pub fn opens(alloc: Global) -> Result<Vec<Request<'static>>, Fail> {
     Ok(opens)
 }
 
-/// CONVs of all callers in the opposite order.
+/// Returns CONVs of all callers in the opposite order.
 pub fn convs(alloc: Global, body: &[u8]) -> Result<Vec<Request<'_>>, Fail> {
     let mut convs = Vec::new(alloc);
     for caller in 0..CALLERS {
@@ -76,7 +77,7 @@ pub fn convs(alloc: Global, body: &[u8]) -> Result<Vec<Request<'_>>, Fail> {
     Ok(convs)
 }
 
-/// Whether a pool gives the 64 replies to a batch, each with this body.
+/// Whether a pool gives 64 replies to a batch, each with this body, which is `head` and then `tail`.
 fn is_answered<R: Threads + Wait + Sync>(
     rt: &R,
     alloc: Global,
@@ -108,7 +109,7 @@ fn is_reply(reply: &Reply, caller: u32, tag: u32, head: &[u8], tail: &[u8]) -> b
         && reply.tail.as_slice() == tail
 }
 
-/// One caller alone has all the work, so that no thread is made; and a batch of nothing has none.
+/// One caller has all the work, so no thread is started. An empty batch has no replies.
 #[test]
 fn one_caller_is_answered(rt: HostRuntime) -> Result<(), Fail> {
     let body = letters(rt.alloc(), 50_000)?;

@@ -1,4 +1,4 @@
-//! Two callers' charmaps, in a stream that is served by a pool.
+//! The charmaps of two callers, in a stream that a pool serves.
 use super::pool_of;
 use crate::streams::{Slow, TOLD, TWO_CALLERS};
 use cv_loop::{FromReader, Served, ToWriter, serve};
@@ -18,7 +18,8 @@ fn a_stream_is_served_however_it_is_cut(rt: HostRuntime) -> Result<(), Fail> {
     Ok(())
 }
 
-/// Whether a pool of so many workers serves the stream of two callers, cut at this place, as it should be.
+/// Whether a pool of `workers` workers writes the right replies to the stream of two callers, if reads cut it at offset
+/// `cut`.
 fn is_served<R: Threads + Wait + Sync>(
     rt: &R,
     alloc: Global,

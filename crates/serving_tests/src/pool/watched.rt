@@ -1,4 +1,4 @@
-//! Pools with a compiler and a gate of a test's own, as engines.
+//! Pools with a test's own compiler and gate, as engines.
 ghost use Rattle.cv_caller.specs.Tables.{Table as WorldTable};
 ghost use Rattle.cv_pool.specs.Pools.{pool_tables};
 ghost use Rattle.cv_world.specs.Requests.{turn};
@@ -6,7 +6,8 @@ ghost use Rattle.cv_world.specs.Requests.{turn};
 use cv_machine::Machine;
 use cv_pool::Pool;
 
-/// A pool. It is an engine where its compiler and its gate are named, since no type parameter of an engine may be sent to a thread.
+/// A pool. It is an engine only for named types of compiler and gate, since no type parameter of an engine may be sent
+/// to a thread.
 #[derive(Drop)]
 pub struct Watched<C, G> {
     pub pool: Pool<C, G>,

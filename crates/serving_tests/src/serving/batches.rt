@@ -1,4 +1,4 @@
-//! Which requests a batch has, and that its replies are written before the next batch runs.
+//! Which requests a batch has. Its replies are written before the next batch runs.
 ghost use Rattle.cv_caller.specs.Tables.{Table as WorldTable};
 ghost use Rattle.cv_world.specs.Requests.{turn};
 ghost use Rattle.cv_world.specs.Worlds.{world_tables};
@@ -16,7 +16,7 @@ use std::io::{self, Write};
 use std::sync::atomic::{AtomicU64, Ordering};
 use std::test::Fail;
 
-/// A world that writes down how many requests each batch has, and how many pushes were made before it.
+/// A world that records how many requests each batch has, and how many writes were made before it.
 #[derive(Drop)]
 struct Noting<'a> {
     world: World,
@@ -49,7 +49,7 @@ impl<R> Engine<R> for Noting<'_> {
     }
 }
 
-/// Takes all bytes, and counts the pushes.
+/// A writer that takes all bytes, and counts its writes.
 #[derive(Drop)]
 struct Counting<'a> {
     pushes: &'a AtomicU64,
@@ -68,8 +68,8 @@ impl Write for Counting<'_> {
     }
 }
 
-/// How many uploads the engine runs at once and what is asked in one read, and the batches: of each its size, and how many pushes were
-/// made before it. Uploads are `p`, others `c`, each before how many they are.
+/// A line has the most uploads that the engine runs at once, the requests of one read, and the batches: the size of
+/// each, and how many writes were made before it. `p3` is three uploads, and `c3` is three other requests.
 const BATCHES: &str = "
 1: c3 = 3 after 0
 1: c64 = 64 after 0
@@ -93,7 +93,7 @@ fn uploads_stand_in_batches_of_their_own(rt: HostRuntime) -> Result<(), Fail> {
     Ok(())
 }
 
-/// The frames of so many uploads and others.
+/// The frames of the requests of a line.
 fn stream_of(alloc: Global, asked: &str) -> Result<Vec<u8>, Fail> {
     let mut stream = Vec::new(alloc);
     for word in asked.split(' ') {

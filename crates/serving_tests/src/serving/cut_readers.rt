@@ -1,10 +1,11 @@
-//! Two callers with a charmap of one name each, read in pieces: how the reader cuts the stream doesn't show.
+//! Two callers, each with a charmap of the same name. How the reader cuts their stream changes no reply.
 use crate::streams::{Narrow, Slow, TOLD, TWO_CALLERS};
 use cv_loop::{FromReader, ServeFault, Served, ToWriter, serve};
 use cv_world::World;
 use std::alloc::Global;
 
-/// Whether a reader that gives the first bytes and then the others, so many at a time, is served as it should be.
+/// Whether the replies are right if a reader gives the first `first` bytes and then the others, at most `step` at a
+/// time.
 fn is_served(alloc: Global, first: usize, step: usize) -> bool {
     let (bytes, more) = TWO_CALLERS.split_at(first.min(TWO_CALLERS.len()));
     let mut reader = FromReader::new(Slow {

@@ -1,4 +1,4 @@
-//! Streams that end in each way, and devices that fail at each byte, over engines of three kinds.
+//! Streams that end in each way, and readers and writers that fail at each byte, with engines of three kinds.
 use crate::engines::{KINDS, Kind, serve_by};
 use crate::streams::{Narrow, Slow};
 use crate::words::sides;
@@ -8,11 +8,12 @@ use std::sync::Wait;
 use std::test::Fail;
 use std::thread::Threads;
 
-/// Caller 7 opens UTF-8 from ISO-8859-1, and it is number 0; then it converts `41 e9 42`. The first request has 30 bytes, and both 54.
+/// Caller 7 opens a descriptor from ISO-8859-1 to UTF-8, which gets the number 0. Then it converts `41 e9 42`. The
+/// first request has 30 bytes, and both have 54.
 const REQUESTS: &[u8] = b"\0\0\0\x1a\0\0\0\x07\0\0\0\x01\x03\x05UTF-8\x0aISO-8859-1\
     \0\0\0\x14\0\0\0\x07\0\0\0\x02\x04\0\0\0\0\0\0\0\x08\x41\xe9\x42";
 
-/// The first reply has 17 bytes, and both 42.
+/// The first reply has 17 bytes, and both have 42.
 const REPLIES: &[u8] = b"\0\0\0\x0d\0\0\0\x07\0\0\0\x01\0\0\0\0\0\
     \0\0\0\x15\0\0\0\x07\0\0\0\x02\0\0\0\0\0\0\0\0\0\x41\xc3\xa9\x42";
 
@@ -21,9 +22,9 @@ const REPLIES: &[u8] = b"\0\0\0\x0d\0\0\0\x07\0\0\0\x01\0\0\0\0\0\
 struct Case {
     /// How many bytes of the requests are given.
     given: usize,
-    /// A length that is given behind them.
+    /// A length that is given after them.
     length: Option<u32>,
-    /// How many bytes a read brings, and a write takes.
+    /// The most bytes that a read brings, and that a write takes.
     step: usize,
     reader_fails: bool,
     reads: u64,
@@ -42,8 +43,8 @@ const WHOLE: Case = Case {
     writer_fails: false,
 };
 
-/// `NAME: WAYS = RESULT WRITTEN`: in which ways the case is another than the whole stream, how serving it ends, and how many bytes of the
-/// replies are written.
+/// A line is `NAME: WAYS = RESULT WRITTEN`: how the case differs from the whole stream, the result of serving it, and
+/// how many bytes of the replies are written.
 const CASES: &str = "
 both frames: given 54 = Ok(Served { requests: 2 }) 42
 no bytes: given 0, reads 1 = Ok(Served { requests: 0 }) 0
@@ -72,7 +73,7 @@ fn ends_as_it_should(rt: HostRuntime) -> Result<(), Fail> {
     Ok(())
 }
 
-/// The case that a line gives.
+/// The case of a line.
 fn case_of(given: &str) -> Result<Case, Fail> {
     let (_, ways) = sides(given, ": ")?;
     let mut case = WHOLE;
@@ -82,7 +83,7 @@ fn case_of(given: &str) -> Result<Case, Fail> {
     Ok(case)
 }
 
-/// Sets one way in which a case is another.
+/// Sets one way in which a case differs from the whole stream.
 fn set(case: &mut Case, way: &str) -> Result<(), Fail> {
     let (name, value) = sides(way, " ")?;
     match name {
@@ -97,7 +98,7 @@ fn set(case: &mut Case, way: &str) -> Result<(), Fail> {
     Ok(())
 }
 
-/// Whether a case ends so with each kind of engine.
+/// Whether a case has this result with each kind of engine.
 fn ends_so<R: Threads + Wait + Sync>(
     rt: &R,
     alloc: Global,
@@ -112,7 +113,7 @@ fn ends_so<R: Threads + Wait + Sync>(
     Ok(true)
 }
 
-/// What comes of serving a case, and how many bytes of the replies are written.
+/// The result of serving a case, and how many bytes of the replies are written.
 fn told<R: Threads + Wait + Sync>(
     rt: &R,
     alloc: Global,
@@ -146,7 +147,7 @@ fn told<R: Threads + Wait + Sync>(
     Ok(format!(in alloc; "{result:?} {written}")?)
 }
 
-/// From so many bytes of the stream to so many, and what comes of it where it ends behind them.
+/// The first and the last of some sizes, and the result if the stream ends after so many bytes.
 const CUTS: &str = "
 0 0 = Ok(Served { requests: 0 }) 0
 1 29 = Err(TruncatedFrame) 0
@@ -155,7 +156,7 @@ const CUTS: &str = "
 54 54 = Ok(Served { requests: 2 }) 42
 ";
 
-/// The same where a read fails behind them.
+/// The same, if a read fails after so many bytes.
 const FAILED_READS: &str = "
 0 29 = Err(Read) 0
 30 53 = Err(Read) 17
@@ -180,7 +181,7 @@ fn a_read_fails_behind_each_byte(rt: HostRuntime) -> Result<(), Fail> {
     Ok(())
 }
 
-/// Whether all streams of a line end so.
+/// Whether all streams of a line have its result.
 fn end_so<R: Threads + Wait + Sync>(
     rt: &R,
     alloc: Global,
@@ -200,7 +201,7 @@ fn end_so<R: Threads + Wait + Sync>(
     Ok(true)
 }
 
-/// A writer that takes one byte at a time, or as many as it is given.
+/// The writer takes one byte at a time, or as many as it is given.
 #[test]
 fn a_write_fails_behind_each_byte(rt: HostRuntime) -> Result<(), Fail> {
     let mut case = WHOLE;

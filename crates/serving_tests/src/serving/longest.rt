@@ -1,14 +1,15 @@
-//! The longest frame, a CONV of 1,048,559 bytes, over engines of three kinds.
+//! The longest frame, a CONV of 1,048,559 bytes, with engines of three kinds.
 use crate::engines::{KINDS, serve_by};
 use cv_loop::{FromReader, Served, ToWriter};
 use std::alloc::{AllocError, Global};
 use std::test::Fail;
 
-/// Caller 7 opens ISO-8859-1 from UTF-8. Behind it a frame of 1,048,576 bytes begins, which converts by it, with room for 524,280 bytes.
+/// Caller 7 opens a descriptor from UTF-8 to ISO-8859-1. After it begins a frame of length 1,048,576, which converts by
+/// this descriptor, with room for 524,280 bytes.
 const HEADS: &[u8] = b"\0\0\0\x1a\0\0\0\x07\0\0\0\x01\x03\x0aISO-8859-1\x05UTF-8\
     \0\x10\0\0\0\0\0\x07\0\0\0\x02\x04\0\0\0\0\0\x07\xff\xf8";
 
-/// The descriptor has the number 0, and of the input nothing is left.
+/// The beginnings of the replies: the descriptor has the number 0, and nothing of the input is left.
 const REPLY_HEADS: &[u8] = b"\0\0\0\x0d\0\0\0\x07\0\0\0\x01\0\0\0\0\0\
     \0\x08\0\x09\0\0\0\x07\0\0\0\x02\0\0\0\0\0\0\0\0\0";
 

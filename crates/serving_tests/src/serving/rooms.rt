@@ -1,4 +1,4 @@
-//! How much room each read has: little at first, and more where reads bring all that they may.
+//! How much room each read has: little at first, and more after reads that fill it.
 use crate::requests::push_frame;
 use crate::words::sides;
 use cv_loop::{FromReader, ToWriter, serve};
@@ -7,7 +7,7 @@ use std::alloc::Global;
 use std::io::{self, Read};
 use std::test::Fail;
 
-/// Gives its bytes a few at a time, and writes down how much room each read has.
+/// A reader that gives its bytes, at most `step` at a time, and records how much room each read has.
 #[derive(Drop)]
 struct Noting<'a> {
     bytes: &'a [u8],
@@ -26,7 +26,8 @@ impl Read for Noting<'_> {
     }
 }
 
-/// How long the frames of a stream are and how many bytes a read brings, and the room of each read up to that at the end.
+/// The sizes of the frames of a stream, the most bytes that a read brings, and the room of each read, with that of the
+/// one at the end.
 const ROOMS: &str = "
 13 by 100: 4096 4096
 300 by 100: 4096 4096 4096 4096
@@ -48,7 +49,7 @@ fn reads_have_room_as_they_bring(rt: HostRuntime) -> Result<(), Fail> {
     Ok(())
 }
 
-/// Frames of these lengths, of an op that there isn't.
+/// Frames of these sizes, with an unknown op.
 fn stream_of(alloc: Global, frames: &str) -> Result<Vec<u8>, Fail> {
     let mut stream = Vec::new(alloc);
     for length in frames.split(' ') {
@@ -58,7 +59,7 @@ fn stream_of(alloc: Global, frames: &str) -> Result<Vec<u8>, Fail> {
     Ok(stream)
 }
 
-/// The room of each read of a stream, of which each brings so many bytes at most.
+/// The room of each read of a stream, if each brings at most `step` bytes.
 fn rooms_of(alloc: Global, stream: &[u8], step: usize) -> Result<String, Fail> {
     let mut reader = FromReader::new(Noting {
         bytes: stream,

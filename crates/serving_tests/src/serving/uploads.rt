@@ -1,4 +1,4 @@
-//! Uploads served by an engine with a compiler of one's own.
+//! Uploads that are served by a world with a compiler.
 use crate::ops::{BYE, PART, PUT};
 use crate::requests::request;
 use crate::words::{first_word, sides};
@@ -9,8 +9,8 @@ use std::alloc::Global;
 use std::process::Abort;
 use std::test::Fail;
 
-/// Requests, and the statuses of their replies. A `part` begins a charmap text with its name, and each `put` ends one in the same way. The
-/// part goes with a charmap that is held, and one that isn't held leaves it.
+/// Requests, and the statuses of their replies. A `part` begins a charmap text with its name, and every `put` ends one
+/// with the same lines. An accepted charmap uses up the part, and a refused one leaves it.
 const UPLOADS: &str = "
 1 part <code_set_name> A = OK
 1 put = OK
@@ -25,7 +25,7 @@ const UPLOADS: &str = "
 1 put = BADMAP
 ";
 
-/// How a charmap text ends that began with its name.
+/// The lines of a charmap text after its name.
 const REST: &[u8] = b"\nCHARMAP\n<question-mark> \\x3F\nEND CHARMAP\n";
 
 #[test]

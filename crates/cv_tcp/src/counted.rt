@@ -3,11 +3,11 @@ use crate::counters::Counters;
 use crate::metered::Counts;
 use crate::one_stream::Counting;
 use crate::report::report_lack;
-use cv_commands::{Tally, Usage};
+use cv_commands::{NO_USAGE, Tally, Usage};
 use cv_metrics::{Meter, Peer, Place};
 use log::Log;
 use std::alloc::Global;
-use std::cell::RefCell;
+use std::cell::{Cell, RefCell};
 use std::time::Clock;
 
 /// Counts a stream at one of the board's places, and logs the first reply that says that an allocation failed.
@@ -19,6 +19,8 @@ pub(crate) struct Counted<'a, R, G> {
     place: &'a Place,
     peer: Peer,
     meter: RefCell<Meter<'a>>,
+    /// What its callers hold since the last batch.
+    usage: Cell<Usage>,
 }
 
 impl<'a, R: Clock, G: Log> Counted<'a, R, G> {
@@ -31,6 +33,7 @@ impl<'a, R: Clock, G: Log> Counted<'a, R, G> {
             place: counting.place,
             peer,
             meter: RefCell::new(Meter::new(alloc, counting.place)),
+            usage: Cell::new(NO_USAGE),
         }
     }
 
@@ -43,6 +46,7 @@ impl<'a, R: Clock, G: Log> Counted<'a, R, G> {
 impl<'a, R: Clock, G: Log> Tally for Counted<'a, R, G> {
     fn note(&self, usage: Usage) {
         self.place.hold(usage.bytes, u64::from(usage.callers));
+        self.usage.set(usage);
     }
 }
 
@@ -72,7 +76,7 @@ impl<'a, R: Clock, G: Log> Counts for Counted<'a, R, G> {
             meter.ready(self.now());
         }
         if meter.lacked_memory() && !lacked {
-            report_lack(self.log, self.peer);
+            report_lack(self.log, self.peer, self.usage.get());
         }
     }
 

@@ -9,7 +9,7 @@ use cv_metrics::{Board, Cause, FaultKind, Peer, Place};
 use jiff::Timestamp;
 use std::alloc::{AllocError, Global};
 use std::sync::Wait;
-use std::time::{Clock, Instant};
+use std::time::Clock;
 
 /// Why a stream ended.
 fn cause_of(fault: Option<StreamFault>) -> Cause
@@ -43,11 +43,19 @@ fn kind_of(fault: RunFault) -> FaultKind
 /// How many nanoseconds a second has.
 const SECOND: u64 = 1_000_000_000;
 
+/// What the monotonic clock says, in nanoseconds, if it can be read.
+fn read_clock<R: Clock>(rt: &R) -> Option<u64> {
+    let time = rt.monotonic().ok()?;
+    let nanos = time.as_secs().saturating_mul(SECOND);
+    Some(nanos.saturating_add(u64::from(time.subsec_nanos())))
+}
+
 /// The server's board, and when the server began: times are measured from there.
 #[derive(Drop)]
 pub(crate) struct Counters {
     board: Board,
-    begun: Option<Instant>,
+    /// What the clock said when it began, in nanoseconds, if it could be read.
+    begun: Option<u64>,
     /// When it began, in seconds since 1970, or 0 if the clock cannot be read.
     start_time: u64,
     version: String,
@@ -64,7 +72,7 @@ impl Counters {
         let start = Timestamp::now(rt).map_or(0, |time| time.as_second());
         Ok(Counters {
             board: Board::new(alloc, threads)?,
-            begun: Instant::now(rt).ok(),
+            begun: read_clock(rt),
             start_time: u64::try_from(start).unwrap_or(0),
             version: String::from_str(alloc, version)?,
         })
@@ -87,17 +95,10 @@ impl Counters {
 
     /// How many nanoseconds the server has run, or 0 if the clock cannot be read.
     pub(crate) fn now<R: Clock>(&self, rt: &R) -> u64 {
-        let Some(begun) = self.begun else {
-            return 0;
-        };
-        let Ok(now) = Instant::now(rt) else {
-            return 0;
-        };
-        let lasted = now.duration_since(begun);
-        lasted
-            .as_secs()
-            .saturating_mul(SECOND)
-            .saturating_add(u64::from(lasted.subsec_nanos()))
+        match (self.begun, read_clock(rt)) {
+            (Some(begun), Some(now)) => now.saturating_sub(begun),
+            _ => 0,
+        }
     }
 
     /// Notes that a stream begins at a place.

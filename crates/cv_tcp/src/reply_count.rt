@@ -3,7 +3,7 @@ ghost use Rattle.std.specs.Prelude.{◌≤◌, length};
 
 use crate::metered::Counts;
 use crate::report::report_lack;
-use cv_commands::{Tally, Usage};
+use cv_commands::{NO_USAGE, Tally, Usage};
 use cv_frame::Status;
 use cv_metrics::{Peer, Scan};
 use log::Log;
@@ -17,6 +17,8 @@ pub(crate) struct ReplyCount<'a, G> {
     scan: RefCell<Scan>,
     replies: Cell<u64>,
     has_lacked: Cell<bool>,
+    /// What its callers hold since the last batch.
+    usage: Cell<Usage>,
 }
 
 impl<'a, G: Log> ReplyCount<'a, G> {
@@ -28,6 +30,7 @@ impl<'a, G: Log> ReplyCount<'a, G> {
             scan: RefCell::new(Scan::new()),
             replies: Cell::new(0),
             has_lacked: Cell::new(false),
+            usage: Cell::new(NO_USAGE),
         }
     }
 }
@@ -50,7 +53,9 @@ fn frames_in(scan: &mut Scan, bytes: &[u8], has_lacked: &mut bool) -> u64
 }
 
 impl<'a, G: Log> Tally for ReplyCount<'a, G> {
-    fn note(&self, _usage: Usage) {}
+    fn note(&self, usage: Usage) {
+        self.usage.set(usage);
+    }
 }
 
 impl<'a, G: Log> Counts for ReplyCount<'a, G> {
@@ -68,7 +73,7 @@ impl<'a, G: Log> Counts for ReplyCount<'a, G> {
         self.replies.set(self.replies.get().saturating_add(more));
         if has_lacked && !had_lacked {
             self.has_lacked.set(true);
-            report_lack(self.log, self.peer);
+            report_lack(self.log, self.peer, self.usage.get());
         }
     }
 

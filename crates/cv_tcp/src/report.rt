@@ -1,6 +1,7 @@
 //! What the log says of a stream.
 use crate::connection::Connection;
 use crate::fault::StreamFault;
+use cv_commands::{UNLIMITED, Usage};
 use cv_metrics::Peer;
 use log::{Level, Log, debug, info, log};
 use std::fmt::{self, Display, Formatter};
@@ -40,10 +41,40 @@ impl Display for Requests {
     }
 }
 
-/// Logs that an allocation failed for a client. It logs nothing of what the client sent.
+/// Shows how much is held, and how much may be held if there is a limit.
+#[derive(Clone, Copy, Debug)]
+struct Held {
+    amount: u64,
+    most: Option<u64>,
+}
+
+impl Display for Held {
+    fn fmt<W: fmt::Write>(&self, f: &mut Formatter<W>) -> fmt::Result {
+        match self.most {
+            Some(most) => write!(f, "{} of {most}", self.amount),
+            None => write!(f, "{}", self.amount),
+        }
+    }
+}
+
+/// The limit, unless it is the one that stands for no limit.
+fn limit_of(most: u64, none: u64) -> Option<u64> {
+    if most < none { Some(most) } else { None }
+}
+
+/// Logs that an allocation failed for a client, and what its callers hold: near a limit of the stream, it is this limit
+/// that refused. It logs nothing of what the client sent.
 #[inline(never)]
-pub(crate) fn report_lack<G: Log>(log: &G, peer: Peer) {
-    info!(log; peer:% = peer; "memory refused to {peer}");
+pub(crate) fn report_lack<G: Log>(log: &G, peer: Peer, usage: Usage) {
+    let bytes = Held {
+        amount: usage.bytes,
+        most: limit_of(usage.budget.bytes, UNLIMITED.bytes),
+    };
+    let callers = Held {
+        amount: u64::from(usage.callers),
+        most: limit_of(u64::from(usage.budget.callers), u64::from(UNLIMITED.callers)),
+    };
+    info!(log; peer:% = peer; "memory refused to {peer}; bytes held: {bytes}, callers: {callers}");
 }
 
 /// A stream that is being served, as the log sees it. It holds nothing of what its client sends.

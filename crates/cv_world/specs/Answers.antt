@@ -46,7 +46,7 @@ answer_body (Written bytes) = bytes
 answer_body (BadMap fault) = to_be_bytes w32 fault.line ++ cause_number fault.cause ∷ []
 answer_body (Refused s) = []
 
--- The output of a conversion is no longer than the most room, so that the answer has a frame.
+-- The output of a conversion has at most 1,000,000 bytes, so that the answer fits a frame.
 abbrev pub AnswerFits : Answer → Type 0
 AnswerFits Empty = Unit {0}
 AnswerFits (Number n) = Unit {0}

@@ -1,4 +1,4 @@
-//! Reading frames.
+//! Reads frames.
 
 ghost use Rattle.std.specs.Prelude.{◌≡◌, ◌≤◌, length};
 ghost use Rattle.cv_frame.specs.Cut.{front_of, front_of_reply, u32_at};
@@ -44,7 +44,7 @@ pub(crate) fn number(bytes: &[u8]) -> u32
     u32::from_be_bytes([bytes[0], bytes[1], bytes[2], bytes[3]])
 }
 
-/// Returns what the bytes begin with, if they are requests one after another. Nothing is copied.
+/// Returns what the bytes begin with: a request, a part of its frame, or a bad length. Nothing is copied.
 #[tactic(auto, unfolding(crate::specs::Cut::front_of))]
 pub fn next_request(bytes: &[u8]) -> Frame<'_>
     ensures { result ≡ front_of bytes.now }
@@ -69,8 +69,8 @@ pub fn next_request(bytes: &[u8]) -> Frame<'_>
     Frame::Whole { request, n }
 }
 
-/// Returns what the bytes begin with, if they are replies one after another. A reply's frame has the status in the
-/// place of the op. Nothing is copied.
+/// Returns what the bytes begin with: a reply, a part of its frame, or a bad length. A reply's frame has the status in
+/// the place of the op. Nothing is copied.
 pub fn next_reply(bytes: &[u8]) -> ReplyFrame<'_>
     ensures { front_of_reply result ≡ front_of bytes.now }
 {

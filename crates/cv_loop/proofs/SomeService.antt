@@ -47,7 +47,7 @@ small status.Quota = lit< tt
 small status.Room = lit< tt
 small status.Lacking = lit< tt
 
--- The body of an answer is no longer than the most.
+-- The body of an answer has at most 1,048,567 bytes.
 abbrev IsShort : Answer → Type 0
 IsShort answer = length (answer_body answer) ≤ most_body
 

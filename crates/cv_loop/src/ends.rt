@@ -16,7 +16,7 @@ pub trait Source {
     /// How many pulls were made.
     ghost pulls: { Self → ℕ };
 
-    /// Whether a pull into a slice with room gave nothing.
+    /// Whether a pull into a slice that is not empty returned 0 bytes.
     ghost met_end: { Self → Bool };
 
     /// Whether a pull failed.

@@ -1,4 +1,4 @@
--- The steps of a world that convert, over what its two parts hold.
+-- The steps of a world that convert, in terms of its callers and its conversions.
 use Rattle.std.proofs.Common.{◌≡◌, inl, inr, ◌<◌, ◌≤◌, ℕ, true, false, eqb, nat_lt, List, [], length, Option, Some, None, Result, Ok, Err, refl, sym, ◌∙◌, arith}
 use Rattle.std.specs.Prelude.{IsErr}
 use Rattle.std.proofs.lemmas.Bool.{cases_eq, cases_lt}

@@ -1,4 +1,4 @@
--- OPEN, over what a world's two parts hold.
+-- OPEN, in terms of a world's callers and conversions.
 use Rattle.std.proofs.Common.{◌≡◌, ◌≢◌, inl, inr, ◌<◌, ℕ, Bool, true, false, cond, nat_lt, List, length, Option, Some, None, IsSome, refl, sym, ◌∙◌, ap, subst, arith}
 use Rattle.std.specs.Prelude.{is_none}
 use Rattle.std.specs.List.{position, position_or_len}

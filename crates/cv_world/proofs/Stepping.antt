@@ -1,4 +1,4 @@
--- The steps of a world, over what its two parts hold.
+-- The steps of a world, in terms of its callers and its conversions.
 use Rattle.std.proofs.Common.{◌≡◌, ◌≢◌, inl, inr, ◌<◌, ℕ, zero, suc, Bool, true, false, cond, eqb, List, [], ◌∷◌, length, replicate, get_or, Option, Some, None, IsSome, Result, Ok, Err, refl, sym, ◌∙◌, ap, subst, arith}
 use Rattle.std.specs.Prelude.{unwrap_or, is_none, option_map}
 use Rattle.std.proofs.lemmas.Bool.{cases_eq, or_parts}

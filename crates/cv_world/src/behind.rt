@@ -20,7 +20,7 @@ pub(crate) struct Behind {
     pub(crate) states: States,
 }
 
-/// Converts as much of the input as fits in the room, from offset `at` on. Makes the vector no longer than the input
+/// Converts as much of the input as fits in the room, from offset `at` on. Uses no more of the vector than the input
 /// can need.
 fn convert_behind(
     conversion: &mut Conversion,

@@ -96,7 +96,7 @@ pub record CanBeWhole (bytes : List ℕ) : Type 0 where
   pub is_whole : front_of (bytes ++ more) ≡ Whole message n
 
 -- What a rest begins with. Fewer than four bytes are a part of a frame. Four bytes have the length: the rest is a part
--- of a frame just if more bytes can make it whole, and the length is bad just if none can.
+-- of a frame if and only if more bytes can make it whole, and the length is bad if and only if none can.
 pub record IsFrontOfRest (bytes : List ℕ) : Type 0 where
   pub short : length bytes < 4 → front_of bytes ≡ Partial
   pub part : 4 ≤ length bytes → (front_of bytes ≡ Partial) ↔ CanBeWhole bytes

@@ -56,6 +56,6 @@ none_taken n bytes none = let zero_is : n ≡ 0 = grind (arith, nat_tests, none)
 pub some_taken : (n : ℕ) (bytes : List ℕ) → n ≤ length bytes → nat_lt 0 n ≡ true → 0 < length (take n bytes)
 some_taken n bytes few some = let more : 0 < n = grind (arith, nat_tests, some) in omega (arith, length-take n bytes)
 
--- a number is 0 just if it is not above 0
+-- a number is 0 if and only if it is not above 0
 pub is_none : (n : ℕ) → (n == 0) ≡ not (nat_lt 0 n)
 is_none n = grind (arith, nat_tests)

@@ -69,8 +69,8 @@ IsUnbroken WriteFailed = ⊥
 IsUnbroken MemoryLacked = ⊥
 IsUnbroken other = Unit {0}
 
--- What the source and the sink say then. The end was reached, a read failed or a write failed just if that ended
--- serving. At the end no byte is left in a source whose bytes are known. At most `max_reads` pulls were made.
+-- What the source and the sink say then. The end was reached, a read failed or a write failed, if and only if that
+-- ended serving. At the end no byte is left in a source whose bytes are known. At most `max_reads` pulls were made.
 pub record EndsSay (ending : Ending) (end reading writing : Bool) (left : Option (List ℕ)) (pulls max_reads : ℕ) : Type 0 where
   pub met_end : end ≡ met_the_end ending
   pub none_left : IsTrue (met_the_end ending) → IsAtEnd left
@@ -94,9 +94,9 @@ EndsWhere (Err fault.TooManyReads) frames rest written pulls max_reads = (front_
 EndsWhere (Err fault.Memory) frames rest written pulls max_reads = Unit {0}
 
 -- The headline, of the bytes that were given and those that were written. Unless a write or an allocation that failed
--- broke serving off, the written bytes answer the given ones, and each caller's frames answer its own alone. If no
--- reply says that an allocation failed either, they are what is served for the given bytes. However serving ended, they
--- begin an answer to all that was given.
+-- broke serving off, the written bytes answer the given ones, and each caller's frames answer its own alone. If,
+-- besides, no reply says that an allocation failed, they are what is served for the given bytes. However serving ended,
+-- they begin an answer to all that was given.
 pub record IsHeadline {Table : Type 0} (turn : Turn Table) (ending : Ending) (tables : ℕ → Table) (given written : List ℕ) : Type 0 where
   pub answered : IsUnbroken ending → AnswersEach turn tables given written
   pub served : IsUnbroken ending → NoneLacks (messages_of written) → ServesEach turn tables given written

@@ -44,7 +44,7 @@ pub trait Engine<R>: Machine {
     }
 
     /// Returns how many uploads one batch may have: as many as the engine compiles at once. Compiling a charmap takes
-    /// long, so no reply should wait for more of them.
+    /// long, so no reply has to wait for more of them.
     fn uploads_at_once(&self) -> usize
         ensures { 0 < result }
     {

@@ -145,7 +145,7 @@ fn read_once<S: Source>(reader: &mut S, buf: &mut [u8]) -> Result<usize, ServeFa
 }
 
 impl Held {
-    /// Holds no bytes, and allocates nothing.
+    /// Makes an empty buffer, and allocates nothing.
     pub fn new(alloc: Global) -> Held
         ensures { result ≡ [] }
     {

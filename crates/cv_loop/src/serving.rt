@@ -89,8 +89,8 @@ pub fn serve<R, E: Engine<R>, S: Source, W: Sink>(
     ensures serves { Serving E.turn result (E.tables engine.old) (E.tables engine.new) (S.left reader.old) (S.left reader.new)
         (W.held writer.old) (W.held writer.new) (S.pulls reader.new) max_reads }
 
-    // `Ok` and `TruncatedFrame` are returned just if the stream ended, `Read` just if a read failed, and `Write` just
-    // if a write failed or took no byte.
+    // `Ok` and `TruncatedFrame` are returned if and only if the stream ended, `Read` if and only if a read failed, and
+    // `Write` if and only if a write failed or took no byte.
     ensures ends { EndsSay (ending_of result) (S.met_end reader.new) (S.has_failed reader.new) (W.has_failed writer.new)
         (S.left reader.new) (S.pulls reader.new) max_reads }
 

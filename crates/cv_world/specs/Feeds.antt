@@ -49,8 +49,8 @@ abbrev pub states_of : Option Descriptor → States
 states_of (Some descriptor) = descriptor.states
 states_of None = start
 
--- A call: what was asked; what the body of the reply has, which is the number of bytes left, how many characters `?`
--- replaces, and the output; and the states of the number after it.
+-- A call. It has what was asked, the states of the number after it, and from the body of the reply the number of bytes
+-- left, how many characters `?` replaces, and the output.
 abbrev pub call_of : ℕ → ℕ → List ℕ → Stop → Outcome Table → Call
 call_of number room input why outcome = record {
   input = input;
@@ -121,7 +121,7 @@ source_of feed = form_after feed feed.descriptor.from
 abbrev pub target_of : Feed → Form
 target_of feed = form_after feed feed.descriptor.to
 
--- Two feeds have the same encodings, charmaps being the same if their lists are, and the same policy.
+-- Two feeds have the same encodings and the same policy. Charmaps with the same list are the same encoding.
 pub record AreAlike (a b : Feed) : Type 0 where
   pub source : source_of a ≡ source_of b
   pub target : target_of a ≡ target_of b

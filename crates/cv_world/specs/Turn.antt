@@ -29,7 +29,8 @@ Refuses table next answer s = Does next answer table (answers.Refused s)
 
 -- ---- PUT
 
--- The charmap is held in a free slot, and the part of the upload is dropped. If no slot is free, it is refused.
+-- The charmap is held in the least free slot, and the part of the upload is dropped. If no slot is free, the PUT is
+-- refused.
 abbrev pub Holds : Table → Charmap → Option ℕ → Table → Answer → Type 0
 Holds table charmap None next answer = Refuses table next answer status.Quota
 Holds table charmap (Some place) next answer =

@@ -40,7 +40,7 @@ pub record Broken {Table : Type 0} (turn : Turn Table) (old : ℕ → Table) (he
   pub wrote : Wrote turn old held held' asked later written unwritten new
   pub why : BreaksOff f (before + length written) failed
 
--- all was answered and written; `before` and `after` count the bytes written until then
+-- all was answered and written; the count of written bytes went from `before` to `after`
 pub record Answered {Table : Type 0} (turn : Turn Table) (old : ℕ → Table) (held held' : Option (List ℕ)) (asked : List Message) (new : ℕ → Table) (before after : ℕ) : Type 0 where
   pub written : List ℕ
   pub wrote : Wrote turn old held held' asked [] written [] new

@@ -20,8 +20,7 @@ Gave left left' given = (rest : List ℕ) × (left ≡ Some (given ++ rest)) × 
 abbrev pub Took : Option (List ℕ) → Option (List ℕ) → List ℕ → Type 0
 Took held held' written = (before : List ℕ) × (held ≡ Some before) × (held' ≡ Some (before ++ written))
 
--- The written bytes answer the given ones. For each caller, the frames written for it answer the frames given for it
--- alone.
+-- The written bytes answer the given ones. For each caller alone, its written frames answer its given frames.
 pub record AnswersEach {Table : Type 0} (turn : Turn Table) (tables : ℕ → Table) (given written : List ℕ) : Type 0 where
   pub all : Answers turn tables given written
   pub each : (caller : ℕ) → Answers turn tables (only caller given) (only caller written)
@@ -94,9 +93,9 @@ EndsWhere (Err fault.TooManyReads) frames rest written pulls max_reads = (front_
 EndsWhere (Err fault.Memory) frames rest written pulls max_reads = Unit {0}
 
 -- The headline, of the bytes that were given and those that were written. Unless a write or an allocation that failed
--- broke serving off, the written bytes answer the given ones, and each caller's frames answer its own alone. If,
--- besides, no reply says that an allocation failed, they are what is served for the given bytes. However serving ended,
--- they begin an answer to all that was given.
+-- broke serving off, the written bytes answer the given ones, and for each caller alone its written frames answer its
+-- given frames. If, besides, no reply says that an allocation failed, they are what is served for the given bytes.
+-- However serving ended, they begin an answer to all that was given.
 pub record IsHeadline {Table : Type 0} (turn : Turn Table) (ending : Ending) (tables : ℕ → Table) (given written : List ℕ) : Type 0 where
   pub answered : IsUnbroken ending → AnswersEach turn tables given written
   pub served : IsUnbroken ending → NoneLacks (messages_of written) → ServesEach turn tables given written

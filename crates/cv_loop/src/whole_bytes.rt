@@ -36,7 +36,7 @@ pub fn serve_bytes<R, E: Engine<R>>(
 ) -> (Result<Served, ServeFault>, Vec<u8>)
     requires { E.ready engine.old }
 
-    // If all frames were read to the end, the headline holds of all of them.
+    // If the end was reached, the headline holds of all bytes.
     ensures headline { IsTrue (met_the_end (ending_of result.0))
         → IsHeadline E.turn (ending_of result.0) (E.tables engine.old) frames.now result.1.items }
 

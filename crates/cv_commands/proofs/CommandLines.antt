@@ -12,7 +12,7 @@ request_words : (caller tag command : List ℕ) (words : List (List ℕ)) (text 
 unfolding request_by
 request_words caller tag command words text c t e f = rw (e, f) refl
 
--- What the first words of a line leave: the caller, the tag and the command, and what follows each.
+-- The first three words of a line, the caller, the tag and the command, and what follows each.
 pub record ThreeWords (line first second third caller tag command : List ℕ) : Type 0 where
   pub one : (words_of line ≡ caller ∷ words_of first) × (after_word line ≡ first)
   pub two : (words_of first ≡ tag ∷ words_of second) × (after_word first ≡ second)
@@ -46,7 +46,7 @@ pub request_no_tag : (line first second third caller tag command : List ℕ) (c 
     → request_in line ≡ None
 request_no_tag line first second third caller tag command c p e f = request_three line first second third caller tag command p ∙ request_no_others caller tag command (words_of third) third c e f
 
--- fewer words than three
+-- lines of fewer than three words
 pub request_short : (line first second : List ℕ) (caller tag : List ℕ) → words_of line ≡ caller ∷ words_of first → words_of first ≡ tag ∷ words_of second → words_of second ≡ [] → request_in line ≡ None
 unfolding request_in request_by
 request_short line first second caller tag e f g = rw (e, f, g) refl

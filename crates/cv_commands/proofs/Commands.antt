@@ -38,7 +38,7 @@ text_fits rest text bytes byte e space short is =
     let size : length (text_for text) ≡ length text = length_text text in
     (text_is rest text byte e space ∙ ap (λ (x : List ℕ). Some x) (sym is), omega (arith, short, size, ap (λ (x : List ℕ). length x) is))
 
--- What a text says is longer than the most, or it says none.
+-- The text is too long for a body, or there is no text.
 abbrev pub IsLong : List ℕ → Type 0
 IsLong rest = IfSome (text_in rest) (λ bytes. most_body < length bytes)
 
@@ -189,7 +189,7 @@ pub conv_long : (n r : ℕ) (input : Option (List ℕ)) → IfSome input (λ byt
 conv_long n r None long = tt
 conv_long n r (Some bytes) long = omega (arith, long)
 
--- what is too long, or has an op that is no byte, asks nothing
+-- a command whose body would be too long, or whose op is no byte, asks nothing
 pub conv_too_long : (caller tag : ℕ) (words : List (List ℕ)) (number room input : List ℕ) (n r : ℕ) → Some (number, room, input) ≡ only_three words → number_in number ≡ Some n → number_in room ≡ Some r
     → IfSome (bytes_in input) (λ bytes. most_body - 8 < length bytes) → sent_by caller tag (with_op op_conv (conv_in words)) ≡ None
 conv_too_long caller tag words number room input n r three e f long =

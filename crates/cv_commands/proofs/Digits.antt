@@ -12,7 +12,7 @@ use Rattle.cv_commands.proofs.Numbers.{SaysBefore, onto_none, hex_more, hex_no_h
 
 -- ---- from digits to bytes
 
--- If all so far are digits, the bytes so far precede those that the rest says; otherwise the digits say none.
+-- If all so far are digits, the bytes so far precede those that the rest means. Otherwise the digits mean no bytes.
 abbrev pub SaysSoFar : Bool → List ℕ → List ℕ → List ℕ → Type 0
 SaysSoFar all digits rest bytes = MatchBool all (SaysBefore digits bytes rest) (bytes_by_digits digits ≡ None)
 
@@ -31,7 +31,7 @@ both_by true false digits bytes bytes' digits' rest high low x y byte e f p is h
     hex_no_low digits bytes digits' rest high low p is (h.digit (ltb-true x 16 e)).0 (l.none (ltb-false y 16 f))
 both_by false b digits bytes bytes' digits' rest high low x y byte e f p is h l value more = hex_no_high digits bytes digits' rest high low p is (h.none (ltb-false x 16 e))
 
--- two digits more
+-- two more digits
 pub read_more : (all all' : Bool) (digits bytes bytes' digits' rest : List ℕ) (high low x y byte : ℕ) → SaysSoFar all digits digits' bytes → all' ≡ ((all && nat_lt x 16) && nat_lt y 16)
     → digits' ≡ high ∷ low ∷ rest → IsValue high x → IsValue low y → byte ≡ 16 * (x % 16) + y % 16 → bytes' ≡ bytes ++ byte ∷ [] → SaysSoFar all' digits rest bytes'
 read_more true all' digits bytes bytes' digits' rest high low x y byte p e is h l value more =
@@ -71,7 +71,7 @@ part_by true byte (Some front) back all bytes e h =
 part_by true byte None back all bytes e h = absurd cc
 part_by false byte part back all bytes e h = absurd cc
 
--- what a part says precedes what the digits after it say
+-- the bytes of a part precede those of the digits after it
 part_says : (part rest bytes : List ℕ) → bytes_by_digits part ≡ Some bytes → bytes_by_digits (part ++ rest) ≡ option_map (λ more. bytes ++ more) (bytes_by_digits rest)
 unfolding bytes_by_digits
 part_says [] rest bytes e = no_bytes bytes (bytes_by_digits rest) e
@@ -85,7 +85,7 @@ none_by true byte None all e h = ap (option_map (λ x. byte ∷ x)) (h refl)
 none_by true byte (Some front) all e h = absurd cc
 none_by false byte part all e h = refl
 
--- where a part of whole pairs says none, all do
+-- if a part of whole pairs means no bytes, no more do all digits
 part_says_none : (n : ℕ) (part rest : List ℕ) → length part ≡ 2 * n → bytes_by_digits part ≡ None → bytes_by_digits (part ++ rest) ≡ None
 unfolding bytes_by_digits
 part_says_none n [] rest even e = absurd cc
@@ -99,7 +99,7 @@ onto_part : (before part after : List ℕ) (o : Option (List ℕ)) → after ≡
 onto_part before part after None e = refl
 onto_part before part after (Some more) e = ap (λ (x : List ℕ). Some x) (sym (append_assoc before part more) ∙ ap (λ (x : List ℕ). x ++ more) (sym e))
 
--- a part more
+-- one more part
 pub part_more : (all : Bool) (word bytes bytes' digits rest : List ℕ) (n : ℕ) → SaysBefore word bytes digits → rest ≡ drop n digits → SaysPart all (take n digits) bytes bytes' → all ≡ true
     → SaysBefore word bytes' rest
 part_more true word bytes bytes' digits rest n p behind (part, says, more) e =
@@ -108,7 +108,7 @@ part_more true word bytes bytes' digits rest n p behind (part, says, more) e =
     p ∙ ap (option_map (λ x. bytes ++ x)) cut ∙ onto_part bytes part bytes' (bytes_by_digits rest) more
 part_more false word bytes bytes' digits rest n p behind says e = absurd cc
 
--- a part that says none
+-- a part that means no bytes
 pub part_none : (all : Bool) (word bytes bytes' digits : List ℕ) (n k : ℕ) → SaysBefore word bytes digits → n ≡ 2 * k → n ≤ length digits → SaysPart all (take n digits) bytes bytes' → all ≡ false
     → bytes_by_digits word ≡ None
 part_none false word bytes bytes' digits n k p even within says e =
@@ -117,7 +117,7 @@ part_none false word bytes bytes' digits n k p even within says e =
     p ∙ ap (option_map (λ x. bytes ++ x)) cut
 part_none true word bytes bytes' digits n k p even within says e = absurd cc
 
--- sixteen digits more
+-- sixteen more digits
 pub eight_more : (all part : Bool) (word bytes bytes' digits sixteen rest new : List ℕ) → SaysSoFar all word digits bytes → sixteen ≡ take 16 digits → rest ≡ drop 16 digits → 16 ≤ length digits
     → MatchBool part (bytes_by_digits sixteen ≡ Some new) (bytes_by_digits sixteen ≡ None) → bytes' ≡ bytes ++ new → SaysSoFar (all && part) word rest bytes'
 eight_more true true word bytes bytes' digits sixteen rest new p front behind within says more =
@@ -126,9 +126,9 @@ eight_more true false word bytes bytes' digits sixteen rest new p front behind w
     part_none false word bytes bytes' digits 16 8 p (omega arith) within (sym (ap bytes_by_digits front) ∙ says) refl
 eight_more false part word bytes bytes' digits sixteen rest new p front behind within says more = p
 
--- ---- a list that was written behind others
+-- ---- bytes that were written after others
 
--- The old ones, and those that were written in the place of others.
+-- The old bytes, and those that were written over the zeros after them.
 pub appended : (old all new others rest zeros : List ℕ) (len start n : ℕ) → start ≡ length old → all ≡ take n old ++ zeros → length old ≤ n → len ≡ start + length new
     → take len ((take start all ++ (new ++ others)) ++ rest) ≡ old ++ new
 appended old all new others rest zeros len start n size is within end =
@@ -137,7 +137,7 @@ appended old all new others rest zeros len start n size is within end =
     let long : len ≡ length (old ++ new) = omega (arith, size, end, length-append old new) in
     rw (joined, long) (take-append_seam (old ++ new) (others ++ rest))
 
--- the bytes of a part, where they were appended
+-- the bytes of a part, if they were appended
 pub part_says_it : (all : Bool) (digits bytes bytes' new : List ℕ) → MatchBool all (bytes_by_digits digits ≡ Some new) (bytes_by_digits digits ≡ None) → bytes' ≡ bytes ++ new → SaysPart all digits bytes bytes'
 part_says_it true digits bytes bytes' new says more = (new, says, more)
 part_says_it false digits bytes bytes' new says more = says

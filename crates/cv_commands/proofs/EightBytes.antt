@@ -74,7 +74,7 @@ values_right xs k long small h =
 
 -- ---- two values become a byte
 
--- the byte of a pair of values, the first as the low half
+-- the byte of two values: the low half of w is the first, and gives the byte's high half
 abbrev byte_of : ℕ → ℕ
 byte_of w = (w % 16 * 16 % 65536 + w / 256 % 16) % 65536
 
@@ -98,7 +98,7 @@ joined_at xs k long small h =
     let high : get_or xs (2 * k + 1) 0 < 256 = Each1-get_or (λ x. x < 256) xs (2 * k + 1) 0 (omega (arith, long, h)) small in
     get_or-map byte_of (digits_l 65536 8 (number_l 256 xs)) k 0 0 h ∙ joined_by _ _ _ (wide ∙ ap (number_l 256) two) low high
 
--- ---- what sixteen digits say
+-- ---- what sixteen digits mean
 
 none_by : (a b : Bool) (byte : ℕ) (o : Option (List ℕ)) → (a && b) ≡ false → cond (a && b) (option_map (λ x. byte ∷ x) o) None ≡ None
 none_by a b byte o e = rw e refl
@@ -111,7 +111,7 @@ and_false : (a : Bool) → (a && false) ≡ false
 and_false true = refl
 and_false false = refl
 
--- where one is no digit, they say no bytes
+-- if one is no digit, they mean no bytes
 pub none_at : (digits : List ℕ) (k : ℕ) → k < length digits → is_digit (get_or digits k 0) 16 ≡ false → bytes_by_digits digits ≡ None
 unfolding bytes_by_digits
 none_at [] k h e = absurd (omega arith)
@@ -126,7 +126,7 @@ twice k = omega arith
 after_twice : (k : ℕ) → 2 * suc k + 1 ≡ suc (suc (2 * k + 1))
 after_twice k = omega arith
 
--- where all are digits, they say the bytes of their pairs
+-- if all are digits, they mean the bytes of their pairs
 pub all_say : (m : ℕ) (digits bytes : List ℕ) → length digits ≡ 2 * m → length bytes ≡ m → ((k : ℕ) → k < 2 * m → is_digit (get_or digits k 0) 16 ≡ true)
     → ((k : ℕ) → k < m → get_or bytes k 0 ≡ 16 * digit_value (get_or digits (2 * k) 0) + digit_value (get_or digits (2 * k + 1) 0)) → bytes_by_digits digits ≡ Some bytes
 unfolding bytes_by_digits
@@ -196,7 +196,7 @@ say_by false digits values bytes e a =
     let (k, lt, is) = some_large values (eqb-false _ 0 e) in
     none_at digits k (omega (arith, a.digits_long, a.values_long, lt)) ((a.values_are k (omega (arith, a.values_long, lt))).none (leb-true 16 _ is))
 
--- Sixteen digits say the bytes that vectors make of them, or one of them is none.
+-- Sixteen digits mean the bytes that vectors make of them, or one of them is no digit.
 pub eight_say : (digits values old bytes : List ℕ) → length digits ≡ 16 → length values ≡ 16 → length old ≡ 8 → length bytes ≡ 8
     → ((k : ℕ) → k < 16 → IsValue (get_or (chunk 0 16 digits) k 0) (get_or values k 0))
     → ((k : ℕ) → k < 8 → get_or bytes k 0 ≡ 16 * (get_or values (2 * k) 0 % 16) + get_or values (2 * k + 1) 0 % 16)

@@ -1,4 +1,4 @@
--- A script that is read line by line, each cut off the front of what is left.
+-- A script is read line by line. Each line is the first of what is left.
 use Rattle.std.proofs.Common.{◌≡◌, ℕ, ◌+◌, ◌-◌, ◌^◌, ◌<◌, ◌==◌, min, Bool, true, false, List, [], ◌∷◌, ◌++◌, length, take, drop, Option, Some, None, sym, ap, ◌∙◌, append_assoc, arith}
 use Rattle.std.specs.Prelude.{count_by, filter_map}
 use Rattle.std.specs.List.{position, position_or_len}
@@ -14,7 +14,7 @@ use Rattle.cv_commands.specs.Scripts.{asks, asking_lines, asked_in, is_fault, li
 use Rattle.cv_commands.specs.Private.Requests.{AddsRequest, lines_left}
 use Rattle.cv_commands.proofs.Gathered.{Gathered, Gathered-skip, Gathered-more, Gathered-stops, no_fault, many, joined_cut}
 
--- where each line ends
+-- whether a byte ends a line
 abbrev pub ends : ℕ → Bool
 ends byte = byte == 10
 
@@ -23,7 +23,7 @@ pub one_line : (text : List ℕ) (n : ℕ) → n ≡ position_or_len ends text �
 one_line text n is all =
     slice_split_none ends text (All-from_get_or (λ (byte : ℕ). ends byte ≡ false) text 0 (λ i lt. fails_before_first ends text i 0 (omega (arith, is, all, lt))))
 
--- a text in which one does
+-- a text in which one ends
 pub first_line : (text line rest : List ℕ) (n : ℕ) → n ≡ position_or_len ends text → n < length text → line ≡ take n text → rest ≡ drop (n + 1) text → lines_in text ≡ line ∷ lines_in rest
 first_line text line rest n is lt front back =
     let within : position_or_len ends text < length text = omega (arith, is, lt) in
@@ -39,7 +39,7 @@ one_more : (script : List ℕ) (lines after : List (List ℕ)) (line : List ℕ)
     → lines_in script ≡ (lines ++ line ∷ []) ++ lines_left left
 one_more script lines after line left all is = all ∙ ap (λ (x : List (List ℕ)). lines ++ x) is ∙ sym (append_assoc lines (line ∷ []) (lines_left left))
 
--- a line more that is skipped
+-- one more line, which is skipped
 pub Reading-skip : (frames script text line : List ℕ) (number number' : ℕ) (left : Option (List ℕ)) → Reading frames script number (Some text) → lines_in text ≡ line ∷ lines_left left
     → asks line ≡ false → number' ≡ min (number + 1) (2 ^ 32 - 1) → Reading frames script number' left
 Reading-skip frames script text line number number' left p is e counted = record {
@@ -48,7 +48,7 @@ Reading-skip frames script text line number number' left p is e counted = record
   all = one_more script p.lines (lines_in text) line left p.all is;
 }
 
--- a line more that asks adds its frame
+-- one more line, which adds the frame that it asks
 pub Reading-more : (frames frames' script text line : List ℕ) (number number' : ℕ) (left : Option (List ℕ)) → Reading frames script number (Some text) → lines_in text ≡ line ∷ lines_left left
     → asks line ≡ true → number' ≡ min (number + 1) (2 ^ 32 - 1) → AddsRequest frames frames' (request_in line) → Reading frames' script number' left
 Reading-more frames frames' script text line number number' left p is e counted q = record {
@@ -57,7 +57,7 @@ Reading-more frames frames' script text line number number' left p is e counted 
   all = one_more script p.lines (lines_in text) line left p.all is;
 }
 
--- a line more that is no command is the first at fault
+-- one more line, which is no command and the first at fault
 pub Reading-stops : (frames script text line : List ℕ) (number number' : ℕ) (left : Option (List ℕ)) → Reading frames script number (Some text) → lines_in text ≡ line ∷ lines_left left
     → asks line ≡ true → number' ≡ min (number + 1) (2 ^ 32 - 1) → request_in line ≡ None → fault_in script ≡ Some number'
 Reading-stops frames script text line number number' left p is e counted none =
@@ -70,7 +70,7 @@ pub record ReadsAll (frames script : List ℕ) : Type 0 where
   pub commands : length (messages_of frames) ≡ asking_lines script
   pub fault : fault_in script ≡ None
 
--- where nothing is left, all lines were read
+-- if nothing is left, all lines were read
 pub read_all : (frames script : List ℕ) (number : ℕ) → Reading frames script number None → ReadsAll frames script
 read_all frames script number p =
     let all : lines_in script ≡ p.lines = p.all ∙ append-nil p.lines in

@@ -6,7 +6,7 @@ use Rattle.std.proofs.lemmas.Bool.{lt-ltb}
 use Rattle.std.proofs.lemmas.List.{nil_from_length}
 use Rattle.cv_commands.specs.Words.{is_space, words_of, after_spaces, after_word}
 
--- what is not empty
+-- whether bytes are a word: they are not empty
 abbrev pub is_word : List ℕ → Bool
 is_word word = nat_lt 0 (length word)
 
@@ -14,7 +14,7 @@ is_word word = nat_lt 0 (length word)
 abbrev pub word_len : List ℕ → ℕ
 word_len text = prefix_len (λ byte. not (is_space byte)) text
 
--- A text is split into its first word and others, which are the words of what follows the first.
+-- A text is split into its first word and the words of what follows that.
 pub record Parts (text : List ℕ) : Type 0 where
   pub others : List (List ℕ)
   pub split : slice_split is_space text ≡ take (word_len text) text ∷ others
@@ -92,7 +92,7 @@ none_of_none : words_of [] ≡ []
 unfolding words_of
 none_of_none = refl
 
--- a text that has nothing but spaces
+-- a text that has only spaces
 pub no_words : (text rest : List ℕ) → rest ≡ after_spaces text → length rest ≡ 0 → words_of text ≡ []
 no_words text rest r none = spaces_are_none text ∙ ap words_of (sym r ∙ nil_from_length rest none) ∙ none_of_none
 

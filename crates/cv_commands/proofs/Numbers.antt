@@ -1,4 +1,4 @@
--- The numbers and bytes that words say.
+-- The numbers and bytes that words mean.
 use Rattle.std.proofs.Common.{◌≡◌, ℕ, suc, ◌+◌, ◌*◌, ◌/◌, ◌^◌, ◌<◌, ◌≤◌, Bool, true, false, cond, ◌&&◌, ◌==◌, get_or, List, [], ◌∷◌, ◌++◌, length, take, drop, Option, Some, None, refl, sym, ap, subst, ◌∙◌, append_assoc, arith, take-append-drop}
 use Rattle.std.specs.Prelude.{IfSome, nat_lt, bytes_eq, codes}
 use Rattle.std.specs.Char.{is_ascii_digit, is_digit, digit_value}
@@ -21,7 +21,7 @@ value_split : (n : ℕ) (front back : List ℕ) → digits_value_after 10 n (fro
 value_split n [] back = refl
 value_split n (c ∷ front) back = value_split (n * 10 + digit_value c) front back
 
--- digits at the front say no more than all
+-- the number of the first digits is no greater than that of all
 value_front : (word : List ℕ) (i : ℕ) → digits_value 10 (take i word) ≤ digits_value 10 word
 value_front word i =
     let all : digits_value 10 (take i word ++ drop i word) ≡ digits_value 10 word = ap (digits_value 10) (take-append-drop i word) in
@@ -49,7 +49,7 @@ stops_by true word i lt e large =
     number_large word (omega (arith, step, front, large refl))
 stops_by false word i lt e large = number_no_digit word (list_all_at is_ascii_digit word i 0 lt e)
 
--- where a digit is none, or makes the number too large, the word says no number
+-- if a byte is no digit, or makes the number too large, the word means no number
 pub number_stops : (word : List ℕ) (i : ℕ) → i < length word
     → (is_ascii_digit (get_or word i 0) ≡ true → 2 ^ 32 ≤ digits_value 10 (take i word) * 10 + digit_value (get_or word i 0)) → number_in word ≡ None
 number_stops word i lt large = stops_by (is_ascii_digit (get_or word i 0)) word i lt refl large
@@ -62,7 +62,7 @@ number_is : (word : List ℕ) → list_all is_ascii_digit word ≡ true → digi
 unfolding number_in
 number_is word all small = let t : nat_lt (digits_value 10 word) (2 ^ 32) ≡ true = lt-ltb (digits_value 10 word) (2 ^ 32) small in rw (all, t) refl
 
--- all digits say their number
+-- the number of all digits
 pub number_done : (word : List ℕ) (i number : ℕ) → length word ≤ i → number ≡ digits_value 10 (take i word) → list_all is_ascii_digit (take i word) ≡ true → number < 2 ^ 32
     → number_in word ≡ Some number
 number_done word i number past is all small =
@@ -89,11 +89,11 @@ onto_bytes : (before after : List ℕ) (byte : ℕ) (o : Option (List ℕ)) → 
 onto_bytes before after byte None e = refl
 onto_bytes before after byte (Some more) e = ap (λ (x : List ℕ). Some x) (sym (append_assoc before (byte ∷ []) more) ∙ ap (λ (x : List ℕ). x ++ more) (sym e))
 
--- The bytes before these digits, and what the digits say, are what the word says.
+-- The bytes so far, and those that these digits mean, are those that the word means.
 abbrev pub SaysBefore : List ℕ → List ℕ → List ℕ → Type 0
 SaysBefore word bytes digits = bytes_by_digits word ≡ option_map (λ more. bytes ++ more) (bytes_by_digits digits)
 
--- two digits more
+-- two more digits
 pub hex_more : (word bytes bytes' digits rest : List ℕ) (high low byte : ℕ) → SaysBefore word bytes digits → digits ≡ high ∷ low ∷ rest → is_digit high 16 ≡ true → is_digit low 16 ≡ true
     → byte ≡ 16 * digit_value high + digit_value low → bytes' ≡ bytes ++ byte ∷ [] → SaysBefore word bytes' rest
 hex_more word bytes bytes' digits rest high low byte p is e f value more =
@@ -101,7 +101,7 @@ hex_more word bytes bytes' digits rest high low byte p is e f value more =
     ap bytes_by_digits is ∙ digits_more_bytes high low rest e f ∙ ap (λ (b : ℕ). option_map (λ x. b ∷ x) (bytes_by_digits rest)) (sym value) in
     p ∙ ap (option_map (λ x. bytes ++ x)) step ∙ onto_bytes bytes bytes' byte (bytes_by_digits rest) more
 
--- two that are not both digits
+-- two bytes that are not both digits
 pub hex_no_high : (word bytes digits rest : List ℕ) (high low : ℕ) → SaysBefore word bytes digits → digits ≡ high ∷ low ∷ rest → is_digit high 16 ≡ false → bytes_by_digits word ≡ None
 hex_no_high word bytes digits rest high low p is e = p ∙ ap (option_map (λ x. bytes ++ x)) (ap bytes_by_digits is ∙ no_high high low rest e)
 
@@ -138,7 +138,7 @@ pub one_front : (bytes rest : List ℕ) (first : ℕ) → 1 ≤ length bytes →
 one_front [] rest first some f r = absurd (omega (arith, some))
 one_front (x ∷ bytes) rest first some f r = rw (f, r) refl
 
--- ---- how many bytes a word says
+-- ---- how many bytes a word means
 
 longer_by : (b : Bool) (byte n : ℕ) (o : Option (List ℕ)) → IfSome o (λ bytes. n ≡ 2 * length bytes) → IfSome (cond b (option_map (λ bytes. byte ∷ bytes) o) None) (λ bytes. n + 2 ≡ 2 * length bytes)
 longer_by true byte n (Some bytes) e = omega (arith, e)
@@ -170,7 +170,7 @@ unfolding bytes_in
 bytes_long_by true word most e long = absurd (omega (arith, long, hyphen_short word e))
 bytes_long_by false word most e long = rw e (long_by most (length word) (bytes_by_digits word) long (size_by_digits word))
 
--- a word of more digits says more bytes
+-- a word of more digits means more bytes
 pub bytes_long : (word : List ℕ) (most : ℕ) → most < length word / 2 → IfSome (bytes_in word) (λ bytes. most < length bytes)
 bytes_long word most long = bytes_long_by (bytes_eq word (codes "-")) word most refl long
 
@@ -184,6 +184,6 @@ bytes_fit_by false word bytes most e h few =
     let size : length word ≡ 2 * length bytes = subst (λ (o : Option (List ℕ)). IfSome o (λ x. length word ≡ 2 * length x)) by (size_by_digits word) in
     omega (arith, size, few)
 
--- a word of few digits says few bytes
+-- a word of few digits means few bytes
 pub bytes_fit : (word bytes : List ℕ) (most : ℕ) → bytes_in word ≡ Some bytes → length word / 2 ≤ most → length bytes ≤ most
 bytes_fit word bytes most h few = bytes_fit_by (bytes_eq word (codes "-")) word bytes most refl h few

@@ -1,4 +1,4 @@
--- The requests of a script that was not read to its end, and faults that are of no line.
+-- The requests of a script that was not read to its end, and faults other than that of a line.
 use Rattle.std.proofs.Common.{◌≡◌, ℕ, zero, suc, ◌+◌, ◌<◌, ◌≤◌, ◌^◌, Bool, true, false, cond, ◌&&◌, List, [], ◌∷◌, length, Option, Some, None, Result, Ok, Err, refl, sym, ap, subst, ◌∙◌, arith, lit<, lit≤}
 use Rattle.std.specs.Prelude.{filter_map, nat_lt, nat_le, IfErr}
 use Rattle.std.specs.Char.{is_ascii_digit}
@@ -110,11 +110,12 @@ some_by script (Some number) e =
     let some = many_blank (asking_lines script) in
     (some.0, record { lines = some.1; fits = some.2; asked = λ none. absurd cc })
 
--- requests for each line of a script that asks something: if no line is at fault, those that it asks
+-- There is a request for each line of a script that asks something. If no line is at fault, these are the requests that
+-- the script asks.
 pub some_requests : (script : List ℕ) → (requests : List Message) × IsAskedBy script requests
 some_requests script = some_by script (fault_in script) refl
 
--- ---- a fault that is of no line
+-- ---- a fault other than that of a line
 
 pub says_none : (A : Type 0) (fault : RunFault) (script : List ℕ) → IsNoLine fault → fault_in script ≡ None → SaysOfLines {A = A} (Err fault) script
 says_none A (Line number) script other e = absurd (other number refl)
@@ -126,7 +127,7 @@ says_none A AcceptFailed script other e = e
 says_none A CannotConnect script other e = e
 says_none A Memory script other e = tt
 
--- a result whose fault is of no line
+-- a result whose fault is not that of a line
 pub says_of : (A : Type 0) (r : Result A RunFault) (script : List ℕ) → IfErr r IsNoLine → fault_in script ≡ None → SaysOfLines r script
 says_of A (Ok done) script other e = e
 says_of A (Err fault) script other e = says_none A fault script other e

@@ -1,4 +1,4 @@
--- Requests that are sent, and lines that have so many words.
+-- Requests that are sent, and lines of one, two or three words.
 use Rattle.std.proofs.Common.{◌≡◌, ℕ, ◌<◌, ◌≤◌, Bool, true, false, List, [], ◌∷◌, ◌++◌, length, Option, Some, None, Result, Err, refl, sym, ap, subst, ◌∙◌}
 use Rattle.std.specs.Prelude.{IfSome, nat_lt, nat_le}
 use Rattle.std.proofs.lemmas.Bool.{lt-ltb, le-ltb, le-leb, lt-leb}
@@ -9,7 +9,7 @@ use Rattle.cv_commands.specs.Private.Requests.{AddsRequest, Adds, Says, SaysWith
 use Rattle.cv_commands.specs.declared.requests.LineFault.{LineFault}
 use Rattle.cv_commands.specs.declared.requests.LineFault.TheVariants.{NotACommand, Memory}
 
--- ---- so many words
+-- ---- one, two or three words
 
 pub only_one_is : (words : List (List ℕ)) (a : List ℕ) → Some a ≡ only_word words → words ≡ a ∷ []
 only_one_is [] a e = absurd cc
@@ -58,7 +58,7 @@ sends frames frames' caller tag op body asked e fits more = record {
   adds = more;
 }
 
--- what is asked may be said in another way
+-- what is asked may be replaced by an equal
 pub same : {A : Type 0} (r : Result A LineFault) (frames frames' : List ℕ) (caller tag : ℕ) (asked other : Option Asked) → asked ≡ other
     → Adds r frames frames' (sent_by caller tag other) → Adds r frames frames' (sent_by caller tag asked)
 same r frames frames' caller tag asked other e h = subst (λ (o : Option Asked). Adds r frames frames' (sent_by caller tag o)) (sym e) h
@@ -66,7 +66,7 @@ same r frames frames' caller tag asked other e h = subst (λ (o : Option Asked).
 pub same_request : {A : Type 0} (r : Result A LineFault) (frames frames' : List ℕ) (asked other : Option Message) → asked ≡ other → Adds r frames frames' other → Adds r frames frames' asked
 same_request r frames frames' asked other e h = subst (λ (o : Option Message). Adds r frames frames' o) (sym e) h
 
--- where a word says nothing, the line asks nothing
+-- if a word means nothing, the line asks nothing
 pub fails : {A B : Type 0} (fault : LineFault) (seen : A → B) (said : Option B) (frames frames' : List ℕ) (asked : Option Message) → Says {A = A} {B = B} (Err fault) seen said
     → (said ≡ None → asked ≡ None) → Adds {A = Unit {0}} (Err fault) frames frames' asked
 fails NotACommand seen said frames frames' asked h none = none h
@@ -77,11 +77,11 @@ pub fails_long : (fault : LineFault) (most : ℕ) (said : Option (List ℕ)) (fr
 fails_long NotACommand most said frames frames' asked h none = none h
 fails_long Memory most said frames frames' asked h none = tt
 
--- nothing is sent where nothing is asked
+-- if nothing is asked, nothing is sent
 pub sends_none : (caller tag : ℕ) (asked : Option Asked) → asked ≡ None → sent_by caller tag asked ≡ None
 sends_none caller tag asked e = ap (sent_by caller tag) e
 
--- nor where the body is too long
+-- nor if the body is too long
 framed_long : (caller tag op : ℕ) (body : List ℕ) (small : Bool) → nat_lt op 256 ≡ small → most_body < length body → framed caller tag (op, body) ≡ None
 unfolding framed
 framed_long caller tag op body true s long = let t : nat_le (length body) most_body ≡ false = lt-leb (length body) most_body long in rw (s, t) refl
@@ -91,7 +91,7 @@ pub sends_no_long : (caller tag op : ℕ) (body : Option (List ℕ)) → IfSome 
 sends_no_long caller tag op None long = refl
 sends_no_long caller tag op (Some bytes) long = framed_long caller tag op bytes (nat_lt op 256) refl long
 
--- nor where the op is no byte
+-- nor if the op is no byte
 framed_large : (caller tag op : ℕ) (body : List ℕ) → 256 ≤ op → framed caller tag (op, body) ≡ None
 unfolding framed
 framed_large caller tag op body large = let s : nat_lt op 256 ≡ false = le-ltb op 256 large in rw s refl

@@ -47,7 +47,7 @@ pub low_small : (xs : List ℕ) → length xs ≡ 16 → (k : ℕ) → k < 16 �
 low_small xs long k h =
     rw (get_or-zip2 (λ a b. a % b) xs (replicate 16 16) k 0 0 0 (omega arith) h, get_or-replicate {A = ℕ} 16 k 16 0 h) (omega arith)
 
--- ---- the digits of both halves by turns
+-- ---- the digits of both halves, interleaved
 
 abbrev firsts : ℕ → List ℕ → List ℕ
 firsts zero xs = []
@@ -77,7 +77,7 @@ both_put xs ys x y =
     subst (λ (zs : List ℕ). put_chunk 16 (put_chunk 0 (replicate 32 0) zs) ys ≡ zs ++ ys) (firsts_are 16 xs x)
     (subst (λ (zs : List ℕ). put_chunk 16 (put_chunk 0 (replicate 32 0) (firsts 16 xs)) zs ≡ firsts 16 xs ++ zs) (firsts_are 16 ys y) refl)
 
--- The digits of sixteen bytes, where those of their halves were written by turns.
+-- The digits of sixteen bytes, after those of their halves were written interleaved.
 pub sixteen_written : (bytes high low : List ℕ) → length bytes ≡ 16 → high ≡ map (digit_glyph false) (highs (chunk 0 16 bytes)) → low ≡ map (digit_glyph false) (lows (chunk 0 16 bytes))
     → put_chunk 16 (put_chunk 0 (replicate 32 0) (pick_l 0 (high ++ low) first_places)) (pick_l 0 (high ++ low) second_places) ≡ flat_map hexadecimal bytes
 sixteen_written bytes high low long h l =
@@ -93,7 +93,7 @@ hex_long (x ∷ bytes) = let more = hex_long bytes in omega (arith, more)
 pub last_long : (bytes new : List ℕ) → new ≡ flat_map hexadecimal bytes → 2 * length bytes ≡ 0 + length new
 last_long bytes new e = rw e (omega (arith, hex_long bytes))
 
--- The digits of sixteen bytes more.
+-- The digits of sixteen more bytes.
 pub sixteen_more : (before old all bytes new : List ℕ) (n m : ℕ) → old ≡ before ++ flat_map hexadecimal (take n bytes) → new ≡ flat_map hexadecimal (take 16 (drop n bytes)) → all ≡ old ++ new → m ≡ n + 16
     → all ≡ before ++ flat_map hexadecimal (take m bytes)
 sixteen_more before old all bytes new n m is more joined next =

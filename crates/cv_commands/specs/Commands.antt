@@ -10,7 +10,7 @@ use Rattle.cv_frame.specs.Sizes.{most_body}
 use Rattle.cv_commands.specs.Texts.{text_for}
 use Rattle.cv_commands.specs.Words.{words_of, after_word, number_in, name_in, bytes_in}
 
--- ---- the body of each request, by the words after its command; none if they are not of the command's form
+-- ---- the body of each request, by the words after its command; `None` if they are not of the command's form
 
 -- put TEXT, part TEXT: the text follows one space
 unfoldable pub text_in : List ℕ → Option (List ℕ)
@@ -82,7 +82,7 @@ asked_by command words text =
     if bytes_eq command (codes "bye") then with_op op_bye (bye_in words) else
     if bytes_eq command (codes "raw") then raw_in words else None
 
--- A request fits a frame: its op is a byte, and its body is no longer than the longest.
+-- the request, if it fits a frame: its op is a byte, and its body has at most 1,048,567 bytes
 unfoldable pub framed : ℕ → ℕ → Asked → Option Message
 framed caller tag (op, body) =
     if nat_lt op 256 && nat_le (length body) most_body
@@ -93,12 +93,12 @@ framed caller tag (op, body) =
 abbrev pub sent_by : ℕ → ℕ → Option Asked → Option Message
 sent_by caller tag asked = option_and_then (framed caller tag) asked
 
--- by the words of a line, and what follows the third
+-- the request of a line, by its words and by what follows the third of them
 unfoldable pub request_by : List (List ℕ) → List ℕ → Option Message
 request_by (caller ∷ tag ∷ command ∷ words) text =
     option_and_then (λ who. option_and_then (λ number. sent_by who number (asked_by command words text)) (number_in tag)) (number_in caller)
 request_by other text = None
 
--- The request that a line asks: CALLER TAG, and a command. None if the line is no command.
+-- The request of a line, which is CALLER TAG and a command. `None` if the line is no command.
 unfoldable pub request_in : List ℕ → Option Message
 request_in line = request_by (words_of line) (after_word (after_word (after_word line)))

@@ -1,4 +1,4 @@
-//! Eight bytes in hexadecimal, read at once.
+//! Reads eight bytes in hexadecimal at once.
 ghost use Rattle.std.specs.Prelude.{◌≡◌, ◌+◌, ◌*◌, ◌%◌, ◌<◌, ℕ, length, get_or, Some, None, MatchBool};
 ghost use Rattle.cv_commands.specs.Words.{bytes_by_digits};
 ghost use Rattle.cv_commands.specs.Private.Digits.{IsValue};
@@ -8,7 +8,7 @@ use std::simd::prelude::*;
 /// How many bytes are read at once.
 pub(crate) const EIGHT: usize = 8;
 
-/// The values of sixteen hexadecimal digits of either case, and 255 for a byte that is none.
+/// Returns the values of sixteen hexadecimal digits of either case, and 255 for a byte that is no digit.
 #[inline(always)]
 fn values_of(digits: u8x16) -> u8x16
     ensures { (k : ℕ) → k < 16 → IsValue (get_or digits k 0) (get_or result k 0) }
@@ -21,7 +21,7 @@ fn values_of(digits: u8x16) -> u8x16
     numbers.simd_lt(u8x16::splat(10)).select(numbers, others)
 }
 
-/// Eight bytes, each of the low halves of two values, the higher half first.
+/// Returns eight bytes, each made of the low halves of two values. The first value gives the high half of the byte.
 #[inline(always)]
 fn joined(values: u8x16) -> u8x8
     ensures { (k : ℕ) → k < 8 → get_or result k 0 ≡ 16 * (get_or values (2 * k) 0 % 16) + get_or values (2 * k + 1) 0 % 16 }
@@ -33,7 +33,7 @@ fn joined(values: u8x16) -> u8x8
     (high + low).cast::<u8>()
 }
 
-/// Reads sixteen digits, two for each byte, and answers whether all are such.
+/// Reads sixteen digits, two for each byte, and returns whether all are hexadecimal digits.
 #[inline(always)]
 pub(crate) fn read_eight(digits: &[u8], bytes: &mut [u8]) -> bool
     requires from { length digits.now ≡ 16 }

@@ -1,16 +1,16 @@
-//! Where a line or a word ends.
+//! Finds where a line or a word ends.
 ghost use Rattle.std.specs.Prelude.{◌≡◌, ◌≤◌, ◌<◌, ◌+◌, ◌==◌, ℕ, true, false, length, get_or, slice_index, take, drop};
 ghost use Rattle.std.specs.List.{position_or_len};
 
 use std::simd::prelude::*;
 
-/// How many bytes are looked at together.
+/// How many bytes are compared at once.
 const BLOCK: usize = 16;
 
-/// How many bytes of a long word or line are looked at together.
+/// How many bytes of a long word or line are compared at once.
 const LONG_BLOCK: usize = 64;
 
-/// How many of the bytes of a block precede the first that is this one, or all of them.
+/// Returns how many bytes of the block at `at` precede the first `byte`, or 16 if it has none.
 #[inline(always)]
 fn before_in_block(byte: u8, text: &[u8], at: usize) -> usize
     requires { at + 16 ≤ length text.now }
@@ -26,7 +26,7 @@ fn before_in_block(byte: u8, text: &[u8], at: usize) -> usize
     }
 }
 
-/// Whether none of the bytes of a long block is this one.
+/// Returns whether the long block at `at` has no `byte`.
 #[inline(always)]
 fn is_without(byte: u8, text: &[u8], at: usize) -> bool
     requires { at + 64 ≤ length text.now }
@@ -38,7 +38,7 @@ fn is_without(byte: u8, text: &[u8], at: usize) -> bool
     found == 0
 }
 
-/// Where the long blocks from a position on end, of whose bytes none is this one.
+/// Returns where the long blocks without `byte` end that begin at `at`.
 #[inline(never)]
 fn past_long_blocks(byte: u8, text: &[u8], at: usize) -> usize
     requires { at ≤ length text.now }
@@ -53,9 +53,9 @@ fn past_long_blocks(byte: u8, text: &[u8], at: usize) -> usize
     n
 }
 
-/// How many bytes of a text precede the first that is this one, or all of them. Long blocks are looked at only after 64 bytes
-/// without it, by a function that is not inlined, so that short words and lines take little longer. The last few bytes are
-/// looked at one by one.
+/// Returns how many bytes of a text precede the first `byte`, or the length of the text if it has none. Long blocks are
+/// compared only after 64 bytes without it, by a function that is not inlined, so that short words and lines take
+/// little longer. The last few bytes are compared one by one.
 pub(crate) fn bytes_before(byte: u8, text: &[u8]) -> usize
     ensures value { result ≡ position_or_len (λ b. b == byte) text.now }
     ensures within { result ≤ length text.now }

@@ -13,13 +13,13 @@ use std::io::{self, ErrorKind};
 use std::str;
 use thiserror::Error;
 
-/// Why a script could not be read with its files. Its text is what the program says of it.
+/// Why a script could not be read with its files. Its text is the program's error message.
 #[derive(Debug, Drop, Error)]
 pub enum ScriptFault {
-    /// Reading the script, or a line of it that is not a command.
+    /// The script could not be read, or a line of it is not a command.
     #[error("{0}")]
     Run(RunFault),
-    /// The file of a line, which are numbered from 1, was not read.
+    /// The file of this line could not be read. Lines are numbered from 1.
     #[error("line {line}: cannot read the file: {cause}")]
     File { line: u32, cause: io::Error },
 }
@@ -30,7 +30,7 @@ impl From<RunFault> for ScriptFault {
     }
 }
 
-/// The exit status of a command whose script ended it.
+/// Returns the exit status of a command that ended by this fault: 2 for a line that is not a command, else 1.
 pub fn script_status(fault: &ScriptFault) -> u8
     ensures { result ≡ script_status_of fault.now }
 {
@@ -40,7 +40,7 @@ pub fn script_status(fault: &ScriptFault) -> u8
     }
 }
 
-/// A line CALLER TAG put @FILE.
+/// A line `CALLER TAG put @FILE`.
 #[derive(Clone, Copy)]
 struct Upload<'a> {
     caller: &'a [u8],
@@ -48,7 +48,7 @@ struct Upload<'a> {
     path: &'a [u8],
 }
 
-/// The file that a line uploads.
+/// Returns the words of a line that uploads a file, or `None` for any other line.
 fn upload_in(line: &[u8]) -> Option<Upload<'_>> {
     if is_skipped(line) {
         return None;
@@ -65,7 +65,7 @@ fn upload_in(line: &[u8]) -> Option<Upload<'_>> {
     }
 }
 
-/// Appends a line of a sender.
+/// Appends a line of the upload's caller and tag, with this command and the body in hexadecimal.
 fn push_raw(
     out: &mut Vec<u8>,
     upload: &Upload<'_>,
@@ -88,7 +88,8 @@ fn push_line(out: &mut Vec<u8>, line: &[u8]) -> Result<(), RunFault> {
     Ok(())
 }
 
-/// Appends the lines that upload a text: what fits no request with the rest goes before it in parts.
+/// Appends the lines that upload a text: a PUT of at most 1,048,567 bytes, and before it PARTs of 1,048,567 bytes each
+/// for a longer text.
 fn push_upload(out: &mut Vec<u8>, upload: &Upload<'_>, text: &[u8]) -> Result<(), RunFault> {
     let mut rest = text;
     while rest.len() > MOST_BODY {
@@ -99,7 +100,7 @@ fn push_upload(out: &mut Vec<u8>, upload: &Upload<'_>, text: &[u8]) -> Result<()
     push_raw(out, upload, b" raw 1 ", rest)
 }
 
-/// The text of a file.
+/// Returns the text of a file. The path has to be UTF-8.
 fn text_of<R: Files + AllocGlobal>(rt: &R, path: &[u8]) -> io::Result<Vec<u8>> {
     match str::from_utf8(path) {
         Ok(path) => fs::read(rt, path),
@@ -107,7 +108,7 @@ fn text_of<R: Files + AllocGlobal>(rt: &R, path: &[u8]) -> io::Result<Vec<u8>> {
     }
 }
 
-/// The script with the texts of its files in their place.
+/// Returns the script with the lines that upload the texts of its files in place of those that name the files.
 fn with_texts<R: Files + AllocGlobal>(rt: &R, script: &[u8]) -> Result<Vec<u8>, ScriptFault> {
     let mut out = Vec::new(rt.alloc());
     let mut number: u32 = 0;
@@ -130,10 +131,11 @@ fn with_texts<R: Files + AllocGlobal>(rt: &R, script: &[u8]) -> Result<Vec<u8>, 
     Ok(out)
 }
 
-/// A script whose lines `CALLER TAG put @FILE` upload the texts of these files: as `raw` lines, of which a text above 1,048,567 bytes needs
-/// several, each with a reply. FILE is the rest of the line. The script's own faults come first, by the numbers of its own lines.
+/// Replaces each line `CALLER TAG put @FILE` of a script by `raw` lines that upload the text of the file. A text above
+/// 1,048,567 bytes needs several lines, each with a reply. FILE is the rest of the line. If the script has an at sign,
+/// a fault of its own is returned before any file is read, with the line's number in the given script.
 pub fn with_files<R: Files + AllocGlobal>(rt: &R, script: Vec<u8>) -> Result<Vec<u8>, ScriptFault>
-    // A script without an at sign stays as it is.
+    // A script without an at sign is returned unchanged.
     ensures same { list_any (λ byte. byte == 64) script.items ≡ false → result ≡ Ok script }
 {
     if !script.contains(&b'@') {

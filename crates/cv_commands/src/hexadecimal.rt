@@ -1,4 +1,4 @@
-//! Bytes in hexadecimal, read and written by vectors, and the last few one by one.
+//! Reads and writes bytes in hexadecimal, by vectors, and the last few one by one.
 ghost use Rattle.std.specs.Prelude.{◌≡◌, ◌*◌, ◌%◌, ◌<◌, ◌≤◌, ◌++◌, true, false, length, Some, None, IfOk, OnOk, OnErr, MatchBool};
 ghost use Rattle.std.specs.Char.{is_digit, digit_value};
 ghost use Rattle.std.specs.Fmt.{digit_glyph};
@@ -13,10 +13,11 @@ use crate::lines::is;
 use crate::sixteen_bytes::{SIXTEEN, sixteen_digits};
 use std::alloc::{AllocError, Global};
 
-/// How many bytes are read before it is looked whether all digits are such. A word that is at fault at its start is not read to its end.
+/// How many bytes are read before it is tested whether all of their digits are hexadecimal. So a word with a fault at
+/// its start is not read to its end.
 const PART: usize = 4096;
 
-/// The digit for a number below 16 in lower-case hexadecimal.
+/// Returns the lower-case hexadecimal digit of a number below 16.
 fn hex_digit(number: u8) -> u8
     requires { number < 16 }
     ensures { result ≡ digit_glyph false number }
@@ -39,8 +40,8 @@ fn write_digits(bytes: &[u8], digits: &mut [u8])
     }
 }
 
-/// Appends the digits of bytes, or nothing where memory lacks: those of sixteen bytes at once, and then those of the last few.
-/// Room for all is asked for first, so none of it is refused later.
+/// Appends the digits of bytes: of sixteen bytes at once, and then of the last few. If an allocation fails, appends
+/// nothing. Room for all is reserved first, so no later allocation is needed.
 fn push_digits(line: &mut Vec<u8>, bytes: &[u8]) -> Result<(), AllocError>
     ensures ok { OnOk result (line.new.items ≡ line.old.items ++ flat_map hexadecimal bytes.now) }
     ensures err { OnErr result (line.new.items ≡ line.old.items) }
@@ -58,7 +59,7 @@ fn push_digits(line: &mut Vec<u8>, bytes: &[u8]) -> Result<(), AllocError>
     Ok(())
 }
 
-/// Appends bytes in hexadecimal, or `-` where there are none; or nothing where memory lacks.
+/// Appends bytes in hexadecimal, or `-` if there are none. If an allocation fails, appends nothing.
 pub(crate) fn push_hex(line: &mut Vec<u8>, bytes: &[u8]) -> Result<(), AllocError>
     ensures ok { OnOk result (line.new.items ≡ line.old.items ++ body_word bytes.now) }
     ensures err { OnErr result (line.new.items ≡ line.old.items) }
@@ -70,7 +71,7 @@ pub(crate) fn push_hex(line: &mut Vec<u8>, bytes: &[u8]) -> Result<(), AllocErro
     push_digits(line, bytes)
 }
 
-/// The value of a hexadecimal digit of either case, or 255 for a byte that is none.
+/// Returns the value of a hexadecimal digit of either case, or 255 for a byte that is no digit.
 fn digit_of(byte: u8) -> u8
     ensures digit { result < 16 → (is_digit byte 16 ≡ true) × (result ≡ digit_value byte) }
     ensures none { 16 ≤ result → is_digit byte 16 ≡ false }
@@ -83,7 +84,8 @@ fn digit_of(byte: u8) -> u8
     }
 }
 
-/// Reads digits, two for each byte, and answers whether all are such: those of eight bytes at once, and the last few one by one.
+/// Reads digits, two for each byte, and returns whether all are hexadecimal digits. Eight bytes are read at once, and
+/// the last few one by one.
 fn read_digits(digits: &[u8], bytes: &mut [u8]) -> bool
     requires { length digits.now ≡ 2 * length bytes.old }
     ensures { MatchBool result (bytes_by_digits digits.now ≡ Some bytes.new) (bytes_by_digits digits.now ≡ None) }
@@ -104,7 +106,7 @@ fn read_digits(digits: &[u8], bytes: &mut [u8]) -> bool
     all
 }
 
-/// Appends the bytes that digits say, two for each, and answers whether they say any.
+/// Appends the bytes that digits mean, two digits for each. Returns false if one of them is no hexadecimal digit.
 fn push_bytes(bytes: &mut Vec<u8>, digits: &[u8]) -> Result<bool, AllocError>
     requires { length digits.now % 2 ≡ 0 }
     ensures { IfOk result (λ all. SaysPart all digits.now bytes.old.items bytes.new.items) }
@@ -114,7 +116,8 @@ fn push_bytes(bytes: &mut Vec<u8>, digits: &[u8]) -> Result<bool, AllocError>
     Ok(read_digits(digits, &mut bytes[start..]))
 }
 
-/// Bytes in hexadecimal, two digits each, or `-` for none. `None`: it is neither.
+/// Returns the bytes of a word in hexadecimal, two digits for each, or no bytes for `-`. Returns `None` if the word is
+/// neither.
 pub(crate) fn hex_bytes(alloc: Global, word: &[u8]) -> Result<Option<Vec<u8>>, AllocError>
     ensures { IfOk result (λ said. option_map (λ bytes. bytes.items) said ≡ bytes_in word.now) }
 {

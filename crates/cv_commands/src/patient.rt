@@ -1,17 +1,18 @@
-//! Reading and writing descriptors that may be non-blocking.
+//! Reads and writes file descriptors that may be non-blocking.
 
 use libc::net::{POLLIN, POLLOUT, poll};
 use libc::types::pollfd;
 use std::io::{self, ErrorKind, Read, Write};
 
-/// The descriptor of the standard input.
+/// The file descriptor of the standard input.
 const INPUT: i32 = 0;
 
-/// The descriptor of the standard output.
+/// The file descriptor of the standard output.
 const OUTPUT: i32 = 1;
 
-/// A reader or a writer of a descriptor. If a call would block, and the descriptor is one that refuses to, it waits until it is ready. A call
-/// that a signal interrupted is made again: that of a socket with a time limit is, when its process is stopped and continued (signal(7)).
+/// A reader or a writer of a file descriptor. If a call fails since a non-blocking descriptor would block, it waits
+/// until the descriptor is ready, and makes the call again. It also makes a call again that a signal interrupted.
+/// Stopping and continuing the process interrupts the calls of a socket with a timeout (signal(7)).
 #[derive(Drop)]
 pub(crate) struct Patient<T> {
     inner: T,
@@ -20,7 +21,7 @@ pub(crate) struct Patient<T> {
 }
 
 impl<T> Patient<T> {
-    /// Of a reader of the standard input.
+    /// Wraps a reader of the standard input.
     pub(crate) fn input(inner: T) -> Patient<T> {
         Patient {
             inner,
@@ -29,7 +30,7 @@ impl<T> Patient<T> {
         }
     }
 
-    /// Of a writer to the standard output.
+    /// Wraps a writer to the standard output.
     pub(crate) fn output(inner: T) -> Patient<T> {
         Patient {
             inner,
@@ -38,7 +39,7 @@ impl<T> Patient<T> {
         }
     }
 
-    /// Waits until the descriptor is ready, if it can be.
+    /// Waits until the descriptor is ready. Returns false if waiting failed.
     fn becomes_ready(&self) -> bool {
         let mut asked = [pollfd {
             fd: self.descriptor,
@@ -48,8 +49,8 @@ impl<T> Patient<T> {
         poll(&mut asked, -1) > 0
     }
 
-    /// Whether a call is to be made again after it ended so: a signal interrupted it, or it would have blocked and the descriptor has
-    /// become ready.
+    /// Returns whether a call with this result is to be made again: a signal interrupted it, or it would have blocked.
+    /// In the second case it waits first until the descriptor is ready.
     fn is_made_again(&self, done: &io::Result<usize>) -> bool {
         match done {
             Ok(_) => false,

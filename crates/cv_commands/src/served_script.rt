@@ -1,4 +1,4 @@
-//! Serving a script by a new pool.
+//! Serves a script by a new pool.
 ghost use Rattle.std.specs.Prelude.{◌≤◌, IfOk, IfErr};
 ghost use Rattle.cv_world.specs.Requests.{turn};
 ghost use Rattle.cv_world.specs.Worlds.{no_tables};
@@ -19,7 +19,7 @@ use std::random::RandomSource;
 use std::sync::Wait;
 use std::thread::Threads;
 
-/// Serves frames by a new pool of so many workers, and gives the replies. The frames are let go with it.
+/// Serves frames by a new pool, and returns the replies. The frames are freed on return.
 fn serve_frames<R: RandomSource + Threads + Wait + Sync>(
     rt: &R,
     alloc: Global,
@@ -41,7 +41,8 @@ fn serve_frames<R: RandomSource + Threads + Wait + Sync>(
     }
 }
 
-/// Serves a script by a new pool of so many workers, and gives the reply lines. They don't depend on how many there are.
+/// Serves a script by a new pool of 1 to 16 workers, and returns the reply lines. They do not depend on the number of
+/// workers, unless an allocation fails.
 pub fn run_script<R: RandomSource + Threads + Wait + Sync>(
     rt: &R,
     alloc: Global,

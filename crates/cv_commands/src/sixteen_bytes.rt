@@ -1,4 +1,4 @@
-//! Sixteen bytes in hexadecimal, written at once.
+//! Writes sixteen bytes in hexadecimal at once.
 ghost use Rattle.std.specs.Prelude.{◌≡◌, ◌<◌, ℕ, false, length, get_or, map};
 ghost use Rattle.std.specs.Fmt.{digit_glyph};
 ghost use Rattle.std.specs.List.{flat_map};
@@ -9,7 +9,7 @@ use std::simd::prelude::*;
 /// How many bytes are written at once.
 pub(crate) const SIXTEEN: usize = 16;
 
-/// The lower-case hexadecimal digits of sixteen numbers below 16.
+/// Returns the lower-case hexadecimal digits of sixteen numbers below 16.
 #[inline(always)]
 fn glyphs(numbers: u8x16) -> u8x16
     requires { (k : ℕ) → k < 16 → get_or numbers k 0 < 16 }
@@ -21,7 +21,7 @@ fn glyphs(numbers: u8x16) -> u8x16
         + numbers
 }
 
-/// The digits of sixteen bytes, two for each.
+/// Returns the digits of sixteen bytes, two for each, the higher first.
 #[inline(always)]
 pub(crate) fn sixteen_digits(bytes: &[u8]) -> [u8; 32]
     requires { length bytes.now ≡ 16 }

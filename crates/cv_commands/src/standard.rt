@@ -1,4 +1,4 @@
-//! The commands that work from standard input to standard output.
+//! The commands that read standard input and write standard output.
 ghost use Rattle.std.specs.Prelude.{◌≤◌};
 
 use crate::fault::RunFault;
@@ -18,7 +18,8 @@ use std::random::RandomSource;
 use std::sync::Wait;
 use std::thread::Threads;
 
-/// `run`: serves the script by a new pool of so many workers, and prints the reply lines.
+/// Runs `run`: reads a script from standard input, serves it by a new pool of 1 to 16 workers, and prints the reply
+/// lines.
 pub fn run<R: Input + Print + AllocGlobal + RandomSource + Threads + Wait + Sync>(
     rt: &R,
     workers: u32,
@@ -29,7 +30,7 @@ pub fn run<R: Input + Print + AllocGlobal + RandomSource + Threads + Wait + Sync
     run_given(rt, &script, workers)
 }
 
-/// `run`, of a script that was read.
+/// Runs `run` with a script that was already read.
 pub fn run_given<R: Print + AllocGlobal + RandomSource + Threads + Wait + Sync>(
     rt: &R,
     script: &[u8],
@@ -42,21 +43,22 @@ pub fn run_given<R: Print + AllocGlobal + RandomSource + Threads + Wait + Sync>(
     Ok(())
 }
 
-/// `ask`: writes the request frames of the script.
+/// Runs `ask`: reads a script from standard input, and writes its request frames.
 pub fn ask<R: Input + Print + AllocGlobal>(rt: &R) -> Result<(), RunFault> {
     let script = read_all(rt.alloc(), rt.reader())?;
     ask_given(rt, &script)
 }
 
-/// `ask`, of a script that was read.
+/// Runs `ask` with a script that was already read.
 pub fn ask_given<R: Print + AllocGlobal>(rt: &R, script: &[u8]) -> Result<(), RunFault> {
     let frames = ask_script(rt.alloc(), script)?;
     write_all(io::writer(rt), &frames)?;
     Ok(())
 }
 
-/// `pipe`: serves request frames by a new pool of so many workers, and writes the reply frames. The replies to all whole frames that
-/// were read are written before it reads on. The standard input and output may be non-blocking.
+/// Runs `pipe`: serves the request frames of standard input by a new pool of 1 to 16 workers, and writes the reply
+/// frames. The replies to all whole frames that were read are written before it reads on. Standard input and output may
+/// be non-blocking.
 pub fn pipe<R: Input + Print + AllocGlobal + RandomSource + Threads + Wait + Sync>(
     rt: &R,
     workers: u32,
@@ -66,7 +68,7 @@ pub fn pipe<R: Input + Print + AllocGlobal + RandomSource + Threads + Wait + Syn
     pipe_within(rt, workers, UNLIMITED)
 }
 
-/// `pipe`, whose callers hold no more than a budget.
+/// Runs `pipe` with a budget for what its callers hold.
 pub fn pipe_within<R: Input + Print + AllocGlobal + RandomSource + Threads + Wait + Sync>(
     rt: &R,
     workers: u32,
@@ -88,7 +90,7 @@ pub fn pipe_within<R: Input + Print + AllocGlobal + RandomSource + Threads + Wai
     Ok(())
 }
 
-/// `show`: prints the lines of reply frames.
+/// Runs `show`: reads reply frames from standard input, and prints their lines.
 pub fn show<R: Input + Print + AllocGlobal>(rt: &R) -> Result<(), RunFault> {
     let alloc = rt.alloc();
     let replies = read_all(alloc, rt.reader())?;

@@ -1,4 +1,4 @@
-//! Serving one stream.
+//! Serves one stream.
 ghost use Rattle.std.specs.Prelude.{◌≡◌, ◌≢◌, ◌≤◌, ℕ, List, Err, false};
 ghost use Rattle.cv_world.specs.Requests.{turn};
 ghost use Rattle.cv_world.specs.Worlds.{no_tables};
@@ -18,7 +18,8 @@ use std::random::RandomSource;
 use std::sync::Wait;
 use std::thread::Threads;
 
-/// Serves the frames that a source gives by a new pool of so many workers with a cache of its own, and writes the replies to a sink.
+/// Serves the frames that a source gives by a new pool of 1 to 16 workers with a cache of its own, and writes the
+/// replies to a sink. It makes at most 1,000,000 reads.
 pub fn serve_stream<R: RandomSource + Threads + Wait + Sync, S: Source, W: Sink>(
     rt: &R,
     alloc: Global,
@@ -27,16 +28,17 @@ pub fn serve_stream<R: RandomSource + Threads + Wait + Sync, S: Source, W: Sink>
     workers: u32,
 ) -> Result<Served, RunFault>
     requires workers { (1 ≤ workers) × (workers ≤ 16) }
-    // No call was made yet on the source and the sink.
+    // The source and the sink are new: neither was called.
     requires pulls { S.pulls source.old ≡ 0 }
     requires fresh_source { (S.met_end source.old ≡ false) × (S.has_failed source.old ≡ false) }
     requires fresh_sink { W.has_failed sink.old ≡ false }
 
-    // What was written answers what was given, and each caller for its frames alone.
+    // What was written answers what was given, and what was written for each caller answers its frames alone.
     ensures headline { (given written : List ℕ) → Gave (S.left source.old) (S.left source.new) given
         → Took (W.held sink.old) (W.held sink.new) written → IsHeadline turn (stream_ending result) no_tables given written }
 
-    // `Memory` comes where the cache or the pool found none, before anything was read, and every other result from serving.
+    // `Memory` is returned if an allocation for the cache or the pool failed, before anything was read. Every other
+    // result is that of serving.
     ensures serves { result ≢ Err RunFault.Memory → ServesNew result (S.left source.old) (S.left source.new) (W.held sink.old)
         (W.held sink.new) (S.pulls source.new) most_reads (S.met_end source.new) (S.has_failed source.new) (W.has_failed sink.new) }
     ensures unserved { result ≡ Err RunFault.Memory → (source.new ≡ source.old) × (sink.new ≡ sink.old) }
@@ -50,7 +52,8 @@ pub fn serve_stream<R: RandomSource + Threads + Wait + Sync, S: Source, W: Sink>
     serve_stream_by(rt, alloc, &cached, source, sink, workers)
 }
 
-/// Serves a stream as `serve_stream` does, by a cache that other streams may share at the same time: no reply depends on it.
+/// Serves a stream as `serve_stream` does, by a cache that other streams may use at the same time. No reply depends on
+/// it.
 pub fn serve_stream_by<R: Threads + Wait + Sync, S: Source, W: Sink>(
     rt: &R,
     alloc: Global,
@@ -60,16 +63,17 @@ pub fn serve_stream_by<R: Threads + Wait + Sync, S: Source, W: Sink>(
     workers: u32,
 ) -> Result<Served, RunFault>
     requires workers { (1 ≤ workers) × (workers ≤ 16) }
-    // No call was made yet on the source and the sink.
+    // The source and the sink are new: neither was called.
     requires pulls { S.pulls source.old ≡ 0 }
     requires fresh_source { (S.met_end source.old ≡ false) × (S.has_failed source.old ≡ false) }
     requires fresh_sink { W.has_failed sink.old ≡ false }
 
-    // What was written answers what was given, and each caller for its frames alone.
+    // What was written answers what was given, and what was written for each caller answers its frames alone.
     ensures headline { (given written : List ℕ) → Gave (S.left source.old) (S.left source.new) given
         → Took (W.held sink.old) (W.held sink.new) written → IsHeadline turn (stream_ending result) no_tables given written }
 
-    // `Memory` comes where the pool found none, before anything was read, and every other result from serving.
+    // `Memory` is returned if an allocation for the pool failed, before anything was read. Every other result is that
+    // of serving.
     ensures serves { result ≢ Err RunFault.Memory → ServesNew result (S.left source.old) (S.left source.new) (W.held sink.old)
         (W.held sink.new) (S.pulls source.new) most_reads (S.met_end source.new) (S.has_failed source.new) (W.has_failed sink.new) }
     ensures unserved { result ≡ Err RunFault.Memory → (source.new ≡ source.old) × (sink.new ≡ sink.old) }
@@ -84,18 +88,19 @@ pub fn serve_stream_by<R: Threads + Wait + Sync, S: Source, W: Sink>(
     serve_stream_within(rt, alloc, cached, source, sink, terms)
 }
 
-/// By what a stream is served.
+/// How a stream is served.
 #[derive(Clone, Copy, Debug)]
 pub struct StreamTerms<'a, T> {
-    /// How many workers it has: 1 to 16.
+    /// The number of workers, 1 to 16.
     pub workers: u32,
     /// What its callers may hold. Each worker has the same part of it for its callers.
     pub budget: Budget,
-    /// What is told what they hold.
+    /// Receives what its callers hold.
     pub tally: &'a T,
 }
 
-/// Serves a stream as `serve_stream_by` does, within a budget: a request that would pass it is refused as if an allocation failed.
+/// Serves a stream as `serve_stream_by` does, within a budget. A request that would pass the budget is refused as if an
+/// allocation failed.
 pub fn serve_stream_within<R: Threads + Wait + Sync, S: Source, W: Sink, T: Tally>(
     rt: &R,
     alloc: Global,
@@ -105,16 +110,17 @@ pub fn serve_stream_within<R: Threads + Wait + Sync, S: Source, W: Sink, T: Tall
     terms: StreamTerms<'_, T>,
 ) -> Result<Served, RunFault>
     requires workers { (1 ≤ terms.workers) × (terms.workers ≤ 16) }
-    // No call was made yet on the source and the sink.
+    // The source and the sink are new: neither was called.
     requires pulls { S.pulls source.old ≡ 0 }
     requires fresh_source { (S.met_end source.old ≡ false) × (S.has_failed source.old ≡ false) }
     requires fresh_sink { W.has_failed sink.old ≡ false }
 
-    // What was written answers what was given, and each caller for its frames alone.
+    // What was written answers what was given, and what was written for each caller answers its frames alone.
     ensures headline { (given written : List ℕ) → Gave (S.left source.old) (S.left source.new) given
         → Took (W.held sink.old) (W.held sink.new) written → IsHeadline turn (stream_ending result) no_tables given written }
 
-    // `Memory` comes where the pool found none, before anything was read, and every other result from serving.
+    // `Memory` is returned if an allocation for the pool failed, before anything was read. Every other result is that
+    // of serving.
     ensures serves { result ≢ Err RunFault.Memory → ServesNew result (S.left source.old) (S.left source.new) (W.held sink.old)
         (W.held sink.new) (S.pulls source.new) most_reads (S.met_end source.new) (S.has_failed source.new) (W.has_failed sink.new) }
     ensures unserved { result ≡ Err RunFault.Memory → (source.new ≡ source.old) × (sink.new ≡ sink.old) }

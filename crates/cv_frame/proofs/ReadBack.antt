@@ -1,4 +1,4 @@
--- Bodies that were spelled are read again, and no others are.
+-- Bodies that were encoded are read back; one other form of OPEN is read too, and nothing else.
 use Rattle.std.proofs.Common.{◌≡◌, ℕ, ◌^◌, ◌<◌, ◌≤◌, false, eqb, ltb, List, [], ◌∷◌, ◌++◌, length, take, drop, refl, sym, ap, ◌∙◌, arith, ◌⊎◌, inl, inr, subst, length-append, Option, Some, None}
 use Rattle.std.specs.Int.{w32, to_be_bytes}
 use Rattle.std.specs.Option.{option_and_then, option_map}
@@ -43,9 +43,9 @@ number_back : (number : ℕ) → number < 2 ^ 32 → u32_of (number_body number)
 unfolding u32_of
 number_back number n = ap Some (from_be_bytes-to_be_bytes_4 number n)
 
--- ---- a body that is read was spelled so
+-- ---- a body that is read is the encoding of what is read
 
--- the name at the start, and what follows it
+-- what is read as a name and a rest is that name, encoded, and that rest
 name_only : (bytes name rest : List ℕ) → name_at bytes ≡ Some (name, rest) → bytes ≡ name_body name ++ rest
 name_only [] name rest e = absurd cc
 name_only (n ∷ bytes) name rest e =
@@ -91,7 +91,7 @@ alone_only (taken, []) name e =
     ap (λ (x : List ℕ). (x, [])) is
 alone_only (taken, b ∷ bytes) name e = absurd cc
 
--- what is read as a name alone is that name, spelled
+-- what is read as a name alone is that name, encoded
 pub drop_only : (body name : List ℕ) → drop_of body ≡ Some name → body ≡ name_body name
 drop_only body name e =
     let taken = bound name_alone (name_at body) name e in
@@ -167,7 +167,7 @@ number_only body number fits e =
       | inr p ↦ absurd (let h = p.1 in cc)
     ]
 
--- bodies that are spelled are read back, and no others are read
+-- the law of bodies: those that were encoded are read back, and no others but an OPEN with a byte 0
 pub read_back : ReadBack
 read_back = record {
   drops = drop_back;

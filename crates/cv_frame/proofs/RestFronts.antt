@@ -1,4 +1,4 @@
--- What a rest begins with says whether more bytes make a frame of it.
+-- What a rest begins with says whether more bytes can make a frame of it.
 use Rattle.std.proofs.Common.{◌≡◌, ℕ, ◌+◌, ◌≤◌, Bool, true, false, ltb, List, ◌++◌, length, drop, refl, ap, arith, inl, inr, ◌⊎◌}
 use Rattle.std.specs.Prelude.{◌||◌, replicate}
 use Rattle.std.specs.Int.{w32, from_be_bytes}
@@ -12,11 +12,11 @@ use Rattle.cv_frame.proofs.Cuts.{front_by, front_short, cut_is, cut_only}
 abbrev pub is_bad : ℕ → Bool
 is_bad k = ltb k 9 || ltb 1048576 k
 
--- bytes that follow change nothing of a length that is there
+-- bytes that follow do not change a length whose four bytes are there
 number_more : (bytes more : List ℕ) → 4 ≤ length bytes → u32_at (bytes ++ more) ≡ u32_at bytes
 number_more bytes more long = ap (from_be_bytes w32) (take-append-le 4 bytes more long)
 
--- If the length is good, more bytes make a whole frame.
+-- If the length is good, more bytes can make a whole frame.
 good_can : (bytes : List ℕ) → 4 ≤ length bytes → is_bad (u32_at bytes) ≡ false → CanBeWhole bytes
 good_can bytes long good =
     let k : ℕ = u32_at bytes in
@@ -30,7 +30,7 @@ good_can bytes long good =
           (omega (arith, length-append bytes more, length-replicate {A = ℕ} (4 + k) 0));
     }
 
--- A bad length is at the start, whatever follows.
+-- Bytes that begin with a bad length are read as one, whatever follows.
 bad_front : (bytes : List ℕ) (k : ℕ) → u32_at bytes ≡ k → 4 ≤ length bytes → is_bad k ≡ true → front_of bytes ≡ Bad k
 unfolding front_of
 bad_front bytes k is long bad =
@@ -43,7 +43,7 @@ bad_cannot bytes long bad can =
     bad_front (bytes ++ can.more) (u32_at bytes) (number_more bytes can.more long) (omega (arith, length-append bytes can.more)) bad in
     let whole = can.is_whole in cc
 
--- A good length that no frame follows is a part of one.
+-- A rest that begins with a good length is a part of a frame.
 good_front : (bytes : List ℕ) → 4 ≤ length bytes → IsRest bytes → is_bad (u32_at bytes) ≡ false → front_of bytes ≡ Partial
 unfolding front_of
 good_front bytes long ends good =
@@ -77,6 +77,6 @@ front_of_rest bytes ends = record {
   ];
 }
 
--- bytes have one cut
+-- every byte string has exactly one cut
 pub one_cut : OneCut
 one_cut = record { some = cut_is; one = cut_only; rest = front_of_rest }

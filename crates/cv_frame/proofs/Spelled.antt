@@ -1,4 +1,4 @@
--- What precedes the body of a frame is spelled part by part.
+-- What precedes the body of a frame is written part by part.
 use Rattle.std.proofs.Common.{◌≡◌, ℕ, List, [], ◌∷◌, ◌++◌, append_assoc}
 use Rattle.std.specs.Int.{w32, to_be_bytes}
 use Rattle.cv_frame.specs.Message.{Message, spelling, frame_length}

@@ -7,7 +7,7 @@ use Rattle.cv_frame.specs.Ops.{op_put, op_drop, op_open, op_conv, op_reset, op_c
 use Rattle.cv_frame.specs.Sizes.{most_body}
 use Rattle.cv_frame.specs.declared.ask.Ask.TheVariants.{Put, DropMap, Open, Conv, Reset, Close, Bye, Part, Raw}
 
--- the number of its op
+-- the number of an ask's op
 abbrev pub ask_code : Ask → ℕ
 ask_code (Put text) = op_put
 ask_code (DropMap name) = op_drop
@@ -19,7 +19,7 @@ ask_code Bye = op_bye
 ask_code (Part bytes) = op_part
 ask_code (Raw op body) = op
 
--- its body
+-- the body of an ask
 abbrev pub ask_body : Ask → List ℕ
 ask_body (Put text) = text.now
 ask_body (DropMap name) = name_body name.now
@@ -35,7 +35,7 @@ ask_body (Raw op body) = body.now
 abbrev pub request_of : ℕ → ℕ → Ask → Message
 request_of caller tag ask = record { caller = caller; tag = tag; code = ask_code ask; body = ask_body ask }
 
--- Each name's length is one byte.
+-- Each name has at most 255 bytes, since its length is encoded in one byte.
 abbrev pub NamesFit : Ask → Type 0
 NamesFit (Put text) = Unit {0}
 NamesFit (DropMap name) = length name.now ≤ 255
@@ -47,7 +47,7 @@ NamesFit Bye = Unit {0}
 NamesFit (Part bytes) = Unit {0}
 NamesFit (Raw op body) = Unit {0}
 
--- It has a frame: each name has at most 255 bytes, and the body at most 1,048,567.
+-- The ask fits a frame: each of its names has at most 255 bytes, and its body at most 1,048,567.
 pub record AskFits (ask : Ask) : Type 0 where
   pub names : NamesFit ask
   pub body : length (ask_body ask) ≤ most_body

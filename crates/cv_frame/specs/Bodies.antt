@@ -1,4 +1,4 @@
--- The bodies of requests, whose forms are this project's own. All numbers are of 32 bits, the highest byte first.
+-- The bodies of requests, whose forms are this project's own. Descriptors and rooms are numbers of 32 bits, big-endian.
 use Rattle.std.specs.Prelude.{◌≡◌, ◌⊎◌, ℕ, ◌<◌, ◌≤◌, ◌^◌, List, [], ◌∷◌, ◌++◌, length, take, drop, nat_lt, ◌==◌, Option, Some, None, if◌then◌else◌}
 use Rattle.std.specs.Int.{w32, to_be_bytes}
 use Rattle.std.specs.Option.{option_and_then, option_map}
@@ -8,11 +8,11 @@ use Rattle.cv_frame.specs.Cut.{u32_at, IsBytes}
 
 -- ---- how bodies are encoded
 
--- A name is a byte that is its length, and then the name.
+-- A name is encoded as one byte, its length, and then its bytes.
 abbrev pub name_body : List ℕ → List ℕ
 name_body name = length name ∷ name
 
--- A strict policy is a byte 1, and the other is no byte.
+-- `Strict` is encoded as a byte 1, and `Substitute` as no byte.
 abbrev pub policy_body : Policy → List ℕ
 policy_body Substitute = []
 policy_body Strict = 1 ∷ []
@@ -33,7 +33,7 @@ reset_body number room = to_be_bytes w32 number ++ to_be_bytes w32 room
 abbrev pub number_body : ℕ → List ℕ
 number_body number = to_be_bytes w32 number
 
--- ---- how they are read: none if the body isn't exactly of the form
+-- ---- how bodies are read: `None` if a body is not exactly of its form
 
 -- the name at the start, and what follows it
 abbrev pub name_at : List ℕ → Option (List ℕ × List ℕ)
@@ -45,7 +45,7 @@ abbrev pub name_alone : List ℕ × List ℕ → Option (List ℕ)
 name_alone (name, []) = Some name
 name_alone (name, b ∷ bytes) = None
 
--- the name that a DROP has
+-- the name in the body of a DROP
 abbrev pub drop_of : List ℕ → Option (List ℕ)
 drop_of body = option_and_then name_alone (name_at body)
 
@@ -78,13 +78,14 @@ reset_of body = if length body == 8 then Some (u32_at body, u32_at (drop 4 body)
 unfoldable pub u32_of : List ℕ → Option ℕ
 u32_of body = if length body == 4 then Some (u32_at body) else None
 
--- ---- what is spelled is read, and nothing else
+-- ---- each body that is encoded reads back, and only one other form is read
 
--- The body is that of this OPEN. If the policy substitutes, a byte 0 may say so.
+-- The body is that of this OPEN. If the policy is `Substitute`, a byte 0 may follow the names.
 abbrev pub IsOpenBody : Opening → List ℕ → Type 0
 IsOpenBody o body = (body ≡ open_body o.to o.from o.policy) ⊎ ((o.policy ≡ Substitute) × (body ≡ name_body o.to ++ (name_body o.from ++ 0 ∷ [])))
 
--- Bodies that are spelled of names of at most 255 bytes, and of numbers of 32 bits, are read as those; and a body that is read was spelled so.
+-- A body that encodes names of at most 255 bytes and numbers of 32 bits is read as these names and numbers. Conversely,
+-- a body that is read is the encoding of what is read, or that of an OPEN with a byte 0 after its names.
 pub record ReadBack : Type 0 where
   pub drops : (name : List ℕ) → length name ≤ 255 → drop_of (name_body name) ≡ Some name
   pub opens : (o : Opening) → length o.to ≤ 255 → length o.from ≤ 255 → open_of (open_body o.to o.from o.policy) ≡ Some o

@@ -9,11 +9,11 @@ use Rattle.cv_frame.specs.declared.reading.Frame.TheVariants.{Whole, Partial, Ba
 use Rattle.cv_frame.specs.declared.reading.ReplyFrame.{ReplyFrame}
 use Rattle.cv_frame.specs.declared.reading.ReplyFrame.TheVariants as reply
 
--- the number of 32 bits at the start
+-- the big-endian number of 32 bits at the start
 abbrev pub u32_at : List ℕ → ℕ
 u32_at bytes = from_be_bytes w32 (take 4 bytes)
 
--- The message after a length n: four bytes of the caller, four of the tag, the code, and what is left of n.
+-- The message after a length n: four bytes of the caller, four of the tag, one of the code, and a body of n - 9 bytes.
 abbrev pub message_at : ℕ → List ℕ → Message
 message_at n bytes = record {
   caller = u32_at bytes;
@@ -22,7 +22,8 @@ message_at n bytes = record {
   body = take (n - 9) (drop 9 bytes);
 }
 
--- What the bytes begin with. A length is good from 9 to 1,048,576. Fewer than four bytes, or fewer than a good length says, are a part of a frame.
+-- What the bytes begin with. A length is good from 9 to 1,048,576. Fewer than four bytes are a part of a frame, and so
+-- are fewer bytes after a good length than it says.
 unfoldable pub front_of : List ℕ → Frame
 front_of bytes =
     if nat_lt (length bytes) 4 then Partial else
@@ -30,7 +31,7 @@ front_of bytes =
     if nat_lt (length bytes) (4 + u32_at bytes) then Partial else
     Whole (message_at (u32_at bytes) (drop 4 bytes)) (4 + u32_at bytes)
 
--- What replies begin with is seen as what requests begin with, with the status in the place of the op.
+-- The frame of a reply, seen as the frame of a request: its status is the code.
 abbrev pub front_of_reply : ReplyFrame → Frame
 front_of_reply (reply.Whole caller tag status body n) = Whole (record { caller = caller; tag = tag; code = status; body = body.now }) n
 front_of_reply reply.Partial = Partial
@@ -49,7 +50,7 @@ no_frames bytes = record { messages = []; rest = bytes }
 abbrev pub with_first : Message → Cut → Cut
 with_first m cut = record { messages = m ∷ cut.messages; rest = cut.rest }
 
--- A whole frame is cut off and the others are cut after its n bytes. Without one the bytes are the rest.
+-- A whole frame is cut off, and the others are cut after its n bytes. If there is none, all of the bytes are the rest.
 abbrev pub cut_from : Frame → List ℕ → (ℕ → Cut) → Cut
 cut_from (Whole m n) bytes others = with_first m (others n)
 cut_from Partial bytes others = no_frames bytes
@@ -76,31 +77,33 @@ rest_of bytes = (cut_of bytes).rest
 abbrev pub IsRest : List ℕ → Type 0
 IsRest bytes = (m : Message) (n : ℕ) → front_of bytes ≡ Whole m n → ⊥
 
--- These messages, spelled, and this rest are all of the bytes, and no whole frame is at the start of the rest.
+-- The bytes are the frames of these messages and then this rest. Each message fits a frame, and no whole frame is at
+-- the start of the rest.
 pub record IsCut (bytes : List ℕ) (messages : List Message) (rest : List ℕ) : Type 0 where
   pub whole : bytes ≡ joined messages ++ rest
   pub fits : AllByRecursion FitsFrame messages
   pub ends : IsRest rest
 
--- Each is below 256.
+-- Each element is a byte, below 256.
 abbrev pub IsBytes : List ℕ → Type 0
 IsBytes bytes = (i : ℕ) → get_or bytes i 0 < 256
 
--- More bytes make a whole frame of it.
+-- There are bytes that make a whole frame of these, if they follow.
 pub record CanBeWhole (bytes : List ℕ) : Type 0 where
   pub more : List ℕ
   pub message : Message
   pub n : ℕ
   pub is_whole : front_of (bytes ++ more) ≡ Whole message n
 
--- What a rest begins with. Fewer than four bytes are a part of a frame. Four have its length: a part is what more bytes make whole, and a length is bad
--- if none do.
+-- What a rest begins with. Fewer than four bytes are a part of a frame. Four bytes have the length: the rest is a part
+-- of a frame if and only if more bytes can make it whole, and the length is bad if and only if none can.
 pub record IsFrontOfRest (bytes : List ℕ) : Type 0 where
   pub short : length bytes < 4 → front_of bytes ≡ Partial
   pub part : 4 ≤ length bytes → (front_of bytes ≡ Partial) ↔ CanBeWhole bytes
   pub bad : 4 ≤ length bytes → ((n : ℕ) × (front_of bytes ≡ Bad n)) ↔ ¬ CanBeWhole bytes
 
--- Every byte string has a cut, and no other one; and what its rest begins with says whether more bytes make a frame of it.
+-- Every byte string has exactly one cut. What its rest begins with says whether more bytes can make a frame of the
+-- rest.
 pub record OneCut : Type 0 where
   pub some : (bytes : List ℕ) → IsBytes bytes → IsCut bytes (messages_of bytes) (rest_of bytes)
   pub one : (bytes : List ℕ) (messages : List Message) (rest : List ℕ) → IsCut bytes messages rest → (messages_of bytes ≡ messages) × (rest_of bytes ≡ rest)

@@ -1,4 +1,5 @@
--- What a frame carries, and its one spelling. The format of frames is this project's own. A number of 32 bits is spelled in four bytes, the highest first.
+-- What a frame carries, and its only encoding. The format of frames is this project's own. Numbers of 32 bits are
+-- encoded in four bytes, big-endian.
 use Rattle.std.specs.Prelude.{ℕ, ◌+◌, ◌<◌, ◌≤◌, ◌^◌, List, ◌∷◌, ◌++◌, length}
 use Rattle.std.specs.List.{flat_map}
 use Rattle.std.specs.Int.{w32, to_be_bytes}
@@ -15,11 +16,11 @@ pub record Message : Type 0 where
 abbrev pub frame_length : Message → ℕ
 frame_length m = 9 + length m.body
 
--- A message is spelled as its frame: the length, the caller, the tag, the code, the body.
+-- The frame of a message: the length, the caller, the tag, the code, the body.
 abbrev pub spelling : Message → List ℕ
 spelling m = to_be_bytes w32 (frame_length m) ++ (to_be_bytes w32 m.caller ++ (to_be_bytes w32 m.tag ++ m.code ∷ m.body))
 
--- frames one after another
+-- the frames of messages, one after another
 abbrev pub joined : List Message → List ℕ
 joined ms = flat_map spelling ms
 

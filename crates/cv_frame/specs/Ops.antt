@@ -5,7 +5,7 @@ use Rattle.std.specs.Prelude.{ℕ}
 abbrev pub op_put : ℕ
 op_put = 1
 
--- Gives a charmap back.
+-- Drops a charmap.
 abbrev pub op_drop : ℕ
 op_drop = 2
 
@@ -21,14 +21,15 @@ op_conv = 4
 abbrev pub op_reset : ℕ
 op_reset = 5
 
--- Gives a descriptor back.
+-- Closes a descriptor.
 abbrev pub op_close : ℕ
 op_close = 6
 
--- Gives back all that a caller has.
+-- Frees everything that a caller has.
 abbrev pub op_bye : ℕ
 op_bye = 7
 
--- Holds a part of a charmap's text. A PUT that is answered OK ends it, and so does an empty PART.
+-- Appends to the part of a charmap's text. An empty PART drops the part, and so does a PUT or a BYE that is answered
+-- OK.
 abbrev pub op_part : ℕ
 op_part = 8

@@ -4,7 +4,7 @@ use cv_base::Policy;
 /// What a client asks of the service.
 #[derive(Clone, Copy, Debug)]
 pub enum Ask<'a> {
-    /// Compiles this text of a charmap, after the part that is held, and keeps the charmap.
+    /// Compiles a charmap and keeps it. Its text is the part that is held, followed by these bytes.
     Put(&'a [u8]),
     /// Drops the charmap of this name.
     DropMap(&'a [u8]),
@@ -20,7 +20,8 @@ pub enum Ask<'a> {
         room: u32,
         input: &'a [u8],
     },
-    /// Ends the text of a descriptor, whose closing bytes take at most `room` bytes.
+    /// Takes a descriptor back to its start. The reply has the bytes that close the output, at most `room`; with room 0
+    /// it has none.
     Reset {
         number: u32,
         room: u32,
@@ -29,7 +30,7 @@ pub enum Ask<'a> {
     Close(u32),
     /// Frees everything that the caller has.
     Bye,
-    /// Holds these bytes as a further part of a charmap's text. If there are none, the part that is held is dropped.
+    /// Appends these bytes to the part of a charmap's text. If there are none, drops the part.
     Part(&'a [u8]),
     /// Any op with any body, including those that the service refuses.
     Raw {

@@ -1,5 +1,5 @@
-//! Reading the bodies of requests. `None` says that the body isn't exactly of the form, and the answer is
-//! `Status::BadRequest`.
+//! Reads the bodies of requests. A reader returns `None` if the body is not exactly of its form; the service then
+//! answers `Status::BadRequest`. Numbers are of 32 bits, big-endian.
 
 ghost use Rattle.std.specs.Prelude.{◌≡◌, ◌≤◌, ◌+◌, IfSome, length};
 ghost use Rattle.std.specs.Option.{option_map};
@@ -19,7 +19,7 @@ pub struct OpenBody<'a> {
     pub policy: Policy,
 }
 
-/// A name, and what follows it.
+/// Returns the name at the start, whose length is the first byte, and what follows it.
 fn read_name_at(bytes: &[u8]) -> Option<(&[u8], &[u8])>
     ensures { option_map (λ p. (p.0.now, p.1.now)) result ≡ name_at bytes.now }
 {
@@ -31,7 +31,7 @@ fn read_name_at(bytes: &[u8]) -> Option<(&[u8], &[u8])>
     Some(rest.split_at(n))
 }
 
-/// The body of a DROP: a charmap's name, which may be empty.
+/// Reads the body of a DROP: a charmap's name, which may be empty.
 pub fn read_name(body: &[u8]) -> Option<&[u8]>
     ensures { option_map (λ name. name.now) result ≡ drop_of body.now }
 {
@@ -39,7 +39,7 @@ pub fn read_name(body: &[u8]) -> Option<&[u8]>
     if rest.is_empty() { Some(name) } else { None }
 }
 
-/// The policy after the names of an OPEN.
+/// Reads the policy after the names of an OPEN.
 fn read_policy(bytes: &[u8]) -> Option<Policy>
     ensures { result ≡ policy_of bytes.now }
 {
@@ -50,8 +50,9 @@ fn read_policy(bytes: &[u8]) -> Option<Policy>
     }
 }
 
-/// The body of an OPEN: the target's name, then the source's. Nothing after them, or a byte 0, means that `?` is written for what the
-/// target lacks, and a byte 1 means that the descriptor stops before it.
+/// Reads the body of an OPEN: the target's name, then the source's, then the policy. No byte or a byte 0 is
+/// `Policy::Substitute`: `?` is written for a character that the target lacks. A byte 1 is `Policy::Strict`: the
+/// descriptor stops before such a character.
 #[tactic(auto, unfolding(crate::specs::Bodies::open_of))]
 pub fn read_open(body: &[u8]) -> Option<OpenBody<'_>>
     ensures { option_map (λ o. record { to = o.to.now; from = o.from.now; policy = o.policy }) result
@@ -63,7 +64,7 @@ pub fn read_open(body: &[u8]) -> Option<OpenBody<'_>>
     Some(OpenBody { to, from, policy })
 }
 
-/// The body of a CONV: the descriptor's number, the room in bytes and the input.
+/// Reads the body of a CONV: the descriptor's number, the room in bytes and the input, which is the rest.
 #[tactic(auto, unfolding(crate::specs::Bodies::conv_of))]
 pub fn read_conv(body: &[u8]) -> Option<(u32, u32, &[u8])>
     ensures fields { option_map (λ p. (p.0, p.1, p.2.now)) result ≡ conv_of body.now }
@@ -75,7 +76,7 @@ pub fn read_conv(body: &[u8]) -> Option<(u32, u32, &[u8])>
     Some((number(body), number(&body[4..]), &body[8..]))
 }
 
-/// The body of a RESET: the descriptor's number and the room in bytes.
+/// Reads the body of a RESET: the descriptor's number and the room in bytes.
 #[tactic(auto, unfolding(crate::specs::Bodies::reset_of))]
 pub fn read_reset(body: &[u8]) -> Option<(u32, u32)>
     ensures { result ≡ reset_of body.now }
@@ -87,7 +88,7 @@ pub fn read_reset(body: &[u8]) -> Option<(u32, u32)>
     }
 }
 
-/// The body of a CLOSE: the descriptor's number.
+/// Reads the body of a CLOSE: the descriptor's number.
 #[tactic(auto, unfolding(crate::specs::Bodies::u32_of))]
 pub fn read_number(body: &[u8]) -> Option<u32>
     ensures { result ≡ u32_of body.now }

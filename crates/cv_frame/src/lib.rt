@@ -1,4 +1,4 @@
-//! Frames: the bytes of requests and replies.
+//! Frames: how the bytes of requests and replies are read and written.
 #![tactic(auto)]
 
 mod ask;

@@ -21,5 +21,5 @@ pub const CLOSE: u8 = 6;
 /// Frees everything that a caller has.
 pub const BYE: u8 = 7;
 
-/// Holds a part of a charmap's text, which the next `PUT` ends.
+/// Appends to the part of a charmap's text, which the text of the next `PUT` begins with. An empty one drops the part.
 pub const PART: u8 = 8;

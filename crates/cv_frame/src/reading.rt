@@ -1,4 +1,4 @@
-//! Reading frames.
+//! Reads frames.
 
 ghost use Rattle.std.specs.Prelude.{◌≡◌, ◌≤◌, length};
 ghost use Rattle.cv_frame.specs.Cut.{front_of, front_of_reply, u32_at};
@@ -6,7 +6,7 @@ ghost use Rattle.cv_frame.specs.Cut.{front_of, front_of_reply, u32_at};
 use crate::request::Request;
 use crate::sizes::{LEAST_LENGTH, MOST_LENGTH};
 
-/// What bytes that a client sent begin with.
+/// What bytes from a client begin with.
 #[derive(Debug, Drop)]
 pub enum Frame<'a> {
     /// A request, and how many bytes its whole frame has.
@@ -17,7 +17,7 @@ pub enum Frame<'a> {
     Bad { length: u32 },
 }
 
-/// What bytes that the service sent begin with.
+/// What bytes from the service begin with.
 #[derive(Debug, Drop)]
 pub enum ReplyFrame<'a> {
     /// A reply, and how many bytes its whole frame has. The status is as it came, known or not.
@@ -36,7 +36,7 @@ pub enum ReplyFrame<'a> {
     },
 }
 
-/// The number that the first four bytes are, the highest first.
+/// Returns the big-endian number in the first four bytes.
 pub(crate) fn number(bytes: &[u8]) -> u32
     requires { 4 ≤ length bytes.now }
     ensures { result ≡ u32_at bytes.now }
@@ -44,7 +44,7 @@ pub(crate) fn number(bytes: &[u8]) -> u32
     u32::from_be_bytes([bytes[0], bytes[1], bytes[2], bytes[3]])
 }
 
-/// What the bytes begin with, which are requests one after another.
+/// Returns what the bytes begin with: a request, a part of its frame, or a bad length. Nothing is copied.
 #[tactic(auto, unfolding(crate::specs::Cut::front_of))]
 pub fn next_request(bytes: &[u8]) -> Frame<'_>
     ensures { result ≡ front_of bytes.now }
@@ -69,8 +69,8 @@ pub fn next_request(bytes: &[u8]) -> Frame<'_>
     Frame::Whole { request, n }
 }
 
-/// What the bytes begin with, which are replies one after another. A reply's frame is a request's with the
-/// status in the place of the op.
+/// Returns what the bytes begin with: a reply, a part of its frame, or a bad length. A reply's frame has the status in
+/// the place of the op. Nothing is copied.
 pub fn next_reply(bytes: &[u8]) -> ReplyFrame<'_>
     ensures { front_of_reply result ≡ front_of bytes.now }
 {

@@ -35,7 +35,7 @@ impl Model for Reply {
 }
 
 impl Reply {
-    /// A reply to the request of this caller and tag.
+    /// Makes a reply to the request of this caller and tag. Head and tail have at most 1,048,567 bytes together.
     pub fn new(caller: u32, tag: u32, status: Status, head: Piece, tail: Bytes) -> Self
         requires { length head + length tail ≤ MOST_BODY }
         ensures value { result ≡ record { caller = caller; tag = tag; code = status_number status; body = head ++ tail } }

@@ -1,4 +1,4 @@
-//! How long frames are.
+//! How long frames are. The length of a frame is the number of bytes after its own four.
 
 /// The least length of a frame: four bytes of the caller, four of the tag, and the op or the status.
 pub const LEAST_LENGTH: u32 = 9;

@@ -12,7 +12,7 @@ pub enum Status {
     Ok,
     /// The room was too small.
     TooBig,
-    /// The input has bytes that are not a character.
+    /// The next bytes of the input are no character, whatever follows.
     Ill,
     /// The input ends within a character.
     Incomplete,
@@ -20,30 +20,30 @@ pub enum Status {
     BadDescriptor,
     /// The caller has as many descriptors as it may.
     TooManyDescriptors,
-    /// An allocation failed.
+    /// An allocation failed, or a memory limit of the service would be passed.
     NoMemory,
     /// A name names no encoding.
     Unsupported,
-    /// The op isn't known, or the body isn't of its form.
+    /// The op is unknown, or the body is not exactly of its form.
     BadRequest,
     /// The charmap text has a fault.
     BadMap,
-    /// A charmap of this name is there already.
+    /// A built-in encoding, or a charmap of the caller, already has this name.
     Exists,
-    /// No charmap has this name.
+    /// No charmap of the caller has this name.
     NoName,
-    /// The charmap is used by an open descriptor.
+    /// An open descriptor uses the charmap.
     Busy,
-    /// The caller's charmaps have as many mappings as they may.
+    /// The caller would have too many charmaps, too many mappings, or too long a part of a charmap's text.
     Quota,
-    /// The room is more than any reply may have.
+    /// The room is above 1,000,000 bytes.
     Room,
     /// The target lacks the next character, and the descriptor is strict.
     Lacking,
 }
 
 impl Status {
-    /// Its number in a reply.
+    /// Returns its number in a reply, 0 to 15.
     pub fn number(self) -> u8
         ensures { result ≡ status_number self }
     {
@@ -67,7 +67,7 @@ impl Status {
         }
     }
 
-    /// Its name, in capital letters. If POSIX has an error of this meaning, it is that error's name.
+    /// Returns its name, in capital letters. If POSIX has an error of this meaning, it is that error's name.
     pub fn name(self) -> &'static str
         ensures { result.now ≡ status_name self }
     {
@@ -91,7 +91,7 @@ impl Status {
         }
     }
 
-    /// The status that has this number, if any has.
+    /// Returns the status of this number, or `None` if the number is above 15.
     pub fn from_number(number: u8) -> Option<Self>
         ensures known { IsSome result ↔ (number < 16) }
         ensures same { IfSome result (λ status. status_number status ≡ number) }

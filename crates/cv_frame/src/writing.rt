@@ -1,4 +1,4 @@
-//! Writing frames.
+//! Writes frames.
 
 ghost use Rattle.std.specs.Prelude.{◌≡◌, ◌≤◌, ◌+◌, ◌++◌, List, ℕ, OnOk, OnErr, length, vec_len, vec_capacity};
 ghost use Rattle.cv_frame.specs.Message.{FitsFrame, spelling};
@@ -35,7 +35,7 @@ fn append_name(out: &mut Vec<u8>, name: &[u8])
     append(out, name);
 }
 
-/// What follows the names of an OPEN.
+/// Returns what follows the names of an OPEN.
 fn policy_bytes(policy: Policy) -> &'static [u8]
     ensures { result.now ≡ policy_body policy }
 {
@@ -45,7 +45,7 @@ fn policy_bytes(policy: Policy) -> &'static [u8]
     }
 }
 
-/// Begins a frame: makes room for all of it, and appends what precedes its body of n bytes.
+/// Begins a frame: makes room for all of it, and appends the 13 bytes that precede its body of n bytes.
 fn begin_frame(out: &mut Vec<u8>, caller: u32, tag: u32, code: u8, n: usize) -> Result<(), Memory>
     requires { n ≤ MOST_BODY }
     ensures begins { OnOk result ((body : List ℕ) → length body ≡ n → out.new.items ++ body ≡ out.old.items ++
@@ -76,7 +76,7 @@ pub fn write_reply(out: &mut Vec<u8>, reply: &Reply) -> Result<(), Memory>
     Ok(())
 }
 
-/// What precedes a reply's body of n bytes in its frame: the length, the caller, the tag and the status.
+/// Returns what precedes a reply's body of n bytes in its frame: the length, the caller, the tag and the status.
 pub fn reply_head(caller: u32, tag: u32, status: Status, n: usize) -> [u8; 13]
     requires { n ≤ MOST_BODY }
     ensures { (body : List ℕ) → length body ≡ n → result ++ body ≡
@@ -88,7 +88,7 @@ pub fn reply_head(caller: u32, tag: u32, status: Status, n: usize) -> [u8; 13]
     [a, b, c, d, e, f, g, h, i, j, k, l, status.number()]
 }
 
-/// The number of an ask's op.
+/// Returns the number of an ask's op.
 fn op_of(ask: &Ask<'_>) -> u8
     ensures { result ≡ ask_code ask.now }
 {
@@ -105,7 +105,7 @@ fn op_of(ask: &Ask<'_>) -> u8
     }
 }
 
-/// How many bytes an ask's body has.
+/// Returns how many bytes an ask's body has.
 fn body_len(ask: &Ask<'_>) -> usize
     requires { AskFits ask.now }
     ensures { result ≡ length (ask_body ask.now) }
@@ -153,8 +153,8 @@ fn append_body(out: &mut Vec<u8>, ask: &Ask<'_>)
     }
 }
 
-/// Appends the frame of a request. Names have at most 255 bytes and the body at most 1,048,567, so the input of a
-/// `Conv` at most 1,048,559. If an allocation fails, the buffer is unchanged.
+/// Appends the frame of a request. Names have at most 255 bytes and the body at most 1,048,567, and so the input of a
+/// `Conv` has at most 1,048,559. If an allocation fails, the buffer is unchanged.
 pub fn write_request(out: &mut Vec<u8>, caller: u32, tag: u32, ask: &Ask<'_>) -> Result<(), Memory>
     requires { AskFits ask.now }
     ensures ok { OnOk result (out.new.items ≡ out.old.items ++ spelling (request_of caller tag ask.now)) }

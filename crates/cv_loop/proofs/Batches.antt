@@ -14,7 +14,7 @@ use Rattle.cv_loop.specs.declared.batch.End.{End}
 use Rattle.cv_loop.specs.declared.batch.End.TheVariants as ends
 
 module _ (P : Message → Type 0) where
-  -- it holds of all, and of one more
+  -- a property holds of all messages, and of one more
   pub all-push : (ms : List Message) (m : Message) → AllByRecursion P ms → P m → AllByRecursion P (ms ++ m ∷ [])
   all-push [] m all one = (one, tt)
   all-push (x ∷ ms) m all one = (all.0, all-push ms m all.1 one)
@@ -27,7 +27,7 @@ joined-push ms m = flat_map-append spelling ms (m ∷ []) ∙ ap (λ (x : List �
 abbrev pub IsOfKind : Bool → Message → Type 0
 IsOfKind kind m = is_of_kind kind m ≡ true
 
--- So many whole frames of one kind at the front of bytes were gathered, which use so many of them.
+-- The first `count` whole frames of these bytes, all of one kind, were gathered. They have `used` bytes.
 pub record Gathered (bytes : List ℕ) (kind : Bool) (ms : List Message) (used count : ℕ) : Type 0 where
   pub within : used ≤ length bytes
   pub front : bytes ≡ joined ms ++ drop used bytes
@@ -36,7 +36,7 @@ pub record Gathered (bytes : List ℕ) (kind : Bool) (ms : List Message) (used c
   pub far : count ≤ used
   pub many : length ms ≡ count
 
--- one whole frame more is gathered
+-- one more whole frame is gathered
 pub gathered_more : (bytes : List ℕ) (kind : Bool) (ms : List Message) (used count n : ℕ) (m : Message) → IsBytes bytes → Gathered bytes kind ms used count
     → Whole m n ≡ front_of (take (length bytes - used) (drop used bytes)) → IsOfKind kind m → Gathered bytes kind (ms ++ m ∷ []) (used + n) (count + 1)
 gathered_more bytes kind ms used count n m fits so e of_kind =
@@ -55,7 +55,7 @@ gathered_more bytes kind ms used count n m fits so e of_kind =
       many = length-append ms (m ∷ []) ∙ ap (λ (k : ℕ). k + 1) so.many;
     }
 
--- how much longer one more message makes a spelling
+-- how many bytes one more message adds to the frames
 pub one_longer : (ms ns : List Message) (m : Message) → ns ≡ ms ++ m ∷ [] → length (joined ns) ≡ length (joined ms) + (13 + length m.body)
 one_longer ms ns m e =
     ap (λ (xs : List Message). length (joined xs)) e ∙ ap (λ (x : List ℕ). length x) (joined-push ms m)
@@ -68,7 +68,8 @@ module _ (p : Message → Bool) where
   one_fewer ms m k (inl full) = inl (omega (arith, full))
   one_fewer ms m k (inr none) = inr none
 
-  -- What is taken of those at the front that pass: those that are known to, where no more may be taken or the next doesn't pass.
+  -- Of the first messages that pass a test, at most k are taken. These are the messages known to pass, if they are k or
+  -- the next one does not pass.
   pub taken_run : (ms more : List Message) (k : ℕ) → AllByRecursion (λ m. p m ≡ true) ms → length ms ≤ k → (length ms ≡ k) ⊎ (take_while p more ≡ [])
       → take k (take_while p (ms ++ more)) ≡ ms
   taken_run [] more k all few (inl full) = ap (λ (n : ℕ). take n (take_while p more)) (sym full)
@@ -79,12 +80,12 @@ module _ (p : Message → Bool) where
       take_while-cons p m (ms ++ more) ∙ ap (λ (b : Bool). cond b (m ∷ take_while p (ms ++ more)) []) all.0 in
       ap (take (suc k)) e ∙ ap (λ (xs : List Message). m ∷ xs) (taken_run ms more k all.1 (omega (arith, few)) (one_fewer ms m k why))
 
--- a kind is that of a request of its kind
+-- a request is of its own kind
 pub same_kind : (kind : Bool) (m : Message) → kind ≡ is_upload m → IsOfKind kind m
 same_kind true m e = sym e
 same_kind false m e = ap not (sym e)
 
--- the kind of the first request is that of the frame at the front
+-- the kind of the first request is that of the frame at the start
 pub first_whole : (bytes : List ℕ) (m : Message) (n : ℕ) → front_of bytes ≡ Whole m n → first_kind (messages_of bytes) ≡ is_upload m
 first_whole bytes m n f = ap (λ (c : Cut). first_kind c.messages) (cut_whole bytes m n f)
 
@@ -97,14 +98,14 @@ partial_is_rest bytes e m n h = absurd cc
 pub bad_is_rest : (bytes : List ℕ) (l : ℕ) → front_of bytes ≡ Bad l → IsRest bytes
 bad_is_rest bytes l e m n h = absurd cc
 
--- What follows goes on with no request of a kind.
+-- These bytes do not begin with a request of this kind.
 abbrev pub GoesOnWithNone : Bool → List ℕ → Type 0
 GoesOnWithNone kind rest = take_while (is_of_kind kind) (messages_of rest) ≡ []
 
 none_behind : (kind : Bool) (rest : List ℕ) → IsRest rest → GoesOnWithNone kind rest
 none_behind kind rest is = ap (λ (c : Cut). take_while (is_of_kind kind) c.messages) (cut_rest rest is)
 
--- where a batch ends it goes on so
+-- what follows a batch does not begin with a request of its kind
 pub goes_on : (kind : Bool) (end : End) (rest : List ℕ) → EndsBefore kind end rest → GoesOnWithNone kind rest
 goes_on kind ends.More rest why =
     let m = why.0 in
@@ -118,7 +119,7 @@ goes_on kind (ends.Bad n) rest why = none_behind kind rest (bad_is_rest rest n w
 differ : true ≢ false
 differ e = absurd cc
 
--- A batch that ends before a request of the other kind has one, since its kind is that of the first.
+-- A batch that ends before a request of the other kind is not empty, since its kind is that of the first request.
 some_used : (bytes : List ℕ) (kind : Bool) (used : ℕ) → kind ≡ first_kind (messages_of bytes) → EndsBefore kind ends.More (drop used bytes) → 0 < used
 some_used bytes kind zero is why =
     let of_kind : IsOfKind kind why.0 = same_kind kind why.0 (is ∙ first_whole bytes why.0 why.1 (sym why.2)) in
@@ -135,7 +136,7 @@ full_or_none : {X : Type 0} (ms : List Message) (count most : ℕ) → length ms
 full_or_none ms count most many (inl full) = inl (many ∙ full)
 full_or_none ms count most many (inr none) = inr none
 
--- What was gathered is what a batch is to have, once it is full or what follows goes on with no request of its kind.
+-- What was gathered is the next batch, if that is full or what follows does not begin with a request of its kind.
 pub batch_is : (bytes : List ℕ) (kind : Bool) (at_once used count : ℕ) (ms : List Message) → kind ≡ first_kind (messages_of bytes) → Gathered bytes kind ms used count
     → count ≤ most_of_kind kind at_once → (count ≡ most_of_kind kind at_once) ⊎ GoesOnWithNone kind (drop used bytes) → ms ≡ next_requests at_once (messages_of bytes)
 batch_is bytes kind at_once used count ms is so few why =

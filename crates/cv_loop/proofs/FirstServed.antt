@@ -1,4 +1,4 @@
--- Two runs of the same requests give the same replies, as far as no allocation fails in one and none in the other.
+-- Two runs of the same requests give the same replies up to the first failed allocation in either.
 use Rattle.std.proofs.Common.{◌≡◌, ◌≢◌, ℕ, List, [], ◌∷◌, ◌++◌, refl, sym, ap, subst, ◌∙◌, arith}
 use Rattle.std.specs.List.{AllByRecursion}
 use Rattle.std.proofs.lemmas.List.{append-nil}
@@ -8,7 +8,7 @@ use Rattle.cv_frame.proofs.Cuts.{cut_only, front_short}
 use Rattle.cv_machine.specs.Machine.{Turn, IsOneAnswer, Event, requests, reply_to, replies_of, tables_after, IsRun, BeginsAnswer, NoneLacks, no_memory}
 use Rattle.cv_loop.specs.Laws.{FirstServed}
 
--- frames that are joined are the cut
+-- joined frames are cut into these frames again
 pub joined_are : (bytes : List ℕ) (ms : List Message) → bytes ≡ joined ms → AllByRecursion FitsFrame ms → messages_of bytes ≡ ms
 joined_are bytes ms whole fits =
     let cut : IsCut bytes ms [] = record {

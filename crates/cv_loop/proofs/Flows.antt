@@ -13,7 +13,7 @@ use Rattle.cv_loop.specs.declared.fault.ServeFault.{ServeFault}
 use Rattle.cv_loop.specs.declared.fault.ServeFault.TheVariants as fault
 use Rattle.cv_machine.specs.Machine.{Turn}
 
--- to count in two steps is to count the sum
+-- counting in two steps is counting the sum
 pub counted-add : (a b c : ℕ) → counted (counted (a + b) + c) ≡ counted (a + (b + c))
 counted-add a b c = omega arith
 
@@ -61,7 +61,7 @@ module _ {Table : Type 0} {turn : Turn Table} where
         q.why;
   }
 
--- the bytes of frames, and of those behind them
+-- the bytes of frames and of frames after them
 pub joined-append : (ms ns : List Message) → joined (ms ++ ns) ≡ joined ms ++ joined ns
 joined-append ms ns = flat_map-append spelling ms ns
 
@@ -105,7 +105,7 @@ module _ {Table : Type 0} {turn : Turn Table} where
     stops = Stops-then f s t u h i j p.asked q.asked q.rest a b failed p.answered q.stops;
   }
 
-  -- want of memory before anything of it ran
+  -- an allocation failed before any of the requests ran
   pub Stopped-memory : (s : ℕ → Table) (h : Option (List ℕ)) (bytes : List ℕ) (a : ℕ) (failed : Bool) → failed ≡ false → Stopped turn fault.Memory s h h bytes s a failed
   Stopped-memory s h bytes a failed works = record {
     asked = [];
@@ -115,12 +115,12 @@ module _ {Table : Type 0} {turn : Turn Table} where
     stops = record { later = []; written = []; unwritten = []; wrote = record { took = Appends-nil h; ran = Progress-none turn s }; why = works };
   }
 
--- what stands after a batch within the bytes from used on
+-- what follows a batch within the bytes from `used` on
 pub after_batch : (bytes : List ℕ) (used n : ℕ) → drop n (take (length bytes - used) (drop used bytes)) ≡ drop (used + n) bytes
 after_batch bytes used n = ap (λ (x : List ℕ). drop n x) (take_rest bytes used) ∙ drop-drop n used bytes
 
 module _ {Table : Type 0} {turn : Turn Table} where
-  -- a length that no frame has stands after what was answered
+  -- a length that no frame has follows what was answered
   pub Stopped-bad : (s t : ℕ → Table) (h i : Option (List ℕ)) (bytes : List ℕ) (used a b k l length : ℕ) (failed : Bool)
       → Drained turn s h i bytes used t a b k l → front_of (drop used bytes) ≡ front.Bad length → failed ≡ false → Stopped turn (fault.BadLength length) s h i bytes t a failed
   Stopped-bad s t h i bytes used a b k l length failed p bad works = record {

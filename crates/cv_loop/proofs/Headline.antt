@@ -1,4 +1,4 @@
--- What serving says where the source and the sink tell their bytes.
+-- What serving says if the bytes of the source and the sink are known.
 use Rattle.std.proofs.Common.{◌≡◌, ◌≤◌, None, length, length-append, arith, ℕ, List, [], ◌++◌, Option, Some, Result, refl, sym, ap, ◌∙◌, subst}
 use Rattle.std.proofs.lemmas.List.{append-nil, append_cancel_right, append_cancel_left}
 use Rattle.std.specs.Io.KnownBytes.{Appends, Consumes}
@@ -17,7 +17,7 @@ same_given left left' g g' p q =
     let b : Consumes (Some (g ++ p.0)) (Some p.0) g' = subst (λ (o : Option (List ℕ)). Consumes (Some (g ++ p.0)) o g') p.2 a in
     append_cancel_right g g' p.0 b
 
--- A sink that tells its bytes took one list.
+-- A sink whose bytes are known took only one byte string.
 pub same_written : (held held' : Option (List ℕ)) (w w' : List ℕ) → Took held held' w → Appends held held' w' → w ≡ w'
 same_written held held' w w' p q =
     let a : Appends (Some p.0) held' w' = subst (λ (o : Option (List ℕ)). Appends o held' w') p.1 q in
@@ -42,7 +42,7 @@ module _ {Table : Type 0} {turn : Turn Table} where
       let h = all_answered old new s.given s.written s.later s.unwritten (s.all unbroken) s.ran in
       subst (λ (x : List ℕ). AnswersEach turn old x written) (sym g) (subst (λ (x : List ℕ). AnswersEach turn old s.given x) (sym w) h)
 
-  -- where no reply says that memory lacked
+  -- if no reply says that an allocation failed
   all_served : (old : ℕ → Table) (given written : List ℕ) → AnswersEach turn old given written → NoneLacks (messages_of written) → ServesEach turn old given written
   all_served old given written p none = record { all = (p.all, none); each = λ c. (p.each c, none_only turn old c given written p.all none) }
 
@@ -64,7 +64,7 @@ module _ {Table : Type 0} {turn : Turn Table} where
     begun = begun law result old new left left' held held' pulls max s given written gave took;
   }
 
-  -- It holds for any other ending that is broken where this one is.
+  -- The headline holds for another ending too, if this one is unbroken whenever the other is.
   pub other_ending : (e f : Ending) (tables : ℕ → Table) (given written : List ℕ) → (IsUnbroken f → IsUnbroken e) → IsHeadline turn e tables given written → IsHeadline turn f tables given written
   other_ending e f tables given written unbroken h = record {
     answered = λ u. h.answered (unbroken u);
@@ -89,6 +89,6 @@ gave_few (Some b) (Some rest) bytes given is p =
     let same : b ≡ bytes = cc in
     omega (arith, ap length p, ap length same, length-append given rest)
 
--- A sink that began with nothing took all that it holds.
+-- A sink that was empty at first took all that it holds.
 pub all_took : (began held : Option (List ℕ)) (bytes : List ℕ) → began ≡ Some [] → Some bytes ≡ held → Took began held bytes
 all_took began held bytes none is = ([], none, sym is)

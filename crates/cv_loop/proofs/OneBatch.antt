@@ -11,7 +11,7 @@ use Rattle.cv_loop.specs.Private.Draining.{Broken, Answered}
 use Rattle.cv_loop.specs.declared.fault.ServeFault.TheVariants as fault
 
 module _ {Table : Type 0} {turn : Turn Table} where
-  -- how much is written is another matter than what ran
+  -- what ran does not depend on how much of its replies is written
   rewritten : (s new : ℕ → Table) (asked later : List Message) (more missing written unwritten : List ℕ) → Progress turn s asked later more missing new
       → more ++ missing ≡ written ++ unwritten → Progress turn s asked later written unwritten new
   rewritten s new asked later more missing written unwritten p e = record {
@@ -23,7 +23,7 @@ module _ {Table : Type 0} {turn : Turn Table} where
     leaves = p.leaves;
   }
 
-  -- memory lacked for the batch or its replies
+  -- an allocation for the batch or its replies failed
   pub no_replies : (s new : ℕ → Table) (h : Option (List ℕ)) (asked later : List Message) (before : ℕ) (failed : Bool) (bytes missing : List ℕ)
       → AppendsReplies turn s asked later [] bytes missing new → failed ≡ false → Broken turn s h h asked new before fault.Memory failed
   no_replies s new h asked later before failed bytes missing p works = record {
@@ -34,7 +34,7 @@ module _ {Table : Type 0} {turn : Turn Table} where
     why = works;
   }
 
-  -- the sink broke off
+  -- the sink failed or took no byte
   pub no_write : (s new : ℕ → Table) (h h' : Option (List ℕ)) (asked : List Message) (before n count : ℕ) (failed : Bool) (replies bytes : List ℕ)
       → AppendsReplies turn s asked [] [] replies [] new → bytes ≡ replies → n ≤ length bytes → Appends h h' (take n bytes) → count ≡ counted (before + n)
       → failed ≡ true → Broken turn s h h' asked new before (fault.Write count) failed

@@ -1,18 +1,18 @@
--- A range of a buffer: what it is once bytes were put behind it, and once some of its front is forgotten.
+-- A range of a buffer, after bytes were put after it, and after its first bytes are dropped.
 use Rattle.std.proofs.Common.{◌≡◌, ℕ, ◌+◌, ◌-◌, ◌≤◌, ◌==◌, nat_lt, ◌<◌, true, false, List, [], ◌++◌, length, take, drop, sym, ap, ◌∙◌, append_assoc, arith}
 use Rattle.std.specs.Prelude.{slice_range, not}
 use Rattle.std.proofs.lemmas.Bool.Decides.{nat_tests}
 use Rattle.std.proofs.lemmas.List.{length-take, length-drop, drop-drop, drop-take, drop-append-le, take-append-le, take-take}
 use Rattle.std.proofs.Math.Seq.{take-append-add}
 
--- a range but its first bytes
+-- a range without its first bytes
 pub range_forget : (b : List ℕ) (s e n : ℕ) → n ≤ length (slice_range b s e) → slice_range b (s + n) e ≡ drop n (slice_range b s e)
 range_forget b s e n few =
     let k : ℕ = e - (s + n) in
     let sum : n + k ≡ e - s = omega (arith, few, length-take (e - s) (drop s b)) in
     ap (take k) (sym (drop-drop n s b)) ∙ sym (drop-take n k (drop s b)) ∙ ap (λ (m : ℕ). drop n (take m (drop s b))) sum
 
--- what stands in a buffer from a place on, where its front was kept
+-- what a buffer has from an offset on, if the bytes before it were kept
 from_front : (b more : List ℕ) (s e : ℕ) → s ≤ e → e ≤ length b → drop s (take e b ++ more) ≡ slice_range b s e ++ more
 from_front b more s e le within =
     let sum : s + (e - s) ≡ e = omega arith in
@@ -22,14 +22,14 @@ from_front b more s e le within =
 length-range : (b : List ℕ) (s e : ℕ) → s ≤ e → e ≤ length b → length (slice_range b s e) ≡ e - s
 length-range b s e le within = omega (arith, length-take (e - s) (drop s b), length-drop s b)
 
--- a range within the front of a buffer
+-- a range within a prefix of a buffer
 pub range_within : (b : List ℕ) (len s e : ℕ) → s ≤ e → e ≤ len → slice_range (take len b) s e ≡ slice_range b s e
 range_within b len s e le within =
     let sum : s + (len - s) ≡ len = omega arith in
     ap (take (e - s)) (ap (λ (m : ℕ). drop s (take m b)) (sym sum) ∙ drop-take s (len - s) b)
     ∙ take-take (e - s) (len - s) (drop s b) (omega arith)
 
--- a range and the first of the bytes that were put behind it
+-- a range and the first of the bytes that were put after it
 pub range_filled : (b more rest : List ℕ) (s e n : ℕ) → s ≤ e → e ≤ length b → n ≤ length more
     → slice_range (take e b ++ (more ++ rest)) s (e + n) ≡ slice_range b s e ++ take n more
 range_filled b more rest s e n le within few =
@@ -39,7 +39,7 @@ range_filled b more rest s e n le within few =
     ∙ take-append-add (slice_range b s e) (more ++ rest) n
     ∙ ap (λ (x : List ℕ). slice_range b s e ++ x) (take-append-le n more rest few)
 
--- The same of a buffer that was lent: it came back with its length.
+-- The same of a buffer that was borrowed and has the same length after it.
 pub range_lent : (b more rest over : List ℕ) (len s e n : ℕ) → s ≤ e → e ≤ length b → n ≤ length more → e + n ≤ len
     → slice_range (take len ((take e b ++ (more ++ rest)) ++ over)) s (e + n) ≡ slice_range b s e ++ take n more
 range_lent b more rest over len s e n le within few room =
@@ -48,14 +48,14 @@ range_lent b more rest over len s e n le within few room =
     let shorter : slice_range (take len ((take e b ++ (more ++ rest)) ++ over)) s (e + n) ≡ slice_range ((take e b ++ (more ++ rest)) ++ over) s (e + n) = range_within _ len s (e + n) (omega arith) room in
     shorter ∙ ap (λ (x : List ℕ). slice_range x s (e + n)) parts ∙ range_filled b more (rest ++ over) s e n le within few
 
--- where no bytes came none are taken
+-- if no bytes came, none are taken
 pub none_taken : (n : ℕ) (bytes : List ℕ) → nat_lt 0 n ≡ false → take n bytes ≡ []
 none_taken n bytes none = let zero_is : n ≡ 0 = grind (arith, nat_tests, none) in ap (λ (k : ℕ). take k bytes) zero_is
 
--- a front of some bytes has some
+-- a prefix of more than 0 bytes is not empty
 pub some_taken : (n : ℕ) (bytes : List ℕ) → n ≤ length bytes → nat_lt 0 n ≡ true → 0 < length (take n bytes)
 some_taken n bytes few some = let more : 0 < n = grind (arith, nat_tests, some) in omega (arith, length-take n bytes)
 
--- a number is 0 where it is not above 0
+-- a number is 0 if and only if it is not above 0
 pub is_none : (n : ℕ) → (n == 0) ≡ not (nat_lt 0 n)
 is_none n = grind (arith, nat_tests)

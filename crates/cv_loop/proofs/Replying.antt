@@ -1,4 +1,4 @@
--- What is appended for a batch, one request after another, or all at once.
+-- What is appended for a batch that runs request by request, or as a whole.
 use Rattle.std.proofs.Common.{◌≡◌, ℕ, List, [], ◌∷◌, ◌++◌, take, drop, refl, sym, ap, subst, ◌∙◌, append_assoc}
 use Rattle.std.proofs.lemmas.List.{append-nil, take-append-drop}
 use Rattle.std.specs.Prelude.{Result, Ok, Err, OnOk, OnErr}
@@ -19,7 +19,7 @@ module _ {Table : Type 0} (turn : Turn Table) where
   nothing_ran (Err x) s new asked before e =
       (asked, [], record { more = []; appends = sym (append-nil before); ran = Progress-stays turn s new asked e })
 
-  -- one request more
+  -- one more request
   pub appends_push : (s t u : ℕ → Table) (asked : List Message) (request reply : Message) (before mid after : List ℕ) → AppendsReplies turn s asked [] before mid [] t
       → Steps turn t request reply u → after ≡ mid ++ spelling reply → AppendsReplies turn s (asked ++ request ∷ []) [] before after [] u
   appends_push s t u asked request reply before mid after p q e = record {
@@ -46,7 +46,7 @@ module _ {Table : Type 0} (turn : Turn Table) where
   no_more_ran (Err x) s t new asked at before mid after p same kept =
       rw (same, kept) (drop at asked, [], stops s t asked at before mid p)
 
-  -- a batch ran, and a front of its spelled replies was appended
+  -- a batch ran, and a prefix of the bytes of its replies was appended
   pub appends_front : (s new : ℕ → Table) (asked told : List Message) (before after more missing : List ℕ) → Runs turn s asked told new → after ≡ before ++ more
       → joined told ≡ more ++ missing → AppendsReplies turn s asked [] before after missing new
   appends_front s new asked told before after more missing runs appends e = record {
@@ -60,7 +60,7 @@ module _ {Table : Type 0} (turn : Turn Table) where
       → AppendsReplies turn s asked [] before after [] new
   appends_batch s new asked told before after runs appends = appends_front s new asked told before after (joined told) [] runs appends (sym (append-nil (joined told)))
 
-  -- the replies of a batch that ran were pushed, or a front of their bytes
+  -- the replies of a batch that ran were pushed, or a prefix of their bytes
   pub pushed_all : {T E : Type 0} (result : Result T E) (s new : ℕ → Table) (asked told : List Message) (before after : List ℕ) → Runs turn s asked told new
       → OnOk result (after ≡ before ++ joined told) → OnOk result (AppendsReplies turn s asked [] before after [] new)
   pushed_all (Ok x) s new asked told before after runs e = appends_batch s new asked told before after runs e

@@ -47,11 +47,11 @@ small status.Quota = lit< tt
 small status.Room = lit< tt
 small status.Lacking = lit< tt
 
--- The body of an answer is no longer than the most.
+-- The body of an answer has at most 1,048,567 bytes.
 abbrev IsShort : Answer → Type 0
 IsShort answer = length (answer_body answer) ≤ most_body
 
--- Every answer of a claim is short.
+-- Every answer that the relation allows is short.
 abbrev AreShort : (Table → Answer → Type 0) → Type 0
 AreShort May = (next : Table) (answer : Answer) → May next answer → IsShort answer
 
@@ -159,7 +159,8 @@ module _ (keeps : KeepsTables) (never : NeverLacksAlone) where
       sound_by (c == e.request.caller) e.outcome.next (s c)
       (keeps.keeps (s e.request.caller) e.request.code e.request.body e.outcome (sound e.request.caller) t) (sound c)
 
-  -- It cannot be that these requests have no run whose replies fit frames and none of which says that an allocation failed.
+  -- It is impossible that these requests have no run in which every reply fits a frame and none says that an allocation
+  -- failed.
   some_events : (s : ℕ → Table) (asked : List Message) → ((c : ℕ) → IsSound (s c)) → AllByRecursion FitsFrame asked
       → ((es : List (Event Table)) → IsRun turn s es → requests es ≡ asked → AllByRecursion FitsFrame (replies_of es) → NoneLacks (replies_of es) → ⊥) → ⊥
   some_events s [] sound fits none = none [] tt refl tt tt

@@ -1,4 +1,4 @@
--- What stands between two reads, and what is left at each end.
+-- What holds between two reads, and what is left at each end.
 use Rattle.std.proofs.Common.{◌≡◌, ◌≢◌, ℕ, ◌+◌, ◌<◌, ◌≤◌, true, false, Bool, List, [], ◌++◌, length, drop, Option, Result, Ok, Err, refl, sym, ap, subst, ◌∙◌, append_assoc, arith, length-append}
 use Rattle.std.specs.List.{AllByRecursion}
 use Rattle.std.proofs.lemmas.List.{append-nil}
@@ -50,7 +50,7 @@ front_on given held held' bytes rest asked more p q r =
     ∙ sym (append_assoc (joined asked) (joined more) rest) ∙ ap (λ (x : List ℕ). x ++ rest) (sym (joined-append asked more))
 
 module _ {Table : Type 0} {turn : Turn Table} where
-  -- one read, and all whole frames answered
+  -- one more read, after which all whole frames were answered
   pub Standing-more : (s t u : ℕ → Table) (left left' left'' sunk sunk' sunk'' : Option (List ℕ)) (held held' bytes : List ℕ) (used : ℕ) (k l a b r : ℕ)
       → Standing turn s t left left' sunk sunk' held k a r → Consumes left' left'' bytes → held' ≡ held ++ bytes → 0 < length bytes
       → Drained turn t sunk' sunk'' held' used u a b k l → front_of (drop used held') ≡ at_front.Partial
@@ -73,11 +73,11 @@ rest_partial rest e m n h = absurd cc
 rest_bad : (rest : List ℕ) (l : ℕ) → front_of rest ≡ at_front.Bad l → IsRest rest
 rest_bad rest l e m n h = absurd cc
 
--- the sums of what was counted from 0
+-- a count that began at 0 is that of what was added
 from_none : (n w : ℕ) → n ≡ counted (0 + w) → n ≡ counted w
 from_none n w e = omega (arith, e)
 
--- what was given is these frames, all of them answered, and this rest
+-- what was given is these frames, which were all answered, and this rest
 record Whole {Table : Type 0} (turn : Turn Table) (s t : ℕ → Table) (given rest : List ℕ) (asked : List Message) (written : List ℕ) : Type 0 where
   pub ran : Progress turn s (messages_of given) [] written [] t
   pub same_rest : rest_of given ≡ rest
@@ -96,7 +96,7 @@ module _ {Table : Type 0} {turn : Turn Table} where
         all = record { ran = refl; wrote = refl; fits = subst (AllByRecursion FitsFrame) (sym cut.0) fits };
       }
 
-  -- Serving turn ends with all whole frames answered, after a read that brought nothing.
+  -- Serving ends after a read that brought nothing, and all whole frames were answered.
   ends_standing : (result : Result Served ServeFault) (s t : ℕ → Table) (left left' left'' sunk sunk' : Option (List ℕ)) (held bytes : List ℕ) (k a r pulls max : ℕ)
       → Standing turn s t left left' sunk sunk' held k a r → Consumes left' left'' bytes → bytes ≡ []
       → ((frames : List Message) (written : List ℕ) → k ≡ counted (length frames) → front_of held ≡ at_front.Partial → EndsWhere result frames held written pulls max)
@@ -137,7 +137,7 @@ module _ {Table : Type 0} {turn : Turn Table} where
   Serving-reads s t left left' sunk sunk' held k a r pulls max p enough all =
       ends_standing (Err fault.TooManyReads) s t left left' left' sunk sunk' held [] k a r pulls max p (Consumes-nil left') refl (λ frames written counts partial. (partial, enough)) (λ e. omega (arith, all))
 
-  -- a read that failed, or for whose bytes there was no memory
+  -- a read failed, or an allocation for its bytes did
   pub Serving-unread : (f : ServeFault) (s t : ℕ → Table) (left left' left'' sunk sunk' : Option (List ℕ)) (held held' bytes : List ℕ) (k a r : ℕ) (end failed : Bool) (pulls max : ℕ)
       → Standing turn s t left left' sunk sunk' held k a r → Consumes left' left'' bytes → ReadsMore (Err f) held held' bytes end failed
       → Serving turn (Err f) s t left left'' sunk sunk' pulls max
@@ -165,7 +165,7 @@ module _ {Table : Type 0} {turn : Turn Table} where
   Serving-unread (fault.Write n) s t left left' left'' sunk sunk' held held' bytes k a r end failed pulls max p gave why = absurd why
   Serving-unread fault.TooManyReads s t left left' left'' sunk sunk' held held' bytes k a r end failed pulls max p gave why = absurd why
 
-  -- a run that broke off within what was held
+  -- a run broke off within the bytes that were held
   broken_off : (s u : ℕ → Table) (sunk sunk' : Option (List ℕ)) (given rest : List ℕ) (asked : List Message) (a : ℕ) (f : ServeFault) (failed : Bool) → given ≡ joined asked ++ rest → AllByRecursion FitsFrame asked
       → (b : Broken turn s sunk sunk' asked u a f failed) → Progress turn s (messages_of given) (b.later ++ messages_of rest) b.written b.unwritten u
   broken_off s u sunk sunk' given rest asked a f failed front fits b =
@@ -226,7 +226,7 @@ module _ {Table : Type 0} {turn : Turn Table} where
   Serving-stops fault.Read s t u left left' left'' sunk sunk' sunk'' held held' bytes k a r failed pulls max p gave more q = absurd q.stops
   Serving-stops fault.TooManyReads s t u left left' left'' sunk sunk' sunk'' held held' bytes k a r failed pulls max p gave more q = absurd q.stops
 
--- what a read that came to the end, or didn't, says
+-- what a read at the end brings, and what the source says after it
 pub at_the_end : (more : Bool) (old new bytes : List ℕ) (end failed : Bool) → more ≡ false → ReadsMore (Ok more) old new bytes end failed
     → (bytes ≡ []) × (new ≡ old) × (end ≡ true) × (failed ≡ false)
 at_the_end true old new bytes end failed e r = absurd cc
@@ -234,7 +234,7 @@ at_the_end false old new bytes end failed e r =
     let none = r.1 refl in
     (none, r.0 ∙ ap (λ (x : List ℕ). old ++ x) none ∙ append-nil old, r.3, r.4)
 
--- where more may come, the end was not read
+-- a read that brought bytes did not reach the end
 pub before_the_end : (more : Bool) (old new bytes : List ℕ) (end failed : Bool) → more ≡ true → ReadsMore (Ok more) old new bytes end failed
     → (new ≡ old ++ bytes) × (end ≡ false) × (failed ≡ false) × (0 < length bytes)
 before_the_end true old new bytes end failed e r = (r.0, r.3, r.4, r.2 refl)
@@ -251,7 +251,7 @@ unread_says (fault.Write n) old new bytes end failed broken w why = absurd why
 unread_says fault.TooManyReads old new bytes end failed broken w why = absurd why
 
 module _ {Table : Type 0} {turn : Turn Table} where
-  -- what they say after a batch that broke it off
+  -- what they say after a batch that broke serving off
   pub stopped_says : (f : ServeFault) (s t : ℕ → Table) (sunk sunk' : Option (List ℕ)) (bytes : List ℕ) (a : ℕ) (end failed broken : Bool) → end ≡ false → failed ≡ false
       → Stopped turn f s sunk sunk' bytes t a broken → (end ≡ met_the_end (ending_of (Err f))) × (failed ≡ read_failed (ending_of (Err f))) × (broken ≡ write_failed (ending_of (Err f))) × (met_the_end (ending_of (Err f)) ≡ false)
   stopped_says (fault.BadLength n) s t sunk sunk' bytes a end failed broken e r q = (e, r, q.stops.3, refl)

@@ -1,4 +1,4 @@
-//! Answering one batch.
+//! Answers one batch.
 
 ghost use Rattle.std.specs.Prelude.{◌≡◌, ℕ, List, [], false, IfErr, OnErr, OnOk};
 ghost use Rattle.cv_frame.specs.Message.{Message};
@@ -14,7 +14,7 @@ use cv_frame::Request;
 use cv_world::Replies;
 use std::alloc::Global;
 
-/// Answers requests. Their replies come in place of those that were there.
+/// Answers requests. Their replies replace those that were in `replies`.
 fn reply_anew<R, E: Engine<R>>(
     engine: &mut E,
     rt: &R,
@@ -32,8 +32,8 @@ fn reply_anew<R, E: Engine<R>>(
     engine.batch_into(rt, alloc, requests, replies)
 }
 
-/// Answers requests, and writes the replies. `written` counts the bytes of the run that were written. `replies` is
-/// only lent for its memory: given back after each batch it would be had anew for the next.
+/// Answers requests, and writes the replies. `written` counts the bytes that were written for the stream. `replies` is
+/// a buffer that is reused from batch to batch, so that its memory is not allocated anew for each.
 pub fn answer<R, E: Engine<R>, W: Sink>(
     engine: &mut E,
     rt: &R,

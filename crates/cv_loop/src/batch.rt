@@ -1,4 +1,4 @@
-//! The next requests of a stream.
+//! Cuts the next batch of requests off the bytes of a stream.
 
 ghost use Rattle.std.specs.Prelude.{◌≡◌, ◌≤◌, ◌<◌, ◌++◌, true, IfOk, IfErr, length, drop};
 ghost use Rattle.std.specs.List.{AllByRecursion};
@@ -16,7 +16,7 @@ use std::alloc::Global;
 /// Why a batch ended.
 #[derive(Clone, Copy, Debug)]
 pub enum End {
-    /// It has all that it may have. More whole frames may follow.
+    /// The batch is full, or a request of the other kind follows. More whole frames may follow.
     More,
     /// Less than a frame follows.
     Partial,
@@ -24,11 +24,11 @@ pub enum End {
     Bad { length: u32 },
 }
 
-/// Requests from the front of bytes.
+/// Requests from the start of some bytes.
 #[derive(Drop)]
 pub struct Batch<'a> {
     pub requests: Vec<Request<'a>>,
-    /// How many bytes they are.
+    /// How many bytes the frames of the requests have.
     pub used: usize,
     pub end: End,
 }
@@ -43,7 +43,7 @@ fn is_of_kind(request: &Request, uploads: bool) -> bool
     (request.op == PUT) == uploads
 }
 
-/// Whether an upload stands at the front.
+/// Whether the bytes begin with an upload.
 fn begins_with_upload(bytes: &[u8]) -> bool
     ensures { result ≡ first_kind (messages_of bytes.now) }
 {
@@ -68,7 +68,8 @@ fn most_of_kind(uploads: bool, uploads_at_once: usize) -> usize
     }
 }
 
-/// The request that stands at the front of bytes, if it is of a kind, and how long its frame is. Else why a batch of this kind ends there.
+/// Returns the request at the start of the bytes and the length of its frame, if the request is of this kind. Else
+/// returns why a batch of this kind ends there.
 fn next_of_kind(bytes: &[u8], uploads: bool) -> Result<(Request<'_>, usize), End>
     ensures ok { IfOk result (λ r. (Whole r.0 r.1 ≡ front_of bytes.now) × (is_of_kind uploads r.0 ≡ true)) }
     ensures err { IfErr result (λ end. EndsBefore uploads end bytes.now) }
@@ -86,8 +87,8 @@ fn next_of_kind(bytes: &[u8], uploads: bool) -> Result<(Request<'_>, usize), End
     }
 }
 
-/// The next requests: uploads, as many as the engine runs at once, or requests that are none, as many as one batch may have. So what was
-/// asked in front of an upload is answered before it runs.
+/// Returns the next batch. It has at most 64 requests: either uploads, no more than `uploads_at_once`, or requests that
+/// are no uploads. So the requests before an upload are answered before it runs.
 pub fn next_batch(alloc: Global, bytes: &[u8], uploads_at_once: usize) -> Result<Batch<'_>, Memory>
     requires { 0 < uploads_at_once }
     ensures within { IfOk result (λ b. b.used ≤ length bytes.now) }

@@ -1,4 +1,4 @@
-//! Answering all whole frames that are held.
+//! Answers all whole frames that are held.
 
 ghost use Rattle.std.specs.Prelude.{◌≡◌, false, [], IfOk, IfErr, OnOk, drop};
 ghost use Rattle.cv_frame.specs.Cut.{front_of};
@@ -13,7 +13,7 @@ use crate::fault::ServeFault;
 use cv_world::Replies;
 use std::alloc::Global;
 
-/// How much was served in a run. A count that would not fit stays at its greatest value.
+/// How much of a stream was served. The counts saturate.
 #[derive(Clone, Copy, Debug)]
 pub struct Counts {
     pub requests: u64,
@@ -21,7 +21,8 @@ pub struct Counts {
     pub written: u64,
 }
 
-/// Answers the next batch at the front, and says how long it was and why it ended. `replies` is lent for its memory.
+/// Answers the batch at the start of the bytes, and returns its length in bytes and why it ended. `replies` is a reused
+/// buffer.
 fn drain_batch<R, E: Engine<R>, W: Sink>(
     engine: &mut E,
     rt: &R,
@@ -53,13 +54,13 @@ fn drain_batch<R, E: Engine<R>, W: Sink>(
         replies,
         &mut counts.written,
     )?;
-    // What a batch had room for and did not need goes back before the next read, which may wait.
+    // Memory that the batch reserved and did not need is freed before the next read, which may wait.
     replies.clear();
     counts.requests = counts.requests.saturating_add(n);
     Ok((batch.used, batch.end))
 }
 
-/// Answers all whole frames at the front, and says how long they were. `replies` is lent for its memory.
+/// Answers all whole frames at the start of the bytes, and returns their length in bytes. `replies` is a reused buffer.
 pub fn drain<R, E: Engine<R>, W: Sink>(
     engine: &mut E,
     rt: &R,

@@ -1,4 +1,4 @@
-//! Where frames come from and replies go.
+//! Sources of frames and sinks of replies.
 
 ghost use Rattle.std.specs.Prelude.{◌≡◌, ◌≤◌, ◌<◌, ◌+◌, ◌-◌, ◌^◌, ◌||◌, ℕ, Bool, List, Option, IfOk, length, is_err};
 ghost use Rattle.std.specs.Io.KnownBytes.{ReadConsumes, WriteAppends};
@@ -10,19 +10,19 @@ pub struct Failed;
 
 /// Where bytes come from.
 pub trait Source {
-    /// The bytes that pulls will give from here on, where they are known.
+    /// The bytes that pulls will still give, if they are known.
     ghost left: { Self → Option (List ℕ) };
 
     /// How many pulls were made.
     ghost pulls: { Self → ℕ };
 
-    /// Whether a pull into a slice with room gave nothing.
+    /// Whether a pull into a slice that is not empty returned 0 bytes.
     ghost met_end: { Self → Bool };
 
     /// Whether a pull failed.
     ghost has_failed: { Self → Bool };
 
-    /// Reads once, into the front of `buf`, and says how many bytes came: 0 is the end, if `buf` has room.
+    /// Reads once, into the start of `buf`, and returns the number of bytes read: 0 is the end, unless `buf` is empty.
     fn pull(&mut self, buf: &mut [u8]) -> Result<usize, Failed>
         requires { pulls self.old < 2 ^ 64 - 1 }
         ensures bound { IfOk result (λ n. n ≤ length buf.new) }
@@ -34,13 +34,13 @@ pub trait Source {
 
 /// Where bytes go.
 pub trait Sink {
-    /// The bytes that were taken and what stood before them, where they are known.
+    /// The bytes that the sink had at first and those that it took after them, if they are known.
     ghost held: { Self → Option (List ℕ) };
 
-    /// Whether a push failed, or took nothing of a slice that has bytes.
+    /// Whether a push failed, or took no byte of a slice that is not empty.
     ghost has_failed: { Self → Bool };
 
-    /// Writes once, from the front of `bytes`, and says how many were taken.
+    /// Writes once, from the start of `bytes`, and returns the number of bytes taken.
     fn push(&mut self, bytes: &[u8]) -> Result<usize, Failed>
         ensures bound { IfOk result (λ n. n ≤ length bytes.now) }
         ensures bytes { WriteAppends (held self.old) (held self.new) result bytes.now }

@@ -1,4 +1,4 @@
-//! What answers requests.
+//! Engines, which answer requests in batches.
 
 ghost use Rattle.std.specs.Prelude.{◌≡◌, ◌<◌, ℕ, List, [], IfOk, OnOk, OnErr};
 ghost use Rattle.cv_frame.specs.Message.{Message};
@@ -12,20 +12,20 @@ use cv_machine::Machine;
 use cv_world::Replies;
 use std::alloc::Global;
 
-/// Answers requests, in their order. `R` is the runtime that it may use.
+/// A machine that answers requests in batches, in their order. `R` is the runtime that it may use.
 pub trait Engine<R>: Machine {
-    /// What a batch needs of the engine and of the runtime, as that threads can share it.
+    /// What a batch requires of the engine and of the runtime, for example that threads can share it.
     ghost ready: { Self → Type 0 } = { λ _. Unit {0} };
 
-    /// Answers a batch, one reply for each request. `Memory` comes before any request has run.
+    /// Answers a batch, and returns one reply for each request. If it returns `Memory`, no request has run.
     fn batch(&mut self, rt: &R, alloc: Global, requests: &[Request]) -> Result<Vec<Reply>, Memory>
         requires { ready self.old }
         ensures ready { ready self.new }
         ensures runs { IfOk result (λ replies. Runs Self.turn (Self.tables self.old) requests.now replies.items (Self.tables self.new)) }
         ensures err { OnErr result (Self.tables self.new ≡ Self.tables self.old) };
 
-    /// Answers a batch, and appends the frame of each reply. After `Memory` a front of the requests has run, and a front of their replies
-    /// stands behind those that were there.
+    /// Answers a batch, and appends the frame of each reply. If it returns `Memory`, the first requests have run,
+    /// perhaps none or all, and a prefix of the bytes of their replies was appended.
     fn batch_into(
         &mut self,
         rt: &R,
@@ -43,8 +43,8 @@ pub trait Engine<R>: Machine {
         push_each(replies, &told)
     }
 
-    /// How many uploads one batch may have. Compiling is what costs, so they are as many as the engine compiles at once: no reply
-    /// waits for more.
+    /// Returns how many uploads one batch may have: as many as the engine compiles at once. Compiling a charmap takes
+    /// long, so no reply has to wait for more of them.
     fn uploads_at_once(&self) -> usize
         ensures { 0 < result }
     {

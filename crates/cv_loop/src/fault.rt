@@ -9,19 +9,19 @@ pub enum ServeFault {
     /// The stream ended within a frame.
     #[error("truncated frame")]
     TruncatedFrame,
-    /// A length that no frame has: the length field counts what follows it, 9 to 1,048,576 bytes.
+    /// A frame began with a length that no frame has. The length counts the bytes after it: 9 to 1,048,576.
     #[error("bad length {length}")]
     BadLength { length: u32 },
     /// A read failed.
     #[error("read failed")]
     Read,
-    /// A write failed or took no byte, after the writer had taken so many bytes in this run.
+    /// A write failed or took no byte, after `written` bytes of replies.
     #[error("write failed after {written} bytes")]
     Write { written: u64 },
-    /// As many reads as are allowed were made, and the end was not met.
+    /// The greatest number of reads was made, and the end was not reached.
     #[error("too many reads")]
     TooManyReads,
-    /// A buffer or a batch could not grow.
+    /// An allocation failed for a buffer or a batch.
     #[error("out of memory")]
     Memory,
 }

@@ -16,12 +16,13 @@ use std::marker::Model;
 /// How many bytes one read takes at most.
 const MOST_READ: usize = 65_536;
 
-/// How many bytes the first read of a stream takes at most. Reads that bring all that they may grow from there, so a stream that asks
-/// little takes little memory.
+/// How many bytes the first read of a stream takes at most. After a read that brings as many as it may, the next may
+/// bring twice as many. So a stream of few bytes takes little memory.
 const FIRST_READ: usize = 4_096;
 
-/// Bytes that were read and are not answered yet. They stand in a buffer into whose tail the next read goes. The buffer at least doubles
-/// where it grows, and bytes move to its front only where as many have been answered: so reading costs what is read, however it is cut.
+/// Bytes that were read and are not answered yet. They are in a buffer, and the next read goes after them. When the
+/// buffer grows, it at least doubles. The bytes move to the start of the buffer only if at least as many before them
+/// have been answered. So the cost of reading is linear in the bytes and the reads, however the stream is cut.
 #[derive(Drop)]
 pub struct Held {
     buffer: Vec<u8>,
@@ -42,7 +43,7 @@ impl Model for Held {
     ghost invariant = { λ h. (h.start ≤ h.end) × (h.end ≤ vec_len h.buffer) × (0 < h.room) × (h.room ≤ MOST_READ) };
 }
 
-/// Moves so many bytes from a place on to the front. No byte is copied onto another of them, so it is one copy of memory.
+/// Moves `count` bytes from `start` on to the start of the buffer. The two ranges do not overlap, so it is one memcpy.
 fn move_to_front(buffer: &mut [u8], start: usize, count: usize)
     requires apart { count ≤ start }
     requires within { start + count ≤ length buffer.old }
@@ -52,7 +53,8 @@ fn move_to_front(buffer: &mut [u8], start: usize, count: usize)
     front[..count].copy_from_slice(&back[..count]);
 }
 
-/// Makes room for a read of so many bytes behind those that are held: at the front of the buffer, if none are.
+/// Makes room for a read of `room` bytes after those that are held. If none are held and the buffer is large enough,
+/// the read goes to its start.
 fn make_room(
     buffer: &mut Vec<u8>,
     start: &mut usize,
@@ -84,7 +86,7 @@ fn make_room(
     Ok(())
 }
 
-/// `make_room`. Where memory is refused, what replies keep is given back, and it is tried once more.
+/// Calls `make_room`. If the allocation fails, frees the memory of `replies` and tries once more.
 fn find_room(
     buffer: &mut Vec<u8>,
     start: &mut usize,
@@ -109,7 +111,8 @@ fn find_room(
     make_room(buffer, start, end, room)
 }
 
-/// How many bytes the next read takes at most, where a read of so many at most brought so many: twice as many if it brought all.
+/// Returns how many bytes the next read takes at most, after a read of at most `room` bytes brought `came`: twice as
+/// many, up to `MOST_READ`, if it brought `room`.
 fn next_room(room: usize, came: usize) -> usize
     requires { room ≤ MOST_READ }
     ensures { result ≡ (if nat_lt came room then room else min (2 * room) MOST_READ) }
@@ -121,7 +124,7 @@ fn next_room(room: usize, came: usize) -> usize
     }
 }
 
-/// Reads once, and says how many bytes came: 0 at the end.
+/// Reads once, and returns the number of bytes read: 0 at the end.
 fn read_once<S: Source>(reader: &mut S, buf: &mut [u8]) -> Result<usize, ServeFault>
     requires room { 0 < length buf.old }
     requires pulls { S.pulls reader.old < 2 ^ 64 - 1 }
@@ -142,7 +145,7 @@ fn read_once<S: Source>(reader: &mut S, buf: &mut [u8]) -> Result<usize, ServeFa
 }
 
 impl Held {
-    /// No bytes. It takes no memory.
+    /// Makes an empty buffer, and allocates nothing.
     pub fn new(alloc: Global) -> Held
         ensures { result ≡ [] }
     {
@@ -154,14 +157,14 @@ impl Held {
         }
     }
 
-    /// The bytes.
+    /// Returns the bytes that are held.
     pub fn as_slice(&self) -> &[u8]
         ensures { result.now ≡ self.now }
     {
         &self.buffer[self.start..self.end]
     }
 
-    /// Removes bytes from the front.
+    /// Removes the first `n` bytes.
     pub fn forget(&mut self, n: usize)
         requires { n ≤ length self.old }
         ensures { self.new ≡ drop n self.old }
@@ -169,8 +172,8 @@ impl Held {
         self.start += n;
     }
 
-    /// Reads once, and holds what came. At the end of the stream it answers false. Where there is no memory for it, what `replies` keeps is
-    /// given back first.
+    /// Reads once, and holds what came. Returns false at the end of the stream. If an allocation fails, frees the
+    /// memory of `replies` and tries once more.
     pub fn read_more<S: Source>(
         &mut self,
         reader: &mut S,

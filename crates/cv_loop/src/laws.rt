@@ -5,8 +5,8 @@ use cv_frame::laws::one_cut;
 use cv_machine::Machine;
 use cv_world::laws::{keeps_tables, never_lacks_alone};
 
-/// For every stream something is served: it cannot be that all runs of its whole frames have a failed allocation. That no two byte
-/// strings are served for one stream is `one_service`.
+/// From sound tables something is served for every stream: it is impossible that all runs of its whole frames have a
+/// failed allocation. `one_service` says that at most one byte string is served for a stream.
 pub fn some_service()
     ensures { SomeService }
 {
@@ -15,8 +15,8 @@ pub fn some_service()
     never_lacks_alone();
 }
 
-/// However serving ended, after a failed write too: the replies that were written whole, if none says that an allocation failed, are
-/// the first of those that are served.
+/// However serving ended, also by a failed write: if none of the replies that were written whole says that an
+/// allocation failed, they are the first of those that are served.
 pub fn first_served<M: Machine>(machine: &M)
     ensures { FirstServed M.turn }
 {

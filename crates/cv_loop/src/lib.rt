@@ -1,4 +1,5 @@
-//! Serving a stream of frames: requests are read from a source, an engine answers them, and the replies go to a sink.
+//! Serves a stream of frames: reads requests from a source, answers them by an engine, and writes the replies to a
+//! sink.
 #![tactic(auto)]
 
 mod answering;

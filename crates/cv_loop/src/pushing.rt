@@ -1,11 +1,12 @@
-//! Pushing all of a byte string.
+//! Pushes all of a byte string.
 
 ghost use Rattle.std.specs.Prelude.{◌≡◌, ◌≤◌, true, OnOk, IfErr, length, take};
 ghost use Rattle.std.specs.Io.KnownBytes.{Appends};
 
 use crate::ends::Sink;
 
-/// Pushes all of the bytes, or as many as the sink takes: `Err` has how many.
+/// Pushes all of the bytes, in as many pushes as are needed. If a push fails or takes no byte, `Err` has the number of
+/// bytes that the sink took.
 pub fn push_all<W: Sink>(sink: &mut W, bytes: &[u8]) -> Result<(), usize>
     ensures ok { OnOk result (Appends (W.held sink.old) (W.held sink.new) bytes.now) }
     ensures works { OnOk result (W.has_failed sink.new ≡ W.has_failed sink.old) }

@@ -1,4 +1,4 @@
-//! Serving a stream of frames.
+//! Serves a stream of frames.
 
 ghost use Rattle.std.specs.Prelude.{◌≡◌, ℕ, List, false};
 ghost use Rattle.cv_loop.specs.Serving.{Serving, Gave, Took, IsHeadline, EndsSay, ending_of};
@@ -14,7 +14,7 @@ use std::alloc::Global;
 /// A stream was served to its end.
 #[derive(Clone, Copy, Debug, PartialEq, Eq)]
 pub struct Served {
-    /// How many requests it had. A count above u64 stays at its greatest value.
+    /// The number of its requests. It saturates.
     pub requests: u64,
 }
 
@@ -57,13 +57,16 @@ fn serve_stream<R, E: Engine<R>, S: Source, W: Sink>(
     Err(ServeFault::TooManyReads)
 }
 
-/// Serves the frames that a source gives, and writes the replies to a sink, in batches of 64 requests at most. Uploads stand in
-/// batches of their own, as many as the engine runs at once. It makes at most `max_reads` reads, of 65,536 bytes at most.
+/// Serves the frames that a source gives, and writes the replies to a sink, in batches of at most 64 requests. Uploads
+/// are in batches of their own, of at most as many as the engine runs at once. It makes at most `max_reads` reads, each
+/// of at most 65,536 bytes. All whole frames that were read are answered before the next read.
 ///
-/// After a fault the engine is where the requests so far left it, and the replies of the batches before it have been written.
+/// After a fault the engine has the tables that the requests so far left, and the replies of the batches before it are
+/// written.
 ///
-/// For every stream there is something that is served (`laws::some_service`), and one thing only (`one_service`). After a failed
-/// write the replies that were written whole, if none says that an allocation failed, are the first of it (`laws::first_served`).
+/// Something is served for every stream (`laws::some_service`), and only one thing (`one_service`). After a failed
+/// write the replies that were written whole are the first of it, if none says that an allocation failed
+/// (`laws::first_served`).
 pub fn serve<R, E: Engine<R>, S: Source, W: Sink>(
     engine: &mut E,
     rt: &R,
@@ -72,21 +75,22 @@ pub fn serve<R, E: Engine<R>, S: Source, W: Sink>(
     writer: &mut W,
     max_reads: u64,
 ) -> Result<Served, ServeFault>
-    // No call was made yet on the source and the sink.
+    // The source and the sink are new: neither was called.
     requires pulls { S.pulls reader.old ≡ 0 }
     requires fresh_reader { (S.met_end reader.old ≡ false) × (S.has_failed reader.old ≡ false) }
     requires fresh_writer { W.has_failed writer.old ≡ false }
     requires ready { E.ready engine.old }
 
-    // What was written answers what was given, and each caller for its frames alone.
+    // What was written answers what was given, and what was written for each caller answers its frames alone.
     ensures headline { (given written : List ℕ) → Gave (S.left reader.old) (S.left reader.new) given
         → Took (W.held writer.old) (W.held writer.new) written → IsHeadline E.turn (ending_of result) (E.tables engine.old) given written }
 
-    // Which result comes where, what was written, and where it left the engine.
+    // When each result is returned, what was written, and the tables that the engine then has.
     ensures serves { Serving E.turn result (E.tables engine.old) (E.tables engine.new) (S.left reader.old) (S.left reader.new)
         (W.held writer.old) (W.held writer.new) (S.pulls reader.new) max_reads }
 
-    // `Ok` and `TruncatedFrame` come where the stream ended; `Read` where a read failed; `Write` where a write failed; and nowhere else.
+    // `Ok` and `TruncatedFrame` are returned if and only if the stream ended, `Read` if and only if a read failed, and
+    // `Write` if and only if a write failed or took no byte.
     ensures ends { EndsSay (ending_of result) (S.met_end reader.new) (S.has_failed reader.new) (W.has_failed writer.new)
         (S.left reader.new) (S.pulls reader.new) max_reads }
 

@@ -1,4 +1,4 @@
-//! Spelling the replies of a batch.
+//! Writes the frames of a batch's replies.
 
 ghost use Rattle.std.specs.Prelude.{◌≡◌, ◌++◌, ℕ, List, OnOk, OnErr};
 ghost use Rattle.cv_frame.specs.Message.{joined};
@@ -10,7 +10,7 @@ use cv_world::Replies;
 /// How many bytes a frame has before its body: the length, the caller, the tag and the status.
 const FRAME_HEAD: usize = 13;
 
-/// How many bytes the replies are, one after another.
+/// Returns how many bytes the frames of the replies have together.
 fn spelled_size(replies: &[Reply]) -> usize {
     let mut size = 0usize;
     for reply in replies {
@@ -20,13 +20,13 @@ fn spelled_size(replies: &[Reply]) -> usize {
     size
 }
 
-/// Appends the frames of replies. If an allocation fails, a front of them was appended.
+/// Appends the frames of replies. If an allocation fails, a prefix of their bytes was appended.
 pub fn push_each(replies: &mut Replies, told: &[Reply]) -> Result<(), Memory>
     ensures ok { OnOk result (replies.new ≡ replies.old ++ joined told.now) }
     ensures err { OnErr result ((more : List ℕ) × (missing : List ℕ) × (replies.new ≡ replies.old ++ more)
         × (joined told.now ≡ more ++ missing)) }
 {
-    // Room for all at once. Where there is none, each asks for its own.
+    // Reserves room for all at once. If that fails, each frame reserves its own.
     let _ = replies.reserve(spelled_size(told));
     for reply in told {
         replies.push(reply)?;

@@ -1,11 +1,11 @@
-//! Sources and sinks made of std's readers and writers.
+//! Sources and sinks made of the readers and writers of std.
 
 ghost use Rattle.std.specs.Prelude.{◌≡◌, false};
 
 use crate::ends::{Failed, Sink, Source};
 use std::io::{Read, Write};
 
-/// A source made of a reader. Each pull is one `read`; what kind of error made it fail is not kept.
+/// A source made of a reader. Each pull is one `read`. The kind of an error is not kept.
 #[derive(Drop)]
 pub struct FromReader<T> {
     reader: T,
@@ -15,7 +15,7 @@ pub struct FromReader<T> {
 }
 
 impl<T: Read> FromReader<T> {
-    /// A source of the bytes that the reader has left, on which no pull was made yet.
+    /// Makes a source of the bytes that the reader has left. No pull was made on it.
     pub fn new(reader: T) -> Self
         ensures left { ⟦<FromReader<T> as Source>⟧.left result ≡ T.remaining reader }
         ensures pulls { ⟦<FromReader<T> as Source>⟧.pulls result ≡ 0 }
@@ -30,7 +30,7 @@ impl<T: Read> FromReader<T> {
         }
     }
 
-    /// Gives the reader back.
+    /// Returns the reader.
     pub fn into_inner(self) -> T
     where
         T: Drop,
@@ -72,7 +72,7 @@ impl<T: Read> Source for FromReader<T> {
     }
 }
 
-/// A sink made of a writer. Each push is one `write`; what kind of error made it fail is not kept.
+/// A sink made of a writer. Each push is one `write`. The kind of an error is not kept.
 #[derive(Drop)]
 pub struct ToWriter<T> {
     writer: T,
@@ -80,7 +80,7 @@ pub struct ToWriter<T> {
 }
 
 impl<T: Write> ToWriter<T> {
-    /// A sink that adds to what the writer holds, on which no push was made yet.
+    /// Makes a sink that appends to what the writer holds. No push was made on it.
     pub fn new(writer: T) -> Self
         ensures held { ⟦<ToWriter<T> as Sink>⟧.held result ≡ T.contents writer }
         ensures has_failed { ⟦<ToWriter<T> as Sink>⟧.has_failed result ≡ false }
@@ -91,7 +91,7 @@ impl<T: Write> ToWriter<T> {
         }
     }
 
-    /// Gives the writer back.
+    /// Returns the writer.
     pub fn into_inner(self) -> T
     where
         T: Drop,

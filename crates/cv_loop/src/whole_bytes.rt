@@ -1,4 +1,4 @@
-//! Serving frames in memory.
+//! Serves frames in memory.
 
 ghost use Rattle.std.specs.Prelude.{◌≡◌, ◌≤◌, ℕ, List, false, IsTrue, Err, length};
 ghost use Rattle.cv_frame.specs.Message.{Message};
@@ -10,7 +10,7 @@ use crate::serving::{Served, serve};
 use crate::std_ends::{FromReader, ToWriter};
 use std::alloc::Global;
 
-/// Where writing into memory failed, memory lacked.
+/// A write into memory fails only if an allocation does, so `Write` becomes `Memory`.
 fn in_memory(served: Result<Served, ServeFault>) -> Result<Served, ServeFault>
     ensures no_write { write_failed (ending_of result) ≡ false }
     ensures too_many { result ≡ Err ServeFault.TooManyReads → served ≡ Err ServeFault.TooManyReads }
@@ -25,8 +25,8 @@ fn in_memory(served: Result<Served, ServeFault>) -> Result<Served, ServeFault>
     }
 }
 
-/// Serves frames in memory, and gives what was written with the result. `Write` isn't among the results: memory that can't grow is want of
-/// memory.
+/// Serves frames in memory, and returns the result and what was written. It makes at most `max_reads` reads. `Write` is
+/// never returned: if the memory for what is written cannot grow, the result is `Memory`.
 pub fn serve_bytes<R, E: Engine<R>>(
     engine: &mut E,
     rt: &R,
@@ -36,16 +36,16 @@ pub fn serve_bytes<R, E: Engine<R>>(
 ) -> (Result<Served, ServeFault>, Vec<u8>)
     requires { E.ready engine.old }
 
-    // To the end, unless as many reads were made as may be or a length was bad.
+    // If the end was reached, the headline holds of all bytes.
     ensures headline { IsTrue (met_the_end (ending_of result.0))
         → IsHeadline E.turn (ending_of result.0) (E.tables engine.old) frames.now result.1.items }
 
-    // It gave up reading only where the frames have a byte for each read.
+    // `TooManyReads` is returned only if the frames have at least `max_reads` bytes.
     ensures enough { result.0 ≡ Err ServeFault.TooManyReads → max_reads ≤ length frames.now }
 
     ensures no_write { write_failed (ending_of result.0) ≡ false }
 
-    // However it ended: of the frames that were read, which result comes where, and that the bytes are their replies.
+    // However it ended: when each result is returned, by the frames that were read, and what was written for them.
     ensures serves { ServesFront E.turn result.0 (E.tables engine.old) frames.now result.1.items max_reads }
 
     ensures ready { E.ready engine.new }

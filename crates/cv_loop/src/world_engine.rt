@@ -1,4 +1,4 @@
-//! Worlds as engines.
+//! Worlds as engines, with a compiler for uploads.
 
 ghost use Rattle.std.specs.Prelude.{◌≡◌, ℕ, List, [], IfOk, OnOk, OnErr};
 ghost use Rattle.cv_caller.specs.Tables.{Table as WorldTable};
@@ -16,7 +16,7 @@ use cv_machine::Machine;
 use cv_world::{Replies, World};
 use std::alloc::Global;
 
-/// Answers requests in their order. The text of an upload is put together and compiled just before its own step.
+/// Answers requests in their order. The text of an upload is put together and compiled just before the upload runs.
 fn answer_each<R, C: Compiler<R>>(
     world: &mut World,
     compiler: &C,
@@ -73,7 +73,7 @@ impl<R> Engine<R> for World {
     }
 }
 
-/// A world whose uploads are compiled by a compiler of one's own.
+/// A world whose uploads are compiled by a given compiler.
 #[derive(Drop)]
 pub struct WorldWith<C> {
     world: World,
@@ -81,7 +81,7 @@ pub struct WorldWith<C> {
 }
 
 impl<C> WorldWith<C> {
-    /// No caller has asked yet.
+    /// Makes a world in which no caller has asked yet.
     pub fn new(alloc: Global, compiler: C) -> WorldWith<C>
         ensures tables { world_tables result.world ≡ no_tables }
         ensures compiler { result.compiler ≡ compiler }

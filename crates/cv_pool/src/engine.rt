@@ -30,8 +30,9 @@ impl<C, G> Machine for Pool<C, G> {
     }
 }
 
-// No type parameter of an engine may be sent to a thread within a trait's method, so this is said of pools with a cache of their own and
-// of those that share one with others, as the program's do; `Pool::batch` says the same of every compiler and gate.
+// A method of a trait may not send a type parameter of the engine to a thread. So `Engine` is implemented for two kinds
+// of pools: with a cache of their own, and with one that they share with others, as the program's do. `Pool::batch` has
+// the same contract for every compiler and gate.
 impl<R: Threads + Wait + Sync> Engine<R> for Pool<Cached, Open> {
     ghost ready = { λ _. IsSync R.row };
 

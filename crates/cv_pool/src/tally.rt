@@ -1,4 +1,4 @@
-//! Telling what the callers of a pool hold.
+//! Reports what the callers of a pool hold.
 ghost use Rattle.std.specs.Prelude.{◌≡◌};
 ghost use Rattle.std.specs.Thread.{IsSync};
 ghost use Rattle.cv_caller.specs.Tables.{Table as WorldTable};
@@ -18,18 +18,18 @@ use std::alloc::Global;
 use std::sync::Wait;
 use std::thread::Threads;
 
-/// What is told what the callers of a pool hold: after each batch, before the first of its replies is written.
+/// Receives what the callers of a pool hold, after each batch and before the first of its replies is written.
 pub trait Tally {
-    /// Takes note of what they hold now. It changes no answer.
+    /// Receives what they hold at this time. It changes no answer.
     fn note(&self, usage: Usage);
 }
 
-/// Nobody asks.
+/// The tally that ignores what it receives.
 impl Tally for () {
     fn note(&self, _usage: Usage) {}
 }
 
-/// A pool that tells a tally what its callers hold.
+/// A pool that reports to a tally what its callers hold.
 #[derive(Drop)]
 pub struct Tallied<'a, T> {
     pool: Pool<&'a Cached, Open>,
@@ -37,7 +37,7 @@ pub struct Tallied<'a, T> {
 }
 
 impl<'a, T> Tallied<'a, T> {
-    /// A pool, and what it tells.
+    /// Makes a pool that reports to this tally.
     pub fn new(pool: Pool<&'a Cached, Open>, tally: &'a T) -> Tallied<'a, T>
         ensures { result.pool ≡ pool.entry }
     {

@@ -1,4 +1,4 @@
--- One request, answered by a turn of its caller's table.
+-- One request is answered by a turn of its caller's table.
 use Rattle.std.proofs.Common.{◌≡◌, ℕ, ap}
 use Rattle.cv_caller.specs.Tables.{Table}
 use Rattle.cv_frame.specs.Message.{Message, FitsFrame}

@@ -1,4 +1,4 @@
--- The steps of a world that convert, over what its two parts hold.
+-- The steps of a world that convert, in terms of its callers and its conversions.
 use Rattle.std.proofs.Common.{◌≡◌, inl, inr, ◌<◌, ◌≤◌, ℕ, true, false, eqb, nat_lt, List, [], length, Option, Some, None, Result, Ok, Err, refl, sym, ◌∙◌, arith}
 use Rattle.std.specs.Prelude.{IsErr}
 use Rattle.std.proofs.lemmas.Bool.{cases_eq, cases_lt}
@@ -21,7 +21,7 @@ use Rattle.cv_world.specs.declared.answer.Answer.TheVariants as answers
 pub conv_none : (T : Table) (n room : ℕ) (input : List ℕ) → descriptor_at T n ≡ None → Acts T (Conv n room input) T (answers.Refused status.BadDescriptor)
 conv_none T n room input h = rw h (refl, refl)
 
--- CONV with more room than there may be is refused
+-- CONV with more than 1,000,000 bytes of room is refused
 pub conv_room : (T : Table) (n room : ℕ) (input : List ℕ) (d : Descriptor) → descriptor_at T n ≡ Some d → most_room < room → Acts T (Conv n room input) T (answers.Refused status.Room)
 conv_room T n room input d h l = let t : nat_lt most_room room ≡ true = grind (arith, nat_tests, l) in rw (h, t) (refl, refl)
 
@@ -29,7 +29,7 @@ conv_room T n room input d h l = let t : nat_lt most_room room ≡ true = grind 
 pub conv_lacks : (T next : Table) (n room : ℕ) (input : List ℕ) (d : Descriptor) → descriptor_at T n ≡ Some d → room ≤ most_room → next ≡ T → Acts T (Conv n room input) next (answers.Refused status.NoMemory)
 conv_lacks T next n room input d h l e = let t : nat_lt most_room room ≡ false = grind (arith, nat_tests, l) in rw (h, t) (inr (e, refl))
 
--- CONV that converts
+-- CONV that is not refused converts
 pub conv_done : (T next : Table) (n room : ℕ) (input : List ℕ) (d : Descriptor) (c : Converted) → descriptor_at T n ≡ Some d → room ≤ most_room → IsForm (form_in T.charmaps d.from) → IsConverted (form_reads (form_in T.charmaps d.from)) (form_writes (form_in T.charmaps d.to)) d.policy d.states input room c
     → next ≡ with_states T n d c.states → Acts T (Conv n room input) next (answers.Converted c.stop c.left c.count c.output)
 conv_done T next n room input d c h l form is e = let t : nat_lt most_room room ≡ false = grind (arith, nat_tests, l) in rw (h, t) (inl (record { is_form = form; came = c; is_converted = is; does = (e, refl) }))
@@ -40,7 +40,7 @@ conv_done T next n room input d c h l form is e = let t : nat_lt most_room room 
 pub reset_none : (T : Table) (n room : ℕ) → descriptor_at T n ≡ None → Acts T (Reset n room) T (answers.Refused status.BadDescriptor)
 reset_none T n room h = rw h (refl, refl)
 
--- RESET with more room than there may be is refused
+-- RESET with more than 1,000,000 bytes of room is refused
 pub reset_room : (T : Table) (n room : ℕ) (d : Descriptor) → descriptor_at T n ≡ Some d → most_room < room → Acts T (Reset n room) T (answers.Refused status.Room)
 reset_room T n room d h l = let t : nat_lt most_room room ≡ true = grind (arith, nat_tests, l) in rw (h, t) (refl, refl)
 
@@ -76,6 +76,6 @@ module _ (r : Result (List ℕ) TooBig) (room : ℕ) (closing : List ℕ) (is wa
     ]
   ]
 
--- RESET that closes what is open, or has no room for it
+-- RESET restarts the descriptor, or has too little room for what closes its shift
 pub reset_acts : (T next : Table) (n room : ℕ) (d : Descriptor) (a : Answer) → descriptor_at T n ≡ Some d → room ≤ most_room → Restarts T n d room (form_closes (form_in T.charmaps d.to) d.states.writing) next a → Acts T (Reset n room) next a
 reset_acts T next n room d a h l r = let t : nat_lt most_room room ≡ false = grind (arith, nat_tests, l) in rw (h, t) r

@@ -1,4 +1,4 @@
--- What all callers are counted for, after a change of one of them.
+-- How many bytes all callers are counted for after one of them has changed.
 use Rattle.std.proofs.Common.{◌≡◌, ◌≢◌, inl, inr, ◌+◌, ℕ, suc, List, [], ◌∷◌, ◌++◌, length, get_or, Option, Some, None, Result, Ok, Err, refl, sym, ap, ◌∙◌, arith}
 use Rattle.std.specs.Prelude.{unwrap_or, sum_by, is_some, IsSome, IfOk, Bool, if◌then◌else◌}
 use Rattle.std.proofs.lemmas.Bool.{cases_eq}
@@ -20,11 +20,11 @@ use Rattle.cv_world.specs.Private.Changes.{IsPut, SetsKeyed}
 use Rattle.cv_world.specs.Budgets.{held_in, Exchanges}
 use Rattle.cv_world.specs.Worlds.{keyed_in}
 
--- a caller's table is written
+-- the sum after a caller's table is replaced
 pub written : (old new : BTreeMap ℕ Keyed) (c : ℕ) (v w : Keyed) → get nat_cmp old c ≡ Some v → new.entries ≡ set_value (is_at (nat_cmp c)) old.entries w → held_in new + held_by v ≡ held_in old + held_by w
 written old new c v w was is = ap (λ (es : List (ℕ × Keyed)). sum_by held_by (values_of es) + held_by v) is ∙ sum_by-set_value held_by (is_at (nat_cmp c)) old.entries v w was
 
--- and what it is counted for is exchanged in the sum
+-- the sum changes by as much as the count of that caller
 pub exchanges : (old new : BTreeMap ℕ Keyed) (c : ℕ) (v w : Keyed) → get nat_cmp old c ≡ Some v → WritesThrough nat_cmp (nat_cmp c) old w new → Exchanges old new c
 exchanges old new c v w was is =
     let there : IsSome (get nat_cmp old c) = rw was refl in
@@ -32,7 +32,7 @@ exchanges old new c v w was is =
     let after : keyed_in new c ≡ w = ap (λ (o : Option Keyed). unwrap_or o no_keys) (is.3 there).1 in
     rw (before, after) (written old new c v w was is.0)
 
--- a caller comes that was not there
+-- the sum after a caller is added
 pub entered : (old new : BTreeMap ℕ Keyed) (c : ℕ) (w : Keyed) → IsOrdered nat_cmp old → get nat_cmp old c ≡ None → new.entries ≡ insert_entry nat_cmp old.entries c w → held_in new ≡ held_in old + held_by w
 entered old new c w ordered absent is =
     let new_sum : held_in new ≡ sum_by held_by (values_of (insert_entry nat_cmp old.entries c w)) = ap (λ (es : List (ℕ × Keyed)). sum_by held_by (values_of es)) is in
@@ -40,7 +40,7 @@ entered old new c w ordered absent is =
     let none : unwrap_or (option_map held_by (get nat_cmp old c)) 0 ≡ 0 = ap (λ (o : Option Keyed). unwrap_or (option_map held_by o) 0) absent in
     omega (arith, new_sum, sum, none)
 
--- a caller leaves
+-- the sum after a caller is removed
 pub gone : (old new : BTreeMap ℕ Keyed) (c : ℕ) (v : Keyed) → get nat_cmp old c ≡ Some v → new.entries ≡ remove_entry (is_at (nat_cmp c)) old.entries → held_in new + held_by v ≡ held_in old
 gone old new c v was is =
     let new_sum : held_in new ≡ sum_by held_by (values_of (remove_entry (is_at (nat_cmp c)) old.entries)) = ap (λ (es : List (ℕ × Keyed)). sum_by held_by (values_of es)) is in
@@ -48,7 +48,7 @@ gone old new c v was is =
     let some : unwrap_or (option_map held_by (get nat_cmp old c)) 0 ≡ held_by v = ap (λ (o : Option Keyed). unwrap_or (option_map held_by o) 0) was in
     omega (arith, new_sum, sum, some)
 
--- numbers of which none is bound are counted for nothing
+-- numbers that are not bound are counted for no bytes
 pub unbound_bytes : (places : List (Option Place)) → ((n : ℕ) → get_or places n None ≡ None) → sum_by place_bytes places ≡ 0
 unbound_bytes [] free = refl
 unbound_bytes (p ∷ places) free =
@@ -59,7 +59,7 @@ unbound_bytes (p ∷ places) free =
 
 -- ---- what an op changes
 
--- a charmap takes the place of the part
+-- a charmap is counted in place of the part
 put_bytes : (k k2 : Keyed) (m : Charmap) (n : ℕ) → IsPut k m (Ok n) k2 → held_by k2 + length k.part ≡ held_by k + n
 put_bytes k k2 m n h =
     let last : held_by k2 ≡ held_by (record h.0 { part = [] }) = ap held_by h.2 in
@@ -67,7 +67,7 @@ put_bytes k k2 m n h =
     let bytes : h.0.bytes ≡ k.bytes + n = ap (λ (x : Keyed). x.bytes) h.1.4 in
     omega (arith, last, places, bytes)
 
--- so does a longer part, or none
+-- a longer part, or none, is counted in place of the part
 part_bytes : (k k2 : Keyed) (bytes : List ℕ) (n : ℕ) → IsPart k bytes (Ok n) k2 → held_by k2 + length k.part ≡ held_by k + n
 part_bytes k k2 [] n h =
     let none : n ≡ 0 = (let e = h.0 in cc) in
@@ -77,7 +77,7 @@ part_bytes k k2 (b ∷ bytes) n h =
     let last : held_by k2 ≡ held_by (record k { part = k.part ++ b ∷ bytes }) = ap held_by h.2 in
     omega (arith, last, h.1)
 
--- what is kept of a caller that is there
+-- what is kept of a caller that has a table
 pub there : (old : BTreeMap ℕ Keyed) (c : ℕ) (v : Keyed) → get nat_cmp old c ≡ Some v → keyed_in old c ≡ v
 there old c v was = ap (λ (o : Option Keyed). unwrap_or o no_keys) was
 
@@ -103,14 +103,14 @@ part_sum old new c k v w bytes (Ok n) was is e h =
     omega (arith, sum, own, same, part)
 part_sum old new c k v w bytes (Err f) was is e h = tt
 
--- a table that is set to what it was changes nothing
+-- setting a table to what it was changes nothing
 pub same_again : (K K2 : ℕ → Keyed) (c : ℕ) (k : Keyed) → SetsKeyed K K2 c k → K c ≡ k → (d : ℕ) → K2 d ≡ K d
 same_again K K2 c k sets was d = elim (cases_eq d c) [
   | inl e ↦ ap K2 e ∙ sets.own ∙ sym was ∙ ap K (sym e)
   | inr a ↦ sets.others d a
 ]
 
--- a number that was bound is no longer counted
+-- the sum after a number is freed: if it was bound, it is no longer counted
 pub unbound_sum : (place : Option Place) (bound : Bool) (old new before after now : ℕ) → bound ≡ is_some place → before ≡ now → after + place_bytes place ≡ before → new + now ≡ old + after
     → new + (if bound then descriptor_bytes else 0) ≡ old
 unbound_sum (Some p) bound old new before after now is was own sum = rw is (omega (arith, was, own, sum))

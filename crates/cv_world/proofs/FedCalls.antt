@@ -1,4 +1,4 @@
--- What is kept of a feed, and what one conversion more adds to it.
+-- What is kept of a feed, and what one more conversion adds to it.
 use Rattle.std.proofs.Common.{◌≡◌, ◌==◌, ◌<◌, ◌≤◌, ◌^◌, ℕ, false, List, [], ◌∷◌, ◌++◌, length, Option, Some, refl, sym, ap, subst, arith}
 use Rattle.std.specs.Prelude.{IfSome}
 use Rattle.std.proofs.lemmas.Nat.{from_be_bytes-to_be_bytes_4}
@@ -25,7 +25,8 @@ use Rattle.cv_world.proofs.FormsStay.{set_other, set_same, set_there}
 
 -- ---- what is kept
 
--- The calls are conversions one after the other from the start, by the encodings and the policy of a descriptor, and the last left its states.
+-- The calls are conversions, one after the other from the start, by the encodings and the policy of a descriptor. The
+-- last one left the descriptor's states.
 pub record IsFedBy (charmaps : Charmaps) (d : Descriptor) (calls : List Call) : Type 0 where
   pub feed : IsFeed (form_reads (form_in charmaps d.from)) (form_writes (form_in charmaps d.to)) d.policy start calls
   pub states : (total start calls).states ≡ d.states
@@ -38,7 +39,7 @@ Keeps table number calls = IfSome (descriptor_at table number) (λ d. IsFedBy ta
 pub none_fed : (charmaps : Charmaps) (d : Descriptor) → d.states ≡ start → IsFedBy charmaps d []
 none_fed charmaps d e = record { feed = tt; states = sym e }
 
--- with charmaps by which the encodings have the same forms
+-- the same by other charmaps in which the encodings have the same forms
 pub same_forms : (charmaps others : Charmaps) (d : Descriptor) (calls : List Call) → form_in others d.from ≡ form_in charmaps d.from → form_in others d.to ≡ form_in charmaps d.to → IsFedBy charmaps d calls → IsFedBy others d calls
 same_forms charmaps others d calls e f p = record { feed = rw (e, f) p.feed; states = p.states }
 
@@ -50,7 +51,7 @@ other_number table n number x calls e p = subst (λ (o : Option Descriptor). IfS
 pub this_number : (table : Table) (n : ℕ) (x : Option Descriptor) (calls : List Call) → IfSome x (λ d. IsFedBy table.charmaps d calls) → Keeps (with_descriptor table n x) n calls
 this_number table n x calls p = set_there (λ o. IfSome o (λ d. IsFedBy table.charmaps d calls)) table.descriptors n x tt p
 
--- ---- one conversion more
+-- ---- one more conversion
 
 feed_more : (reads : ItemRelation) (writes : Writing) (policy : Policy) (from : States) (calls : List Call) (call : Call) → IsFeed reads writes policy from calls
     → IsConverted reads writes policy (total from calls).states call.input call.room call.came → IsFeed reads writes policy from (calls ++ call ∷ [])
@@ -61,7 +62,7 @@ states_more : (from : States) (calls : List Call) (call : Call) → (total from 
 states_more from [] call = refl
 states_more from (c ∷ calls) call = states_more c.came.states calls call
 
--- one call more is fed
+-- one more call is fed
 pub one_more : (charmaps : Charmaps) (d : Descriptor) (calls : List Call) (call : Call) → IsFedBy charmaps d calls
     → IsConverted (form_reads (form_in charmaps d.from)) (form_writes (form_in charmaps d.to)) d.policy d.states call.input call.room call.came
     → IsFedBy charmaps (record d { states = call.came.states }) (calls ++ call ∷ [])
@@ -70,7 +71,7 @@ one_more charmaps d calls call p q = record {
   states = states_more start calls call;
 }
 
--- ---- what is read of its reply
+-- ---- what is read in its reply
 
 -- the number of a stop's status determines the stop
 pub stop_back : (s : Stop) → stop_of (status_number (stop_status s)) ≡ Some s
@@ -98,7 +99,7 @@ count_fits reads writes policy from input room came r few p =
 abbrev pub answer_of : Converted → Answer
 answer_of came = answers.Converted came.stop came.left came.count came.output
 
--- The call that is read of the reply is the conversion.
+-- The call that is read in the reply is the conversion.
 pub call_back : (table : Table) (number room : ℕ) (input : List ℕ) (d : Descriptor) (next : Table) (answer : Answer) → descriptor_at table number ≡ Some d → length input ≤ most_body
     → (c : IsConversion table number d room input next answer)
     → call_of number room input c.came.stop (record { next = with_states table number d c.came.states; code = answer_code (answer_of c.came); body = answer_body (answer_of c.came) })

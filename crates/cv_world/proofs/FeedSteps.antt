@@ -32,11 +32,11 @@ use Rattle.cv_world.proofs.FormsStay.{put_stays, drop_stays}
 use Rattle.cv_world.proofs.FedCalls.{IsFedBy, Keeps, answer_of, none_fed, same_forms, other_number, this_number, one_more, stop_back, call_back}
 use Rattle.cv_world.proofs.KeepsTables.{by_test, either, none_standing, none_uses}
 
--- the outcome of an action that gave this table and this answer
+-- the outcome of an action that led to this table and this answer
 abbrev pub came_to : Table → Answer → Outcome Table
 came_to next answer = record { next = next; code = answer_code answer; body = answer_body answer }
 
--- An action that gave this table and this answer keeps the feed.
+-- An action that led to this table and this answer keeps the feed.
 abbrev pub KeepsBy : ℕ → List Call → Action → Table → Answer → Type 0
 KeepsBy number calls action next answer = Keeps next number (calls_after number calls action (came_to next answer))
 
@@ -44,7 +44,7 @@ does : (number : ℕ) (calls : List Call) (action : Action) (next : Table) (answ
 does number calls action next answer h t a d =
     subst (λ (x : Table). KeepsBy number calls action x a) (sym d.0) (subst (λ (x : Answer). KeepsBy number calls action next x) (sym d.1) h)
 
--- by a test of the number that is named
+-- by a test whether a request names the number
 named : (b : Bool) (P : List Call → Type 0) (x y : List Call) → (b ≡ true → P x) → (b ≡ false → P y) → P (if b then x else y)
 named true P x y f g = f refl
 named false P x y f g = g refl
@@ -54,7 +54,7 @@ other n number e = grind (arith, nat_tests, e)
 
 -- ---- charmaps
 
--- with charmaps by which the encodings of the descriptor have the same forms
+-- the feed is kept with other charmaps in which the encodings of the descriptor have the same forms
 with_forms : (charmaps others : Charmaps) (calls : List Call) (o : Option Descriptor)
     → IfSome o (λ d. (form_in others d.from ≡ form_in charmaps d.from) × (form_in others d.to ≡ form_in charmaps d.to))
     → IfSome o (λ d. IsFedBy charmaps d calls) → IfSome o (λ d. IsFedBy others d calls)
@@ -106,7 +106,7 @@ step_drop table number calls kept name (Some place) t a d =
 number_back : (n : ℕ) → n < 2 ^ 32 → u32_of (to_be_bytes w32 n) ≡ Some n
 number_back n low = read_back.closes n low
 
--- a descriptor that is bound to a number, at its start
+-- a new descriptor is bound to a number
 bound : (table : Table) (number : ℕ) (calls : List Call) → Keeps table number calls → (n : ℕ) → n < 2 ^ 32 → (d : Descriptor) → d.states ≡ start
     → Keeps (with_descriptor table n (Some d)) number (if is_number number (u32_of (to_be_bytes w32 n)) then [] else calls)
 bound table number calls kept n low d e =
@@ -131,7 +131,7 @@ step_open table is number calls kept (Some n) e to from policy t a d =
     let low = (position-Some is_none table.descriptors n None (sym e)).0 in
     step_bind table number calls kept n (omega (arith, low, is.is_table.numbers)) to from policy (named_of table.charmaps to) (named_of table.charmaps from) t a d
 
--- a number that is named, and refused
+-- a request that names a number, and is refused
 refused : (number n : ℕ) (table : Table) (calls : List Call) → Keeps table number calls → Keeps table number (if n == number then calls else calls)
 refused number n table calls kept = named (n == number) (Keeps table number) calls calls (λ _. kept) (λ _. kept)
 
@@ -199,7 +199,7 @@ abbrev pub InputFits : Action → Type 0
 InputFits (Conv n room input) = length input ≤ most_body
 InputFits others = Unit {0}
 
--- Whatever an action gives keeps a feed.
+-- Every action keeps a feed, whatever its answer is.
 pub step : (table : Table) → IsSound table → (number : ℕ) (calls : List Call) → Keeps table number calls → (action : Action) → InputFits action → (t : Table) (a : Answer) → Acts table action t a → KeepsBy number calls action t a
 step table is number calls kept (Put came) few t a d = step_put table is number calls kept came came t a d
 step table is number calls kept (DropMap name) few t a d = step_drop table number calls kept name (place_of table.charmaps name) t a d

@@ -1,4 +1,4 @@
--- Along every run a feed is kept, whatever is between its calls; so its result doesn't depend on the cuts.
+-- A feed is kept along every run, whatever is between its calls. So its result does not depend on the cuts.
 use Rattle.std.proofs.Common.{◌≡◌, ◌≤◌, ◌==◌, ℕ, Bool, true, false, cond, eqb, List, [], ◌∷◌, length, drop, nat_lt, Option, Some, None, refl, sym, ap, subst, ◌∙◌, arith, length-drop}
 use Rattle.std.specs.Prelude.{IfSome, if◌then◌else◌}
 use Rattle.std.proofs.lemmas.Bool.{eqb-true}
@@ -75,7 +75,7 @@ asked_fits : (t : Bool) (text : List ℕ) (action other : Action) → When t (As
 asked_fits true text action other p fits = subst InputFits (sym p.is) tt
 asked_fits false text action other p fits = subst InputFits (sym p) fits
 
--- A PUT leaves the calls, as what its op and its body are read as does.
+-- A PUT leaves the calls of every number, and so does the action that `action_of` reads for it.
 asked_calls : (number : ℕ) (calls : List Call) (code : ℕ) (body text : List ℕ) (action : Action) (o : Outcome Table) (t : Bool) → (code == op_put) ≡ t → When t (AsksPut text action) (action ≡ action_of code body)
     → calls_after number calls action o ≡ calls_after number calls (action_of code body) o
 asked_calls number calls code body text action o true e p =
@@ -117,7 +117,7 @@ kept_feed feed =
 
 -- ---- the law
 
--- one item is next in what a feed reads
+-- the source of a feed is readable
 readable : (feed : Feed) → IsReadable (form_reads (source_of feed))
 readable feed =
     let table : Table = after_all no_tables feed.events feed.caller in
@@ -132,11 +132,11 @@ same_feed : (from to source target : Form) (policy other : Policy) (calls : List
     → IsFeed (form_reads from) (form_writes to) policy start calls
 same_feed from to source target policy other calls e f g p = rw (e, f, g) p
 
--- one feed by the encodings and the policy of another that is alike
+-- a feed is one by the encodings and the policy of another that is alike
 alike : (a b : Feed) → AreAlike a b → IsFeed (form_reads (source_of a)) (form_writes (target_of a)) a.descriptor.policy start (calls_of b)
 alike a b h = same_feed (source_of a) (target_of a) (source_of b) (target_of b) a.descriptor.policy b.descriptor.policy (calls_of b) h.source h.target h.policy (kept_feed b).feed
 
--- The result of feeds doesn't depend on the cuts.
+-- The result of feeds does not depend on the cuts.
 pub feeds : Feeds
 feeds = record {
   conversions = λ feed. (kept_feed feed).feed;

@@ -1,4 +1,5 @@
--- The form of a descriptor's encoding stays if a charmap is put at a free place, and if a charmap is dropped that no descriptor reads or writes.
+-- The form of a descriptor's encoding stays the same if a charmap is put at a free place, or if a charmap is dropped
+-- that no descriptor reads or writes.
 use Rattle.std.proofs.Common.{◌≡◌, ◌==◌, ℕ, zero, suc, true, false, List, [], ◌∷◌, get_or, set, Option, Some, None, refl, ap, arith}
 use Rattle.std.specs.Prelude.{is_some}
 use Rattle.std.proofs.lemmas.Bool.Decides.{nat_tests}
@@ -17,19 +18,19 @@ set_other (y ∷ xs) zero (suc k) x e = refl
 set_other (y ∷ xs) (suc i) zero x e = refl
 set_other (y ∷ xs) (suc i) (suc k) x e = set_other xs i k x (grind (arith, nat_tests, e))
 
--- a place that had something has what was set
+-- a place that was not empty has what was set
 pub set_same : {X : Type 0} (xs : List (Option X)) (i : ℕ) (x : Option X) (y : X) → get_or xs i None ≡ Some y → get_or (set xs i x) i None ≡ x
 set_same [] i x y e = absurd cc
 set_same (z ∷ xs) zero x y e = refl
 set_same (z ∷ xs) (suc i) x y e = set_same xs i x y e
 
--- what holds of an empty place, and of what was set, holds of what is there then
+-- what holds of an empty place and of what was set holds of what is there after it
 pub set_there : {X : Type 0} (P : Option X → Type 0) (xs : List (Option X)) (i : ℕ) (x : Option X) → P None → P x → P (get_or (set xs i x) i None)
 set_there P [] i x p q = p
 set_there P (z ∷ xs) zero x p q = q
 set_there P (z ∷ xs) (suc i) x p q = set_there P xs i x p q
 
--- a place that has something isn't free
+-- setting a free place does not change a place that is not free
 set_free : (charmaps : Charmaps) (place other : ℕ) (x : Option Charmap) → charmap_at charmaps place ≡ None → is_some (charmap_at charmaps other) ≡ true
     → charmap_at (set charmaps place x) other ≡ charmap_at charmaps other
 set_free [] place other x free h = refl

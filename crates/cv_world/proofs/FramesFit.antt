@@ -1,4 +1,4 @@
--- The body of a frame that was cut is no longer than the most.
+-- The body of each frame that was cut off has at most 1,048,567 bytes.
 use Rattle.std.proofs.Common.{◌≡◌, ◌≤◌, ℕ, zero, suc, ◌+◌, ◌-◌, ltb, List, [], ◌∷◌, length, drop, refl, sym, subst, arith, inl, inr, length-take, ◌||◌}
 use Rattle.std.specs.List.{AllByRecursion}
 use Rattle.std.proofs.lemmas.Bool.{ltb-false, or_parts}
@@ -12,7 +12,7 @@ use Rattle.cv_frame.specs.Sizes.{most_body}
 use Rattle.cv_frame.proofs.Cuts.{chosen}
 use Rattle.cv_world.specs.Feeds.{BodiesFit}
 
--- Their bodies are no longer than the most.
+-- The bodies of the messages have at most 1,048,567 bytes.
 abbrev AreShort : List Message → Type 0
 AreShort ms = AllByRecursion (λ m. length m.body ≤ most_body) ms
 

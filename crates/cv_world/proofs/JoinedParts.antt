@@ -1,4 +1,5 @@
--- Parts that were taken one after the other are one part, and a charmap whose text was sent in parts is held as one whose text is sent whole.
+-- Two PARTs, one after the other and both OK, do what one PART of both bodies does. A charmap whose text was sent in
+-- parts is held as one whose text is sent whole.
 use Rattle.std.proofs.Common.{◌≡◌, ◌≢◌, ◌⊎◌, inl, inr, ℕ, Bool, true, false, List, [], ◌∷◌, ◌++◌, length, nat_lt, Option, Some, None, refl, sym, ap, subst, ◌∙◌, append_assoc}
 use Rattle.cv_charmap.specs.Meaning.{Charmap}
 use Rattle.cv_cache.specs.Compiled.{Compiled, Read, Faulty, Lacking}
@@ -16,7 +17,7 @@ use Rattle.cv_world.specs.Turn.{Does, Refuses, Holds, Puts, Parts, Acts}
 use Rattle.cv_world.specs.declared.answer.Answer.{Answer}
 use Rattle.cv_world.specs.declared.answer.Answer.TheVariants as answers
 
--- an answer that isn't OK
+-- an answer that is not OK
 refused : (next : Table) (answer : Answer) (A : Type 0) → (answer_code answer ≡ 0 → ⊥) → (t : Table) (a : Answer) → answer_code a ≡ 0 → Does t a next answer → A
 refused next answer A other t a ok d = absurd (other (ap answer_code (sym d.1) ∙ ok))
 
@@ -24,7 +25,7 @@ by_test : (b : Bool) (A B C D : Type 0) → (A → C) → (B → D) → When b A
 by_test true A B C D f g h = f h
 by_test false A B C D f g h = g h
 
--- If it is held, the part doesn't matter.
+-- If the charmap is held, the part does not matter.
 holds : (table : Table) (p q : List ℕ) (charmap : Charmap) (place : Option ℕ) (t : Table) (a : Answer) → answer_code a ≡ 0 → Holds (with_part table p) charmap place t a → Holds (with_part table q) charmap place t a
 holds table p q charmap None t a ok h = refused _ _ _ (λ e. absurd cc) t a ok h
 holds table p q charmap (Some place) t a ok h = elim h [ inl x ↦ inl x | inr x ↦ refused _ _ _ (λ e. absurd cc) t a ok x ]
@@ -42,7 +43,7 @@ put table p q text action t a asks ok h =
 
 -- ---- parts
 
--- A part that was taken is appended to what was sent before.
+-- A PART that is OK appended its body to the part before it.
 taken_by : (x : Bool) (table : Table) (bytes : List ℕ) (t : Table) (a : Answer) → answer_code a ≡ 0
     → When x (Refuses table t a status.Quota) (Does t a (with_part table bytes) (answers.Count (length bytes)) ⊎ Refuses table t a status.NoMemory)
     → (x ≡ false) × (t ≡ with_part table bytes) × (a ≡ answers.Count (length bytes))
@@ -99,7 +100,7 @@ whole_put table p q text outcome ok body other e f m =
       body_is = m.body_is;
     }
 
--- Parts that were taken one after the other are one part, and the text of a PUT is what follows it.
+-- Two PARTs are one, and the text of a PUT is the part followed by the body.
 pub joins_parts : JoinsParts
 joins_parts = record {
   parts = two_parts;

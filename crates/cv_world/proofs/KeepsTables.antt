@@ -1,4 +1,4 @@
--- What a turn leaves of a sound table is sound.
+-- A turn leaves a sound table sound.
 use Rattle.std.proofs.Common.{◌≡◌, ◌≢◌, ◌<◌, ◌≤◌, ◌⊎◌, inl, inr, ◌+◌, ◌==◌, ℕ, zero, suc, Bool, true, false, List, [], ◌∷◌, ◌++◌, length, nat_lt, replicate, get_or, set, Option, Some, None, refl, sym, ap, subst, ◌∙◌, arith}
 use Rattle.std.specs.Prelude.{is_some, is_none, IfSome, if◌then◌else◌}
 use Rattle.std.specs.List.{list_any}
@@ -30,7 +30,7 @@ use Rattle.cv_world.proofs.OtherOps.{not_put}
 
 -- ---- the empty table
 
--- if all places are free, whatever is there has any property
+-- if all places are free, what is at a place has any property
 pub none_standing : {X : Type 0} (P : X → Type 0) (n place : ℕ) → IfSome (get_or (let xs : List (Option X) = replicate n None in xs) place None) P
 none_standing P zero place = tt
 none_standing P (suc n) zero = tt
@@ -44,20 +44,20 @@ begins = record {
 
 -- ---- a part
 
--- with a part that is short enough
+-- a sound table stays sound with a part that is short enough
 with_bytes : (table : Table) → IsSound table → (bytes : List ℕ) → length bytes ≤ most_part → IsSound (with_part table bytes)
 with_bytes table is bytes few = record { is_table = record { charmaps = is.is_table.charmaps; numbers = is.is_table.numbers; part = few }; there = is.there }
 
 -- ---- a descriptor
 
--- with a descriptor whose encodings are there
+-- a sound table stays sound with a descriptor whose encodings are there
 described : (table : Table) → IsSound table → (number : ℕ) (d : Option Descriptor) → IfSome d (AreThere table.charmaps) → IsSound (with_descriptor table number d)
 described table is number d there = record {
   is_table = record { charmaps = is.is_table.charmaps; numbers = length-set table.descriptors number d ∙ is.is_table.numbers; part = is.is_table.part };
   there = at_set (λ o. IfSome o (AreThere table.charmaps)) table.descriptors number d is.there there;
 }
 
--- what a name names is there
+-- the encoding that a name names is there
 found_there : (charmaps : Charmaps) (name : List ℕ) (place : Option ℕ) → place ≡ place_of charmaps name → (builtin : Option Builtin) → IfSome (named_by builtin place) (IsThere charmaps)
 found_there charmaps name place e (Some builtin) = tt
 found_there charmaps name (Some place) e None = named_there charmaps name place e
@@ -79,7 +79,7 @@ few_without charmaps place lt few =
     let e = sum_by-set (λ (c : Option Charmap). length (pairs_in c)) charmaps place None None lt in
     omega (arith, e, few)
 
--- a charmap that is held stays held if one is put at a place
+-- a charmap that is held stays held if another is put at a place
 stays_held : (charmaps : Charmaps) (place : ℕ) (charmap : Charmap) (named : Named) → IsThere charmaps named → IsThere (set charmaps place (Some charmap)) named
 stays_held charmaps place charmap (BuiltIn builtin) h = tt
 stays_held [] place charmap (Held other) h = h
@@ -88,7 +88,7 @@ stays_held (c ∷ charmaps) zero charmap (Held (suc other)) h = h
 stays_held (c ∷ charmaps) (suc place) charmap (Held zero) h = h
 stays_held (c ∷ charmaps) (suc place) charmap (Held (suc other)) h = stays_held charmaps place charmap (Held other) h
 
--- and it stays held if another place becomes free
+-- a charmap that is held stays held if another place becomes free
 stays_other : (charmaps : Charmaps) (place other : ℕ) → (other == place) ≡ false → is_some (charmap_at charmaps other) ≡ true → is_some (charmap_at (set charmaps place None) other) ≡ true
 stays_other [] place other a h = h
 stays_other (c ∷ charmaps) zero zero a h = absurd cc
@@ -108,13 +108,13 @@ all_unused : (charmaps : Charmaps) (place : ℕ) (d : Option Descriptor) → use
 all_unused charmaps place None a h = tt
 all_unused charmaps place (Some d) a h = (stays_unused charmaps place d.to ((or_parts _ _ a).0) h.0, stays_unused charmaps place d.from ((or_parts _ _ a).1) h.1)
 
--- if no descriptor uses a charmap, the descriptor of a number doesn't
+-- if no descriptor uses a charmap, the descriptor of a number does not
 pub none_uses : (place : ℕ) (ds : List (Option Descriptor)) → list_any (uses place) ds ≡ false → (number : ℕ) → uses place (get_or ds number None) ≡ false
 none_uses place [] h number = refl
 none_uses place (d ∷ ds) h zero = (or_parts (uses place d) (list_any (uses place) ds) h).0
 none_uses place (d ∷ ds) h (suc number) = none_uses place ds ((or_parts (uses place d) (list_any (uses place) ds) h).1) number
 
--- with a charmap at a place that was free
+-- a sound table stays sound with a charmap at a place that was free
 with_map : (table : Table) → IsSound table → (place : ℕ) (charmap : Charmap) → IsMap charmap.pairs → place < length table.charmaps → is_full table.charmaps (length charmap.pairs) ≡ false → IsSound (with_charmap table place (Some charmap))
 with_map table is place charmap map lt room = record {
   is_table = record {
@@ -129,7 +129,7 @@ with_map table is place charmap map lt room = record {
   there = λ number. all_held table.charmaps place charmap (descriptor_at table number) (is.there number);
 }
 
--- without the charmap at a place, if no descriptor uses it
+-- a sound table stays sound without the charmap at a place, if no descriptor uses it
 without_map : (table : Table) → IsSound table → (place : ℕ) → place < length table.charmaps → list_any (uses place) table.descriptors ≡ false → IsSound (with_charmap table place None)
 without_map table is place lt idle = record {
   is_table = record {
@@ -149,12 +149,12 @@ without_map table is place lt idle = record {
 does : (next : Table) (answer : Answer) → IsSound next → (t : Table) (a : Answer) → Does t a next answer → IsSound t
 does next answer is t a d = subst IsSound (sym d.0) is
 
--- what follows on either side of a test follows
+-- what follows in both cases of a test follows
 pub by_test : (b : Bool) (A B P : Type 0) → (A → P) → (b ≡ false → B → P) → When b A B → P
 by_test true A B P f g h = f h
 by_test false A B P f g h = g refl h
 
--- what follows from either of two follows
+-- what follows from each of two alternatives follows from one of them
 pub either : (A B P : Type 0) → (A → P) → (B → P) → A ⊎ B → P
 either A B P f g h = elim h [ inl x ↦ f x | inr x ↦ g x ]
 
@@ -237,7 +237,7 @@ put_map : (t : Bool) (text : List ℕ) (other action : Action) → When t (AsksP
 put_map true text other action p never charmap e = means_maps text charmap (subst (MayCompile text) (same_put charmap p.charmap (sym p.is ∙ e)) p.may)
 put_map false text other action p never charmap e = absurd (never (Read charmap) (sym p ∙ e))
 
--- What a turn leaves of a sound table is sound.
+-- A turn leaves a sound table sound.
 pub keeps_tables : KeepsTables
 keeps_tables = record {
   begins = begins;
@@ -256,6 +256,6 @@ kept_run tables are [] run caller = are caller
 kept_run tables are (e ∷ events) run caller =
     kept_run (tables_after tables e) (λ q. sound_if (q == e.request.caller) e.outcome.next (tables q) (keeps_tables.keeps _ _ _ _ (are e.request.caller) run.0) (are q)) events run.1 caller
 
--- After each run from the start every caller's table is sound.
+-- After each run from empty tables every caller's table is sound.
 pub runs_keep_tables : RunsKeepTables
 runs_keep_tables = kept_run no_tables (λ _. begins)

@@ -26,7 +26,7 @@ use Rattle.cv_world.proofs.Stepping.{seen, others_seen, some_value, open_at, non
 
 -- ---- PART
 
--- PART does what is done to its caller
+-- PART does what its result says of its caller
 pub part_done : (G : ℕ → Option Conversion) (k k2 : Keyed) (bytes : List ℕ) (r : Result ℕ PartFault) → IsPart k bytes r k2 → Acts (table_of G k) (Part bytes) (table_of G k2) (part_answer r)
 part_done G k k2 [] r h = (ap (table_of G) h.1, ap part_answer h.0)
 part_done G k k2 (b ∷ bytes) (Ok n) h =
@@ -38,7 +38,7 @@ part_done G k k2 (b ∷ bytes) (Err fault.Full) h =
 part_done G k k2 (b ∷ bytes) (Err fault.Memory) h =
     let t : nat_lt most_part (length (k.part ++ b ∷ bytes)) ≡ false = grind (arith, nat_tests, h.0) in rw t (inr (ap (table_of G) h.1, refl))
 
--- a part does not change what numbers and places stand for
+-- a PART changes neither the bound numbers nor the charmaps
 part_keeps : (k k2 : Keyed) (bytes : List ℕ) (r : Result ℕ PartFault) → IsPart k bytes r k2 → (k2.places ≡ k.places) × (k2.charmaps ≡ k.charmaps)
 part_keeps k k2 [] r h = (ap (λ (x : Keyed). x.places) h.1, ap (λ (x : Keyed). x.charmaps) h.1)
 part_keeps k k2 (b ∷ bytes) (Ok n) h = (ap (λ (x : Keyed). x.places) h.2, ap (λ (x : Keyed). x.charmaps) h.2)
@@ -46,7 +46,7 @@ part_keeps k k2 (b ∷ bytes) (Err fault.Quota) h = (ap (λ (x : Keyed). x.place
 part_keeps k k2 (b ∷ bytes) (Err fault.Full) h = (ap (λ (x : Keyed). x.places) h.1, ap (λ (x : Keyed). x.charmaps) h.1)
 part_keeps k k2 (b ∷ bytes) (Err fault.Memory) h = (ap (λ (x : Keyed). x.places) h.1, ap (λ (x : Keyed). x.charmaps) h.1)
 
--- what is kept if numbers and places stand for the same as before
+-- a world stays a world if neither the bound numbers nor the charmaps change
 alike_world : (K K2 : ℕ → Keyed) (G : ℕ → Option Conversion) → ((d : ℕ) → ((K2 d).places ≡ (K d).places) × ((K2 d).charmaps ≡ (K d).charmaps)) → IsWorld K G → IsWorld K2 G
 alike_world K K2 G same own =
     let back : (d n : ℕ) → place_at (K2 d) n ≡ place_at (K d) n = λ d n. ap (λ (ps : List (Option Place)). get_or ps n None) (same d).0 in
@@ -57,7 +57,7 @@ alike_world K K2 G same own =
       fits = λ d n p v h g. subst (λ (y : Charmaps). Fits y p v) (sym (same d).1) (own.fits d n p v (sym (back d n) ∙ h) g);
     }
 
--- a world stays a world if a part was kept
+-- a world stays a world after a PART
 pub part_world : (K K2 : ℕ → Keyed) (G : ℕ → Option Conversion) (c : ℕ) (bytes : List ℕ) (r : Result ℕ PartFault) → IsPart (K c) bytes r (K2 c) → ((d : ℕ) → d ≢ c → K2 d ≡ K d) → IsWorld K G → IsWorld K2 G
 part_world K K2 G c bytes r h others own =
     let kept = part_keeps (K c) (K2 c) bytes r h in
@@ -83,7 +83,7 @@ still_none (d ∷ ds) zero (suc m) h = h
 still_none (d ∷ ds) (suc n) zero h = h
 still_none (d ∷ ds) (suc n) (suc m) h = still_none ds n m h
 
--- CLOSE leaves its number free, and those that were free
+-- after a CLOSE its number is free, and so are those that were free
 closes : (T next : Table) (n : ℕ) (a : Answer) (d : Option Descriptor) → descriptor_at T n ≡ d → Closes T n d next a
     → (descriptor_at next n ≡ None) × ((m : ℕ) → descriptor_at T m ≡ None → descriptor_at next m ≡ None)
 closes T next n a None e h = (ap (λ (t : Table). descriptor_at t n) h.0 ∙ e, λ m k. ap (λ (t : Table). descriptor_at t m) h.0 ∙ k)
@@ -92,7 +92,7 @@ closes T next n a (Some d) e h = (
   λ m k. ap (λ (t : Table). descriptor_at t m) h.0 ∙ still_none T.descriptors n m k,
 )
 
--- one descriptor more is closed
+-- one more descriptor is closed
 pub closed_more : (T next : Table) (n : ℕ) (a : Answer) → Acts T (Close n) next a → ((m : ℕ) → m < n → descriptor_at T m ≡ None) → (m : ℕ) → m < n + 1 → descriptor_at next m ≡ None
 closed_more T next n a h below m l =
     let now = closes T next n a (descriptor_at T n) refl h in
@@ -101,7 +101,7 @@ closed_more T next n a h below m l =
       | inr b ↦ now.1 m (below m (omega (arith, l, b)))
     ]
 
--- and what was closed is closed still
+-- a descriptor that was closed stays closed
 pub closed_still : (T next : Table) (n : ℕ) (a : Answer) → Acts T (Close n) next a → (m : ℕ) → descriptor_at T m ≡ None → descriptor_at next m ≡ None
 closed_still T next n a h = (closes T next n a (descriptor_at T n) refl h).1
 
@@ -117,7 +117,7 @@ others_both s t u c h i = changes_only s u c (λ q e. other_of t u c q i e ∙ o
 own_of_table : (s : ℕ → Table) (c : ℕ) (t : Table) → with_table s c t c ≡ t
 own_of_table s c t = let e : eqb c c ≡ true = grind (arith, nat_tests) in rw e refl
 
--- a caller that leaves has an empty table, and the others' stay
+-- a caller that leaves has an empty table, and the tables of others stay
 pub leaves_empty : (s t : ℕ → Table) (c : ℕ) → t ≡ with_table s c empty_table → (t c ≡ empty_table) × (t ≡ with_table s c (t c))
 leaves_empty s t c h =
     let own : t c ≡ empty_table = ap (λ (f : ℕ → Table). f c) h ∙ own_of_table s c empty_table in
@@ -150,14 +150,14 @@ gone_world K K2 G c sets free own =
       fits = λ d n p v h g. subst (λ (k : Keyed). Fits k.charmaps p v) (sym (sets.others d (apart d n p h))) (own.fits d n p v (back d n p h) g);
     }
 
--- its table is seen empty, and the others' as before
+-- contracts see its table as empty, and those of others unchanged
 pub gone_seen : (callers callers2 : BTreeMap ℕ Keyed) (s : slab.Slab Conversion) (v : List (ℕ × Table)) (c : ℕ) → tables_in callers.entries s ≡ v → SetsKeyed (keyed_in callers) (keyed_in callers2) c no_keys
     → world_tables (tables_in callers2.entries s) ≡ with_table (world_tables v) c empty_table
 gone_seen callers callers2 s v c is sets =
     let own : world_tables (tables_in callers2.entries s) c ≡ empty_table = seen callers2 s c ∙ ap (table_of (slab.get s)) sets.own in
     others_seen callers callers2 s s v c is (λ d a. ap (table_of (slab.get s)) (sets.others d a)) ∙ ap (with_table (world_tables v) c) own
 
--- ---- a caller that is forgotten because it has nothing left
+-- ---- a caller that is removed because it has nothing left
 
 -- a world of the same callers is one
 pub same_world : (K K2 : ℕ → Keyed) (G : ℕ → Option Conversion) → ((d : ℕ) → K2 d ≡ K d) → IsWorld K G → IsWorld K2 G
@@ -173,6 +173,6 @@ same_seen callers callers2 s v is same =
 pub acts_same : (s t u : ℕ → Table) (c : ℕ) (action : Action) (a : Answer) → u ≡ t → Acts (s c) action (t c) a → Acts (s c) action (u c) a
 acts_same s t u c action a e h = subst (λ (f : ℕ → Table). Acts (s c) action (f c) a) (sym e) h
 
--- and the others' tables stay
+-- the others' tables stay
 pub others_same : (s t u : ℕ → Table) (c : ℕ) → u ≡ t → t ≡ with_table s c (t c) → u ≡ with_table s c (u c)
 others_same s t u c e h = subst (λ (f : ℕ → Table). f ≡ with_table s c (f c)) (sym e) h

@@ -28,7 +28,7 @@ takes Bye = false
 takes (Part bytes) = nat_lt 0 (length bytes)
 takes Bad = false
 
--- ---- what an action may give
+-- ---- the answers to an action
 
 does : (next : Table) (answer : Answer) → answer_code answer ≢ no_memory → (t : Table) (a : Answer) → Does t a next answer → answer_code a ≢ no_memory
 does next answer other t a d e = other (ap answer_code (sym d.1) ∙ e)

@@ -1,4 +1,4 @@
--- The body of a DROP is a name, spelled, and no other body is read as one.
+-- The body of a DROP is a name, encoded, and no other body is read as one.
 use Rattle.std.proofs.Common.{◌≡◌, ℕ, false, ltb, List, length, Some, refl, arith}
 use Rattle.std.proofs.Math.Seq.{take-length, drop-length}
 use Rattle.std.proofs.lemmas.Bool.{le-ltb}
@@ -11,6 +11,6 @@ drops name =
     let long : ltb (length name) (length name) ≡ false = le-ltb _ _ (omega arith) in
     rw (long, take-length name, drop-length name) refl
 
--- The body of a DROP is a name, spelled, and no other body is read as one.
+-- The body of a DROP is a name, encoded, and no other body is read as one.
 pub names_read_back : NamesReadBack
 names_read_back = record { drops = drops; drops_only = drop_only }

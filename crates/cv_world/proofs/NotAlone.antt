@@ -40,7 +40,7 @@ use Rattle.cv_world.proofs.OtherOps.{not_put}
 
 -- ---- there is a longest conversion
 
--- It stops for some reason.
+-- A conversion stops for some reason.
 stops : (reads : ItemRelation) (writes : Writing) (policy : Policy) (states : States) (rest : List ℕ) → ((s : Stop) → StopsAt reads writes policy states rest s → ⊥) → ⊥
 stops reads writes policy states [] never = never stop.Done refl
 stops reads writes policy states (b ∷ rest) never =
@@ -49,7 +49,7 @@ stops reads writes policy states (b ∷ rest) never =
     let some : 0 < length (b ∷ rest) = omega arith in
     never stop.Ill (some, none, λ grows. never stop.Incomplete (some, none, grows))
 
--- A chain has no more items than bytes, and these are of the text.
+-- A chain has no more items than bytes, and no more bytes than the text.
 within : (reads : ItemRelation) → IsReadable reads → (s : ReadState) (text : List ℕ) (chain : List Taken) → IsChain reads s text chain → (length chain ≤ used_bytes chain) × (used_bytes chain ≤ length text)
 within reads r s text [] p = (omega arith, omega arith)
 within reads r s text (i ∷ chain) p =
@@ -90,7 +90,7 @@ converts reads writes policy r from text room none = no_chain reads writes polic
 
 -- ---- each action
 
--- An allocation failure can't be all that meets a claim.
+-- An allocation failure cannot be all that a relation allows.
 abbrev pub NotAlone : (Table → Answer → Type 0) → Type 0
 NotAlone May = ((t : Table) (a : Answer) → May t a → answer_code a ≡ no_memory) → ⊥
 

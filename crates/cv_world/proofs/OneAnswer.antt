@@ -1,4 +1,4 @@
--- Each request has one answer at most, besides an allocation failure.
+-- Each request has at most one answer besides an allocation failure.
 use Rattle.std.proofs.Common.{◌≡◌, ◌≢◌, ◌⊎◌, inl, inr, ◌==◌, ℕ, Bool, true, false, List, [], ◌∷◌, ◌++◌, length, nat_lt, Option, Some, None, refl, sym, ap, subst, ◌∙◌}
 use Rattle.std.specs.List.{list_any}
 use Rattle.cv_base.specs.declared.policy.Policy.{Policy}
@@ -25,7 +25,7 @@ use Rattle.cv_world.specs.Turn.{Does, Holds, Puts, Parts, Drops, Binds, Opens, I
 use Rattle.cv_world.specs.declared.answer.Answer.{Answer}
 use Rattle.cv_world.specs.declared.answer.Answer.TheVariants as answers
 
--- Of a claim about tables and answers: at most one pair of them meets it, besides an allocation failure.
+-- A relation allows at most one table and answer, besides an allocation failure.
 pub record HasOneAct (table : Table) (May : Table → Answer → Type 0) : Type 0 where
   pub one : (t u : Table) (a b : Answer) → May t a → May u b → answer_code a ≢ no_memory → answer_code b ≢ no_memory → (t ≡ u) × (a ≡ b)
   pub lacks : (t : Table) (a : Answer) → May t a → answer_code a ≡ no_memory → (t ≡ table) × (answer_body a ≡ [])
@@ -122,7 +122,7 @@ one_close : (table : Table) (number : ℕ) (d : Option Descriptor) → HasOneAct
 one_close table number None = one_does table _ _ (λ e. absurd cc)
 one_close table number (Some d) = one_does table _ _ (λ e. absurd cc)
 
--- An action has one result at most, besides an allocation failure.
+-- An action has at most one result besides an allocation failure.
 pub one_act : (table : Table) (action : Action) → HasOneAct table (Acts table action)
 one_act table (Put came) = one_put table came
 one_act table (DropMap name) = one_drop table (place_of table.charmaps name)
@@ -155,7 +155,7 @@ not_lacking table code body o p h e =
     let acts : Acts table (Put Lacking) o.next p.answer = subst (λ (x : Action). Acts table x o.next p.answer) e p.acts in
     h (p.code_is ∙ ap answer_code acts.1)
 
--- Each request has one answer at most, besides an allocation failure.
+-- Each request has at most one answer besides an allocation failure.
 pub one_answer : IsOneAnswer turn
 one_answer table code body = record {
   one = λ a b p q m n.

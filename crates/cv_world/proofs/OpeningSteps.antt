@@ -1,4 +1,4 @@
--- OPEN, over what a world's two parts hold.
+-- OPEN, in terms of a world's callers and conversions.
 use Rattle.std.proofs.Common.{◌≡◌, ◌≢◌, inl, inr, ◌<◌, ℕ, Bool, true, false, cond, nat_lt, List, length, Option, Some, None, IsSome, refl, sym, ◌∙◌, ap, subst, arith}
 use Rattle.std.specs.Prelude.{is_none}
 use Rattle.std.specs.List.{position, position_or_len}
@@ -37,7 +37,7 @@ open_declined G k to from policy s live h = rw (least_free_seen G k live) (decli
 pub open_lacks : (G : ℕ → Option Conversion) (k : Keyed) (to from : List ℕ) (policy : Policy) (o : Opening) (next : Table) → ((n : ℕ) (p : Place) → place_at k n ≡ Some p → IsSome (G p.key)) → IsOpening k to from policy o → next ≡ table_of G k → Acts (table_of G k) (Open to from policy) next (answers.Refused status.NoMemory)
 open_lacks G k to from policy o next live is e = rw (least_free_seen G k live, is.number, is.to_named, is.from_named) (inr (e, refl))
 
--- OPEN that opens
+-- OPEN that is not refused opens a descriptor
 pub open_done : (G : ℕ → Option Conversion) (k : Keyed) (to from : List ℕ) (policy : Policy) (o : Opening) (next : Table) → ((n : ℕ) (p : Place) → place_at k n ≡ Some p → IsSome (G p.key)) → IsOpening k to from policy o
     → next ≡ with_descriptor (table_of G k) o.number (Some (record { to = named o.to o.conversion.to; from = named o.from o.conversion.from; policy = policy; states = start })) → Acts (table_of G k) (Open to from policy) next (answers.Number o.number)
 open_done G k to from policy o next live is e = rw (least_free_seen G k live, is.number, is.to_named, is.from_named) (inl (e, refl))

@@ -35,7 +35,7 @@ by_test : (b : Bool) (x y : Action) (c : Compiled) → x ≢ Put c → y ≢ Put
 by_test true x y c p q = p
 by_test false x y c p q = q
 
--- no other op asks for it
+-- no other op asks to hold a charmap
 pub not_put : (code : ℕ) (body : List ℕ) (c : Compiled) → action_of code body ≢ Put c
 not_put code body c =
     by_test (code == op_drop) _ _ c (drop_other (drop_of body) c) (

@@ -1,4 +1,4 @@
--- How tables, and what a world keeps, change with one number or with the conversion under one key.
+-- How tables change, and a world stays a world, if one number or the conversion under one key changes.
 use Rattle.std.proofs.Common.{◌≡◌, ◌≢◌, ◌⊎◌, inl, inr, ◌<◌, ℕ, zero, suc, Bool, true, false, List, [], ◌∷◌, length, map, get_or, set, Option, Some, None, IsSome, refl, sym, ◌∙◌, ap, subst, eq-eqb}
 use Rattle.std.specs.Prelude.{is_some, is_none}
 use Rattle.std.specs.List.{position, list_any}
@@ -20,7 +20,7 @@ use Rattle.cv_world.specs.Worlds.{IsWorld}
 
 -- ---- tables
 
--- a place's descriptor, if its key has what it had
+-- the descriptor of a place is the same if its key has the same conversion
 same_at : (G G2 : ℕ → Option Conversion) (o : Option Place) → ((p : Place) → o ≡ Some p → G2 p.key ≡ G p.key) → option_and_then (descriptor_of G2) o ≡ option_and_then (descriptor_of G) o
 same_at G G2 None h = refl
 same_at G G2 (Some p) h = rw (h p refl) refl
@@ -29,19 +29,19 @@ map_kept : {X Y : Type 0} (f g : X → Y) (xs : List X) (d : X) → ((m : ℕ) �
 map_kept f g [] d h = refl
 map_kept f g (x ∷ xs) d h = rw (h 0, map_kept f g xs d (λ m. h (suc m))) refl
 
--- if all places except one are seen alike
+-- a list with one place set, of which all others are seen alike
 map_set : {X Y : Type 0} (f g : X → Y) (xs : List X) (n : ℕ) (y d : X) → ((m : ℕ) → m ≢ n → g (get_or xs m d) ≡ f (get_or xs m d)) → map g (set xs n y) ≡ set (map f xs) n (g y)
 map_set f g [] n y d h = refl
 map_set {X} {Y} f g (x ∷ xs) zero y d h = ap (λ (l : List Y). g y ∷ l) (map_kept f g xs d (λ m. h (suc m) (λ e. absurd cc)))
 map_set f g (x ∷ xs) (suc n) y d h = rw (h 0 (λ e. absurd cc), map_set f g xs n y d (λ m a. h (suc m) (λ e. a (cc)))) refl
 
--- a table whose keys have what they had is the same
+-- a table whose keys have the same conversions is the same
 pub kept_table : (G G2 : ℕ → Option Conversion) (k : Keyed) → ((n : ℕ) (p : Place) → place_at k n ≡ Some p → G2 p.key ≡ G p.key) → table_of G2 k ≡ table_of G k
 kept_table G G2 k h =
     ap (λ (ds : List (Option Descriptor)). let t : Table = record { charmaps = k.charmaps; descriptors = ds; part = k.part } in t)
     (map_kept (option_and_then (descriptor_of G)) (option_and_then (descriptor_of G2)) k.places None (λ m. same_at G G2 (get_or k.places m None) (h m)))
 
--- one number changes, and the keys of the others have what they had
+-- one number changes, and the keys of the others have the same conversions
 pub changed_table : (G G2 : ℕ → Option Conversion) (k : Keyed) (n : ℕ) (o : Option Place) → ((m : ℕ) (p : Place) → m ≢ n → place_at k m ≡ Some p → G2 p.key ≡ G p.key)
     → table_of G2 (with_place k n o) ≡ with_descriptor (table_of G k) n (option_and_then (descriptor_of G2) o)
 changed_table G G2 k n o h =
@@ -52,11 +52,11 @@ changed_table G G2 k n o h =
 pub descriptor_seen : (G : ℕ → Option Conversion) (k : Keyed) (n : ℕ) → descriptor_at (table_of G k) n ≡ option_and_then (descriptor_of G) (place_at k n)
 descriptor_seen G k n = get_or-map (option_and_then (descriptor_of G)) k.places n None
 
--- a number that is written with the value that it had
+-- binding a number to the place that it had changes nothing
 place_kept : (k : Keyed) (n : ℕ) (p : Place) → place_at k n ≡ Some p → with_place k n (Some p) ≡ k
 place_kept k n p h = ap (λ (ps : List (Option Place)). let t : Keyed = record { charmaps = k.charmaps; places = ps; part = k.part; bytes = k.bytes } in t) (ap (λ (o : Option Place). set k.places n o) (sym h) ∙ set-get_or k.places n None)
 
--- if one conversion changes, its descriptor alone does
+-- if one conversion changes, only its descriptor does
 pub written_table : (G G2 : ℕ → Option Conversion) (k : Keyed) (n : ℕ) (p : Place) → place_at k n ≡ Some p → ((m : ℕ) (q : Place) → m ≢ n → place_at k m ≡ Some q → G2 q.key ≡ G q.key)
     → table_of G2 k ≡ with_descriptor (table_of G k) n (descriptor_of G2 p)
 written_table G G2 k n p h others = ap (table_of G2) (sym (place_kept k n p h)) ∙ changed_table G G2 k n (Some p) others
@@ -108,7 +108,7 @@ uses_seen G place (Some p) live = uses_by place p (G p.key) (live p refl)
 pub busy_seen : (G : ℕ → Option Conversion) (k : Keyed) (place : ℕ) → ((n : ℕ) (p : Place) → place_at k n ≡ Some p → IsSome (G p.key)) → list_any (uses place) (table_of G k).descriptors ≡ list_any (refers place) k.places
 busy_seen G k place live = any_seen (uses place) (refers place) (option_and_then (descriptor_of G)) k.places None (λ m. uses_seen G place (get_or k.places m None) (live m))
 
--- ---- what a world keeps
+-- ---- the invariant of a world
 
 some_eq : (a b : Place) → Some a ≡ Some b → a ≡ b
 some_eq a b h = cc
@@ -264,13 +264,13 @@ module _ (K K2 : ℕ → Keyed) (c place : ℕ) (m : Option Charmap) (places : (
         ];
   }
 
--- no charmap that is named is at a place that is free
+-- no charmap that is named is at a free place
 free_held : (charmaps : Charmaps) (place : ℕ) (o : Option ℕ) → charmap_at charmaps place ≡ None → IsHeld charmaps o → o ≢ Some place
 free_held charmaps place None free h e = absurd cc
 free_held charmaps place (Some q) free h e =
     absurd (let same : q ≡ place = cc in let none : charmap_at charmaps q ≡ None = ap (charmap_at charmaps) same ∙ free in let bad = rw none at h in cc)
 
--- a place that is free is unused
+-- a free place is unused
 pub free_unused : (k : Keyed) (place : ℕ) → ArePlaces k.charmaps k.places → charmap_at k.charmaps place ≡ None → Unused k place
 free_unused k place are free n p h =
     let held = rw h at (are.held n) in

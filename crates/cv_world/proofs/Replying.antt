@@ -1,4 +1,4 @@
--- Replies that are written behind others.
+-- Replies that are written after others.
 use Rattle.std.proofs.Common.{◌≡◌, ℕ, ◌≤◌, ◌<◌, ◌^◌, Bool, true, false, List, [], ◌∷◌, ◌++◌, length, Option, Some, None, refl, sym, subst, arith, inl, inr}
 use Rattle.std.specs.Prelude.{nat_lt, ◌==◌}
 use Rattle.std.specs.List.{list_any}
@@ -46,7 +46,7 @@ byte status.Lacking = omega arith
 pub fits_frame : (caller tag : ℕ) (s : Status) (body : List ℕ) → caller < 2 ^ 32 → tag < 2 ^ 32 → length body ≤ 1048567 → FitsFrame (record { caller = caller; tag = tag; code = status_number s; body = body })
 fits_frame caller tag s body c t few = record { caller = c; tag = t; code = byte s; body = few }
 
--- ---- what an action that isn't a conversion may give
+-- ---- the answers to an action that is not a conversion
 
 does : (next : Table) (answer : Answer) → IsSmall answer → (t : Table) (a : Answer) → Does t a next answer → IsSmall a
 does next answer small t a d = subst IsSmall (sym d.1) small
@@ -95,7 +95,7 @@ parts table [] t a d = does _ _ tt t a d
 parts table (b ∷ bytes) t a d =
     by_test (nat_lt most_part (length (table.part ++ b ∷ bytes))) _ _ _ (does _ _ tt t a) (λ h. elim h [ inl e ↦ does _ _ tt t a e | inr e ↦ does _ _ tt t a e ]) d
 
--- whether an action is a conversion
+-- the action is not a conversion
 abbrev pub IsOther : Action → Type 0
 IsOther (Conv number room input) = ⊥
 IsOther other = Unit {0}
@@ -112,7 +112,7 @@ small table Bye t a o d = does _ _ tt t a d
 small table (Part bytes) t a o d = parts table bytes t a d
 small table Bad t a o d = does _ _ tt t a d
 
--- an op that isn't a conversion asks for another action
+-- an op that is not a conversion asks for an action that is none
 pub other_op : (o : Op) → ((number room : ℕ) (input : _) → o ≡ op.Conv number room input → ⊥) → IsOther (asked o)
 other_op (op.Conv number room input) h = absurd (h number room input refl)
 other_op (op.Put charmap) h = tt

@@ -1,4 +1,4 @@
--- A request that is tried once more where memory lacked.
+-- A request that is tried once more after an allocation failed.
 use Rattle.std.proofs.Common.{◌≡◌, ◌∙◌, ℕ, ap, sym, subst, refl}
 use Rattle.cv_caller.specs.Tables.{Table}
 use Rattle.cv_frame.specs.Message.{Message}
@@ -7,12 +7,12 @@ use Rattle.cv_world.specs.Requests.{turn}
 use Rattle.cv_world.proofs.Changes.{changes_only}
 use Rattle.cv_world.proofs.OneAnswer.{one_answer}
 
--- no table has changed
+-- a reply that says that an allocation failed changed no table
 unchanged : (s t : ℕ → Table) (m r : Message) → Steps turn s m r t → r.code ≡ no_memory → t ≡ s
 unchanged s t m r step lacks =
     let same : t m.caller ≡ s m.caller = ap (λ (o : Outcome Table). o.next) ((one_answer (s m.caller) m.code m.body).lacks _ step.turns lacks) in
     step.leaves ∙ ap (with_table s m.caller) same ∙ sym (changes_only s s m.caller (λ q e. refl))
 
--- The second reply answers the request as the only one.
+-- The second reply answers the request as if it were the only one.
 pub retried : (s t u : ℕ → Table) (m r again : Message) → Steps turn s m r t → r.code ≡ no_memory → Steps turn t m again u → Steps turn s m again u
 retried s t u m r again first lacks second = subst (λ (x : ℕ → Table). Steps turn x m again u) (unchanged s t m r first lacks) second

@@ -18,7 +18,7 @@ use Rattle.cv_world.specs.Turn.{Does, Holds, Puts, Parts, Drops, Binds, Opens, C
 use Rattle.cv_world.specs.declared.answer.Answer.{Answer}
 use Rattle.cv_world.specs.declared.answer.Answer.TheVariants as answers
 
--- Some table and some answer meet a claim.
+-- Some table and some answer are allowed by a relation.
 abbrev pub HasSomeAct : (Table → Answer → Type 0) → Type 0
 HasSomeAct May = (next : Table) × (answer : Answer) × May next answer
 
@@ -87,7 +87,7 @@ some_act table Bye = does _ _
 some_act table (Part bytes) = some_part table bytes
 some_act table Bad = does _ _
 
--- It asks for something.
+-- A request asks for something.
 some_asked : (t : Bool) (text : List ℕ) (other : Action) → (action : Action) × When t (AsksPut text action) (action ≡ other)
 some_asked true text other = (Put Lacking, record { charmap = Lacking; may = tt; is = refl })
 some_asked false text other = (other, refl)

@@ -1,4 +1,4 @@
--- A CONV between stateless encodings leaves its caller's table as it was.
+-- A CONV between stateless encodings leaves its caller's table unchanged.
 use Rattle.std.proofs.Common.{◌≡◌, ℕ, Bool, true, false, List, [], ◌∷◌, nat_lt, Option, Some, None, ◌⊎◌, inl, inr, slice_index_or, slice_set, refl, sym, ap, subst, ◌∙◌}
 use Rattle.std.proofs.lemmas.List.{set-get_or}
 use Rattle.cv_base.specs.declared.policy.Policy.{Policy}
@@ -34,9 +34,9 @@ at_start : (feed : Feed) → IsStateless (source_of feed) → IsStateless (targe
 at_start feed f t =
     sym (feeds.states feed) ∙ feed_at_start (source_of feed) (target_of feed) f t feed.descriptor.policy start refl (calls_of feed) (feeds.conversions feed)
 
--- ---- one conversion more
+-- ---- one more conversion
 
--- what a number stands for, bound to it again
+-- binding a number to its own descriptor again changes nothing
 bound_again : (table : Table) (number : ℕ) (d : Descriptor) → descriptor_at table number ≡ Some d → with_descriptor table number (Some d) ≡ table
 bound_again table number d e =
     let again : slice_set table.descriptors number (slice_index_or table.descriptors number None) ≡ table.descriptors = set-get_or table.descriptors number None in

@@ -1,4 +1,4 @@
--- The steps of a world, over what its two parts hold.
+-- The steps of a world, in terms of its callers and its conversions.
 use Rattle.std.proofs.Common.{◌≡◌, ◌≢◌, inl, inr, ◌<◌, ℕ, zero, suc, Bool, true, false, cond, eqb, List, [], ◌∷◌, length, replicate, get_or, Option, Some, None, IsSome, Result, Ok, Err, refl, sym, ◌∙◌, ap, subst, arith}
 use Rattle.std.specs.Prelude.{unwrap_or, is_none, option_map}
 use Rattle.std.proofs.lemmas.Bool.{cases_eq, or_parts}
@@ -32,7 +32,7 @@ use Rattle.cv_world.specs.declared.answer.Answer.TheVariants as answers
 use Rattle.cv_world.proofs.Changes.{changes_only}
 use Rattle.cv_world.proofs.Owned.{descriptor_seen, busy_seen, mapped_world, idle_unused, free_unused}
 
--- ---- what is seen of a world
+-- ---- a world as contracts see it
 
 seen_in : (es : List (ℕ × Keyed)) (s : slab.Slab Conversion) (c : ℕ) → world_tables (tables_in es s) c ≡ table_of (slab.get s) (unwrap_or (lookup (is_at (nat_cmp c)) es) no_keys)
 seen_in [] s c = refl
@@ -46,14 +46,14 @@ seen_in (e ∷ es) s c = elim (is_at (nat_cmp c) e.0) as (λ (b : Bool). unwrap_
 pub seen : (callers : BTreeMap ℕ Keyed) (s : slab.Slab Conversion) (c : ℕ) → world_tables (tables_in callers.entries s) c ≡ table_of (slab.get s) (keyed_in callers c)
 seen callers s c = seen_in callers.entries s c
 
--- what is done to a caller's keys is done to its table as it is seen
+-- what an action does to a caller's keys, it does to the table that contracts see
 pub acts_seen : (callers callers2 : BTreeMap ℕ Keyed) (s s2 : slab.Slab Conversion) (v : List (ℕ × Table)) (c : ℕ) (action : Action) (a : Answer) → tables_in callers.entries s ≡ v
     → Acts (table_of (slab.get s) (keyed_in callers c)) action (table_of (slab.get s2) (keyed_in callers2 c)) a → Acts (world_tables v c) action (world_tables (tables_in callers2.entries s2) c) a
 acts_seen callers callers2 s s2 v c action a is h =
     subst (λ (t : Table). Acts t action (world_tables (tables_in callers2.entries s2) c) a) (sym (seen callers s c) ∙ ap (λ (x : List (ℕ × Table)). world_tables x c) is)
     (subst (λ (t : Table). Acts (table_of (slab.get s) (keyed_in callers c)) action t a) (sym (seen callers2 s2 c)) h)
 
--- and the others' tables are seen as before
+-- the others' tables are unchanged as contracts see them
 pub others_seen : (callers callers2 : BTreeMap ℕ Keyed) (s s2 : slab.Slab Conversion) (v : List (ℕ × Table)) (c : ℕ) → tables_in callers.entries s ≡ v
     → ((d : ℕ) → d ≢ c → table_of (slab.get s2) (keyed_in callers2 d) ≡ table_of (slab.get s) (keyed_in callers d))
     → world_tables (tables_in callers2.entries s2) ≡ with_table (world_tables v) c (world_tables (tables_in callers2.entries s2) c)
@@ -63,20 +63,20 @@ others_seen callers callers2 s s2 v c is h =
 
 -- ---- descriptors
 
--- what is there has a value
+-- an option that is not empty has a value
 pub some_value : (o : Option Conversion) → IsSome o → (v : Conversion) × (o ≡ Some v)
 some_value (Some v) h = (v, refl)
 some_value None h = absurd cc
 
--- the descriptor of a place
+-- the descriptor of a place and its conversion
 abbrev pub described : Place → Conversion → Descriptor
 described p v = record { to = named p.to v.to; from = named p.from v.from; policy = v.policy; states = v.states }
 
--- a place that is bound is that of an open descriptor
+-- the descriptor of a bound place is open
 pub open_at : (G : ℕ → Option Conversion) (k : Keyed) (n : ℕ) (p : Place) (v : Conversion) → place_at k n ≡ Some p → G p.key ≡ Some v → descriptor_at (table_of G k) n ≡ Some (described p v)
 open_at G k n p v h g = descriptor_seen G k n ∙ ap (option_and_then (descriptor_of G)) h ∙ ap (option_map (λ (c : Conversion). described p c)) g
 
--- a place that is free is no descriptor
+-- a free place has no descriptor
 pub closed_at : (G : ℕ → Option Conversion) (k : Keyed) (n : ℕ) → place_at k n ≡ None → descriptor_at (table_of G k) n ≡ None
 closed_at G k n h = descriptor_seen G k n ∙ ap (option_and_then (descriptor_of G)) h
 
@@ -86,13 +86,13 @@ closed_at G k n h = descriptor_seen G k n ∙ ap (option_and_then (descriptor_of
 pub close_none : (T : Table) (n : ℕ) → descriptor_at T n ≡ None → Acts T (Close n) T (answers.Refused status.BadDescriptor)
 close_none T n h = rw h (refl, refl)
 
--- CLOSE that closes
+-- CLOSE of an open descriptor frees its number
 pub close_done : (T next : Table) (n : ℕ) (d : Descriptor) → descriptor_at T n ≡ Some d → next ≡ with_descriptor T n None → Acts T (Close n) next answers.Empty
 close_done T next n d h e = rw h (e, refl)
 
 -- ---- if nothing changes
 
--- what leaves callers and conversions leaves the tables
+-- an action that changes neither callers nor conversions leaves the tables
 pub acts_still : (callers : BTreeMap ℕ Keyed) (s : slab.Slab Conversion) (v : List (ℕ × Table)) (c : ℕ) (action : Action) (a : Answer) → tables_in callers.entries s ≡ v
     → Acts (table_of (slab.get s) (keyed_in callers c)) action (table_of (slab.get s) (keyed_in callers c)) a → Acts (world_tables v c) action (world_tables v c) a
 acts_still callers s v c action a is h = subst (λ (t : Table). Acts t action t a) (sym (seen callers s c) ∙ ap (λ (x : List (ℕ × Table)). world_tables x c) is) h
@@ -101,7 +101,7 @@ acts_still callers s v c action a is h = subst (λ (t : Table). Acts t action t 
 pub all_same : (G G2 : ℕ → Option Conversion) (k : ℕ) → G2 k ≡ G k → ((o : ℕ) → o ≢ k → G2 o ≡ G o) → G2 ≡ G
 all_same G G2 k same others = fun_ext (λ o. elim (cases_eq o k) [ inl e ↦ ap G2 e ∙ same ∙ ap G (sym e) | inr a ↦ others o a ])
 
--- a place that is bound is one of the list
+-- the number of a bound place is within the list
 pub within : (xs : List (Option Place)) (n : ℕ) (p : Place) → get_or xs n None ≡ Some p → n < length xs
 within [] n p h = absurd cc
 within (x ∷ xs) zero p h = omega arith
@@ -118,7 +118,7 @@ none_of (suc m) (suc n) = none_of m n
 no_place : (K : ℕ → Keyed) → ((c : ℕ) → K c ≡ no_keys) → (A : Type 0) (c n : ℕ) (p : Place) → place_at (K c) n ≡ Some p → A
 no_place K keyed A c n p h = absurd (let bad : None ≡ Some p = sym (none_of 16 n) ∙ ap (λ (k : Keyed). place_at k n) (sym (keyed c)) ∙ h in cc)
 
--- callers with no keys, and no conversions, are a world
+-- callers without keys, and no conversions, are a world
 pub nothing_there : (K : ℕ → Keyed) (G : ℕ → Option Conversion) → ((c : ℕ) → K c ≡ no_keys) → ((k : ℕ) → G k ≡ None) → IsWorld K G
 nothing_there K G keyed held = record {
   live = λ c n p h. no_place K keyed _ c n p h;
@@ -129,7 +129,7 @@ nothing_there K G keyed held = record {
 
 -- ---- DROP
 
--- DROP does what is done to its caller
+-- DROP does what its result says of its caller
 pub drop_done : (G : ℕ → Option Conversion) (k k2 : Keyed) (name : List ℕ) (r : Result ℕ DropFault) → ((n : ℕ) (p : Place) → place_at k n ≡ Some p → IsSome (G p.key)) → IsDropped k name r k2
     → Acts (table_of G k) (DropMap name) (table_of G k2) (drop_answer r)
 drop_done G k k2 name (Ok u) live h = rw (h.1, busy_seen G k h.0 live, h.2) (rw h.3 refl, refl)
@@ -152,7 +152,7 @@ holds_lacks : (T next : Table) (m : Charmap) (place : Option ℕ) → is_none pl
 holds_lacks T next m (Some p) e h = inr (h, refl)
 holds_lacks T next m None e h = absurd cc
 
--- PUT of a charmap that was read does what is done to its caller
+-- PUT of a charmap that was read does what its result says of its caller
 pub put_done : (G : ℕ → Option Conversion) (k k2 : Keyed) (m : Charmap) (r : Result ℕ AddFault) → IsPut k m r k2 → Acts (table_of G k) (Put (Read m)) (table_of G k2) (add_answer (length m.pairs) r)
 put_done G k k2 m (Ok u) h = rw (h.1.0, h.1.1, h.1.3) (inl (ap (table_of G) h.2 ∙ rw h.1.4 refl, refl))
 put_done G k k2 m (Err add.Exists) h = rw h.0 (ap (table_of G) h.1, refl)

@@ -14,7 +14,7 @@ use Rattle.cv_pivot.proofs.Stages.{joined, join_stages, more_room, bytes_follow}
 use Rattle.cv_world.specs.Private.Stages.{IsStage}
 use Rattle.cv_world.proofs.WrittenFrames.{behind_front, front_of_front}
 
--- the front of a vector whose bytes behind a place were borrowed, written and given back
+-- a prefix of a vector whose bytes after an offset were borrowed, written and given back
 pub front_lent : (b more rest over : List ℕ) (len e n : ℕ) → e ≤ length b → n ≤ length more → e + n ≤ len
     → take (e + n) (take len ((take e b ++ (more ++ rest)) ++ over)) ≡ take e b ++ take n more
 front_lent b more rest over len e n within few room =
@@ -36,11 +36,11 @@ pub as_ok : {A E : Type 0} (r : Result (Unit {0}) E) (is other now : A) → IsOk
 as_ok (Ok x) is other now ok e = e
 as_ok (Err x) is other now ok e = absurd (let never : false ≡ true = ok in cc)
 
--- the front of a vector that was made longer
+-- a prefix of a vector that was made longer
 pub front_resized : (now old more : List ℕ) (at end : ℕ) → at ≤ end → at ≤ length old → now ≡ take end old ++ more → take at now ≡ take at old
 front_resized now old more at end to from e = ap (take at) e ∙ take-append-le at (take end old) more (omega (arith, to, from, length-take end old)) ∙ take-take at end old to
 
--- what stands in front of both of two stages stays
+-- the bytes before two stages stay
 pub front_of_two : (before between after : List ℕ) (at behind : ℕ) → at ≤ behind → take behind after ≡ take behind between → take at between ≡ take at before → take at after ≡ take at before
 front_of_two before between after at behind within second first =
     sym (take-take at behind after within) ∙ ap (take at) second ∙ take-take at behind between within ∙ first
@@ -61,7 +61,7 @@ module _ (reads : ItemRelation) (writes : Writing) (policy : Policy) where
             ∙ ap (λ (x : List ℕ). x ++ take n out) front ∙ ap (λ (x : List ℕ). take at old ++ x) taken;
       }
 
-  -- a conversion into a buffer of one size, of which what was written is kept
+  -- a conversion into a buffer as a whole, of which what was written is kept
   pub at_once : (from to : States) (text before after shown : List ℕ) (size : ℕ) (o : Outcome) → Converts reads writes policy from text before o to after → length before ≡ size
       → shown ≡ take (length before - o.room_left) after → IsConverted reads writes policy from text size (record { left = o.left; count = o.count; stop = o.stop; output = shown; states = to })
   at_once from to text before after shown size o p long is =
@@ -107,7 +107,7 @@ module _ (reads : ItemRelation) (writes : Writing) (policy : Policy) where
         writing = q.writing;
       }
 
-  -- a stage that stops for no want of room
+  -- a stage that stops for another cause than too little room
   pub wider_stage : IsReadable reads → (from to : States) (text before after : List ℕ) (at end size : ℕ) (o : Outcome) → o.stop ≢ TooBig → end ≤ size → IsStage reads writes policy from text before at end o to after
       → IsStage reads writes policy from text before at size (record o { room_left = o.room_left + (size - end) }) to after
   wider_stage r from to text before after at end size o roomy within p = record {
@@ -117,7 +117,7 @@ module _ (reads : ItemRelation) (writes : Writing) (policy : Policy) where
     buffer = p.buffer;
   }
 
-  -- a stage that stops at a fault in the front of a text
+  -- a stage that stops at a fault in a prefix of a text
   pub early_stage : IsReadable reads → (from to : States) (text input before after : List ℕ) (at end size more : ℕ) (o : Outcome) → Begins input text → length input + more ≡ length text → (o.stop ≡ Ill) ⊎ (o.stop ≡ Lacking) → end ≤ size
       → IsStage reads writes policy from input before at end o to after
       → IsStage reads writes policy from text before at size (record o { left = o.left + more; room_left = o.room_left + (size - end) }) to after
@@ -131,7 +131,7 @@ module _ (reads : ItemRelation) (writes : Writing) (policy : Policy) where
         buffer = p.buffer;
       }
 
-  -- a stage, and one of what is left
+  -- a stage, and a second one of what is left
   pub two_stages : IsReadable reads → (from mid to : States) (text input before between after : List ℕ) (at end behind size used : ℕ) (a b : Outcome) → Begins input text → used + a.left ≡ length input → behind + a.room_left ≡ end
       → behind ≤ size → IsStage reads writes policy from input before at end a mid between → IsStage reads writes policy mid (drop used text) between behind size b to after
       → IsStage reads writes policy from text before at size (record { left = b.left; room_left = b.room_left; count = a.count + b.count; stop = b.stop }) to after
@@ -148,7 +148,7 @@ module _ (reads : ItemRelation) (writes : Writing) (policy : Policy) where
         buffer = ap (λ (k : ℕ). take k after) (omega (arith, there, both)) ∙ q.buffer ∙ ap (λ (x : List ℕ). x ++ q.output) (ap (λ (k : ℕ). take k between) (sym there) ∙ p.buffer) ∙ append_assoc (take at before) p.output q.output;
       }
 
-  -- a stage behind what stands there already, of which what was written is kept
+  -- a stage after bytes that are there already, of which what was written is kept
   pub behind_stage : (from to : States) (text before after : List ℕ) (at size end : ℕ) (o : Outcome) → at ≤ length before → at + size ≡ end → IsStage reads writes policy from text before at end o to after
       → IsConverted reads writes policy from text size (record { left = o.left; count = o.count; stop = o.stop; output = drop at (take (end - o.room_left) after); states = to })
   behind_stage from to text before after at size end o within whole p =
@@ -158,6 +158,6 @@ module _ (reads : ItemRelation) (writes : Writing) (policy : Policy) where
       subst (λ (k : ℕ). IsConverted reads writes policy from text k (record { left = o.left; count = o.count; stop = o.stop; output = drop at (take (end - o.room_left) after); states = to })) room
       (subst (λ (x : List ℕ). IsConverted reads writes policy from text (end - at) (record { left = o.left; count = o.count; stop = o.stop; output = x; states = to })) (sym e) p.converted)
 
-  -- what stands in front of a stage stays
+  -- the bytes before a stage stay
   pub front_of_stage : (from to : States) (text before after : List ℕ) (at end : ℕ) (o : Outcome) → at ≤ length before → IsStage reads writes policy from text before at end o to after → take at after ≡ take at before
   front_of_stage from to text before after at end o within p = front_of_front before after p.output at (at + length p.output) (omega arith) within p.buffer

@@ -7,23 +7,23 @@ use Rattle.std.proofs.Math.Seq.{take-append_seam, drop-append_seam}
 pub given_back : (out items : List ℕ) (len : ℕ) → length out ≡ len → take len (out ++ drop (length out) items) ≡ out
 given_back out items len e = ap (λ (n : ℕ). take n (out ++ drop (length out) items)) (sym e) ∙ take-append_seam out (drop (length out) items)
 
--- lists that are the same behind a place are so behind a later one
+-- lists that are the same from an offset on are so from a later one on
 pub later_same : (b c : List ℕ) (n m : ℕ) → n ≤ m → drop n c ≡ drop n b → drop m c ≡ drop m b
 later_same b c n m more same =
     let k : n + (m - n) ≡ m = omega (arith, more) in
     ap (λ (x : ℕ). drop x c) (sym k) ∙ sym (drop-drop (m - n) n c) ∙ ap (drop (m - n)) same ∙ drop-drop (m - n) n b ∙ ap (λ (x : ℕ). drop x b) k
 
--- and so between that place and another
+-- they are the same between that offset and a later one
 pub between_same : (b c : List ℕ) (n end : ℕ) → n ≤ end → drop n c ≡ drop n b → drop n (take end c) ≡ drop n (take end b)
 between_same b c n end more same =
     let k : n + (end - n) ≡ end = omega (arith, more) in
     ap (λ (x : ℕ). drop n (take x c)) (sym k) ∙ drop-take n (end - n) c ∙ ap (take (end - n)) same ∙ sym (drop-take n (end - n) b) ∙ ap (λ (x : ℕ). drop n (take x b)) k
 
--- a front and what follows it
+-- a prefix is a shorter prefix and what follows it
 pub two_parts : (c : List ℕ) (n end : ℕ) → n ≤ end → take end c ≡ take n c ++ drop n (take end c)
 two_parts c n end more = sym (take-append-drop n (take end c)) ∙ ap (λ (x : List ℕ). x ++ drop n (take end c)) (take-take n end c more)
 
--- three parts written one behind the other, in front of what stands there already
+-- three parts that were written one after another, before what was there already
 pub three_in_front : (b0 b1 b2 b3 x y z : List ℕ) (at p p2 q q2 r r2 end : ℕ) → p ≡ p2 → q ≡ q2 → r ≡ r2 → p ≤ q → q ≤ r → r ≤ end
     → take p b1 ≡ take at b0 ++ x → drop p b1 ≡ drop p b0
     → take q b2 ≡ take p2 b1 ++ y → drop q b2 ≡ drop q b1
@@ -43,13 +43,13 @@ three_in_front b0 b1 b2 b3 x y z at p p2 q q2 r r2 end pe qe re pq qr within e1 
     ∙ append_assoc (take at b0) x (y ++ (z ++ rest))
     ∙ ap (λ (n : ℕ). take at b0 ++ (x ++ (y ++ (z ++ drop n (take end b0))))) re
 
--- what follows a front
+-- what follows a prefix
 pub behind_front : (b out : List ℕ) (at : ℕ) → at ≤ length b → drop at (take at b ++ out) ≡ out
 behind_front b out at within =
     let size : length (take at b) ≡ at = omega (arith, length-take at b) in
     ap (λ (n : ℕ). drop n (take at b ++ out)) (sym size) ∙ drop-append_seam (take at b) out
 
--- a front of a front
+-- a prefix of a prefix
 pub front_of_front : (b c x : List ℕ) (at end : ℕ) → at ≤ end → at ≤ length b → take end c ≡ take at b ++ x → take at c ≡ take at b
 front_of_front b c x at end more within e =
     sym (take-take at end c more) ∙ ap (take at) e ∙ take-append-le at (take at b) x (omega (arith, length-take at b)) ∙ take-take at at b (omega arith)

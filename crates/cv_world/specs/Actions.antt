@@ -7,26 +7,26 @@ use Rattle.cv_world.specs.declared.op.Op.{Op}
 use Rattle.cv_world.specs.declared.op.Op.TheVariants as op
 
 pub data Action : Type 0 where
-  -- a charmap held, as its text was compiled
+  -- holds the charmap that a text was compiled to, if it could be compiled
   Put : (charmap : Compiled) → Action
-  -- a charmap dropped, by its name
+  -- drops the charmap of this name
   DropMap : (name : List ℕ) → Action
-  -- a descriptor to an encoding from another, by their names, under a policy
+  -- opens a descriptor that converts to one encoding from another, both by name, under a policy
   Open : (to from : List ℕ) (policy : Policy) → Action
-  -- a descriptor's conversion of an input into a room of this many bytes
+  -- converts an input by a descriptor, into at most `room` bytes
   Conv : (number room : ℕ) (input : List ℕ) → Action
-  -- both states of a descriptor at their start, with a room of this many bytes for what closes a shift
+  -- takes both states of a descriptor to their start, with `room` bytes for what closes a shift
   Reset : (number room : ℕ) → Action
-  -- a descriptor closed
+  -- closes a descriptor
   Close : (number : ℕ) → Action
-  -- all that the caller has is freed
+  -- frees all that the caller has
   Bye : Action
-  -- more of the part of an upload; if it is empty, the part is dropped
+  -- appends to the part of an upload, or drops the part if there are no bytes
   Part : (bytes : List ℕ) → Action
-  -- an unknown request
+  -- an unknown op, or a body that is not of its op's form
   Bad : Action
 
--- what a value of the program asks for
+-- what an op of the program asks for
 abbrev pub asked : Op → Action
 asked (op.Put charmap) = Put (compiled charmap)
 asked (op.DropMap name) = DropMap name.now

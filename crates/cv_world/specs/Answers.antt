@@ -10,7 +10,7 @@ use Rattle.cv_frame.specs.declared.status.Status.TheVariants as status
 use Rattle.cv_world.specs.declared.answer.Answer.{Answer}
 use Rattle.cv_world.specs.declared.answer.Answer.TheVariants.{Empty, Number, Count, Converted, Written, BadMap, Refused}
 
--- the most room that may be asked for
+-- the most room that a request may ask for, in bytes
 abbrev pub most_room : ℕ
 most_room = 1000000
 
@@ -36,7 +36,8 @@ answer_status (Refused s) = s
 abbrev pub answer_code : Answer → ℕ
 answer_code answer = status_number (answer_status answer)
 
--- The body of an answer. That of a conversion is what is left, how many characters `?` replaces, and the output.
+-- The body of an answer. That of a conversion has the number of bytes left, how many characters `?` replaces, and the
+-- output.
 abbrev pub answer_body : Answer → List ℕ
 answer_body Empty = []
 answer_body (Number n) = to_be_bytes w32 n
@@ -46,7 +47,7 @@ answer_body (Written bytes) = bytes
 answer_body (BadMap fault) = to_be_bytes w32 fault.line ++ cause_number fault.cause ∷ []
 answer_body (Refused s) = []
 
--- The output of a conversion is no longer than the most room, so that the answer has a frame.
+-- The output of a conversion has at most 1,000,000 bytes, so that the answer fits a frame.
 abbrev pub AnswerFits : Answer → Type 0
 AnswerFits Empty = Unit {0}
 AnswerFits (Number n) = Unit {0}

@@ -1,5 +1,5 @@
--- Feeds: the calls that fed a number of a caller along a run, since it was opened or reset; and the law that their result doesn't depend on how the text
--- and the room were cut (POSIX iconv()).
+-- Feeds: the calls of a caller's descriptor along a run, since it was opened or reset. Their law: the result does not
+-- depend on how the text and the room were divided among the calls (POSIX iconv()).
 use Rattle.std.specs.Prelude.{◌≡◌, ◌==◌, ◌&&◌, ◌⊎◌, ◌≤◌, ℕ, Bool, false, List, [], ◌∷◌, ◌++◌, length, drop, Option, Some, None, if◌then◌else◌}
 use Rattle.std.specs.List.{AllByRecursion}
 use Rattle.cv_pivot.specs.Conversions.{start}
@@ -39,17 +39,18 @@ stop_of code =
     if is_stop stop.Incomplete code then Some stop.Incomplete else
     if is_stop stop.Lacking code then Some stop.Lacking else None
 
--- whether the number that is there is this one
+-- whether there is a number, and it is this one
 abbrev pub is_number : ℕ → Option ℕ → Bool
 is_number number (Some other) = other == number
 is_number number None = false
 
--- the states of a descriptor; a number that is free is at the start
+-- the states of a descriptor, or the start if the number is free
 abbrev pub states_of : Option Descriptor → States
 states_of (Some descriptor) = descriptor.states
 states_of None = start
 
--- A call: what was asked; by the body of the reply, what is left, how many characters `?` replaces, and the output; and the states of the number then.
+-- A call. It has what was asked, the states of the number after it, and from the body of the reply the number of bytes
+-- left, how many characters `?` replaces, and the output.
 abbrev pub call_of : ℕ → ℕ → List ℕ → Stop → Outcome Table → Call
 call_of number room input why outcome = record {
   input = input;
@@ -70,8 +71,9 @@ abbrev pub with_stop : ℕ → ℕ → List ℕ → List Call → Outcome Table 
 with_stop number room input calls outcome (Some why) = calls ++ call_of number room input why outcome ∷ []
 with_stop number room input calls outcome None = calls
 
--- The calls of a number after one request more of its caller. An OPEN that answers the number, a RESET or a CLOSE of it and a BYE that are OK empty them; a CONV
--- of it that stopped adds one; every other request and every other answer leaves them unchanged.
+-- The calls of a number after one more request of its caller. There are none after an OPEN that returns the number, a
+-- RESET or a CLOSE of it, or a BYE, if these are OK. A CONV of it that stopped adds one. Every other request and every
+-- other answer leaves them unchanged.
 abbrev pub calls_after : ℕ → List Call → Action → Outcome Table → List Call
 calls_after number calls (Open to from policy) outcome = if is_ok outcome && is_number number (u32_of outcome.body) then [] else calls
 calls_after number calls (Conv n room input) outcome = if n == number then with_stop number room input calls outcome (stop_of outcome.code) else calls
@@ -89,7 +91,7 @@ calls_along number calls (e ∷ events) = calls_along number (calls_after number
 abbrev pub BodiesFit : List (Event Table) → Type 0
 BodiesFit events = AllByRecursion (λ e. length e.request.body ≤ most_body) events
 
--- A feed: after a run from the start, of requests that fit frames, a number of a caller stands for a descriptor.
+-- A feed: an open descriptor of a caller, after a run from empty tables, of requests that fit frames.
 pub record Feed : Type 0 where
   pub events : List (Event Table)
   pub is_run : IsRun turn no_tables events
@@ -99,35 +101,37 @@ pub record Feed : Type 0 where
   pub descriptor : Descriptor
   pub is_open : descriptor_at (after_all no_tables events caller) number ≡ Some descriptor
 
--- its calls: those of its number along its caller's events, whatever events are between these
+-- the calls of a feed: those of its number along its caller's events, whatever events of others are between these
 abbrev pub calls_of : Feed → List Call
 calls_of feed = calls_along feed.number [] (events_of feed.caller feed.events)
 
--- the combined result of its calls
+-- the combined result of a feed's calls
 abbrev pub came_of : Feed → Total
 came_of feed = total start (calls_of feed)
 
--- the form of an encoding of its caller after the run
+-- the form of an encoding of a feed's caller after the run
 abbrev pub form_after : Feed → Named → Form
 form_after feed named = form_in (after_all no_tables feed.events feed.caller).charmaps named
 
--- the encoding that it reads
+-- the encoding that a feed reads
 abbrev pub source_of : Feed → Form
 source_of feed = form_after feed feed.descriptor.from
 
--- the encoding that it writes
+-- the encoding that a feed writes
 abbrev pub target_of : Feed → Form
 target_of feed = form_after feed feed.descriptor.to
 
--- Two feeds have the same encodings, of charmaps the same lists, and the same policy.
+-- Two feeds have the same encodings and the same policy. Charmaps with the same list are the same encoding.
 pub record AreAlike (a b : Feed) : Type 0 where
   pub source : source_of a ≡ source_of b
   pub target : target_of a ≡ target_of b
   pub policy : a.descriptor.policy ≡ b.descriptor.policy
 
--- Each call of a feed is a conversion from the states that the one before left, and the last left those of the descriptor. So a feed that is fed one text is the
--- first items of it; two that are alike and used the same number of bytes of one text have the same result, of whatever callers, numbers and runs they are; and two that are
--- alike and ended at ill-formed bytes, or at a character that the target lacks, used the same number of bytes. The requests of a stream's whole frames fit frames.
+-- Each call of a feed is a conversion from the states that the call before left, and the last call left those of the
+-- descriptor. So a feed of one text converts the first items of the text. Two feeds that are alike and used the same
+-- number of bytes of one text have the same result, whatever their callers, numbers and runs are. Two feeds of one text
+-- that are alike used the same number of bytes of it, if both ended at ill-formed bytes or both at a character that the
+-- target lacks. The requests of a stream's whole frames fit frames.
 pub record Feeds : Type 0 where
   pub conversions : (feed : Feed) → IsFeed (form_reads (source_of feed)) (form_writes (target_of feed)) feed.descriptor.policy start (calls_of feed)
   pub states : (feed : Feed) → (came_of feed).states ≡ feed.descriptor.states

@@ -28,7 +28,7 @@ pub record KeepsTables : Type 0 where
   pub begins : IsSound empty_table
   pub keeps : (table : Table) (code : ℕ) (body : List ℕ) (outcome : Outcome Table) → IsSound table → turn table code body outcome → IsSound outcome.next
 
--- After each run from the start every caller's table is sound.
+-- After each run from empty tables every caller's table is sound.
 abbrev pub RunsKeepTables : Type 0
 RunsKeepTables = (events : List (Event Table)) → IsRun turn no_tables events → (caller : ℕ) → IsSound (after_all no_tables events caller)
 
@@ -44,8 +44,8 @@ takes_memory code body = code == op_put || (code == op_open || (code == op_conv 
 abbrev pub LacksWhereTaken : Type 0
 LacksWhereTaken = (table : Table) (code : ℕ) (body : List ℕ) (outcome : Outcome Table) → turn table code body outcome → outcome.code ≡ no_memory → takes_memory code body ≡ true
 
--- Parts that were taken one after the other are one part; and a charmap whose text was sent in parts is held as one whose text is sent whole. The answer and
--- the table after it are the same.
+-- Two PARTs, one after the other and both OK, do what one PART of both bodies does. A charmap whose text is sent in
+-- parts is held as one whose text is sent whole. The answer and the table after it are the same.
 pub record JoinsParts : Type 0 where
   pub parts : (table : Table) (first second : List ℕ) (between after : Outcome Table) → first ≢ [] → second ≢ []
       → between.code ≡ status_number status.Ok → after.code ≡ status_number status.Ok
@@ -57,7 +57,7 @@ pub record JoinsParts : Type 0 where
 abbrev pub ByeStartsAgain : Type 0
 ByeStartsAgain = (table : Table) (outcome : Outcome Table) → turn table op_bye [] outcome → outcome.next ≡ empty_table
 
--- The body of a DROP is a name, spelled as those of an OPEN are, and no other body is read as one.
+-- The body of a DROP is a name, encoded as those of an OPEN are, and no other body is read as one.
 pub record NamesReadBack : Type 0 where
   pub drops : (name : List ℕ) → drop_of (name_body name) ≡ Some name
   pub drops_only : (body name : List ℕ) → drop_of body ≡ Some name → body ≡ name_body name

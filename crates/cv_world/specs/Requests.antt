@@ -12,7 +12,7 @@ use Rattle.cv_world.specs.declared.answer.Answer.{Answer}
 
 -- ---- what the bytes of a request ask for
 
--- what a DROP asks for, by the name that its body is
+-- what a DROP asks for, by the name in its body
 abbrev pub drop_action : Option (List ℕ) → Action
 drop_action (Some name) = DropMap name
 drop_action None = Bad
@@ -32,7 +32,7 @@ abbrev pub reset_action : Option (ℕ × ℕ) → Action
 reset_action (Some fields) = Reset fields.0 fields.1
 reset_action None = Bad
 
--- what a CLOSE asks for, by the number that its body is
+-- what a CLOSE asks for, by the number in its body
 abbrev pub close_action : Option ℕ → Action
 close_action (Some number) = Close number
 close_action None = Bad
@@ -59,14 +59,16 @@ pub record AsksPut (text : List ℕ) (action : Action) : Type 0 where
   pub may : MayCompile text charmap
   pub is : action ≡ Put charmap
 
--- What a request asks for, if its caller has sent this part of an upload before: the text of a PUT is the part, and then its body.
+-- What a request asks for, if this part of an upload is held for its caller. The text of a PUT is the part followed by
+-- its body.
 abbrev pub Asks : List ℕ → ℕ → List ℕ → Action → Type 0
 Asks part code body action = When (code == op_put) (AsksPut (part ++ body) action) (action ≡ action_of code body)
 
 -- ---- the outcomes that a request may have
 
--- An action that it asks for may give this table and an answer, and the outcome encodes the answer. This is said of each table, also of those that no run
--- leaves: there the only outcome of a conversion from a charmap that isn't held is an allocation failure.
+-- An action that the request asks for may lead to the outcome's table and to an answer that the outcome encodes. This
+-- is defined at every table, also at those that no run leaves. There the only outcome of a conversion from a charmap
+-- that is not held is an allocation failure.
 pub record MayTurn (table : Table) (code : ℕ) (body : List ℕ) (outcome : Outcome Table) : Type 0 where
   pub action : Action
   pub asks : Asks table.part code body action

@@ -10,12 +10,13 @@ use Rattle.cv_world.specs.Feeds.{Feed, source_of, target_of}
 use Rattle.cv_world.specs.Requests.{turn}
 use Rattle.cv_world.specs.Worlds.{no_tables}
 
--- the table of its caller after the run
+-- the table of a feed's caller after the run
 abbrev pub table_of : Feed → Table
 table_of feed = after_all no_tables feed.events feed.caller
 
--- After every run a descriptor between stateless encodings is at its start, and a CONV of it leaves its caller's table as it was. So what a CONV is answered
--- depends on its own room and input alone, whatever was converted by the descriptor before, and for whom.
+-- After every run a descriptor between stateless encodings is at its start, and a CONV of it leaves its caller's table
+-- unchanged. So the answer to a CONV depends on its own room and input alone, whatever the descriptor converted before,
+-- and for whom.
 pub record Stateless : Type 0 where
   pub at_start : (feed : Feed) → IsStateless (source_of feed) → IsStateless (target_of feed) → feed.descriptor.states ≡ start
   pub leaves : (feed : Feed) → IsStateless (source_of feed) → IsStateless (target_of feed) → (body : List ℕ) (room : ℕ) (input : List ℕ)

@@ -19,7 +19,7 @@ use Rattle.cv_world.specs.Answers.{most_room}
 use Rattle.cv_world.specs.declared.answer.Answer.{Answer}
 use Rattle.cv_world.specs.declared.answer.Answer.TheVariants as answers
 
--- The table after it, and the answer, are these.
+-- The table after the request, and the answer, are these.
 abbrev pub Does : Table → Answer → Table → Answer → Type 0
 Does next answer table is = (next ≡ table) × (answer ≡ is)
 
@@ -29,14 +29,15 @@ Refuses table next answer s = Does next answer table (answers.Refused s)
 
 -- ---- PUT
 
--- A charmap is held at a place, and the part of the upload is dropped.
+-- The charmap is held in the least free slot, and the part of the upload is dropped. If no slot is free, the PUT is
+-- refused.
 abbrev pub Holds : Table → Charmap → Option ℕ → Table → Answer → Type 0
 Holds table charmap None next answer = Refuses table next answer status.Quota
 Holds table charmap (Some place) next answer =
     Does next answer (with_part (with_charmap table place (Some charmap)) []) (answers.Count (length charmap.pairs))
     ⊎ Refuses table next answer status.NoMemory
 
--- The text has to mean a charmap, its name has to be free, and there has to be a place and room for its mappings.
+-- The text has to mean a charmap, its name has to be free, and there have to be room for its mappings and a free slot.
 abbrev pub Puts : Table → Compiled → Table → Answer → Type 0
 Puts table Lacking next answer = Refuses table next answer status.NoMemory
 Puts table (Faulty fault) next answer = Does next answer table (answers.BadMap fault)
@@ -47,7 +48,7 @@ Puts table (Read charmap) next answer =
 
 -- ---- PART
 
--- An empty part drops what was sent; another is appended to it, if they are not too long together.
+-- An empty body drops the part. Any other body is appended to the part, if they are not too long together.
 abbrev pub Parts : Table → List ℕ → Table → Answer → Type 0
 Parts table [] next answer = Does next answer (with_part table []) (answers.Count 0)
 Parts table (b ∷ bytes) next answer =
@@ -84,14 +85,15 @@ Opens table (Some number) to from policy next answer = Binds table number policy
 abbrev pub with_states : Table → ℕ → Descriptor → States → Table
 with_states table number d states = with_descriptor table number (Some (record d { states = states }))
 
--- The answer is the longest conversion, and its states are kept. A charmap that is read is a valid one, so that one item is next.
+-- The answer is the longest conversion, and the descriptor keeps its states. A charmap that is read is valid, so that
+-- at most one item is next.
 pub record IsConversion (table : Table) (number : ℕ) (d : Descriptor) (room : ℕ) (input : List ℕ) (next : Table) (answer : Answer) : Type 0 where
   pub is_form : IsForm (form_in table.charmaps d.from)
   pub came : Converted
   pub is_converted : IsConverted (form_reads (form_in table.charmaps d.from)) (form_writes (form_in table.charmaps d.to)) d.policy d.states input room came
   pub does : Does next answer (with_states table number d came.states) (answers.Converted came.stop came.left came.count came.output)
 
--- The descriptor has to be open, and the room no more than the most.
+-- The descriptor has to be open, and the room at most 1,000,000.
 abbrev pub Convs : Table → ℕ → Option Descriptor → ℕ → List ℕ → Table → Answer → Type 0
 Convs table number None room input next answer = Refuses table next answer status.BadDescriptor
 Convs table number (Some d) room input next answer =
@@ -107,7 +109,7 @@ Restarts table number d room closing next answer =
     When (nat_lt room (length closing)) (Refuses table next answer status.TooBig) (
     Does next answer (with_states table number d start) (answers.Written closing)))
 
--- The descriptor has to be open, and the room no more than the most.
+-- The descriptor has to be open, and the room at most 1,000,000.
 abbrev pub Resets : Table → ℕ → Option Descriptor → ℕ → Table → Answer → Type 0
 Resets table number None room next answer = Refuses table next answer status.BadDescriptor
 Resets table number (Some d) room next answer =
@@ -123,7 +125,7 @@ Closes table number (Some d) next answer = Does next answer (with_descriptor tab
 
 -- ---- all of them
 
--- What an action may give: the table after it, and the answer.
+-- What an action may lead to: the table after it, and the answer.
 abbrev pub Acts : Table → Action → Table → Answer → Type 0
 Acts table (Put charmap) next answer = Puts table charmap next answer
 Acts table (DropMap name) next answer = Drops table (place_of table.charmaps name) next answer

@@ -21,12 +21,12 @@ no_tables = λ _. empty_table
 abbrev pub keyed_in : BTreeMap ℕ Keyed → ℕ → Keyed
 keyed_in callers = λ caller. unwrap_or (get nat_cmp callers caller) no_keys
 
--- what a world is seen as: each caller with its table
+-- a world as contracts see it: each caller with its table
 abbrev pub tables_in : List (ℕ × Keyed) → slab.Slab Conversion → List (ℕ × Table)
 tables_in callers conversions = map (λ e. (e.0, table_of (slab.get conversions) e.1)) callers
 
--- What every world keeps: each number that is bound has a key under which there is a conversion, each such key is that of exactly one number; and each
--- conversion is by the encodings that its place names.
+-- The invariant of a world. Each bound number has a key under which there is a conversion. Each such key is that of
+-- exactly one number. Each conversion has the encodings that its place names.
 pub record IsWorld (keyed : ℕ → Keyed) (has : ℕ → Option Conversion) : Type 0 where
   pub live : (c n : ℕ) (p : Place) → place_at (keyed c) n ≡ Some p → IsSome (has p.key)
   pub owned : (k : ℕ) → IsSome (has k) → (c : ℕ) × (n : ℕ) × (p : Place) × (place_at (keyed c) n ≡ Some p) × (p.key ≡ k)

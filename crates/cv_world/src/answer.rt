@@ -1,4 +1,4 @@
-//! What an op answers.
+//! The answers to ops.
 ghost use Rattle.std.specs.Prelude.{◌≡◌, ◌++◌, ◌∷◌, []};
 ghost use Rattle.std.specs.Int.{w32, to_be_bytes};
 ghost use Rattle.cv_lex.specs.Causes.{cause_number};
@@ -11,7 +11,7 @@ use cv_frame::{Bytes, Reply, Status};
 use cv_pivot::Stop;
 use std::alloc::Global;
 
-/// What an op answers.
+/// The answer to an op.
 #[derive(Debug, Drop)]
 pub enum Answer {
     /// The request is done.
@@ -20,18 +20,19 @@ pub enum Answer {
     Number(u32),
     /// How many mappings a charmap has, or how many bytes a part.
     Count(u32),
-    /// What was converted: why it stopped, the bytes of the input that are left, how many characters `?` replaces, and the output.
+    /// The result of a conversion: why it stopped, how many bytes of the input are left, how many characters `?`
+    /// replaces, and the output.
     Converted {
         stop: Stop,
         left: u32,
         count: u32,
         bytes: Bytes,
     },
-    /// What closes the shift.
+    /// The bytes that close the target's shift.
     Written(Piece),
     /// The first fault of a charmap text.
     BadMap(MapFault),
-    /// Nothing was done, for this cause.
+    /// The request was refused for this cause, and changed nothing.
     Refused(Status),
 }
 
@@ -73,7 +74,7 @@ pub(crate) fn fault_piece(fault: MapFault) -> Piece
 }
 
 impl Answer {
-    /// The reply to a request of this caller and tag.
+    /// Makes the reply to a request of this caller and tag.
     pub fn reply(self, alloc: Global, caller: u32, tag: u32) -> Reply
         requires { AnswerFits self }
         ensures value { result ≡ record { caller = caller; tag = tag; code = answer_code self; body = answer_body self } }

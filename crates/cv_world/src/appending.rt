@@ -1,4 +1,4 @@
-//! A CONV whose reply is written where it stays.
+//! Runs a CONV whose reply is written into the buffer of replies, and not copied.
 ghost use Rattle.std.specs.Prelude.{◌≡◌, ◌≤◌, ◌+◌, ◌++◌, length, take, vec_len, IfOk, IfErr, OnErr};
 ghost use Rattle.cv_frame.specs.declared.sizes.TheConstants.{MOST_BODY};
 ghost use Rattle.cv_frame.specs.Message.{spelling, FitsFrame};
@@ -20,7 +20,7 @@ use crate::world::{MOST_ROOM, World};
 use cv_frame::Status;
 
 impl World {
-    /// CONV, whose output is written behind a place; or why it is refused.
+    /// Runs a CONV, and writes its output from offset `at` on. Returns the status if the CONV is refused.
     fn conv_output(
         &mut self,
         caller: u32,
@@ -53,7 +53,8 @@ impl World {
         Ok(output)
     }
 
-    /// CONV. The frame of its reply is written behind a place, and it is said where it ends; or why it is refused.
+    /// Runs a CONV, writes the frame of its reply from offset `used` on, and returns where the frame ends. If the CONV
+    /// is refused, writes no frame and returns the status.
     pub(crate) fn conv_behind(
         &mut self,
         caller: u32,

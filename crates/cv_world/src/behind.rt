@@ -1,4 +1,4 @@
-//! A conversion into the memory behind a place of a vector, which stays for others.
+//! Converts into a vector from an offset on. The memory of the vector is kept for later conversions.
 ghost use Rattle.std.specs.Prelude.{◌≡◌, ◌≢◌, ◌≤◌, ◌<◌, ◌+◌, ◌^◌, ℕ, length, take, drop, vec_len, vec_capacity, Some, IfOk, OnErr};
 ghost use Rattle.slab.specs.Slab.{ContainsKey, get as held};
 ghost use Rattle.cv_frame.specs.declared.sizes.TheConstants.{MOST_BODY};
@@ -12,7 +12,7 @@ use cv_base::{Codec, Memory};
 use cv_pivot::{Conversion, Outcome, States};
 use slab::Slab;
 
-/// The result of a conversion into the memory behind a place, and where its output ends.
+/// The result of a conversion into a vector from an offset on, and where its output ends.
 #[derive(Drop)]
 pub(crate) struct Behind {
     pub(crate) outcome: Outcome,
@@ -20,7 +20,8 @@ pub(crate) struct Behind {
     pub(crate) states: States,
 }
 
-/// Converts as much of the input as fits in the room, behind a place. It takes memory for no more than the input can need.
+/// Converts as much of the input as fits in the room, from offset `at` on. Uses no more of the vector than the input
+/// can need.
 fn convert_behind(
     conversion: &mut Conversion,
     room: u32,
@@ -58,7 +59,7 @@ fn convert_behind(
     }
 }
 
-/// Converts by the conversion under a key, behind a place.
+/// Converts by the conversion under a key, from offset `at` on.
 pub(crate) fn convert_behind_in(
     conversions: &mut Slab<Conversion>,
     key: usize,

@@ -1,4 +1,4 @@
-//! A conversion into memory that is asked for, and cleared, only as far as it comes to be used.
+//! Converts into memory that is allocated and cleared only as far as it is used.
 ghost use Rattle.std.specs.Prelude.{◌≡◌, ◌≤◌, ◌<◌, ◌+◌, ◌^◌, length, take, vec_len, IfOk};
 ghost use Rattle.cv_frame.specs.declared.sizes.TheConstants.{MOST_BODY};
 ghost use Rattle.cv_pivot.specs.Encodings.{form_of, form_reads, form_writes};
@@ -9,14 +9,15 @@ use crate::stages::{convert_stage, guessed_end, has_room, joined};
 use cv_base::{Codec, Memory};
 use cv_pivot::{Conversion, Outcome};
 
-/// How much memory is cleared at once.
+/// How many bytes are cleared at once.
 const AT_ONCE: usize = 2_048;
 
-/// From how many bytes on memory that was cleared before is tried first.
+/// How many bytes have to be cleared already, so that they are used before others are cleared.
 const ENOUGH: usize = 1_024;
 
-/// Up to where a conversion goes first: what was cleared before, or a little that is cleared now. So a stream that asks for the same
-/// again asks for no memory and has none cleared, though little more is kept than its replies took.
+/// Returns where the first stage of a conversion ends: at the end of what is cleared already, or, if that is little,
+/// after a little that is cleared for it. So a stream that repeats its requests needs no allocation and no clearing,
+/// though little more is kept than its replies took.
 fn first_end(len: usize, at: usize, end: usize) -> usize
     requires within { at ≤ len }
     requires to { at ≤ end }
@@ -30,8 +31,8 @@ fn first_end(len: usize, at: usize, end: usize) -> usize
     }
 }
 
-/// Up to where a buffer is cleared at first for the rest of a text: an eighth more than it needs if each byte is written as those before
-/// it were. As much is kept for what comes next.
+/// Returns up to where a buffer is cleared at first for the rest of a text: for an eighth more than the rest needs if
+/// its bytes are written as those before them were. As much is kept for later replies.
 fn likely_end(used: usize, at: usize, left: usize, size: usize) -> usize
     requires within { at ≤ size }
     requires small { size < 2 ^ 32 }
@@ -43,8 +44,8 @@ fn likely_end(used: usize, at: usize, left: usize, size: usize) -> usize
     size.min(at + likely + likely / 8)
 }
 
-/// Converts into the memory of a vector, behind one place and before another. Room is made first, where there is none. The stack of each
-/// stream has its frames down to here, so it has none of its own.
+/// Converts into a vector, from offset `at` on and before `end`. Reserves the room first, if there is none. Inlined, so
+/// that it adds no frame to the stack of each stream.
 #[inline(always)]
 fn convert_reserved(
     conversion: &mut Conversion,
@@ -67,7 +68,8 @@ fn convert_reserved(
     Ok(convert_stage(conversion, input, bytes, at, end))
 }
 
-/// Converts into the memory of a vector, behind one place and before `size`: up to `end` first, and further only if that was too little.
+/// Converts into a vector, from offset `at` on and before `size`: up to `end` first, and further only if that was too
+/// little.
 fn convert_guessed(
     conversion: &mut Conversion,
     input: &[u8],
@@ -104,8 +106,8 @@ fn convert_guessed(
     Ok(joined(first, rest))
 }
 
-/// Converts into the memory of a vector, behind one place and before `size`: up to `end` first, then as far as the rest is likely to need
-/// after this, and all the way only if both were too little.
+/// Converts into a vector, from offset `at` on and before `size`: up to `end` first, then as far as the rest is likely
+/// to need by what was written there, and up to `size` only if both were too little.
 fn convert_likely(
     conversion: &mut Conversion,
     input: &[u8],
@@ -144,8 +146,8 @@ fn convert_likely(
     Ok(joined(first, rest))
 }
 
-/// Converts into the memory of a vector, behind one place and before `size`. Memory that was cleared before comes first; what was
-/// written there says how much the rest is likely to need.
+/// Converts into a vector, from offset `at` on and before `size`. Memory that is cleared already is used first. What
+/// was written there says how much the rest is likely to need.
 fn convert_parts(
     conversion: &mut Conversion,
     input: &[u8],
@@ -184,8 +186,8 @@ fn convert_parts(
     Ok(joined(first, rest))
 }
 
-/// Converts into the memory of a vector, behind one place and before `size`. It is one `Conversion::convert` into a buffer that ends
-/// there, which is not cleared as a whole. Where it is cleared already, there is nothing to ask for.
+/// Converts into a vector, from offset `at` on and before `size`. The result is that of one `Conversion::convert` into
+/// a buffer that ends there, but the buffer is not cleared as a whole. If it is cleared already, nothing is allocated.
 pub(crate) fn convert_between(
     conversion: &mut Conversion,
     input: &[u8],

@@ -4,17 +4,17 @@ ghost use Rattle.std.specs.Prelude.{◌≡◌, ◌+◌, ◌*◌, ◌-◌, ◌≤
 use crate::world::World;
 use cv_caller::{CALLER_BYTES, DESCRIPTOR_BYTES};
 
-/// How much the callers of a world may hold together, and how many they may be.
+/// How much the callers of a world may hold together, and how many callers there may be.
 #[derive(Clone, Copy, Debug, PartialEq, Eq)]
 pub struct Budget {
-    /// How many bytes they may be counted for.
+    /// The greatest number of bytes that they may be counted for.
     pub bytes: u64,
-    /// How many may have something.
+    /// The greatest number of callers that may have something.
     pub callers: u32,
 }
 
 impl Budget {
-    /// With these limits, of which none means that there is no limit.
+    /// Makes a budget of these limits. `None` is no limit.
     pub fn of(bytes: Option<u64>, callers: Option<u32>) -> Budget
         ensures bytes { IfSome bytes (λ limit. result.bytes ≡ limit) }
         ensures callers { IfSome callers (λ limit. result.callers ≡ limit) }
@@ -27,7 +27,7 @@ impl Budget {
         }
     }
 
-    /// Whether each of so many workers that share it has room for a caller with one descriptor.
+    /// Returns whether each of the workers that share the budget has room for a caller with one descriptor: 672 bytes.
     pub fn is_enough_for(self, workers: u32) -> bool
         ensures { result ≡ (nat_le (672 * workers) self.bytes && nat_le workers self.callers) }
     {
@@ -36,24 +36,24 @@ impl Budget {
     }
 }
 
-/// No limit.
+/// The budget without limits.
 pub const UNLIMITED: Budget = Budget {
     bytes: u64::MAX,
     callers: u32::MAX,
 };
 
-/// What the callers of one world hold, or of several.
+/// What the callers of one or several worlds hold.
 #[derive(Clone, Copy, Debug, PartialEq, Eq)]
 pub struct Usage {
-    /// How many bytes they are counted for.
+    /// The number of bytes that they are counted for.
     pub bytes: u64,
-    /// How many have something.
+    /// The number of callers that have something.
     pub callers: u32,
-    /// What they may have.
+    /// What they may hold.
     pub budget: Budget,
 }
 
-/// Nobody holds anything, and nobody may.
+/// The usage of no world: nothing is held, and nothing may be.
 pub const NO_USAGE: Usage = Usage {
     bytes: 0,
     callers: 0,
@@ -64,7 +64,7 @@ pub const NO_USAGE: Usage = Usage {
 };
 
 impl Usage {
-    /// What the callers of two hold together. A number that would not fit stays at its greatest value.
+    /// Returns the sum of two usages. The numbers saturate.
     pub fn and(self, other: Usage) -> Usage
         ensures bytes { result.bytes ≡ min (self.bytes + other.bytes) (2 ^ 64 - 1) }
         ensures callers { result.callers ≡ min (self.callers + other.callers) (2 ^ 32 - 1) }
@@ -83,7 +83,7 @@ impl Usage {
 }
 
 impl World {
-    /// What the callers hold, which is within their budget.
+    /// Returns what the callers hold, which is within their budget.
     pub fn usage(&self) -> Usage
         ensures bytes { result.bytes ≤ result.budget.bytes }
         ensures callers { result.callers ≤ result.budget.callers }

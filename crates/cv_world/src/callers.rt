@@ -1,4 +1,4 @@
-//! What the callers' tables have.
+//! Reads the tables of callers.
 ghost use Rattle.std.specs.Prelude.{◌≡◌, ◌<◌, ◌≤◌, ◌++◌, [], false, length, IfSome, IfOk, IfErr};
 ghost use Rattle.cv_caller.specs.Keyed.{place_at, IsKeyed};
 ghost use Rattle.cv_caller.specs.declared.limits.TheConstants.{DESCRIPTORS};
@@ -14,7 +14,7 @@ use cv_frame::Status;
 use std::alloc::Global;
 use std::collections::BTreeMap;
 
-/// What a caller's number stands for.
+/// Returns what a caller's number is bound to.
 pub(crate) fn place_in(callers: &BTreeMap<u32, Kept>, caller: u32, number: u32) -> Option<Place>
     ensures place { result ≡ place_at (keyed_in callers.now caller) number }
     ensures within { IfSome result (λ _. number < DESCRIPTORS) }
@@ -25,7 +25,7 @@ pub(crate) fn place_in(callers: &BTreeMap<u32, Kept>, caller: u32, number: u32) 
     }
 }
 
-/// For each number of a table, whether it stands for something.
+/// Returns for each number of a table whether it is bound.
 fn bound_of(table: &Table) -> [bool; DESCRIPTORS]
     ensures { ClosedWhereNot (place_at table.now) result }
 {
@@ -36,7 +36,7 @@ fn bound_of(table: &Table) -> [bool; DESCRIPTORS]
     bound
 }
 
-/// For each number of a caller, whether it stands for something.
+/// Returns for each number of a caller whether it is bound.
 pub(crate) fn bound_in(callers: &BTreeMap<u32, Kept>, caller: u32) -> [bool; DESCRIPTORS]
     ensures { ClosedWhereNot (place_at (keyed_in callers.now caller)) result }
 {
@@ -46,7 +46,7 @@ pub(crate) fn bound_in(callers: &BTreeMap<u32, Kept>, caller: u32) -> [bool; DES
     }
 }
 
-/// States what a caller's table keeps. It does nothing.
+/// States the invariant of a caller's table. It does nothing.
 pub(crate) fn assert_keyed(callers: &BTreeMap<u32, Kept>, caller: u32)
     ensures { IsKeyed (keyed_in callers.now caller) }
 {
@@ -56,7 +56,7 @@ pub(crate) fn assert_keyed(callers: &BTreeMap<u32, Kept>, caller: u32)
     }
 }
 
-/// What a caller's OPEN needs, or why it is refused. Nothing changes.
+/// Returns what a caller's OPEN needs, or the status if it is refused. Changes nothing.
 pub(crate) fn prepare_in(
     callers: &BTreeMap<u32, Kept>,
     caller: u32,
@@ -73,7 +73,7 @@ pub(crate) fn prepare_in(
     }
 }
 
-/// How many bytes the part of an upload has that a caller has sent.
+/// Returns how many bytes the part of a caller's upload has.
 pub(crate) fn part_len_in(callers: &BTreeMap<u32, Kept>, caller: u32) -> u64
     ensures { result ≡ length (keyed_in callers.now caller).part }
 {
@@ -83,7 +83,7 @@ pub(crate) fn part_len_in(callers: &BTreeMap<u32, Kept>, caller: u32) -> u64
     }
 }
 
-/// Whether a caller has sent a part of an upload.
+/// Returns whether a part of an upload is held for a caller.
 pub(crate) fn has_part_in(callers: &BTreeMap<u32, Kept>, caller: u32) -> bool
     ensures { result ≡ false → (keyed_in callers.now caller).part ≡ [] }
 {
@@ -93,7 +93,7 @@ pub(crate) fn has_part_in(callers: &BTreeMap<u32, Kept>, caller: u32) -> bool
     }
 }
 
-/// Two texts as one, in memory that is asked for once.
+/// Returns two texts as one, by one allocation.
 fn joined(alloc: Global, front: &[u8], back: &[u8]) -> Result<Vec<u8>, Memory>
     ensures { IfOk result (λ text. text.items ≡ front.now ++ back.now) }
 {
@@ -103,7 +103,7 @@ fn joined(alloc: Global, front: &[u8], back: &[u8]) -> Result<Vec<u8>, Memory>
     Ok(text)
 }
 
-/// A caller's part of an upload, and then these bytes.
+/// Returns a caller's part of an upload, followed by these bytes.
 pub(crate) fn gather_in(
     alloc: Global,
     callers: &BTreeMap<u32, Kept>,

@@ -1,4 +1,4 @@
-//! What the ops do to the callers' tables, each counted against the budget.
+//! Changes the tables of callers, and counts each change against the budget.
 ghost use Rattle.std.specs.Prelude.{◌≡◌, ◌≢◌, ◌≤◌, ◌<◌, ◌+◌, ℕ, Some, None, IfOk, OnOk, OnErr};
 ghost use Rattle.std.specs.Arc.{arc_value};
 ghost use Rattle.cv_caller.specs.Keyed.{no_keys, place_at, with_place, AreHeld};
@@ -18,7 +18,7 @@ use cv_trie::Charmap;
 use std::alloc::Global;
 use std::sync::Arc;
 
-/// Makes an empty table if the caller has none. One more descriptor of it is within the budget then.
+/// Makes an empty table if the caller has none. On success the budget has room for one more descriptor.
 pub(crate) fn make_room(callers: &mut Callers, alloc: Global, caller: u32) -> Result<(), Memory>
     ensures same { (c : ℕ) → keyed_in callers.new.map c ≡ keyed_in callers.old.map c }
     ensures there { OnOk result (HasTable callers.new.map caller) }
@@ -53,7 +53,7 @@ pub(crate) fn bind_in(callers: &mut Callers, caller: u32, number: u32, place: Pl
     callers.held += DESCRIPTOR_BYTES;
 }
 
-/// Frees a number.
+/// Frees a number of a caller that has a table.
 pub(crate) fn unbind_in(callers: &mut Callers, caller: u32, number: u32)
     requires { HasTable callers.old.map caller }
     ensures sets { SetsKeyed (keyed_in callers.old.map) (keyed_in callers.new.map) caller (with_place (keyed_in callers.old.map caller) number None) }
@@ -64,7 +64,7 @@ pub(crate) fn unbind_in(callers: &mut Callers, caller: u32, number: u32)
     }
 }
 
-/// A caller that has no table gets this one, in which no number is bound.
+/// Gives a caller that has no table this one, in which no number is bound.
 fn keep(callers: &mut Callers, alloc: Global, caller: u32, table: Table) -> Result<(), Memory>
     requires absent { IsAbsent callers.old.map caller }
     requires unbound { table.places ≡ no_keys.places }
@@ -81,7 +81,8 @@ fn keep(callers: &mut Callers, alloc: Global, caller: u32, table: Table) -> Resu
     Ok(())
 }
 
-/// Holds the first charmap of a caller that has no table. The table is complete before it is kept, so that a refusal comes last.
+/// Holds the first charmap of a caller that has no table. The table is complete before it is kept, so that nothing has
+/// to be undone if that is refused.
 fn put_first(
     callers: &mut Callers,
     alloc: Global,
@@ -101,7 +102,8 @@ fn put_first(
     }
 }
 
-/// Holds a charmap for a caller, in place of the part of its upload.
+/// Holds a charmap for a caller, in place of the part of its upload. Returns the number of bytes that the charmap is
+/// counted for.
 pub(crate) fn put_in(
     callers: &mut Callers,
     alloc: Global,
@@ -130,7 +132,7 @@ pub(crate) fn put_in(
     }
 }
 
-/// Drops a caller's charmap.
+/// Drops a caller's charmap. Returns the number of bytes that it was counted for.
 pub(crate) fn drop_in(callers: &mut Callers, caller: u32, name: &[u8]) -> Result<u32, DropFault>
     ensures own { IsDropped (keyed_in callers.old.map caller) name.now result (keyed_in callers.new.map caller) }
     ensures others { (other : ℕ) → other ≢ caller → keyed_in callers.new.map other ≡ keyed_in callers.old.map other }
@@ -141,7 +143,8 @@ pub(crate) fn drop_in(callers: &mut Callers, caller: u32, name: &[u8]) -> Result
     Ok(bytes)
 }
 
-/// Takes the first part of an upload of a caller that has no table. The table is complete before it is kept, so that a refusal comes last.
+/// Takes the first part of an upload of a caller that has no table. The table is complete before it is kept, so that
+/// nothing has to be undone if that is refused.
 fn part_first(
     callers: &mut Callers,
     alloc: Global,
@@ -164,7 +167,8 @@ fn part_first(
     }
 }
 
-/// Takes a part of an upload. An empty part takes no memory.
+/// Appends to the part of a caller's upload, and returns how many bytes it has. An empty body drops the part, and needs
+/// no memory.
 pub(crate) fn part_in(
     callers: &mut Callers,
     alloc: Global,
@@ -196,7 +200,7 @@ pub(crate) fn part_in(
 /// How many bytes any charmap is counted for at least: its table of single bytes.
 const LEAST_MAP: u64 = 1_024;
 
-/// Whether the budget may have room for some charmap of a caller.
+/// Returns whether the budget may have room for a charmap of a caller, if it is small enough.
 pub(crate) fn may_hold_map(callers: &Callers, caller: u32) -> bool {
     let left = callers.left();
     if callers.map.contains_key(&caller) {
@@ -205,7 +209,7 @@ pub(crate) fn may_hold_map(callers: &Callers, caller: u32) -> bool {
     callers.map.len() < callers.budget.callers as usize && CALLER_BYTES + LEAST_MAP <= left
 }
 
-/// Forgets a caller that has no bound number.
+/// Removes a caller that has no bound number.
 pub(crate) fn remove_in(callers: &mut Callers, caller: u32)
     requires { (number : ℕ) → place_at (keyed_in callers.old.map caller) number ≡ None }
     ensures sets { SetsKeyed (keyed_in callers.old.map) (keyed_in callers.new.map) caller no_keys }
@@ -228,7 +232,7 @@ pub(crate) fn forget_empty(callers: &mut Callers, caller: u32)
     }
 }
 
-/// Whether the budget has room for one more descriptor of a caller.
+/// Returns whether the budget has room for one more descriptor of a caller.
 pub(crate) fn may_open(callers: &Callers, caller: u32) -> bool {
     if callers.map.contains_key(&caller) {
         return DESCRIPTOR_BYTES <= callers.left();

@@ -1,4 +1,4 @@
-//! Callers that leave, or have nothing left.
+//! Removes callers that leave or have nothing left.
 ghost use Rattle.std.specs.Prelude.{◌≡◌, ◌<◌, ℕ, None, false, slice_index_or};
 ghost use Rattle.cv_caller.specs.Tables.{empty_table, descriptor_at};
 ghost use Rattle.cv_caller.specs.declared.limits.TheConstants.{DESCRIPTORS};
@@ -16,7 +16,7 @@ use crate::world::World;
 use cv_caller::DESCRIPTORS;
 
 impl World {
-    /// For each number of a caller, whether it is bound.
+    /// Returns for each number of a caller whether it is bound.
     fn bound_numbers(&self, caller: u32) -> [bool; DESCRIPTORS]
         ensures { (number : ℕ) → number < DESCRIPTORS → slice_index_or result number false ≡ false → descriptor_at (world_tables self.now caller) number ≡ None }
     {
@@ -35,7 +35,7 @@ impl World {
         let _ = self.close(caller, number);
     }
 
-    /// Frees all numbers of a caller. It is looked up once for all that are free already.
+    /// Frees all numbers of a caller. For all that are free already, the caller is looked up only once.
     fn close_all(&mut self, caller: u32)
         ensures closed { (number : ℕ) → descriptor_at (world_tables self.new caller) number ≡ None }
         ensures others { world_tables self.new ≡ with_table (world_tables self.old) caller (world_tables self.new caller) }
@@ -56,7 +56,7 @@ impl World {
         remove_in(&mut self.callers, caller);
     }
 
-    /// BYE. It takes no memory.
+    /// Runs a BYE. It allocates nothing.
     pub(crate) fn bye(&mut self, caller: u32) -> Answer
         ensures acts { Acts (world_tables self.old caller) Bye (world_tables self.new caller) result }
         ensures others { world_tables self.new ≡ with_table (world_tables self.old) caller (world_tables self.new caller) }

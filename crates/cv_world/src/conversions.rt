@@ -1,4 +1,4 @@
-//! What the ops do to the conversions of all callers, each under its key.
+//! Uses and changes the conversions of all callers, each under its key.
 ghost use Rattle.std.specs.Prelude.{◌≡◌, ◌≢◌, ◌≤◌, ◌<◌, ◌^◌, ℕ, [], length, Some, IfOk, OnOk, OnErr, IsErr, Ok};
 ghost use Rattle.slab.specs.Slab.{ContainsKey, HasRoomFor, get as held};
 ghost use Rattle.cv_pivot.specs.Conversions.{start, IsConverted};
@@ -33,7 +33,7 @@ pub(crate) struct Output {
     pub(crate) states: States,
 }
 
-/// Converts as much of the input as fits in so many bytes, all of which are cleared first.
+/// Converts as much of the input as fits in `size` bytes, all of which are cleared first.
 fn convert_at_once(
     alloc: Global,
     conversion: &mut Conversion,
@@ -57,7 +57,7 @@ fn convert_at_once(
     })
 }
 
-/// Converts as much of the input as fits in so many bytes. They are cleared only as far as they come to be used.
+/// Converts as much of the input as fits in `size` bytes. They are cleared only as far as they are used.
 fn convert_in_stages(
     alloc: Global,
     conversion: &mut Conversion,
@@ -84,10 +84,10 @@ fn convert_in_stages(
     })
 }
 
-/// How large a buffer is at most to be cleared at once.
+/// The largest buffer that is cleared at once.
 const AT_ONCE: usize = 16_384;
 
-/// Converts as much of the input as fits in the room. It takes memory for no more than the input can need.
+/// Converts as much of the input as fits in the room. Allocates no more than the input can need.
 fn convert(
     alloc: Global,
     conversion: &mut Conversion,
@@ -135,7 +135,8 @@ pub(crate) fn convert_in(
     convert(alloc, &mut conversions[key], room, input)
 }
 
-/// Takes the conversion under a key back to its start.
+/// Takes the conversion under a key back to its start. Returns the bytes that close the target's shift, or none with
+/// room 0. If they do not fit in the room, nothing changes.
 pub(crate) fn reset_in(
     conversions: &mut Slab<Conversion>,
     key: usize,

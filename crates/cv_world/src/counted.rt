@@ -22,7 +22,7 @@ pub(crate) struct Callers {
     ghost fits: { (budget.bytes < 2 ^ 64) × (budget.callers < 2 ^ 32) },
 }
 
-/// A sum with one part taken out and another put in.
+/// Returns a sum in which one part was replaced by another.
 pub(crate) fn exchanged(sum: u64, out: u64, put: u64) -> u64
     requires there { out ≤ sum + put }
     requires fits { sum + put < out + 2 ^ 64 }
@@ -36,7 +36,7 @@ pub(crate) fn exchanged(sum: u64, out: u64, put: u64) -> u64
 }
 
 impl Callers {
-    /// No caller has asked yet.
+    /// Makes the callers of a world in which none has asked yet.
     pub(crate) fn new(alloc: Global, budget: Budget) -> Callers
         ensures none { result.map.entries ≡ [] }
         ensures budget { result.budget ≡ budget }
@@ -49,14 +49,14 @@ impl Callers {
         }
     }
 
-    /// How many bytes are left of the budget.
+    /// Returns how many bytes are left of the budget.
     pub(crate) fn left(&self) -> u64
         ensures { self.now.held + result ≡ self.now.budget.bytes }
     {
         self.budget.bytes - self.held
     }
 
-    /// Whether so many bytes more are within the budget.
+    /// Returns whether so many more bytes are within the budget.
     pub(crate) fn may_take(&mut self, bytes: u64) -> bool
         ensures fits { result ≡ true → self.new.held + bytes ≤ self.new.budget.bytes }
         ensures same { self.new ≡ record self.old { is_full = self.new.is_full } }
@@ -66,7 +66,7 @@ impl Callers {
         fits
     }
 
-    /// Whether one caller more, which takes so many bytes, is within the budget.
+    /// Returns whether one more caller, which takes so many bytes, is within the budget.
     pub(crate) fn may_enter(&mut self, bytes: u64) -> bool
         ensures fits { result ≡ true → self.new.held + bytes ≤ self.new.budget.bytes }
         ensures few { result ≡ true → btree_map_len self.new.map < self.new.budget.callers }

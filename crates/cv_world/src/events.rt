@@ -1,4 +1,4 @@
-//! One event of a world.
+//! Runs one op.
 ghost use Rattle.std.specs.Prelude.{◌≡◌};
 ghost use Rattle.cv_machine.specs.Machine.{with_table};
 ghost use Rattle.cv_world.specs.Actions.{asked, InputFits};
@@ -13,7 +13,8 @@ use cv_frame::Status;
 use std::alloc::Global;
 
 impl World {
-    /// One event: what the op asks for is done to the caller's table, and no other caller's changes. A refusal leaves every table unchanged.
+    /// Does what an op asks for with the caller's table, and returns the answer. No other caller's table changes. A
+    /// refusal leaves every table unchanged.
     pub fn step(&mut self, alloc: Global, caller: u32, op: Op<'_>) -> Answer
         requires { InputFits op }
         ensures acts { Acts (world_tables self.old caller) (asked op.entry) (world_tables self.new caller) result }

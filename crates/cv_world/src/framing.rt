@@ -1,4 +1,4 @@
-//! Frames that are written behind others, into memory that a vector has cleared already.
+//! Writes frames after others, into memory that a vector has cleared already.
 ghost use Rattle.std.specs.Prelude.{◌≡◌, ◌≤◌, ◌+◌, ◌++◌, OnOk, IsOk, length, take, drop, vec_len, vec_capacity};
 ghost use Rattle.std.specs.Int.{w32, to_be_bytes};
 ghost use Rattle.cv_frame.specs.Message.{spelling};
@@ -11,14 +11,15 @@ use cv_frame::{Reply, Status, reply_head};
 /// How many bytes a frame has before its body.
 pub(crate) const FRAME_HEAD: usize = 13;
 
-/// How many bytes the frame of a reply has at most, if it isn't that of a conversion: its body is a piece. The output of a
-/// conversion begins behind as many.
+/// How many bytes the frame of a reply has at most, if it is not that of a conversion: its body is a piece, of up to 8
+/// bytes. In the frame of a conversion's reply as many bytes precede the output.
 pub(crate) const SMALL: usize = 21;
 
-/// How many bytes more are cleared than are needed, so that the next replies need none.
+/// How many more bytes are cleared than are needed, so that the next replies need no clearing.
 const AHEAD: usize = 1_024;
 
-/// Makes room in a vector for n bytes behind a place: twice what there was, or else just as much as is needed.
+/// Makes capacity in a vector for n bytes from offset `at` on. It grows to at least twice what it was or, if that
+/// allocation fails, to just what is needed.
 pub(crate) fn make_room(bytes: &mut Vec<u8>, at: usize, n: usize) -> Result<(), Memory>
     requires { at ≤ vec_len bytes.old }
     ensures ok { OnOk result (at + n ≤ vec_capacity bytes.new) }
@@ -32,7 +33,7 @@ pub(crate) fn make_room(bytes: &mut Vec<u8>, at: usize, n: usize) -> Result<(), 
     Ok(())
 }
 
-/// Makes a vector so long that there are n bytes behind a place. What is in front of the place stays.
+/// Makes a vector so long that it has n bytes from offset `at` on. The bytes before `at` stay.
 pub(crate) fn make_long(bytes: &mut Vec<u8>, at: usize, n: usize) -> Result<(), Memory>
     requires { at ≤ vec_len bytes.old }
     ensures ok { OnOk result (at + n ≤ vec_len bytes.new) }
@@ -45,12 +46,12 @@ pub(crate) fn make_long(bytes: &mut Vec<u8>, at: usize, n: usize) -> Result<(), 
     make_room(bytes, at, n)?;
     let end = at + n;
     let ahead = AHEAD.min(bytes.capacity() - end);
-    // The vector has this memory, so nothing is asked for.
+    // The vector has this capacity, so nothing is allocated.
     let _ = bytes.resize(end + ahead, 0);
     Ok(())
 }
 
-/// Writes bytes behind a place.
+/// Writes bytes from offset `at` on.
 fn put(out: &mut Vec<u8>, at: usize, bytes: &[u8])
     requires { at + length bytes.now ≤ vec_len out.old }
     ensures front { take (at + length bytes.now) out.new.items ≡ take at out.old.items ++ bytes.now }
@@ -60,7 +61,7 @@ fn put(out: &mut Vec<u8>, at: usize, bytes: &[u8])
     out[at..at + bytes.len()].copy_from_slice(bytes);
 }
 
-/// Writes a frame behind a place, and says where it ends.
+/// Writes a frame from offset `at` on, and returns where it ends.
 fn put_frame(out: &mut Vec<u8>, at: usize, front: &[u8; 13], head: &[u8], tail: &[u8]) -> usize
     requires { at + (13 + (length head.now + length tail.now)) ≤ vec_len out.old }
     ensures frame { take result out.new.items ≡ take at out.old.items ++ (front.now ++ (head.now ++ tail.now)) }
@@ -75,7 +76,7 @@ fn put_frame(out: &mut Vec<u8>, at: usize, front: &[u8; 13], head: &[u8], tail: 
     end + tail.len()
 }
 
-/// Writes the frame of a reply behind a place, and says where it ends.
+/// Writes the frame of a reply from offset `at` on, and returns where it ends.
 pub(crate) fn put_reply(out: &mut Vec<u8>, at: usize, reply: &Reply) -> usize
     requires { at + (13 + length reply.now.body) ≤ vec_len out.old }
     ensures frame { take result out.new.items ≡ take at out.old.items ++ spelling reply.now }
@@ -92,7 +93,7 @@ pub(crate) fn put_reply(out: &mut Vec<u8>, at: usize, reply: &Reply) -> usize
     put_frame(out, at, &front, head, tail)
 }
 
-/// Writes the frame of a reply that has a small body, and says where it ends.
+/// Writes the frame of a reply that has a small body from offset `at` on, and returns where it ends.
 pub(crate) fn put_small(
     out: &mut Vec<u8>,
     at: usize,
@@ -114,7 +115,8 @@ pub(crate) fn put_small(
     behind + body.len()
 }
 
-/// Writes what precedes the output of a conversion, which stands there already and ends there.
+/// Writes what precedes the output of a conversion in its frame, from offset `at` on. The output is there already, and
+/// ends at `end`.
 pub(crate) fn put_in_front(
     out: &mut Vec<u8>,
     at: usize,

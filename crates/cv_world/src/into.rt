@@ -1,4 +1,4 @@
-//! One request, whose reply is written behind others.
+//! Answers one request, and writes its reply after others.
 ghost use Rattle.std.specs.Prelude.{◌≡◌, ◌≤◌, ◌+◌, ◌++◌, true, length, take, vec_len, OnOk, OnErr, IfOk, IfErr};
 ghost use Rattle.cv_frame.specs.Message.{Message, spelling};
 ghost use Rattle.cv_frame.specs.Status.{status_number};
@@ -20,14 +20,14 @@ use cv_cache::Compiler;
 use cv_frame::{Request, Status};
 use std::alloc::Global;
 
-/// A reply that has no output of a conversion.
+/// A reply without the output of a conversion.
 #[derive(Drop)]
 struct Small {
     status: Status,
     body: Piece,
 }
 
-/// The reply of an answer that isn't a conversion's.
+/// Returns the reply of an answer that is not a conversion's.
 fn small_of(answer: Answer) -> Small
     requires { IsSmall answer }
     ensures status { result.status ≡ answer_status answer }
@@ -41,7 +41,7 @@ fn small_of(answer: Answer) -> Small
         Answer::BadMap(fault) => (Status::BadMap, fault_piece(fault)),
         Answer::Refused(status) => (status, Piece::new()),
         Answer::Empty => (Status::Ok, Piece::new()),
-        // There is none.
+        // Excluded by the contract.
         Answer::Converted { bytes: _output, .. } => (Status::Ok, Piece::new()),
     };
     Small { status, body }
@@ -54,8 +54,8 @@ fn lacks_memory(status: Status) -> bool
 }
 
 impl World {
-    /// Answers one request, tried once. The frame of a conversion's reply is written behind a place, and it is said where it ends;
-    /// another reply isn't written yet.
+    /// Tries once to answer a request. Writes the frame of a conversion's reply from offset `used` on, and returns
+    /// where it ends. Any other reply is returned as `Err`, and not written yet.
     fn attempt<R, C: Compiler<R>>(
         &mut self,
         compiler: &C,
@@ -92,7 +92,7 @@ impl World {
         }
     }
 
-    /// Answers one request, tried once, writes the frame of the reply behind a place, and says where it ends.
+    /// Tries once to answer a request, writes the frame of the reply from offset `used` on, and returns where it ends.
     fn answer_once<R, C: Compiler<R>>(
         &mut self,
         compiler: &C,
@@ -121,8 +121,9 @@ impl World {
         }
     }
 
-    /// Answers one request, writes the frame of the reply behind a place, and says where it ends. Where memory was refused, which
-    /// changes nothing, the compiler gives up what it keeps, and the request is tried once more.
+    /// Answers one request, writes the frame of the reply from offset `used` on, and returns where it ends. If an
+    /// allocation failed, which changes nothing, and the compiler can free what it keeps, the request is tried once
+    /// more after that.
     fn answer_behind<R, C: Compiler<R>>(
         &mut self,
         compiler: &C,
@@ -158,8 +159,8 @@ impl World {
         )
     }
 
-    /// Answers one request, and appends the reply. If there is no memory for a small reply, nothing has run. A CONV without memory
-    /// for its output is answered ENOMEM.
+    /// Answers one request, and appends the frame of the reply. Returns `Memory` if there is no memory for a small
+    /// reply: then the request has not run. A CONV without memory for its output is answered ENOMEM.
     pub fn answer_into<R, C: Compiler<R>>(
         &mut self,
         compiler: &C,

@@ -1,4 +1,4 @@
-//! Laws of the machine of private tables; those of its runs hold of every machine.
+//! Laws of the turns of a world. Those of its runs hold of every machine.
 ghost use Rattle.cv_machine.specs.Machine.{IsOneAnswer, IsSomeAnswer};
 ghost use Rattle.cv_world.specs.Laws.{KeepsTables, RunsKeepTables, NeverLacksAlone, LacksWhereTaken};
 ghost use Rattle.cv_world.specs.Feeds.{Feeds};
@@ -8,7 +8,7 @@ ghost use Rattle.cv_world.specs.Stateless.{Stateless};
 
 pub use cv_machine::laws::{merges, one_service, one_writing, schedules, two_worlds};
 
-/// Each request has one answer at most, besides an allocation failure.
+/// Each request has at most one answer besides an allocation failure.
 #[tactic(auto, using(crate::proofs::OneAnswer::one_answer))]
 pub fn one_answer()
     ensures { IsOneAnswer turn }
@@ -32,7 +32,7 @@ pub fn keeps_tables()
     // The contract is the law; nothing runs.
 }
 
-/// In every run from the start each caller's table is sound.
+/// After every run from empty tables each caller's table is sound.
 pub fn runs_keep_tables()
     ensures { RunsKeepTables }
 {
@@ -46,14 +46,14 @@ pub fn never_lacks_alone()
     // The contract is the law; nothing runs.
 }
 
-/// Only a PUT, an OPEN, a CONV and a PART that isn't empty may be answered that an allocation fails.
+/// Only a PUT, an OPEN, a CONV and a PART that is not empty may be answered ENOMEM.
 pub fn lacks_where_taken()
     ensures { LacksWhereTaken }
 {
     // The contract is the law; nothing runs.
 }
 
-/// A charmap that is sent in parts is held as if it were sent whole.
+/// A charmap whose text is sent in parts is held as if the text were sent whole.
 #[tactic(auto, using(crate::proofs::JoinedParts::joins_parts))]
 pub fn joins_parts()
     ensures { JoinsParts }
@@ -68,7 +68,7 @@ pub fn bye_starts_again()
     // The contract is the law; nothing runs.
 }
 
-/// The body of a DROP is a name, spelled as those of an OPEN are, and no other body is read as one.
+/// The body of a DROP is a name, encoded as those of an OPEN are, and no other body is read as one.
 #[tactic(auto, using(crate::proofs::NamesBack::names_read_back))]
 pub fn names_read_back()
     ensures { NamesReadBack }
@@ -76,7 +76,8 @@ pub fn names_read_back()
     // The contract is the law; nothing runs.
 }
 
-/// What a descriptor writes while it is fed one text doesn't depend on how the text and the room were cut, in whatever run.
+/// What a descriptor writes for a text does not depend on how the text and the room were divided among calls, in any
+/// run.
 pub fn feeds()
     ensures { Feeds }
 {

@@ -14,39 +14,40 @@ use std::sync::Arc;
 /// What a request asks for.
 #[derive(Drop)]
 pub enum Op<'a> {
-    /// A charmap held, as its text was compiled.
+    /// Holds the charmap that a text was compiled to. A text that could not be compiled is refused with its fault.
     Put(Result<Arc<Charmap>, CompileFault>),
-    /// A charmap dropped, by its name.
+    /// Drops the charmap of this name.
     DropMap(&'a [u8]),
-    /// A descriptor to an encoding from another, by their names, under a policy.
+    /// Opens a descriptor that converts to one encoding from another, both by name, under a policy.
     Open {
         to: &'a [u8],
         from: &'a [u8],
         policy: Policy,
     },
-    /// A descriptor's conversion of an input into a room of this many bytes.
+    /// Converts an input by a descriptor, into at most `room` bytes.
     Conv {
         number: u32,
         room: u32,
         input: &'a [u8],
     },
-    /// Both states of a descriptor at their start, with a room of this many bytes for what closes a shift.
+    /// Takes both states of a descriptor to their start, with `room` bytes for what closes a shift.
     Reset {
         number: u32,
         room: u32,
     },
-    /// A descriptor closed.
+    /// Closes the descriptor of this number.
     Close(u32),
-    /// All that the caller has is freed.
+    /// Frees all that the caller has.
     Bye,
-    /// More of the part of an upload; if it is empty, the part is dropped.
+    /// Appends these bytes to the part of an upload. If there are none, drops the part.
     Part(&'a [u8]),
-    /// An unknown request.
+    /// An unknown op, or a body that is not of its op's form.
     Bad,
 }
 
 impl<'a> Op<'a> {
-    /// What a request of this op and body asks for. A PUT is not read here, because its text has to be compiled.
+    /// Returns what a request of this op and body asks for. It is not for PUT, whose text has to be compiled: that is
+    /// `Bad` here.
     pub(crate) fn read(op: u8, body: &'a [u8]) -> Op<'a>
         ensures asks { asked result ≡ action_of op body.now }
         ensures fits { length body.now ≤ MOST_BODY → InputFits result }

@@ -1,4 +1,4 @@
-//! What an OPEN needs before anything changes.
+//! Makes what an OPEN needs, before anything changes.
 ghost use Rattle.std.specs.Prelude.{◌≡◌, IfOk, IfErr};
 ghost use Rattle.cv_pivot.specs.Encodings.{form_of};
 ghost use Rattle.cv_caller.specs.Tables.{form_in};
@@ -20,7 +20,7 @@ pub(crate) struct Opening {
     pub(crate) conversion: Conversion,
 }
 
-/// An encoding that was found, and the place of its charmap.
+/// Returns an encoding that was found, with the slot of its charmap unless it is built in.
 fn take_found(table: &Table, found: Found) -> Result<(Option<u8>, Encoding), Memory>
     requires { IsFound table.now.charmaps found }
     ensures named { IfOk result (λ r. named r.0 r.1 ≡ named_found found) }
@@ -33,7 +33,7 @@ fn take_found(table: &Table, found: Found) -> Result<(Option<u8>, Encoding), Mem
     }
 }
 
-/// What an OPEN needs, or why it is refused. Nothing changes.
+/// Returns what an OPEN needs, or the status if it is refused. Changes nothing.
 pub(crate) fn prepare(
     table: &Table,
     to: &[u8],

@@ -1,4 +1,4 @@
-//! The answers to the calls of a caller's table.
+//! The answers to requests, by the results of a caller's table.
 ghost use Rattle.std.specs.Prelude.{◌≡◌};
 ghost use Rattle.cv_world.specs.Answers.{AnswerFits};
 ghost use Rattle.cv_world.specs.Private.Changes.{add_answer, drop_answer, part_answer};
@@ -7,7 +7,7 @@ use crate::answer::Answer;
 use cv_caller::{AddFault, DropFault, PartFault};
 use cv_frame::Status;
 
-/// The answer to holding a charmap.
+/// Returns the answer to a PUT of a charmap with `count` mappings.
 pub(crate) fn add_answer(count: u32, added: Result<u32, AddFault>) -> Answer
     ensures value { result ≡ add_answer count added }
     ensures fits { AnswerFits result }
@@ -20,7 +20,7 @@ pub(crate) fn add_answer(count: u32, added: Result<u32, AddFault>) -> Answer
     }
 }
 
-/// The answer to dropping a charmap.
+/// Returns the answer to a DROP.
 pub(crate) fn drop_answer(dropped: Result<u32, DropFault>) -> Answer
     ensures value { result ≡ drop_answer dropped }
     ensures fits { AnswerFits result }
@@ -32,7 +32,7 @@ pub(crate) fn drop_answer(dropped: Result<u32, DropFault>) -> Answer
     }
 }
 
-/// The answer to a part that was sent.
+/// Returns the answer to a PART.
 pub(crate) fn part_answer(parted: Result<u32, PartFault>) -> Answer
     ensures value { result ≡ part_answer parted }
     ensures fits { AnswerFits result }

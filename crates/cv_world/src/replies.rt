@@ -1,4 +1,4 @@
-//! Replies that are spelled one after another.
+//! A buffer of the frames of replies, one after another.
 ghost use Rattle.std.specs.Prelude.{◌≡◌, ◌≤◌, ◌+◌, ◌*◌, ◌++◌, [], max, vec_len, vec_capacity, OnOk, OnErr};
 ghost use Rattle.cv_frame.specs.Message.{spelling};
 ghost use Rattle.cv_world.specs.declared.replies.TheConstants.{SURPLUS};
@@ -9,10 +9,10 @@ use cv_frame::Reply;
 use std::alloc::Global;
 use std::marker::Model;
 
-/// How many bytes are kept besides an eighth more than the longest replies of a batch are.
+/// How many bytes are kept besides those of the longest batch of replies and an eighth more.
 const SURPLUS: usize = 2_048;
 
-/// Gives back all the memory of a vector.
+/// Frees all the memory of a vector.
 fn free(bytes: &mut Vec<u8>)
     ensures none { vec_len bytes.new ≡ 0 }
     ensures lean { vec_capacity bytes.new ≡ 0 }
@@ -21,8 +21,8 @@ fn free(bytes: &mut Vec<u8>)
     bytes.shrink_to(0);
 }
 
-/// Forgets replies, and gives back memory that the longest of a batch, and a little more, would not have needed. What is kept stays
-/// cleared: a stream that is asked for as much again has nothing cleared again.
+/// Drops the replies. Frees the memory beyond what the longest batch of replies needed, an eighth more, and `SURPLUS`.
+/// What is kept stays cleared, so that a stream whose replies are as long again needs no clearing.
 fn forget(bytes: &mut Vec<u8>, used: &mut usize, most: &mut usize)
     ensures none { used.new ≡ 0 }
     ensures most { most.new ≡ max most.old used.old }
@@ -41,13 +41,13 @@ fn forget(bytes: &mut Vec<u8>, used: &mut usize, most: &mut usize)
     }
 }
 
-/// The frames of replies, one after another. Contracts see their bytes. The vector is longer than they are: what is behind them
-/// stays from earlier replies, so that a conversion finds memory there that needs no clearing.
+/// The frames of replies, one after another. Contracts see their bytes. The vector may be longer than they are: the
+/// bytes after them stay from earlier replies, so that a conversion finds memory there that needs no clearing.
 #[derive(Drop)]
 pub struct Replies {
     pub(crate) bytes: Vec<u8>,
     pub(crate) used: usize,
-    /// The most bytes that were used.
+    /// The most bytes that a batch of replies had.
     most: usize,
 }
 
@@ -62,7 +62,7 @@ impl Model for Replies {
 }
 
 impl Replies {
-    /// No reply. It takes no memory.
+    /// Makes a buffer without replies, and allocates nothing.
     pub fn new(alloc: Global) -> Replies
         ensures { result ≡ [] }
     {
@@ -73,14 +73,15 @@ impl Replies {
         }
     }
 
-    /// Forgets all replies. Their memory is kept for others, an eighth more and `SURPLUS` at most.
+    /// Drops all replies. Keeps memory for others: at most that of the longest batch of replies, an eighth more, and
+    /// `SURPLUS`.
     pub fn clear(&mut self)
         ensures { self.new ≡ [] }
     {
         forget(&mut self.bytes, &mut self.used, &mut self.most);
     }
 
-    /// Forgets all replies, and keeps no memory.
+    /// Drops all replies, and frees all memory.
     pub fn give_back(&mut self)
         ensures { self.new ≡ [] }
     {
@@ -88,21 +89,21 @@ impl Replies {
         free(&mut self.bytes);
     }
 
-    /// Their bytes.
+    /// Returns the bytes of all replies.
     pub fn as_slice(&self) -> &[u8]
         ensures { result.now ≡ self.now }
     {
         &self.bytes[..self.used]
     }
 
-    /// Makes room for so many bytes more.
+    /// Makes room for `n` more bytes.
     pub fn reserve(&mut self, n: usize) -> Result<(), Memory>
         ensures { self.new ≡ self.old }
     {
         make_room(&mut self.bytes, self.used, n)
     }
 
-    /// Appends a reply. If an allocation fails, nothing changes.
+    /// Appends the frame of a reply. If an allocation fails, nothing changes.
     pub fn push(&mut self, reply: &Reply) -> Result<(), Memory>
         ensures ok { OnOk result (self.new ≡ self.old ++ spelling reply.now) }
         ensures err { OnErr result (self.new ≡ self.old) }

@@ -1,4 +1,4 @@
-//! One request over a world, with a compiler of charmap texts.
+//! Answers one request by a world and a compiler of charmap texts.
 ghost use Rattle.std.specs.Prelude.{◌≡◌, ◌++◌, ◌≤◌, [], false, length};
 ghost use Rattle.cv_cache.specs.Compiled.{IsCompiled};
 ghost use Rattle.cv_frame.specs.declared.sizes.TheConstants.{MOST_BODY};
@@ -19,8 +19,8 @@ use cv_trie::Charmap;
 use std::alloc::Global;
 use std::sync::Arc;
 
-/// Compiles what a PUT of a caller uploads: the part that it has sent, and then the body. Where it has sent no part, the body is the
-/// whole text, and is compiled where it was read. Nothing is compiled where the budget has no room for any charmap.
+/// Compiles what a PUT of a caller uploads: the part that is held, followed by the body. If no part is held, the body
+/// is the whole text, and is compiled without a copy. Nothing is compiled if the budget has no room for any charmap.
 fn compile_put<R, C: Compiler<R>>(
     world: &World,
     compiler: &C,
@@ -44,7 +44,7 @@ fn compile_put<R, C: Compiler<R>>(
     compiler.compile(rt, alloc, &text)
 }
 
-/// What a request asks for. The text of a PUT is compiled here, just before its step.
+/// Returns what a request asks for. The text of a PUT is compiled here, just before the PUT runs.
 pub(crate) fn read<'a, R, C: Compiler<R>>(
     world: &World,
     compiler: &C,
@@ -66,15 +66,15 @@ pub(crate) fn read<'a, R, C: Compiler<R>>(
 }
 
 impl World {
-    /// Whether a caller has sent a part of an upload.
+    /// Returns whether a part of an upload is held for a caller.
     fn has_part(&self, caller: u32) -> bool
         ensures { result ≡ false → (world_tables self.now caller).part ≡ [] }
     {
         has_part_in(&self.callers.map, caller)
     }
 
-    /// Whether a request of a caller that was refused as if an allocation failed may be answered where the compiler gives up what it
-    /// keeps: it is not where the budget refused it, which it never does to a CONV.
+    /// Returns whether a request that was answered ENOMEM may succeed after the compiler frees what it keeps. It cannot
+    /// if the budget refused it. The budget never refuses a CONV.
     pub(crate) fn may_retry(&self, op: u8, caller: u32) -> bool {
         match op {
             CONV => true,
@@ -83,7 +83,7 @@ impl World {
         }
     }
 
-    /// The reply to one request, tried once.
+    /// Tries once to answer a request, and returns the reply.
     fn reply<R, C: Compiler<R>>(
         &mut self,
         compiler: &C,
@@ -107,8 +107,8 @@ impl World {
         answer.reply(alloc, request.caller, request.tag)
     }
 
-    /// The reply to one request. Where memory was refused, which changes nothing, the compiler gives up what it keeps, and the request is tried
-    /// once more.
+    /// Answers one request, and returns the reply. If an allocation failed, which changes nothing, and the compiler can
+    /// free what it keeps, the request is tried once more after that.
     pub fn answer<R, C: Compiler<R>>(
         &mut self,
         compiler: &C,

@@ -1,4 +1,4 @@
-//! A conversion into memory that is cleared only as far as it comes to be used.
+//! Converts into memory that is cleared only as far as it is used.
 ghost use Rattle.std.specs.Prelude.{◌≡◌, ◌≢◌, ◌⊎◌, ◌≤◌, ◌<◌, ◌+◌, ◌^◌, ℕ, true, length, take, vec_capacity, vec_len};
 ghost use Rattle.cv_frame.specs.declared.sizes.TheConstants.{MOST_BODY};
 ghost use Rattle.cv_pivot.specs.Encodings.{form_of, form_reads, form_writes};
@@ -7,10 +7,10 @@ ghost use Rattle.cv_world.specs.Private.Stages.{IsStage};
 use cv_base::Codec;
 use cv_pivot::{Conversion, Outcome, Stop};
 
-/// How many bytes of a text are converted before it is guessed how long its output is.
+/// How many bytes of a text are converted before the length of its output is estimated.
 const FRONT: usize = 1_024;
 
-/// Whether a conversion has found what stops it also where more bytes follow.
+/// Returns whether a conversion stopped at a fault, which stops it whatever bytes follow.
 fn is_fault(stop: Stop) -> bool
     ensures { result ≡ true → (stop ≡ Stop.Ill) ⊎ (stop ≡ Stop.Lacking) }
 {
@@ -20,7 +20,7 @@ fn is_fault(stop: Stop) -> bool
     }
 }
 
-/// Whether a conversion stops for no want of room.
+/// Returns whether a conversion stopped for another cause than too little room.
 pub(crate) fn has_room(stop: Stop) -> bool
     ensures { result ≡ true → stop ≢ Stop.TooBig }
 {
@@ -30,7 +30,7 @@ pub(crate) fn has_room(stop: Stop) -> bool
     }
 }
 
-/// What is converted first, and then the rest.
+/// Returns the outcome of a conversion in two stages, by those of the first and of the rest.
 pub(crate) fn joined(first: Outcome, rest: Outcome) -> Outcome
     requires { first.count + rest.count < 2 ^ 64 }
     ensures { result ≡ record { left = rest.left; room_left = rest.room_left; count = first.count + rest.count; stop = rest.stop } }
@@ -43,8 +43,9 @@ pub(crate) fn joined(first: Outcome, rest: Outcome) -> Outcome
     }
 }
 
-/// Up to where a buffer is cleared for the rest of a text: if each byte is written as those before it were, there are as many bytes over as
-/// the rest has. So markup in front of letters that are written by two bytes, or by three from two, doesn't mislead it.
+/// Returns up to where a buffer is cleared for the rest of a text: for what the rest needs if its bytes are written as
+/// those before them were, and one more byte for each of its bytes. So markup before letters that are written in two
+/// bytes, or in three from two, does not mislead it.
 pub(crate) fn guessed_end(used: usize, at: usize, left: usize, size: usize) -> usize
     requires within { at ≤ size }
     requires small { size < 2 ^ 32 }
@@ -56,7 +57,7 @@ pub(crate) fn guessed_end(used: usize, at: usize, left: usize, size: usize) -> u
     size.min(at + likely + left)
 }
 
-/// Clears the memory of a vector up to a place, where it isn't cleared already.
+/// Clears the memory of a vector up to `end`, as far as it is not cleared already.
 fn make_end(bytes: &mut Vec<u8>, end: usize)
     requires { end ≤ vec_capacity bytes.old }
     ensures same { (at : ℕ) → at ≤ vec_len bytes.old → take at bytes.new.items ≡ take at bytes.old.items }
@@ -64,12 +65,13 @@ fn make_end(bytes: &mut Vec<u8>, end: usize)
     ensures capacity { vec_capacity bytes.old ≤ vec_capacity bytes.new }
 {
     if bytes.len() < end {
-        // The vector has this memory, so nothing is asked for.
+        // The vector has this capacity, so nothing is allocated.
         let _ = bytes.resize(end, 0);
     }
 }
 
-/// Converts into the memory of a vector, behind one place and before another. It is cleared as far, if it isn't already.
+/// Converts into a vector, from offset `at` on and before `end`. The memory is cleared up to `end`, as far as it is not
+/// cleared already.
 pub(crate) fn convert_stage(
     conversion: &mut Conversion,
     input: &[u8],
@@ -92,8 +94,8 @@ pub(crate) fn convert_stage(
     conversion.convert(input, &mut bytes[at..end])
 }
 
-/// Converts the rest of a text into the memory of a vector, behind one place and before `size`. It is cleared up to `end` first, and as a
-/// whole only if that was too little.
+/// Converts the rest of a text into a vector, from offset `at` on and before `size`. The memory is cleared up to `end`
+/// first, and up to `size` only if that was too little.
 fn convert_rest(
     conversion: &mut Conversion,
     input: &[u8],
@@ -129,8 +131,9 @@ fn convert_rest(
     joined(first, rest)
 }
 
-/// Converts into the memory of a vector, behind one place and before `size`. It is one `Conversion::convert` into a buffer
-/// that ends there, which is not cleared as a whole: the front of the text says how much the rest is likely to need.
+/// Converts into a vector, from offset `start` on and before `size`. The result is that of one `Conversion::convert`
+/// into a buffer that ends there, but the buffer is not cleared as a whole: the first bytes of the text say how much
+/// the rest is likely to need.
 pub(crate) fn convert_into(
     conversion: &mut Conversion,
     input: &[u8],

@@ -1,4 +1,4 @@
-//! What the ops do to the tables of callers that have one, and by how much what they are counted for changes.
+//! Changes the tables in the map of callers, and says by how many bytes their count changes.
 ghost use Rattle.std.specs.Prelude.{◌≡◌, ◌≢◌, ◌≤◌, ◌<◌, ◌+◌, ℕ, true, Some, None, IfOk, OnErr, OnOk, length, if◌then◌else◌};
 ghost use Rattle.std.specs.Arc.{arc_value};
 ghost use Rattle.std.specs.BTreeMap.{btree_map_len};
@@ -17,7 +17,7 @@ use std::alloc::Global;
 use std::collections::BTreeMap;
 use std::sync::Arc;
 
-/// A caller that has no table gets this one.
+/// Gives a caller that has no table this one.
 pub(crate) fn insert(
     map: &mut BTreeMap<u32, Kept>,
     alloc: Global,
@@ -38,7 +38,7 @@ pub(crate) fn insert(
     Ok(())
 }
 
-/// Forgets a caller that has no bound number, and says for how many bytes it was counted.
+/// Removes a caller that has no bound number, and returns the number of bytes that it was counted for.
 pub(crate) fn remove(map: &mut BTreeMap<u32, Kept>, caller: u32) -> u64
     requires { (number : ℕ) → place_at (keyed_in map.old caller) number ≡ None }
     ensures sets { SetsKeyed (keyed_in map.old) (keyed_in map.new) caller no_keys }
@@ -51,7 +51,7 @@ pub(crate) fn remove(map: &mut BTreeMap<u32, Kept>, caller: u32) -> u64
     }
 }
 
-/// Binds a number.
+/// Binds a number of a caller that has a table.
 pub(crate) fn bind(map: &mut BTreeMap<u32, Kept>, caller: u32, number: u32, place: Place)
     requires there { HasTable map.old caller }
     requires within { number < DESCRIPTORS }
@@ -66,7 +66,7 @@ pub(crate) fn bind(map: &mut BTreeMap<u32, Kept>, caller: u32, number: u32, plac
     }
 }
 
-/// Frees a number, and says whether it was bound.
+/// Frees a number of a caller that has a table, and returns whether the number was bound.
 pub(crate) fn unbind(map: &mut BTreeMap<u32, Kept>, caller: u32, number: u32) -> bool
     requires { HasTable map.old caller }
     ensures sets { SetsKeyed (keyed_in map.old) (keyed_in map.new) caller (with_place (keyed_in map.old caller) number None) }
@@ -79,7 +79,8 @@ pub(crate) fn unbind(map: &mut BTreeMap<u32, Kept>, caller: u32, number: u32) ->
     }
 }
 
-/// Holds a charmap, in place of the part of an upload, and says for how many bytes it is counted.
+/// Holds a charmap in a table, in place of the part of the upload, and returns the number of bytes that it is counted
+/// for: at most `left`.
 pub(crate) fn put_one(
     table: &mut Table,
     alloc: Global,
@@ -94,7 +95,8 @@ pub(crate) fn put_one(
     Ok(bytes)
 }
 
-/// Holds a charmap, in place of the part of an upload, and says for how many bytes it is counted: no more than are left.
+/// Holds a charmap of a caller, in place of the part of its upload, and returns the number of bytes that it is counted
+/// for: at most `left`.
 pub(crate) fn put(
     map: &mut BTreeMap<u32, Kept>,
     alloc: Global,
@@ -116,7 +118,7 @@ pub(crate) fn put(
     put_one(&mut kept.table, alloc, charmap, left)
 }
 
-/// Drops a charmap, and says for how many bytes it was counted.
+/// Drops a charmap, and returns the number of bytes that it was counted for.
 pub(crate) fn drop_map(
     map: &mut BTreeMap<u32, Kept>,
     caller: u32,
@@ -133,7 +135,7 @@ pub(crate) fn drop_map(
     }
 }
 
-/// Takes a part of an upload: no longer than what is left.
+/// Appends to the part of an upload at most `left` bytes, and returns how many bytes the part has.
 pub(crate) fn part(
     map: &mut BTreeMap<u32, Kept>,
     alloc: Global,

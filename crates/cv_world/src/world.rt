@@ -68,15 +68,15 @@ impl Machine for World {
 }
 
 impl World {
-    /// No caller has asked yet.
+    /// Makes a world without a budget, in which no caller has asked yet.
     pub fn new(alloc: Global) -> World
         ensures { world_tables result ≡ no_tables }
     {
         World::within(alloc, UNLIMITED)
     }
 
-    /// No caller has asked yet. What the callers hold stays within a budget: a request that would pass it is refused as if an allocation
-    /// failed.
+    /// Makes a world in which no caller has asked yet. What the callers hold stays within a budget. A request that
+    /// would pass the budget is refused as if an allocation failed.
     pub fn within(alloc: Global, budget: Budget) -> World
         ensures { world_tables result ≡ no_tables }
     {
@@ -86,21 +86,21 @@ impl World {
         }
     }
 
-    /// States what a caller's table keeps. It does nothing.
+    /// States the invariant of a caller's table. It does nothing.
     pub fn assert_table(&self, caller: u32)
         ensures { IsTable (world_tables self.now caller) }
     {
         assert_keyed(&self.callers.map, caller);
     }
 
-    /// The text of an upload: the caller's part, and then the body.
+    /// Returns the text of an upload: the caller's part, followed by the body.
     pub fn gather(&self, alloc: Global, caller: u32, body: &[u8]) -> Result<Vec<u8>, Memory>
         ensures { IfOk result (λ text. text.items ≡ (world_tables self.now caller).part ++ body.now) }
     {
         gather_in(alloc, &self.callers.map, caller, body)
     }
 
-    /// OPEN. Every allocation is made before anything changes.
+    /// Runs an OPEN. Every allocation is made before anything changes.
     pub(crate) fn open(
         &mut self,
         alloc: Global,
@@ -139,7 +139,7 @@ impl World {
         Answer::Number(number)
     }
 
-    /// CONV
+    /// Runs a CONV.
     pub(crate) fn conv(
         &mut self,
         alloc: Global,
@@ -171,7 +171,7 @@ impl World {
         }
     }
 
-    /// RESET
+    /// Runs a RESET.
     pub(crate) fn reset(&mut self, caller: u32, number: u32, room: u32) -> Answer
         ensures acts { Acts (world_tables self.old caller) (Reset number room) (world_tables self.new caller) result }
         ensures others { world_tables self.new ≡ with_table (world_tables self.old) caller (world_tables self.new caller) }
@@ -189,7 +189,7 @@ impl World {
         Answer::Written(closing)
     }
 
-    /// PUT
+    /// Runs a PUT.
     pub(crate) fn put(
         &mut self,
         alloc: Global,
@@ -214,7 +214,7 @@ impl World {
         add_answer(count, added)
     }
 
-    /// CLOSE
+    /// Runs a CLOSE.
     pub(crate) fn close(&mut self, caller: u32, number: u32) -> Answer
         ensures acts { Acts (world_tables self.old caller) (Close number) (world_tables self.new caller) result }
         ensures others { world_tables self.new ≡ with_table (world_tables self.old) caller (world_tables self.new caller) }
@@ -228,7 +228,7 @@ impl World {
         Answer::Empty
     }
 
-    /// DROP
+    /// Runs a DROP.
     pub(crate) fn drop_map(&mut self, caller: u32, name: &[u8]) -> Answer
         ensures acts { Acts (world_tables self.old caller) (DropMap name.now) (world_tables self.new caller) result }
         ensures others { world_tables self.new ≡ with_table (world_tables self.old) caller (world_tables self.new caller) }
@@ -238,7 +238,7 @@ impl World {
         drop_answer(dropped)
     }
 
-    /// PART
+    /// Runs a PART.
     pub(crate) fn part(&mut self, alloc: Global, caller: u32, bytes: &[u8]) -> Answer
         ensures acts { Acts (world_tables self.old caller) (Part bytes.now) (world_tables self.new caller) result }
         ensures others { world_tables self.new ≡ with_table (world_tables self.old) caller (world_tables self.new caller) }

@@ -1,4 +1,4 @@
--- Which requests one batch has.
+-- Which requests are in one batch.
 use Rattle.std.specs.Prelude.{◌≡◌, ℕ, min, Bool, true, false, not, ◌==◌, List, [], ◌∷◌, take, take_while}
 use Rattle.cv_frame.specs.Cut.{front_of}
 use Rattle.cv_frame.specs.Message.{Message}
@@ -15,21 +15,23 @@ abbrev pub is_of_kind : Bool → Message → Bool
 is_of_kind true m = is_upload m
 is_of_kind false m = not (is_upload m)
 
--- How many requests of a kind one batch has at most, for an engine that runs so many uploads at once.
+-- How many requests of a kind one batch has at most, for an engine that runs `at_once` uploads at once.
 abbrev pub most_of_kind : Bool → ℕ → ℕ
 most_of_kind true at_once = min at_once 64
 most_of_kind false at_once = 64
 
--- Of what kind the first request is.
+-- Whether the first request is an upload; false if there is no request.
 abbrev pub first_kind : List Message → Bool
 first_kind [] = false
 first_kind (m ∷ ms) = is_upload m
 
--- The requests of the next batch, of those that are held whole: from the front on those of the first one's kind, and no more than a batch of this kind has.
+-- The requests of the next batch, of those that are held whole: the first, and those after it up to one of the other
+-- kind, but no more than a batch of this kind may have.
 abbrev pub next_requests : ℕ → List Message → List Message
 next_requests at_once ms = take (most_of_kind (first_kind ms) at_once) (take_while (is_of_kind (first_kind ms)) ms)
 
--- Why a batch of a kind ends before what stands there: a request of the other kind, less than a frame, or a bad length.
+-- Why a batch of a kind ends before these bytes: they begin with a request of the other kind, less than a frame, or a
+-- bad length.
 abbrev pub EndsBefore : Bool → End → List ℕ → Type 0
 EndsBefore kind ends.More rest = (m : Message) × (n : ℕ) × (Whole m n ≡ front_of rest) × (is_of_kind kind m ≡ false)
 EndsBefore kind ends.Partial rest = front_of rest ≡ Partial

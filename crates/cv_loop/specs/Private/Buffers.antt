@@ -1,8 +1,9 @@
 -- What it costs to make room for a read.
 use Rattle.std.specs.Prelude.{◌≡◌, ℕ, ◌+◌, ◌-◌, ◌*◌, ◌≤◌, ◌⊎◌, max}
 
--- A read of so many bytes has room behind those that are held. Either nothing was done; or they moved to the front of the buffer, in front of which at least as
--- many had been answered; or they stay where they are and the buffer grew, to twice its size at least, and no further than this or the read asks.
+-- A read of `room` bytes has room after the bytes that are held. There are three cases. Nothing was done. Or the held
+-- bytes moved to the start of the buffer, and at least as many answered bytes were before them. Or they stay where they
+-- are, and the buffer grew to twice its size, or to what the read needs if that is more.
 abbrev pub MakesRoom : ℕ → ℕ → ℕ → ℕ → ℕ → ℕ → Type 0
 MakesRoom room start end size start' size' =
     ((start' ≡ start) × (size' ≡ size))

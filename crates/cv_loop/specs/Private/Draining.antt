@@ -1,4 +1,4 @@
--- What draining a stream leaves behind, one batch after another.
+-- What draining a stream does, one batch after another.
 use Rattle.std.specs.Prelude.{◌≡◌, ℕ, ◌+◌, ◌<◌, ◌≤◌, true, false, not, List, [], ◌++◌, length, drop, Option, Bool, Result, Ok, Err}
 use Rattle.std.specs.Io.KnownBytes.{Appends}
 use Rattle.std.specs.List.{AllByRecursion}
@@ -12,13 +12,13 @@ use Rattle.cv_loop.specs.declared.fault.ServeFault.TheVariants as fault
 use Rattle.cv_loop.specs.declared.batch.End.{End}
 use Rattle.cv_loop.specs.declared.batch.End.TheVariants as ends
 
--- why a batch ended, by what stands after it
+-- why a batch ended, by its length and the bytes after it
 abbrev pub EndsBatch : End → ℕ → List ℕ → Type 0
 EndsBatch ends.More used rest = 0 < used
 EndsBatch ends.Partial used rest = front_of rest ≡ front.Partial
 EndsBatch (ends.Bad n) used rest = front_of rest ≡ front.Bad n
 
--- what ran and what of it was written, by a sink that held these bytes before and after
+-- what ran, and how much of its replies a sink took that held these bytes before and after
 pub record Wrote {Table : Type 0} (turn : Turn Table) (old : ℕ → Table) (held held' : Option (List ℕ)) (asked later : List Message) (written unwritten : List ℕ) (new : ℕ → Table) : Type 0 where
   pub took : Appends held held' written
   pub ran : Progress turn old asked later written unwritten new
@@ -32,7 +32,7 @@ BreaksOff (fault.BadLength n) written failed = ⊥
 BreaksOff fault.Read written failed = ⊥
 BreaksOff fault.TooManyReads written failed = ⊥
 
--- a batch broke off, where before is how much was written before it
+-- a batch broke off; `before` is how many bytes were written before it
 pub record Broken {Table : Type 0} (turn : Turn Table) (old : ℕ → Table) (held held' : Option (List ℕ)) (asked : List Message) (new : ℕ → Table) (before : ℕ) (f : ServeFault) (failed : Bool) : Type 0 where
   pub later : List Message
   pub written : List ℕ
@@ -40,13 +40,13 @@ pub record Broken {Table : Type 0} (turn : Turn Table) (old : ℕ → Table) (he
   pub wrote : Wrote turn old held held' asked later written unwritten new
   pub why : BreaksOff f (before + length written) failed
 
--- all was answered and written, and the counts say how much
+-- all was answered and written; the count of written bytes went from `before` to `after`
 pub record Answered {Table : Type 0} (turn : Turn Table) (old : ℕ → Table) (held held' : Option (List ℕ)) (asked : List Message) (new : ℕ → Table) (before after : ℕ) : Type 0 where
   pub written : List ℕ
   pub wrote : Wrote turn old held held' asked [] written [] new
   pub counts : after ≡ counted (before + length written)
 
--- of some bytes the whole frames from the front, up to used, were answered and written
+-- the whole frames in the first `used` of these bytes were answered and written
 pub record Drained {Table : Type 0} (turn : Turn Table) (old : ℕ → Table) (held held' : Option (List ℕ)) (bytes : List ℕ) (used : ℕ) (new : ℕ → Table) (written written' served served' : ℕ) : Type 0 where
   pub asked : List Message
   pub within : used ≤ length bytes
@@ -55,7 +55,7 @@ pub record Drained {Table : Type 0} (turn : Turn Table) (old : ℕ → Table) (h
   pub answered : Answered turn old held held' asked new written written'
   pub counts : served' ≡ counted (served + length asked)
 
--- serving broke off at these requests, where rest stands after them
+-- serving broke off at these requests, which `rest` follows
 abbrev pub Stops : {Table : Type 0} → Turn Table → ServeFault → (ℕ → Table) → Option (List ℕ) → Option (List ℕ) → List Message → List ℕ → (ℕ → Table) → ℕ → Bool → Type 0
 Stops turn (fault.BadLength n) old held held' asked rest new written failed =
     (after : ℕ) × Answered turn old held held' asked new written after × (front_of rest ≡ front.Bad n) × (failed ≡ false)
@@ -65,7 +65,7 @@ Stops turn fault.TruncatedFrame old held held' asked rest new written failed = �
 Stops turn fault.Read old held held' asked rest new written failed = ⊥
 Stops turn fault.TooManyReads old held held' asked rest new written failed = ⊥
 
--- draining some bytes stopped
+-- draining these bytes stopped at a fault
 pub record Stopped {Table : Type 0} (turn : Turn Table) (f : ServeFault) (old : ℕ → Table) (held held' : Option (List ℕ)) (bytes : List ℕ) (new : ℕ → Table) (written : ℕ) (failed : Bool) : Type 0 where
   pub asked : List Message
   pub rest : List ℕ
@@ -73,7 +73,7 @@ pub record Stopped {Table : Type 0} (turn : Turn Table) (f : ServeFault) (old : 
   pub front : bytes ≡ joined asked ++ rest
   pub stops : Stops turn f old held held' asked rest new written failed
 
--- what one read brought, and what the source says after it: whether its end was met, and whether it has failed
+-- what one read brought, and what the source says after it: whether its end was reached, and whether it has failed
 abbrev pub ReadsMore : Result Bool ServeFault → List ℕ → List ℕ → List ℕ → Bool → Bool → Type 0
 ReadsMore (Ok more) old new bytes end failed =
     (new ≡ old ++ bytes) × (more ≡ false → bytes ≡ []) × (more ≡ true → 0 < length bytes) × (end ≡ not more) × (failed ≡ false)

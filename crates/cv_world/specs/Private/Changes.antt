@@ -20,25 +20,25 @@ use Rattle.cv_world.specs.declared.answer.Answer.TheVariants as answers
 abbrev pub HasTable : BTreeMap ℕ Keyed → ℕ → Type 0
 HasTable callers caller = IsSome (get nat_cmp callers caller)
 
--- The caller has none.
+-- The caller has no table.
 abbrev pub IsAbsent : BTreeMap ℕ Keyed → ℕ → Type 0
 IsAbsent callers caller = get nat_cmp callers caller ≡ None
 
--- A number for which the list says false stands for nothing.
+-- A number for which the list has false is not bound.
 abbrev pub ClosedWhereNot : (ℕ → Option Place) → List Bool → Type 0
 ClosedWhereNot places bound = (number : ℕ) → number < length bound → slice_index_or bound number false ≡ false → places number ≡ None
 
--- One caller's table becomes this, and all others stay.
+-- One caller's table becomes this one, and all others stay the same.
 pub record SetsKeyed (old new : ℕ → Keyed) (caller : ℕ) (keyed : Keyed) : Type 0 where
   pub own : new caller ≡ keyed
   pub others : (other : ℕ) → other ≢ caller → new other ≡ old other
 
--- The result of a charmap that was put: if it is held, the part of the upload is dropped.
+-- The result of a PUT of a charmap: if the charmap is held, the part of the upload is dropped.
 abbrev pub IsPut : Keyed → Charmap → Result ℕ AddFault → Keyed → Type 0
 IsPut old charmap (Ok bytes) new = (held : Keyed) × IsAdded old charmap (Ok bytes) held × (new ≡ keyed_with_part held [])
 IsPut old charmap (Err fault) new = IsAdded old charmap (Err fault) new
 
--- the answer to a charmap that was put
+-- the answer to a PUT of a charmap with `count` mappings
 abbrev pub add_answer : ℕ → Result ℕ AddFault → Answer
 add_answer count (Ok bytes) = answers.Count count
 add_answer count (Err add.Exists) = answers.Refused status.Exists

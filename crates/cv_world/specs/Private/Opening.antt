@@ -10,18 +10,18 @@ use Rattle.cv_caller.specs.Keyed.{Keyed, named, place_at, AreHeld, Fits}
 use Rattle.cv_caller.specs.Limits.{most_descriptors}
 use Rattle.cv_world.specs.declared.opening.Opening.{Opening}
 
--- Why there is no descriptor.
+-- Why an OPEN is refused, by the free number and the encodings that were found.
 abbrev pub Declines : Option ℕ → Option Named → Option Named → Status → Type 0
 Declines None to from s = s ≡ status.TooManyDescriptors
 Declines (Some number) (Some to) (Some from) s = s ≡ status.NoMemory
 Declines (Some number) (Some to) None s = s ≡ status.Unsupported
 Declines (Some number) None from s = s ≡ status.Unsupported
 
--- Why there is no descriptor for these names at a caller's table.
+-- Why an OPEN of these names is refused at a caller's table.
 abbrev pub DeclinesOpen : Keyed → List ℕ → List ℕ → Status → Type 0
 DeclinesOpen keyed to from s = Declines (position is_none keyed.places) (named_of keyed.charmaps to) (named_of keyed.charmaps from) s
 
--- The least number that is free, and a new conversion between the encodings of the names.
+-- What an OPEN makes: the least free number, and a new conversion between the encodings of the names.
 pub record IsOpening (keyed : Keyed) (to from : List ℕ) (policy : Policy) (opening : Opening) : Type 0 where
   pub number : position is_none keyed.places ≡ Some opening.number
   pub within : opening.number < most_descriptors

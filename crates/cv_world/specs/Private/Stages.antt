@@ -7,7 +7,8 @@ use Rattle.cv_pivot.specs.Conversions.{IsConverted}
 use Rattle.cv_pivot.specs.declared.outcome.Outcome.{Outcome}
 use Rattle.cv_pivot.specs.declared.outcome.States.{States}
 
--- What is converted into a buffer behind one place and before another: the longest conversion into this room. What stands in front of it stays.
+-- A conversion into a buffer from offset `at` on and before `end`: the longest that fits there. The bytes before `at`
+-- stay.
 pub record IsStage (reads : ItemRelation) (writes : Writing) (policy : Policy) (from : States) (text before : List ℕ) (at end : ℕ) (outcome : Outcome) (to : States) (after : List ℕ) : Type 0 where
   pub output : List ℕ
   pub converted : IsConverted reads writes policy from text (end - at) (record { left = outcome.left; count = outcome.count; stop = outcome.stop; output = output; states = to })

@@ -1,7 +1,7 @@
 use Rattle.std.proofs.Common.{◌≡◌, ℕ, ◌<◌, ◌≤◌, ◌-◌, ◌==◌, false, get_or, length}
 use Rattle.cv_commands.proofs.ends.bytes_before.Given as goal
 
--- none of the bytes so far is this one
+-- none of the bytes so far is `byte`
 abbrev pub invariant-loop-n : goal.invariant-loop-n
 invariant-loop-n l = record {
   within : l.n ≤ length l.text;

@@ -1,7 +1,7 @@
 use Rattle.std.proofs.Common.{◌≡◌, ℕ, ◌<◌, ◌≤◌, ◌-◌, ◌==◌, false, get_or, length}
 use Rattle.cv_commands.proofs.ends.past_long_blocks.Given as goal
 
--- none of the bytes so far is this one
+-- none of the bytes so far is `byte`
 abbrev pub invariant-loop-n : goal.invariant-loop-n
 invariant-loop-n l = record {
   from : l.at ≤ l.n;

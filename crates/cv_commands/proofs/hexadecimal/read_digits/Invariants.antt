@@ -2,7 +2,7 @@ use Rattle.std.proofs.Common.{◌*◌, take, drop}
 use Rattle.cv_commands.proofs.Digits.{SaysSoFar}
 use Rattle.cv_commands.proofs.hexadecimal.read_digits.Given as goal
 
--- if all so far are digits, the bytes so far precede those that the rest says
+-- if all so far are digits, the bytes so far precede those that the rest means
 abbrev pub invariant-loop-n : goal.invariant-loop-n
 invariant-loop-n l = SaysSoFar l.all l.digits (drop (2 * l.n) l.digits) (take l.n l.bytes)
 

@@ -6,12 +6,12 @@ use Rattle.cv_frame.specs.Message.{Message, joined, spelling}
 use Rattle.cv_loop.proofs.Batches.{joined-push}
 use Rattle.cv_loop.proofs.spelling.push_each.Goals as goal
 
--- the bytes of frames are those of a front of them and then those of the others
+-- the bytes of frames are those of the first frames and then those of the others
 joined-apart : (at : ℕ) (ms : List Message) → joined ms ≡ joined (take at ms) ++ joined (drop at ms)
 joined-apart at ms = ap joined (sym (take-append-drop at ms)) ∙ flat_map-append spelling (take at ms) (drop at ms)
 
 module _ {T E : Type 0} where
-  -- a front was pushed
+  -- a prefix was pushed
   front_pushed : (result : Result T E) (at : ℕ) (told : List Message) (before mid after : List ℕ) → after ≡ mid → mid ≡ before ++ joined (take at told)
       → OnErr result ((more : List ℕ) × (missing : List ℕ) × (after ≡ before ++ more) × (joined told ≡ more ++ missing))
   front_pushed (Ok x) at told before mid after kept so = tt

@@ -4,7 +4,7 @@ use Rattle.cv_world.specs.Requests.{turn}
 use Rattle.cv_pool.specs.Pools.{pool_tables}
 use Rattle.cv_pool.proofs.here.answer_each_into.Given as goal
 
--- all requests so far ran, and their replies stand behind those before
+-- all requests so far ran, and their replies were appended
 abbrev pub invariant-loop-request : goal.invariant-loop-request
 invariant-loop-request g l =
     AppendsReplies turn (pool_tables l.fn.shards) (take l.request-index l.requests) [] l.fn.replies l.replies [] (pool_tables l.shards)

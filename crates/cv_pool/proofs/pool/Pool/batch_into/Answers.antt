@@ -11,7 +11,7 @@ use Rattle.cv_pool.specs.Pools.{pool_tables}
 use Rattle.cv_pool.specs.declared.shard.Shard.{Shard}
 use Rattle.cv_pool.proofs.pool.Pool.batch_into.Goals as goal
 
--- shards that were lent, and are all given back
+-- all shards that were borrowed are given back
 given_back : (len : ℕ) (xs lent old : List Shard) → length xs ≡ length lent → length lent ≡ len → lent ≡ old → take len (xs ++ drop (length xs) old) ≡ xs
 given_back len xs lent old kept many is =
     let same : length lent ≡ length old = ap length is in

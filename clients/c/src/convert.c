@@ -1,9 +1,10 @@
 /* iconvd_open(), iconvd_convert() and their companions. */
 #include "convert.h"
 
-/* A server reads 65,536 bytes at a time: a request of one read is answered at once. AFTER_STOP is how much is sent at first where a
-   text has stopped at something that is in the way, since there may be more of it. */
-enum { ONE_READ = 65536 - ICONVD_CONV_HEAD, CHUNK = 262144, AFTER_STOP = 64 };
+/* A server reads 65,536 bytes at a time: a request of one read is answered at once. From WORTH_CUTTING on a text goes in PARTS, so that
+   the service converts one while the next is under way. AFTER_STOP is how much is sent at first where a text has stopped at something
+   that is in the way, since there may be more of it. */
+enum { ONE_READ = 65536 - ICONVD_CONV_HEAD, CHUNK = 262144, WORTH_CUTTING = 32768, PARTS = 4, AFTER_STOP = 64 };
 
 iconvd_status convert_piece(struct iconvd_cd *cd, struct work *work) {
     return cd->own ? own_convert(cd, work) : pool_convert(cd->pool, &cd->pair, work);
@@ -23,11 +24,12 @@ static size_t most_output(const struct pair *pair, size_t length) {
 /* Cuts a long input into pieces that go under way together. 0: it cannot be cut, or the room may not be enough for two. */
 static size_t cut_into_batch(const struct iconvd_cd *cd, const struct progress *progress, struct batch *batch) {
     size_t in_left = progress->in_left, out_left = progress->out_left;
-    size_t most = cd->ahead / ONE_READ < BATCH_PIECES ? cd->ahead / ONE_READ : BATCH_PIECES;
+    size_t piece = in_left > 2 * ONE_READ ? ONE_READ : in_left / PARTS + 1;
+    size_t most = cd->ahead / piece < BATCH_PIECES ? cd->ahead / piece : BATCH_PIECES;
     const char *in = progress->in;
     batch->number = 0;
-    while (!cd->own && in_left > ONE_READ && batch->number < most) {
-        size_t length = cut_length(cd->pair.from, in, ONE_READ);
+    while (!cd->own && in_left > 0 && batch->number < most) {
+        size_t length = in_left > piece ? cut_length(cd->pair.from, in, piece) : in_left;
         size_t room = most_output(&cd->pair, length);
         if (length == 0 || room > out_left || room > ICONVD_MAX_ROOM)
             break;
@@ -82,7 +84,7 @@ static iconvd_status convert_until_stop(struct iconvd_cd *cd, struct progress *p
     bool more = true;
     while (more) {
         struct batch batch;
-        if (progress->in_left > 2 * ONE_READ && cut_into_batch(cd, progress, &batch) > 0) {
+        if (progress->in_left > WORTH_CUTTING && cut_into_batch(cd, progress, &batch) > 0) {
             status = convert_batch(cd, progress, &batch);
             more = status == ICONVD_OK && progress->in_left > 0;
         } else {

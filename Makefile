@@ -19,7 +19,7 @@ C := cc /usr/include/stdio.h
 ZLIB := /usr/include/zlib.h
 CHARMAPS := /usr/share/i18n/charmaps
 # What .ci/run runs after the gate. Each ends with a line `N passed, N failed`.
-CHECKS := check-rules check-docs check-targets check-refuse check-instructions check-nonblocking check-stops check-log check-given check-admin check-budgets check-clients check-benchmark check-completions check-dist check-package check-units check-boot check-container check-prometheus check-cluster check-crowd check-soak
+CHECKS := check-rules check-shape check-docs check-targets check-refuse check-instructions check-nonblocking check-stops check-log check-given check-admin check-budgets check-clients check-benchmark check-completions check-dist check-package check-units check-boot check-container check-prometheus check-cluster check-crowd check-soak
 
 # `rt` itself works on several crates at a time, and locks them.
 .NOTPARALLEL:
@@ -76,6 +76,10 @@ checks: ## all checks after the gate, one after the other; SKIP='boot cluster' l
 check-rules: ## the house rules that a machine can check
 	@tools/need 'make $@' git python3 shellcheck
 	@tools/rules
+
+check-shape: ## counts what makes the crates hard to read: no count may grow
+	@tools/need 'make $@' python3
+	@tools/shape
 
 check-refuse: ## refuses each request for memory of each command in turn
 	@tools/need 'make $@' $(C) python3 program

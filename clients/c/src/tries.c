@@ -137,6 +137,16 @@ static void lose_silent(struct iconvd_pool *pool, struct slot *slot, struct trie
     tries->next = NEVER;
 }
 
+/* Says that a stream was lost: of a program that ends before its first reply once, and not for each try. */
+static void log_loss(struct iconvd_pool *pool, const struct stream *stream, int silent) {
+    bool is_program = pool->address.kind == ADDRESS_EXEC && stream->ended && !stream->heard;
+    if (!is_program)
+        pool_log(pool, "a connection is lost%s",
+                 stream_may_be_used_up(stream) ? ": it may have reached the limit of 1,000,000 reads" : "");
+    else if (silent == 1)
+        pool_log(pool, "%s: the program ended before its first reply", pool->address.where);
+}
+
 /* Loses a stream that has ended, or has rubbish on it. */
 static void lose_at_end(struct iconvd_pool *pool, struct slot *slot, struct tries *tries) {
     struct stream *stream = &slot->stream;
@@ -145,12 +155,11 @@ static void lose_at_end(struct iconvd_pool *pool, struct slot *slot, struct trie
         fail(pool, slot, tries, SERVER_CLOSES);
         return;
     }
+    int silent = stream->answered ? 0 : atomic_load(&pool->silent) + 1;
     if (closes)
         log_reason(pool, SERVER_CLOSES, "");
     else
-        pool_log(pool, "a connection is lost%s",
-                 stream_may_be_used_up(stream) ? ": it may have reached the limit of 1,000,000 reads" : "");
-    int silent = stream->answered ? 0 : atomic_load(&pool->silent) + 1;
+        log_loss(pool, stream, silent);
     atomic_store(&pool->silent, silent);
     if (silent >= SILENT_CONNECTIONS)
         atomic_store(&pool->down_until, now_in_milliseconds() + REST);

@@ -86,7 +86,7 @@ static iconvd_status convert_until_stop(struct iconvd_cd *cd, struct progress *p
         struct batch batch;
         if (progress->in_left > WORTH_CUTTING && cut_into_batch(cd, progress, &batch) > 0) {
             status = convert_batch(cd, progress, &batch);
-            more = status == ICONVD_OK && progress->in_left > 0;
+            more = batch.done > 0 && goes_on(status, &batch.works[batch.done - 1], progress);
         } else {
             more = convert_next(cd, progress, &status);
         }

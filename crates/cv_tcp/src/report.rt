@@ -72,7 +72,10 @@ pub(crate) fn report_lack<G: Log>(log: &G, peer: Peer, usage: Usage) {
     };
     let callers = Held {
         amount: u64::from(usage.callers),
-        most: limit_of(u64::from(usage.budget.callers), u64::from(UNLIMITED.callers)),
+        most: limit_of(
+            u64::from(usage.budget.callers),
+            u64::from(UNLIMITED.callers),
+        ),
     };
     info!(log; peer:% = peer; "memory refused to {peer}; bytes held: {bytes}, callers: {callers}");
 }

@@ -103,7 +103,11 @@ fn an_interrupted_call_ends_with_its_time(rt: HostRuntime) -> Result<(), Fail> {
 #[test]
 fn time_may_count_from_the_first_interruption(rt: HostRuntime) -> Result<(), Fail> {
     let limits = Mutex::new(Vec::new(rt.alloc()));
-    for (interruptions, limit, ends) in [(1, 1, Ok(1)), (2, 1, Err(ErrorKind::WouldBlock)), (3, 60_000, Ok(1))] {
+    for (interruptions, limit, ends) in [
+        (1, 1, Ok(1)),
+        (2, 1, Err(ErrorKind::WouldBlock)),
+        (3, 60_000, Ok(1)),
+    ] {
         let inner = Interrupted {
             rt: &rt,
             left: interruptions,

@@ -2,9 +2,9 @@
 #include "convert.h"
 
 /* A server reads 65,536 bytes at a time: a request of one read is answered at once. From WORTH_CUTTING on a text goes in PARTS, so that
-   the service converts one while the next is under way. AFTER_STOP is how much is sent at first where a text has stopped at something
-   that is in the way, since there may be more of it. */
-enum { ONE_READ = 65536 - ICONVD_CONV_HEAD, CHUNK = 262144, WORTH_CUTTING = 32768, PARTS = 4, AFTER_STOP = 64 };
+   the service converts one while the next is under way; more of them gain nothing. AFTER_STOP is how much is sent at first where a text
+   has stopped at something that is in the way, since there may be more of it. */
+enum { ONE_READ = 65536 - ICONVD_CONV_HEAD, CHUNK = 262144, WORTH_CUTTING = 32768, PARTS = 2, AFTER_STOP = 64 };
 
 iconvd_status convert_piece(struct iconvd_cd *cd, struct work *work) {
     return cd->own ? own_convert(cd, work) : pool_convert(cd->pool, &cd->pair, work);

@@ -1,7 +1,7 @@
 #!/usr/bin/env python3
 """Writes the tables that the clients share: names.tsv and translit.tsv.
 
-    generate.py [--gconv DIR] [--charmaps DIR] [--locales DIR] OUTPUT_DIRECTORY
+    generate.py [--gconv DIR] [--charmaps DIR] [--locales DIR] [--python] OUTPUT_DIRECTORY
 
 names.tsv has one line for each name that a client accepts, sorted:
 
@@ -13,8 +13,9 @@ character that may be transliterated: its code point in hexadecimal, then the ca
 
     20AC <tab> EUR
 
-The sources are files of the system, and two lists beside this program: builtin.tsv (names that the C library has in its code and
-in no file) and left_out.tsv (names that no charmap can serve, each with the reason).
+The sources are files of the system, and three lists beside this program: builtin.tsv (names that the C library has in its code and
+in no file), labels.tsv (names that WHATWG, CPython and IANA have) and left_out.tsv (names that no charmap can serve, each with the
+reason). With --python the names are those of the Python package: labels.tsv says which differ.
 """
 
 from __future__ import annotations
@@ -26,6 +27,8 @@ import os
 import re
 import sys
 from collections.abc import Iterable
+
+import labels
 
 HERE = os.path.dirname(os.path.abspath(__file__))
 GCONV = '/usr/lib/*/gconv'
@@ -185,6 +188,7 @@ def main() -> None:
     arguments.add_argument('--gconv', default=GCONV, help='folder of gconv-modules; may be a pattern')
     arguments.add_argument('--charmaps', default=CHARMAPS)
     arguments.add_argument('--locales', default=LOCALES)
+    arguments.add_argument('--python', action='store_true', help='the names of the Python package')
     arguments.add_argument('output')
     options = arguments.parse_args()
     groups = Groups()
@@ -197,6 +201,7 @@ def main() -> None:
         sys.exit('generate.py: no gconv-modules (package libc6) or no charmaps (package locales)')
     order = 'LE' if sys.byteorder == 'little' else 'BE'
     table = names_table(groups, charmaps)
+    labels.add(table, normal, options.python)
     os.makedirs(options.output, exist_ok=True)
     write(os.path.join(options.output, 'names.tsv'),
           (with_order('\t'.join((name,) + table[name]), order) for name in sorted(table)))

@@ -14,7 +14,7 @@ GENERATOR = HERE.parent / "names" / "generate.py"
 
 def is_made() -> bool:
     """Whether the table is there, and no older than what it is made from."""
-    sources = [GENERATOR, *GENERATOR.parent.glob("*.tsv")] if GENERATOR.exists() else []
+    sources = [*GENERATOR.parent.glob("*.py"), *GENERATOR.parent.glob("*.tsv")]
     return TABLE.exists() and all(TABLE.stat().st_mtime >= source.stat().st_mtime for source in sources)
 
 
@@ -22,7 +22,7 @@ def make() -> None:
     """Makes the table from the files of the system."""
     if not GENERATOR.exists():
         sys.exit(f"setup.py: {TABLE} is missing, and the repository that makes it is not here")
-    subprocess.run([sys.executable, str(GENERATOR), str(HERE / "out")], check=True)
+    subprocess.run([sys.executable, str(GENERATOR), "--python", str(HERE / "out")], check=True)
     TABLE.parent.mkdir(exist_ok=True)
     shutil.copyfile(HERE / "out" / "names.tsv", TABLE)
 

@@ -1,7 +1,7 @@
 """Names of encodings: which built-in encoding or which charmap a name means.
 
-The C library has the same table. When the package is built, `clients/names/generate.py` makes it from glibc's gconv-modules and
-from the system's charmaps.
+When the package is built, `clients/names/generate.py` makes the table from glibc's gconv-modules, from the system's charmaps and from
+the names that WHATWG, CPython and IANA have. The C library has the same, except for names that CPython reads otherwise than glibc.
 """
 
 from __future__ import annotations
@@ -27,8 +27,12 @@ BUILTIN = (
     "UTF-7",
 )
 
+#: UTF-8 that begins with a mark, as CPython's `utf-8-sig`: the client writes and skips the mark.
+UTF_8_SIG = "UTF-8-SIG"
+
 _OTHER = re.compile(r"[^A-Z0-9_\-.,:/]")
-_NEITHER_LETTER_NOR_DIGIT = re.compile(r"[^A-Z0-9]")
+_BETWEEN_DIGITS = re.compile(r"(?<=[0-9])[^A-Z0-9]+(?=[0-9])")
+_SEPARATOR = re.compile(r"[^A-Z0-9-]|-(?![0-9])|(?<![0-9])-")
 
 
 class Encoding(NamedTuple):
@@ -39,7 +43,7 @@ class Encoding(NamedTuple):
 
 
 class Table(NamedTuple):
-    """The encodings by name, and by only the letters and digits of the name."""
+    """The encodings by name, and by what decides of a name that is none of these."""
 
     exact: Dict[str, Encoding]
     loose: Dict[str, Encoding]
@@ -50,7 +54,8 @@ def _normal(name: str) -> str:
 
 
 def _loose(name: str) -> str:
-    return _NEITHER_LETTER_NOR_DIGIT.sub("", name.upper())
+    """Returns the letters and digits of a name, with `-` where two digits are apart: ISO-IR-9-1 is not ISO-IR-91."""
+    return _SEPARATOR.sub("", _BETWEEN_DIGITS.sub("-", name.upper()))
 
 
 def read_table(lines: List[str]) -> Table:

@@ -9,7 +9,7 @@ from collections import deque
 from types import TracebackType
 from typing import Awaitable, Callable, Deque, List, NamedTuple, Optional, Sequence, Type, TypeVar, Union, overload
 
-from . import steps, text, transport
+from . import marks, steps, text, transport
 from .charmaps import Charmap
 from .conversion import WholeConversion
 from .errors import ServerLost, TimedOut
@@ -196,14 +196,14 @@ class AsyncClient:
 
     async def decode(self, data: bytes, source: str, errors: str = "strict") -> str:
         """Decodes bytes as `bytes.decode` does."""
-        origin, begin = text.without_mark(self.library.find(source), data)
+        origin, begin = marks.without_mark(self.library.find(source), data)
         codec = text.TextCodec(source, origin, self.library)
         pair = Pair(UTF_8, origin)
         return (await self._run(pair, lambda session: codec.decode(session, data, errors, True, begin))).text
 
     async def encode(self, characters: str, target: str, errors: str = "strict") -> bytes:
         """Encodes a text as `str.encode` does."""
-        ordered, mark = text.mark_of(self.library.find(target))
+        ordered, mark = marks.mark_of(self.library.find(target))
         codec = text.TextCodec(target, ordered, self.library)
         pair = Pair(ordered, UTF_8)
         return mark + await self._run(pair, lambda session: codec.encode(session, characters, errors))

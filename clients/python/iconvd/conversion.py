@@ -5,9 +5,10 @@ from __future__ import annotations
 from . import steps
 from .frames import Status
 from .library import Library
+from .marks import mark_of, without_mark
 from .order import Ends
 from .session import Pair, Session, Steps
-from .text import TextCodec, mark_of, without_mark
+from .text import TextCodec
 
 
 class WholeConversion:

@@ -42,6 +42,16 @@ class Library:
                 self._found[name] = found
         return found
 
+    def supports(self, name: str) -> bool:
+        """Whether an encoding has that name, and its charmap is there. No charmap is read or uploaded."""
+        try:
+            encoding = self.find(name)
+        except UnknownEncoding:
+            return False
+        if not encoding.is_charmap or encoding.name in self._read:
+            return True
+        return encoding.name not in self._refused and charmaps.is_there(encoding.name)
+
     def get(self, file: str) -> Charmap:
         """Returns the charmap of that file, which is read once. Raises CharmapRefused."""
         refused = self._refused.get(file)

@@ -5,7 +5,7 @@ from __future__ import annotations
 from types import TracebackType
 from typing import TYPE_CHECKING, Optional, Tuple, Type
 
-from . import text
+from . import marks, text
 from .errors import ConversionError
 from .known import Known
 from .names import Encoding
@@ -20,36 +20,42 @@ _SHORT = 1024
 class Decoder:
     """Decodes one text, which may be in pieces."""
 
-    def __init__(self, client: Client, name: str, encoding: Encoding, needs_mark: bool = False) -> None:
-        """With `needs_mark` a text in UTF-16 or UTF-32 without a mark is refused, as by CPython's streams."""
+    def __init__(self, client: Client, name: str, encoding: Encoding, is_stream: bool = False) -> None:
+        """With `is_stream` marks are read as by CPython's streams: a text in UTF-16 or UTF-32 without a mark is refused, and the
+        beginning of the mark of UTF-8-SIG is no text."""
         self._client = client
         self._name = name
         self._declared = encoding
-        self._needs_mark = needs_mark
+        self._is_stream = is_stream
         self._codec: Optional[text.TextCodec] = None
 
     def decode(self, data: bytes, errors: str, final: bool) -> Tuple[str, int]:
         """Returns the text of the first bytes, and how many they are: all but an incomplete character if `final` is false."""
         skipped = 0
         if self._codec is None:
-            ordered, skipped = text.without_mark(self._declared, data)
-            if ordered != self._declared and len(data) < (4 if self._declared.name == "UTF-32" else 2) and not final:
+            is_needed = marks.is_needed(self._declared)
+            if marks.waits(self._declared, data) and not (final and (is_needed or not self._is_stream)):
                 return "", 0
-            if self._needs_mark and ordered != self._declared and data and not skipped:
+            ordered, skipped = marks.without_mark(self._declared, data)
+            if self._is_stream and is_needed and data and not skipped:
                 raise UnicodeError(f"{self._declared.name} stream does not start with BOM")
             self._codec = text.TextCodec(self._name, ordered, self._client.library)
         codec = self._codec
-        decoded = self._client.run(lambda session: codec.decode(session, data, errors, final, skipped))
-        return decoded.text, decoded.used
+        if skipped and not marks.is_needed(self._declared):
+            # As in CPython's utf-8-sig, positions of faults count from after the mark.
+            rest = data[skipped:]
+            found = self._client.run(lambda session: codec.decode(session, rest, errors, final))
+            return found.text, found.used + skipped
+        return self._client.run(lambda session: codec.decode(session, data, errors, final, skipped))
 
-    @property
-    def encoding(self) -> Optional[Encoding]:
-        """The encoding with its byte order, once that is known."""
-        return self._codec.encoding if self._codec else None
+    def state(self) -> int:
+        """Returns what the mark of the text said, as a number; 0 before the text begins."""
+        return marks.state_of(self._declared, self._codec.encoding) if self._codec else 0
 
-    def set_encoding(self, encoding: Optional[Encoding]) -> None:
-        """Goes on with the byte order that another decoder found."""
-        self._codec = text.TextCodec(self._name, encoding, self._client.library) if encoding else None
+    def set_state(self, state: int) -> None:
+        """Goes on after a mark that another decoder read."""
+        found = marks.encoding_of(self._declared, state)
+        self._codec = text.TextCodec(self._name, found, self._client.library) if found != self._declared else None
 
 
 class Encoder:
@@ -57,7 +63,7 @@ class Encoder:
 
     def __init__(self, client: Client, name: str, encoding: Encoding) -> None:
         self._client = client
-        ordered, self._mark = text.mark_of(encoding)
+        ordered, self._mark = marks.mark_of(encoding)
         self._codec = text.TextCodec(name, ordered, client.library)
         self.is_started = False
         # The known characters, and their error handler, once the text is started.

@@ -12,7 +12,7 @@ from meter import every_encoding
 from support import ClientTest
 
 import iconvd
-from iconvd import frames, steps, text
+from iconvd import frames, marks, steps, text
 from iconvd.forms import Found
 from iconvd.frames import Status
 from iconvd.names import Encoding
@@ -23,7 +23,7 @@ LONGEST = 8
 
 
 def ordered(client: iconvd.Client, name: str) -> Encoding:
-    return text.without_mark(client.library.find(name), b"")[0]
+    return marks.without_mark(client.library.find(name), b"")[0]
 
 
 def statuses(session: Session, pair: Pair, pieces: List[bytes]) -> Steps[List[frames.Converted]]:

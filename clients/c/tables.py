@@ -10,6 +10,7 @@ loaded, and processes share the pages.
 from __future__ import annotations
 
 import os
+import re
 import sys
 
 # The order of enum builtin in names.h.
@@ -43,6 +44,21 @@ class Strings:
                 'static const char %s[] =\n%s;\n#pragma GCC diagnostic pop\n' % (name, '\n'.join(lines)))
 
 
+def loose(name: str) -> str:
+    """What decides of a name that no row has exactly: its letters and digits, with - where two digits are apart. names.c has the same."""
+    parts = re.sub(r'(?<=[0-9])[^A-Z0-9]+(?=[0-9])', '-', name)
+    return re.sub(r'[^A-Z0-9-]|-(?![0-9])|(?<![0-9])-', '', parts)
+
+
+def loose_rows(names: list[str]) -> str:
+    """The rows in the order of what is loose of their names, one for each."""
+    places: dict[str, int] = {}
+    for place, name in enumerate(names):
+        places.setdefault(loose(name), place)
+    rows = ['    %d,' % places[each] for each in sorted(places)]
+    return 'static const uint16_t LOOSE_ROWS[] = {\n' + '\n'.join(rows) + '\n};\n'
+
+
 def names_header(table: list[list[str]]) -> str:
     strings = Strings()
     charmaps = sorted({target for _, kind, target in table if kind == 'charmap'})
@@ -51,7 +67,9 @@ def names_header(table: list[list[str]]) -> str:
         number = BUILTINS.index(target) if kind == 'builtin' else len(BUILTINS) + charmaps.index(target)
         names.append('    {%d, %d},' % (strings.place(name.encode()), number))
     files = ['    %d,' % strings.place(file.encode()) for file in charmaps]
+    ordered = sorted((row[0] for row in table), key=str.encode)
     return (strings.array('NAME_STRINGS') + 'static const struct name_row NAME_ROWS[] = {\n' + '\n'.join(names) + '\n};\n'
+            + loose_rows(ordered) +
             'static const uint16_t CHARMAP_FILES[] = {\n' + '\n'.join(files) + '\n};\n'
             'enum { CHARMAP_COUNT = %d };\n' % len(charmaps))
 

@@ -121,6 +121,16 @@ static iconvd_status find_file(struct encodings *encodings, size_t number, struc
     return status;
 }
 
+struct encoding *encodings_known(struct encodings *encodings, const char *name) {
+    pthread_mutex_lock(&encodings->mutex);
+    struct encoding *added = find_added(encodings, name);
+    pthread_mutex_unlock(&encodings->mutex);
+    int number = added ? 0 : name_find(name);
+    if (added || number < 0)
+        return added;
+    return number < BUILTIN_COUNT ? &BUILTINS[number] : find_read(encodings, (size_t)number - BUILTIN_COUNT);
+}
+
 iconvd_status encodings_find(struct encodings *encodings, const char *name, struct encoding **found) {
     pthread_mutex_lock(&encodings->mutex);
     *found = find_added(encodings, name);

@@ -39,6 +39,9 @@ void encodings_renew(struct encodings *encodings);
 /* The encoding of a name that name_parse() has taken apart. UNSUPPORTED, ENOMEM. */
 iconvd_status encodings_find(struct encodings *encodings, const char *name, struct encoding **found);
 
+/* The same, as far as it is known: NULL also for a charmap whose file has not been read yet. */
+struct encoding *encodings_known(struct encodings *encodings, const char *name);
+
 /* One of the service's own. */
 struct encoding *encoding_builtin(enum builtin builtin);
 

@@ -34,6 +34,11 @@ class Texts:
         decoding = Decoding(client.library, errors)
         return client.run(lambda session: decode_all(session, texts, decoding)) if texts else []
 
+    def may_join(self, charset: str) -> bool:
+        """Whether texts of a charset that follow each other are one text: they have neither marks nor shifts."""
+        client = self._client if self._client is not None else default()
+        return Decoding(client.library, "").is_plain(charset)
+
     def words(self, words: Sequence[Encoded]) -> Iterator[str]:
         """Decodes the words of a header, most of which are asked for again."""
         new = [word for word in words if word not in self._kept]
@@ -82,7 +87,7 @@ class Headers(HeaderRegistry):
         if name in _WITH_PARAMETERS:
             text = self._decoded(mail_parameters.split(text, name == "content-type"), mail_parameters.written)
         if "=?" in text:
-            text = self._decoded(mail_words.split(text), mail_words.written)
+            text = self._decoded(mail_words.split(text, self._texts.may_join), mail_words.written)
         yield text
         yield _NEITHER_TEXT_NOR_ADDRESS.sub(" ", value)
 

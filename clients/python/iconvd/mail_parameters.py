@@ -13,9 +13,11 @@ _TYPE = re.compile(rf"\s*({_TOKEN}/{_TOKEN})")
 _DISPOSITION = re.compile(rf"\s*({_TOKEN})")
 #: What is between two semicolons: text, and quoted strings, the last of which may be open.
 _SEGMENT = re.compile(r'(?:[^";]|"(?:[^"\\]|\\.)*(?:"|\Z))*', re.S)
+#: A parameter. As in Python's email package, a special character ends a value without quotes, and the rest is passed over.
+_ATTRIBUTE = r"""[^\s()<>@,;:\\"/\[\]?=*']"""
 _PARAMETER = re.compile(
-    r"""\s*(?P<name>[^\s()<>@,;:\\"/\[\]?=*'%]+)(?:\*(?P<section>[0-9]{1,4}))?(?P<extended>\*)?\s*
-    (?:=\s*(?:"(?P<quoted>(?:[^"\\]|\\.)*)|(?P<plain>[^\s()"]*)))?""",
+    rf"""\s*(?P<name>(?:(?!%){_ATTRIBUTE})+)(?:\*(?P<section>[0-9]{{1,4}}))?(?P<extended>\*)?\s*
+    (?:=\s*(?:"(?P<quoted>(?:[^"\\]|\\.)*)|(?P<plain>(?:{_ATTRIBUTE}*'{_ATTRIBUTE}*')?{_ATTRIBUTE}*)))?""",
     re.S | re.X,
 )
 _ESCAPED = re.compile(r"\\(.)", re.S)

@@ -5,7 +5,7 @@ from __future__ import annotations
 import base64
 import binascii
 import re
-from typing import List, Optional, Union
+from typing import Callable, List, Optional, Union
 
 from .together import Encoded
 
@@ -39,26 +39,22 @@ def _data(way: str, text: str) -> Optional[bytes]:
     return _ESCAPED.sub(lambda found: bytes((int(found[1], 16),)), data.replace(b"_", b" "))
 
 
-def split(value: str) -> List[Union[str, Encoded]]:
-    """Returns the encoded words of a header, and what is between them. Words that follow each other and have the same charset are one, so
-    that a character may begin in one and end in the next."""
+def split(value: str, may_join: Callable[[str], bool]) -> List[Union[str, Encoded]]:
+    """Returns the encoded words of a header, and what is between them. Words that follow each other and have the same charset are one if
+    that `may_join`: a character may begin in one and end in the next."""
     pieces: List[Union[str, Encoded]] = []
-    parts: List[bytes] = []
-    charset, at = "", 0
+    at = 0
     for found in _WORD.finditer(value):
         data = _data(found[2], found[3])
         if data is None:
             continue
-        between, own = value[at : found.start()], found[1].partition("*")[0].lower()
-        if parts and (between.strip() or own != charset):
-            pieces.append(Encoded(charset, b"".join(parts)))
-            parts = []
-        if not parts:
-            pieces.append(between)
-        parts.append(data)
-        charset, at = own, found.end()
-    if parts:
-        pieces.append(Encoded(charset, b"".join(parts)))
+        between, charset = value[at : found.start()], found[1].partition("*")[0].lower()
+        before = pieces[-1] if pieces else ""
+        if isinstance(before, Encoded) and before.charset == charset and not between.strip() and may_join(charset):
+            pieces[-1] = Encoded(charset, before.data + data)
+        else:
+            pieces.extend((between, Encoded(charset, data)))
+        at = found.end()
     return [*pieces, value[at:]]
 
 

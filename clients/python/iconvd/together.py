@@ -39,6 +39,11 @@ class Decoding(NamedTuple):
         except UnknownEncoding:
             return US_ASCII
 
+    def is_plain(self, charset: str) -> bool:
+        """Whether an encoding has neither a mark nor shifts."""
+        encoding = self.encoding(charset)
+        return marks.mark_of(encoding)[0] == encoding and not TextCodec(charset, encoding, self.library).has_state
+
     def steps(self, session: Session, text: Encoded, encoding: Encoding) -> Steps[str]:
         """Decodes one text."""
         ordered, begin = marks.without_mark(encoding, text.data)

@@ -3,16 +3,20 @@
 from __future__ import annotations
 
 import codecs
+import contextlib
 import email
 import email.policy
+import io
+import os
 import re
+import textwrap
 import time
 import unittest
 from typing import List, Optional
 
 import mailbox
 from meter import metered
-from support import SERVER, ClientTest
+from support import HERE, SERVER, ClientTest
 
 import iconvd
 import iconvd.email
@@ -69,6 +73,19 @@ def read_all(message: iconvd.email.MailMessage) -> List[object]:
         if not part.is_multipart() or part.get_content_maintype() == "message":
             found.append(part.get_content())
     return found
+
+
+class Page(ClientTest):
+    def test_the_example(self) -> None:
+        """The example of docs/CLIENTS.md prints what the message says."""
+        with open(os.path.join(HERE, "..", "..", "..", "docs", "CLIENTS.md"), encoding="utf-8") as page:
+            block = page.read().split("    import email, iconvd.email\n", 1)[1].split("\n\n`iconvd.email.ServicePolicy")[0]
+        data = b"From: =?koi8-r?q?=E9=F7=E1=EE?= <i@example.org>\nSubject: =?iso-8859-1?q?caf=E9?=\nContent-Type: text/plain; charset=koi8-r\n"
+        data += b"Content-Disposition: attachment; filename*=gbk''%D6%D0.txt\n\n\xc1"
+        printed = io.StringIO()
+        with contextlib.redirect_stdout(printed):
+            exec(textwrap.dedent("    import email, iconvd.email\n" + block), {"data": data})
+        self.assertEqual(printed.getvalue().splitlines(), ["café ИВАН", "中.txt а"])
 
 
 class Mailbox(unittest.TestCase):

@@ -81,7 +81,7 @@ class Page(ClientTest):
         with open(os.path.join(HERE, "..", "..", "..", "docs", "CLIENTS.md"), encoding="utf-8") as page:
             block = page.read().split("    import email, iconvd.email\n", 1)[1].split("\n\n`iconvd.email.ServicePolicy")[0]
         data = b"From: =?koi8-r?q?=E9=F7=E1=EE?= <i@example.org>\nSubject: =?iso-8859-1?q?caf=E9?=\nContent-Type: text/plain; charset=koi8-r\n"
-        data += b"Content-Disposition: attachment; filename*=gbk''%D6%D0.txt\n\n\xc1"
+        data += b"Content-Disposition: attachment; filename*=gbk''%d6%d0.txt\n\n\xc1"
         printed = io.StringIO()
         with contextlib.redirect_stdout(printed):
             exec(textwrap.dedent("    import email, iconvd.email\n" + block), {"data": data})

@@ -5,12 +5,12 @@ from __future__ import annotations
 from functools import partial
 from typing import Callable, Dict, List, NamedTuple, Sequence, TypeVar
 
-from . import marks
+from . import frames, marks
 from .errors import CharmapRefused, UnknownEncoding
 from .frames import Request
 from .library import Library
 from .names import Encoding
-from .session import UTF_8, Pair, Session, Steps
+from .session import UTF_7, UTF_8, Pair, Session, Steps
 from .text import TextCodec
 
 T = TypeVar("T")
@@ -42,7 +42,7 @@ class Decoding(NamedTuple):
     def is_plain(self, charset: str) -> bool:
         """Whether an encoding has neither a mark nor shifts."""
         encoding = self.encoding(charset)
-        return marks.mark_of(encoding)[0] == encoding and not TextCodec(charset, encoding, self.library).has_state
+        return marks.mark_of(encoding)[0] == encoding and encoding != UTF_7
 
     def steps(self, session: Session, text: Encoded, encoding: Encoding) -> Steps[str]:
         """Decodes one text."""
@@ -75,8 +75,10 @@ def side_by_side(running: Sequence[Steps[T]]) -> Steps[List[T]]:
 
 
 def decode_all(session: Session, texts: Sequence[Encoded], decoding: Decoding) -> Steps[List[str]]:
-    """Decodes texts. One in an encoding that is unknown, or whose charmap is missing or refused, is read as US-ASCII. Texts of an
-    encoding with shifts are decoded one after the other, since they share the state of a descriptor."""
+    """Decodes texts. One in an encoding that is unknown, or whose charmap is missing or refused, is read as US-ASCII.
+
+    Texts in UTF-7 share a descriptor and its state. Each begins with a RESET, which is sent together with all of a short text. Long
+    texts are decoded one after the other."""
     encodings: Dict[str, Encoding] = {}
     for charset in {text.charset for text in texts}:
         encodings[charset] = decoding.encoding(charset)
@@ -84,15 +86,13 @@ def decode_all(session: Session, texts: Sequence[Encoded], decoding: Decoding) -
             yield from session.descriptor(Pair(UTF_8, marks.without_mark(encodings[charset], b"")[0]))
         except CharmapRefused:
             encodings[charset] = US_ASCII
+    running = [decoding.steps(session, text, encodings[text.charset]) for text in texts]
     found: Dict[int, str] = {}
-    plain: List[int] = []
     for place, text in enumerate(texts):
-        if TextCodec(text.charset, encodings[text.charset], decoding.library).has_state:
-            found[place] = yield from decoding.steps(session, text, encodings[text.charset])
-        else:
-            plain.append(place)
-    for begin in range(0, len(plain), _MOST):
-        places = plain[begin : begin + _MOST]
-        running = [decoding.steps(session, texts[place], encodings[texts[place].charset]) for place in places]
-        found.update(zip(places, (yield from side_by_side(running))))
+        if encodings[text.charset] == UTF_7 and len(text.data) > frames.CHUNK:
+            found[place] = yield from running[place]
+    short = [place for place in range(len(texts)) if place not in found]
+    for begin in range(0, len(short), _MOST):
+        places = short[begin : begin + _MOST]
+        found.update(zip(places, (yield from side_by_side([running[place] for place in places]))))
     return [found[place] for place in range(len(texts))]

@@ -2,6 +2,7 @@
 
 from __future__ import annotations
 
+import base64
 import codecs
 import contextlib
 import email
@@ -169,6 +170,19 @@ class Texts(ClientTest):
             word = b"=?%s?q?%s?=" % (charset.encode(), b"".join(b"=%02X" % byte for byte in "é".encode(charset)))
             self.assertEqual(str(parsed(b"Subject: " + word + b" " + word + b"\n\n", self.policy)["subject"]), "éé", charset)
 
+    def test_words_with_shifts(self) -> None:
+        """Many words share the state of a descriptor of UTF-7."""
+        texts = ["é", "ab", "日本", "+", "é" * 40, "x"] * 20
+        coded = [text.encode("utf-7") for text in texts]
+        coded[7], coded[9] = b"+AO", b"\xff+AOk"
+        words = b" - ".join(b"=?utf-7?q?%s?=" % b"".join(b"=%02X" % byte for byte in word) for word in coded)
+        found = str(parsed(b"Subject: " + words + b"\n\n", self.policy)["subject"]).split(" - ")
+        self.assertEqual(found[:7] + found[8:9] + found[10:], texts[:7] + texts[8:9] + texts[10:])
+        self.assertEqual((found[7], found[9]), ("\ufffd", "\ufffdé"))
+        long = base64.b64encode(("é" * 50_000).encode("utf-7"))
+        message = parsed(b"Subject: =?utf-7?b?%s?= - =?utf-7?q?+AOk-?= - =?utf-7?b?%s?=\n\n" % (long, long), self.policy)
+        self.assertEqual(str(message["subject"]), "é" * 50_000 + " - é - " + "é" * 50_000)
+
     def test_charmaps_of_the_program(self) -> None:
         self.client.upload("<code_set_name> MAIL\n<escape_char> /\nCHARMAP\n<U0416> /x41\n<U003F> /x3f\nEND CHARMAP\n")
         message = parsed(b"Subject: =?mail?q?A?=\nContent-Type: text/plain; charset=MAIL\n\nA?", self.policy)
@@ -190,11 +204,13 @@ class Texts(ClientTest):
         """Headers of many words and parameters, and a body of faults, cost few round trips."""
         with metered() as meter, iconvd.Client(SERVER, timeout=30) as client:
             policy = iconvd.email.ServicePolicy(client)
-            words = b" ".join(b"=?%s?q?=C1=%02X%d?=" % (b"koi8-r" if n % 2 else b"cp1251", 128 + n % 128, n) for n in range(1500))
+            charsets = [b"koi8-r", b"cp1251", b"utf-7", b"no-such-charset"]
+            words = b" ".join(b"=?%s?q?=C1=%02X%d+AOk?=" % (charsets[n % 4], 128 + n % 128, n) for n in range(1500))
             values = b"; ".join(b"a%d*=koi8-r''%%C1%d" % (n, n) for n in range(1500))
             for data, name in ((b"Subject: " + words, "subject"), (b"Content-Type: text/plain; " + values, "content-type")):
                 message = parsed(data + b"\n\ntext", policy)
-                client.decode(b"\xc1", "koi8-r"), client.decode(b"\xc1", "cp1251")
+                for charset in ("koi8-r", "cp1251", "utf-7", "us-ascii"):
+                    client.decode(b"a", charset)
                 meter.reset()
                 began = time.monotonic()
                 message[name]

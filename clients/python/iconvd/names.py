@@ -12,6 +12,7 @@ import re
 from typing import Dict, List, NamedTuple, Tuple
 
 from .errors import UnknownEncoding
+from .tables import read_rows
 
 #: The built-in encodings of the server.
 BUILTIN = (
@@ -31,8 +32,12 @@ _OTHER = re.compile(r"[^A-Z0-9_\-.,:/]")
 _NEITHER_LETTER_NOR_DIGIT = re.compile(r"[^A-Z0-9]")
 
 
+#: The kind of the encodings with escapes or shifts in the table. They have a table of their own, with their names.
+_SHIFTED = "shifted"
+
+
 class Encoding(NamedTuple):
-    """An encoding: a built-in one, or a charmap, by the name of its file."""
+    """An encoding: a built-in one, one with escapes or shifts, or a charmap, by the name of its file."""
 
     is_charmap: bool
     name: str
@@ -58,11 +63,30 @@ def read_table(lines: List[str]) -> Table:
     exact = {name: Encoding(False, name) for name in BUILTIN}
     for line in lines:
         name, kind, target = line.rstrip("\n").split("\t")
-        exact.setdefault(name, Encoding(kind == "charmap", target))
+        if kind != _SHIFTED:
+            exact.setdefault(name, Encoding(kind == "charmap", target))
+    for name, target in shifted().items():
+        exact.setdefault(name, Encoding(False, target))
     loose: Dict[str, Encoding] = {}
     for name, encoding in exact.items():
         loose.setdefault(_loose(name), encoding)
     return Table(exact, loose)
+
+
+@functools.lru_cache(maxsize=None)
+def shifted() -> Dict[str, str]:
+    """Returns the encodings with escapes or shifts by each of their names."""
+    found: Dict[str, str] = {}
+    for encoding, name, meaning, *_ in read_rows("shifted_encodings.tsv"):
+        found.setdefault(encoding, encoding)
+        if meaning == "name":
+            found[name] = encoding
+    return found
+
+
+def is_shifted(encoding: Encoding) -> bool:
+    """Whether an encoding has escapes or shifts, and is made of sets that the service converts."""
+    return not encoding.is_charmap and encoding.name in shifted()
 
 
 @functools.lru_cache(maxsize=None)

@@ -20,6 +20,7 @@ _SINGLE_SHIFT = ord("N")
 _LONGEST = 16
 #: What follows ESC in the escapes of ISO 2022. Any other escape is text up to its last byte.
 _HEADERS = b"()$.&"
+_LAST = re.compile(rb"[@-Z]")
 _FOREIGN = re.compile(rb"[^@-Z]*([@-Z])?")
 _PREFIXED = b"\x1b$B"
 
@@ -38,6 +39,19 @@ class Designation(NamedTuple):
     def mark(self) -> int:
         """CPython's mark of the set."""
         return self.escape[-1] | (_TWO_BYTES if self.escape[1:2] == b"$" else 0)
+
+
+class _Escape(NamedTuple):
+    """An escape that is read: as which of G0, G1 and G2 it designates a set, and the set's mark."""
+
+    sequence: bytes
+    place: int
+    mark: int
+
+    @property
+    def size(self) -> int:
+        """How many bytes it has."""
+        return len(self.sequence)
 
 
 class _Mode(NamedTuple):
@@ -60,19 +74,19 @@ class Iso2022(Framing):
         self._written = sorted((each for each in designations if each.order is not None), key=lambda each: each.order or 0)
         self._has_single_shift = has_single_shift
         self._has_shifts = any(each.place == 1 for each in designations)
-        self._escapes = dict(self._known_escapes())
+        self._escapes = {escape.sequence: escape for escape in self._known_escapes()}
         self._modes: Dict[Tuple[int, bool], _Mode] = {}
         self._pattern: Optional[Pattern[str]] = None
 
-    def _known_escapes(self) -> List[Tuple[bytes, Tuple[int, int]]]:
-        """Returns each escape, with the place and the mark of the set. As in CPython any set may be designated at any place."""
+    def _known_escapes(self) -> List[_Escape]:
+        """Returns each escape. As in CPython any set may be designated at any place."""
         found = []
         for mark in (_ASCII, *self._by_mark):
             last = bytes((mark & 0x7F,))
             heads = [(b"$", 0), (b"$(", 0), (b"$)", 1)] if mark & _TWO_BYTES else [(b"(", 0), (b")", 1)]
             if self._has_single_shift and not mark & _TWO_BYTES:
                 heads.append((b".", 2))
-            found += [(b"\x1b" + head + last, (place, mark)) for head, place in heads]
+            found += [_Escape(b"\x1b" + head + last, place, mark) for head, place in heads]
         return found
 
     def start(self) -> State:
@@ -89,6 +103,12 @@ class Iso2022(Framing):
                 continue
             found = mode.run.match(data, at, at + RUN)
             if found is None:
+                known = self._escapes.get(data[at : at + 3]) or self._escapes.get(data[at : at + 4])
+                if known:
+                    state.marks[known.place] = known.mark
+                    at += known.size
+                    mode = self._mode(state)
+                    continue
                 stop = self._read_other(state, data, at, parts)
                 if stop.size or stop.is_cut:
                     return stop
@@ -166,27 +186,25 @@ class Iso2022(Framing):
         size = self._escape_size(data, at)
         if size == 0:
             return Stop(at, len(data) - at, True)
-        escape = data[at : at + size]
-        if size == 6 and escape[3:] == _PREFIXED and not self._has_shifts:
+        if size == 6 and data[at + 3 : at + 6] == _PREFIXED and not self._has_shifts and _PREFIXED in self._escapes:
             # The prefix says which revision of JIS X 0208 it is.
-            escape = _PREFIXED
-        known = self._escapes.get(escape)
-        if known is None:
-            return Stop(at, max(size, 1))
-        state.marks[known[0]] = known[1]
-        return Stop(at + size)
+            state.marks[0] = self._escapes[_PREFIXED].mark
+            return Stop(at + size)
+        return Stop(at, max(size, 1))
 
     def _escape_size(self, data: bytes, at: int) -> int:
         """Returns the bytes of an escape: 0 if the end of the text cuts it, -1 if it does not end."""
+        longest = data[at : at + _LONGEST]
+        if b"&@" not in longest or self._has_shifts:
+            last = _LAST.search(longest, 1)
+            return last.end() if last else -1 if len(longest) == _LONGEST else 0
         step = 1
         while step < _LONGEST:
             if at + step >= len(data):
                 return 0
-            if ord("@") <= data[at + step] <= ord("Z"):
+            if _LAST.match(data, at + step):
                 return step + 1
-            if not self._has_shifts and data[at + step : at + step + 2] == b"&@":
-                step += 2
-            step += 1
+            step += 3 if data[at + step : at + step + 2] == b"&@" else 1
         return -1
 
     def _read_single(self, state: State, data: bytes, at: int, parts: TextParts) -> Stop:

@@ -43,20 +43,21 @@ class _Texts:
 class _PieceDecoder:
     """Decodes pieces of a text, and keeps the bytes of a code that the end of a piece cuts."""
 
-    def __init__(self, texts: _Texts) -> None:
+    def __init__(self, texts: _Texts, keeps_end: bool) -> None:
+        """`keeps_end` says that such bytes are kept too if the end of the text is a fault for the error handler."""
         self._texts = texts
+        self._keeps_end = keeps_end
         self.codec = texts.codec()
         self.codec.stops_at_end = True
         self.held = b""
 
     def decode(self, piece: bytes, errors: str, is_end: bool) -> str:
-        """Returns the text of the next piece. After a fault the piece is dropped, as in CPython, unless the end of the text cuts a
-        code, and so is kept if there was no server."""
+        """Returns the text of the next piece. After a fault the piece is dropped, as in CPython."""
         whole = self.held + piece
         try:
             decoded, used = self._texts.decode(self.codec, whole, errors, is_end)
         except (UnicodeError, LookupError, TypeError, IndexError):
-            self.held = self.held if self.codec.is_cut_at_end else b""
+            self.held = self.held if self._keeps_end and self.codec.is_cut_at_end else b""
             raise
         self.held = whole[used:]
         return decoded
@@ -96,7 +97,7 @@ class SetIncrementalDecoder(codecs.IncrementalDecoder):
 
     def __init__(self, errors: str = "strict") -> None:
         super().__init__(errors)
-        self._pieces = _PieceDecoder(self.texts)
+        self._pieces = _PieceDecoder(self.texts, True)
 
     def decode(self, input: Any, final: bool = False) -> str:
         return self._pieces.decode(bytes(input), self.errors, final)
@@ -135,7 +136,7 @@ class SetStreamReader(codecs.StreamReader):
 
     def __init__(self, stream: object, errors: str = "strict") -> None:
         super().__init__(stream, errors)  # type: ignore[arg-type]
-        self._pieces = _PieceDecoder(self.texts)
+        self._pieces = _PieceDecoder(self.texts, False)
 
     def _read(self, read: Callable[..., bytes], size: Optional[int]) -> str:
         size = -1 if size is None else size

@@ -58,6 +58,8 @@ def read_table(lines: List[str]) -> Table:
     exact = {name: Encoding(False, name) for name in BUILTIN}
     for line in lines:
         name, kind, target = line.rstrip("\n").split("\t")
+        if kind == "shifted":
+            continue
         exact.setdefault(name, Encoding(kind == "charmap", target))
     loose: Dict[str, Encoding] = {}
     for name, encoding in exact.items():

@@ -34,7 +34,7 @@ static unsigned char first_set(const struct shifter *shifter, uint32_t character
 static unsigned char choose(const struct shifter *shifter, const struct shift_state *state, uint32_t character) {
     unsigned char now = shift_set(state), start = shifter->encoding->start;
     if (character < 0x80) {
-        bool stays = !shifter->encoding->ascii && now != start && character > 0x20 && set_has(shifter, now, character);
+        bool stays = !shifter->encoding->ascii && now != start && character > 0x20 && character < 0x7f && set_has(shifter, now, character);
         return stays ? now : start;
     }
     if (now != start && set_has(shifter, now, character))

@@ -9,7 +9,7 @@ from __future__ import annotations
 import functools
 import os
 import re
-from typing import Dict, List, NamedTuple, Tuple
+from typing import Dict, FrozenSet, List, NamedTuple, Tuple
 
 from .errors import UnknownEncoding
 from .tables import read_rows
@@ -32,8 +32,8 @@ _OTHER = re.compile(r"[^A-Z0-9_\-.,:/]")
 _NEITHER_LETTER_NOR_DIGIT = re.compile(r"[^A-Z0-9]")
 
 
-#: The kind of the encodings with escapes or shifts in the table. They have a table of their own, with their names.
-_SHIFTED = "shifted"
+#: The encodings with escapes or shifts that only the C library has.
+_LEFT_OUT = frozenset(("ISO-2022-CN",))
 
 
 class Encoding(NamedTuple):
@@ -59,14 +59,12 @@ def _loose(name: str) -> str:
 
 
 def read_table(lines: List[str]) -> Table:
-    """Reads the lines `NAME<TAB>builtin|charmap<TAB>ENCODING`."""
+    """Reads the lines `NAME<TAB>builtin|charmap|shifted<TAB>ENCODING`."""
     exact = {name: Encoding(False, name) for name in BUILTIN}
     for line in lines:
         name, kind, target = line.rstrip("\n").split("\t")
-        if kind != _SHIFTED:
+        if target not in _LEFT_OUT:
             exact.setdefault(name, Encoding(kind == "charmap", target))
-    for name, target in shifted().items():
-        exact.setdefault(name, Encoding(False, target))
     loose: Dict[str, Encoding] = {}
     for name, encoding in exact.items():
         loose.setdefault(_loose(name), encoding)
@@ -74,19 +72,14 @@ def read_table(lines: List[str]) -> Table:
 
 
 @functools.lru_cache(maxsize=None)
-def shifted() -> Dict[str, str]:
-    """Returns the encodings with escapes or shifts by each of their names."""
-    found: Dict[str, str] = {}
-    for encoding, name, meaning, *_ in read_rows("shifted_encodings.tsv"):
-        found.setdefault(encoding, encoding)
-        if meaning == "name":
-            found[name] = encoding
-    return found
+def _shifted() -> FrozenSet[str]:
+    """Returns the encodings with escapes or shifts."""
+    return frozenset(row[0] for row in read_rows("shifted_encodings.tsv"))
 
 
 def is_shifted(encoding: Encoding) -> bool:
     """Whether an encoding has escapes or shifts, and is made of sets that the service converts."""
-    return not encoding.is_charmap and encoding.name in shifted()
+    return not encoding.is_charmap and encoding.name in _shifted()
 
 
 @functools.lru_cache(maxsize=None)

@@ -42,6 +42,8 @@ void encodings_end(struct encodings *encodings) {
         next = encodings->added->next;
         encoding_free(encodings->added);
     }
+    for (size_t i = 0; i < SETS; i++)
+        set_map_free(atomic_load(&encodings->set_maps[i]));
     free(encodings->files);
     free(encodings->directory);
     pthread_mutex_destroy(&encodings->mutex);
@@ -128,6 +130,8 @@ struct encoding *encodings_known(struct encodings *encodings, const char *name) 
     int number = added ? 0 : name_find(name);
     if (added || number < 0)
         return added;
+    if (number >= BUILTIN_COUNT + (int)charmap_count())
+        return encoding_shifted((size_t)number - BUILTIN_COUNT - charmap_count());
     return number < BUILTIN_COUNT ? &BUILTINS[number] : find_read(encodings, (size_t)number - BUILTIN_COUNT);
 }
 
@@ -137,7 +141,9 @@ iconvd_status encodings_find(struct encodings *encodings, const char *name, stru
     pthread_mutex_unlock(&encodings->mutex);
     int number = *found ? 0 : name_find(name);
     iconvd_status status = number < 0 ? ICONVD_UNSUPPORTED : ICONVD_OK;
-    if (!*found && number >= BUILTIN_COUNT)
+    if (!*found && number >= BUILTIN_COUNT + (int)charmap_count())
+        *found = encoding_shifted((size_t)number - BUILTIN_COUNT - charmap_count());
+    else if (!*found && number >= BUILTIN_COUNT)
         status = find_file(encodings, (size_t)number - BUILTIN_COUNT, found);
     else if (!*found && number >= 0)
         *found = &BUILTINS[number];

@@ -156,7 +156,8 @@ class Client:
 
     def encode(self, characters: str, target: str, errors: str = "strict") -> bytes:
         """Encodes a text as `str.encode` does."""
-        return self.encoder(target, target).encode(characters, errors)
+        encoder = self.encoder(target, target)
+        return encoder.encode(characters, errors) + encoder.finish()
 
     @overload
     def convert(self, data: bytes, *, to: str, source: str, errors: str = "strict") -> bytes: ...
@@ -184,6 +185,9 @@ class Client:
             if decoded:
                 yield encoder.encode(decoded, errors)
             if not piece:
+                ending = encoder.finish()
+                if ending:
+                    yield ending
                 return
 
     def decoder(self, name: str, source: str) -> Decoder:

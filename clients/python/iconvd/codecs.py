@@ -5,9 +5,10 @@ from __future__ import annotations
 import codecs
 from typing import Any, List, Optional, Tuple
 
+from . import set_codecs
 from .client import Client, default, find
 from .errors import UnknownEncoding
-from .names import Encoding
+from .names import Encoding, is_shifted
 from .pieces import Decoder, Encoder
 
 _PREFIX = "iconvd"
@@ -19,6 +20,8 @@ def _client(client: Optional[Client]) -> Client:
 
 def info(name: str, encoding: Encoding, client: Optional[Client] = None) -> codecs.CodecInfo:
     """Returns the codec of an encoding, which exceptions call `name`."""
+    if is_shifted(encoding):
+        return set_codecs.info(name, encoding, lambda: _client(client))
 
     def encode(input: str, errors: str = "strict") -> Tuple[bytes, int]:
         return Encoder(_client(client), name, encoding).encode(input, errors or "strict"), len(input)

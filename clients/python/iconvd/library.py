@@ -4,11 +4,13 @@ from __future__ import annotations
 
 from typing import Dict, Optional, Tuple, Union
 
-from . import charmaps, forms, names, shifted
+from . import charmaps, coded_sets, forms, framings, mappings, names, shifted
 from .charmaps import Beginning, Charmap
+from .coded_sets import CodedSet
 from .codes import CharmapForm
 from .errors import CharmapRefused, UnknownEncoding
 from .forms import Form
+from .framing import Framing
 from .known import Known, known_of
 from .names import Encoding
 
@@ -31,6 +33,8 @@ class Library:
         self._found: Dict[str, Encoding] = {}
         self._forms: Dict[Encoding, Form] = {}
         self._known: Dict[Tuple[Encoding, str], Known] = {}
+        self._framings: Dict[Encoding, Framing] = {}
+        self._sets: Dict[str, CodedSet] = {}
 
     def find(self, name: str) -> Encoding:
         """Returns the encoding of that name, in any case of its letters. Raises UnknownEncoding."""
@@ -141,3 +145,25 @@ class Library:
         if known is None or len(known) > _MAX_KNOWN:
             known = self._known[encoding, errors] = known_of(self.form(encoding))
         return known
+
+    # ---- encodings with escapes and shifts
+
+    def framing(self, encoding: Encoding) -> Framing:
+        """Returns how an encoding with escapes or shifts is read and written."""
+        found = self._framings.get(encoding)
+        if found is None:
+            found = self._framings[encoding] = framings.framing(encoding.name, self.coded_set)
+        return found
+
+    def coded_set(self, name: str) -> CodedSet:
+        """Returns a coded character set, from the charmap of the encoding that converts it. Raises CharmapRefused."""
+        found = self._sets.get(name)
+        if found is None:
+            row = coded_sets.rows()[name]
+            if row.encoding.is_charmap:
+                charmap = self.get(row.encoding.name)
+                ranges = mappings.ranges(charmap.body(), charmap.escape)
+            else:
+                ranges = [(0, 256, 0, 1)]
+            found = self._sets[name] = CodedSet(row, ranges)
+        return found

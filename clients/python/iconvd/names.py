@@ -9,9 +9,10 @@ from __future__ import annotations
 import functools
 import os
 import re
-from typing import Dict, List, NamedTuple, Tuple
+from typing import Dict, FrozenSet, List, NamedTuple, Tuple
 
 from .errors import UnknownEncoding
+from .tables import read_rows
 
 #: The built-in encodings of the server.
 BUILTIN = (
@@ -35,8 +36,12 @@ _BETWEEN_DIGITS = re.compile(r"(?<=[0-9])[^A-Z0-9]+(?=[0-9])")
 _SEPARATOR = re.compile(r"[^A-Z0-9-]|-(?![0-9])|(?<![0-9])-")
 
 
+#: The encodings with escapes or shifts that only the C library has.
+_LEFT_OUT = frozenset(("ISO-2022-CN",))
+
+
 class Encoding(NamedTuple):
-    """An encoding: a built-in one, or a charmap, by the name of its file."""
+    """An encoding: a built-in one, one with escapes or shifts, or a charmap, by the name of its file."""
 
     is_charmap: bool
     name: str
@@ -59,15 +64,27 @@ def _loose(name: str) -> str:
 
 
 def read_table(lines: List[str]) -> Table:
-    """Reads the lines `NAME<TAB>builtin|charmap<TAB>ENCODING`."""
+    """Reads the lines `NAME<TAB>builtin|charmap|shifted<TAB>ENCODING`."""
     exact = {name: Encoding(False, name) for name in BUILTIN}
     for line in lines:
         name, kind, target = line.rstrip("\n").split("\t")
-        exact.setdefault(name, Encoding(kind == "charmap", target))
+        if target not in _LEFT_OUT:
+            exact.setdefault(name, Encoding(kind == "charmap", target))
     loose: Dict[str, Encoding] = {}
     for name, encoding in exact.items():
         loose.setdefault(_loose(name), encoding)
     return Table(exact, loose)
+
+
+@functools.lru_cache(maxsize=None)
+def _shifted() -> FrozenSet[str]:
+    """Returns the encodings with escapes or shifts."""
+    return frozenset(row[0] for row in read_rows("shifted_encodings.tsv"))
+
+
+def is_shifted(encoding: Encoding) -> bool:
+    """Whether an encoding has escapes or shifts, and is made of sets that the service converts."""
+    return not encoding.is_charmap and encoding.name in _shifted()
 
 
 @functools.lru_cache(maxsize=None)

@@ -3,12 +3,13 @@
 from __future__ import annotations
 
 from types import TracebackType
-from typing import TYPE_CHECKING, Optional, Tuple, Type
+from typing import TYPE_CHECKING, Optional, Tuple, Type, Union
 
 from . import marks, text
 from .errors import ConversionError
 from .known import Known
 from .names import Encoding
+from .set_text import SetCodec, codec_of
 
 if TYPE_CHECKING:
     from .client import Client
@@ -27,7 +28,7 @@ class Decoder:
         self._name = name
         self._declared = encoding
         self._is_stream = is_stream
-        self._codec: Optional[text.TextCodec] = None
+        self._codec: Optional[Union[text.TextCodec, SetCodec]] = None
 
     def decode(self, data: bytes, errors: str, final: bool) -> Tuple[str, int]:
         """Returns the text of the first bytes, and how many they are: all but an incomplete character if `final` is false."""
@@ -39,7 +40,7 @@ class Decoder:
             ordered, skipped = marks.without_mark(self._declared, data)
             if self._is_stream and is_needed and data and not skipped:
                 raise UnicodeError(f"{self._declared.name} stream does not start with BOM")
-            self._codec = text.TextCodec(self._name, ordered, self._client.library)
+            self._codec = codec_of(self._name, ordered, self._client.library)
         codec = self._codec
         if skipped and not marks.is_needed(self._declared):
             # As in CPython's utf-8-sig, positions of faults count from after the mark.
@@ -64,7 +65,7 @@ class Encoder:
     def __init__(self, client: Client, name: str, encoding: Encoding) -> None:
         self._client = client
         ordered, self._mark = marks.mark_of(encoding)
-        self._codec = text.TextCodec(name, ordered, client.library)
+        self._codec = codec_of(name, ordered, client.library)
         self.is_started = False
         # The known characters, and their error handler, once the text is started.
         self._known: Optional[Known] = None
@@ -77,6 +78,10 @@ class Encoder:
         self.is_started = True
         return mark + output
 
+    def finish(self) -> bytes:
+        """Returns what ends the text: the escape or shift back to ASCII, if the encoding has any."""
+        return self._codec.finish()
+
     def encode_piece(self, characters: str, errors: str) -> bytes:
         """Returns the bytes of the next piece of a text. In short pieces each character costs one request in all. So a text file
         that is written line by line, and needs the bytes of each line at once, costs no request for each line."""
@@ -88,11 +93,13 @@ class Encoder:
 
     def _encode_new(self, characters: str, errors: str) -> bytes:
         """Returns the bytes of a piece that is long, begins the text, or has unknown characters."""
-        if not self.is_started or len(characters) > _SHORT:
+        codec = self._codec
+        if isinstance(codec, SetCodec) or not self.is_started or len(characters) > _SHORT:
             return self.encode(characters, errors)
-        known = self._known = self._codec.known(errors)
+        known = self._known = codec.known(errors)
         self._known_errors = errors
-        self._client.run(lambda session: self._codec.learn(session, characters, errors, known))
+        learn = codec.learn
+        self._client.run(lambda session: learn(session, characters, errors, known))
         encoded = known.bytes_of(characters)
         return self.encode(characters, errors) if encoded is None else encoded
 
@@ -114,19 +121,22 @@ class Conversion:
         self._held = b""
 
     def convert(self, data: bytes, errors: str = "strict", final: bool = False) -> bytes:
-        """Converts the next bytes. An incomplete character at the end is kept for the next call, unless `final` is true."""
+        """Converts the next bytes. An incomplete character at the end is kept for the next call, unless `final` is true. Then the
+        bytes also end a text with escapes or shifts."""
         held = self._held + data
         decoded, used = self._decoder.decode(held, errors, final)
         self._held = held[used:]
-        return self._encoder.encode(decoded, errors) if decoded else b""
+        encoded = self._encoder.encode(decoded, errors) if decoded else b""
+        return encoded + self._encoder.finish() if final else encoded
 
     def reset(self) -> bytes:
-        """Ends the text and goes back to the start. Raises ConversionError if it ends inside a character."""
-        held = self._held
+        """Ends the text and goes back to the start. Returns the escape or shift that ends it, if the target has any. Raises
+        ConversionError if the text ends inside a character."""
+        held, ending = self._held, self._encoder.finish()
         self._start()
         if held:
             raise ConversionError("the text ends inside a character", 0)
-        return b""
+        return ending
 
     def close(self) -> None:
         """Forgets kept bytes and the state. The server's descriptors are shared, and stay open."""

@@ -167,6 +167,10 @@ class TextCodec:
         encoded = {text: known.bytes_of(text) or b"" for text in unlike}
         return [encoded[text] if isinstance(text, str) else text for text in texts]
 
+    def finish(self) -> bytes:
+        """Returns what ends a text. The server closes each shifted sequence itself."""
+        return b""
+
     def known(self, errors: str) -> Known:
         """Returns the known characters of the encoding."""
         is_local = EncodingHandling(self._library.form(self.encoding), self._error_name, errors).is_local

@@ -9,9 +9,9 @@ from . import frames, marks
 from .errors import CharmapRefused, UnknownEncoding
 from .frames import Request
 from .library import Library
-from .names import Encoding
+from .names import Encoding, is_shifted
 from .session import UTF_7, UTF_8, Pair, Session, Steps
-from .text import TextCodec
+from .set_text import codec_of
 
 T = TypeVar("T")
 US_ASCII = Encoding(False, "US-ASCII")
@@ -42,12 +42,12 @@ class Decoding(NamedTuple):
     def is_plain(self, charset: str) -> bool:
         """Whether an encoding has neither a mark nor shifts."""
         encoding = self.encoding(charset)
-        return marks.mark_of(encoding)[0] == encoding and encoding != UTF_7
+        return marks.mark_of(encoding)[0] == encoding and encoding != UTF_7 and not is_shifted(encoding)
 
     def steps(self, session: Session, text: Encoded, encoding: Encoding) -> Steps[str]:
         """Decodes one text."""
         ordered, begin = marks.without_mark(encoding, text.data)
-        codec = TextCodec(text.charset, ordered, self.library)
+        codec = codec_of(text.charset, ordered, self.library)
         decoded = yield from codec.decode(session, text.data, self.errors, True, begin)
         return decoded.text
 
@@ -82,6 +82,8 @@ def decode_all(session: Session, texts: Sequence[Encoded], decoding: Decoding) -
     encodings: Dict[str, Encoding] = {}
     for charset in {text.charset for text in texts}:
         encodings[charset] = decoding.encoding(charset)
+        if is_shifted(encodings[charset]):
+            continue
         try:
             yield from session.descriptor(Pair(UTF_8, marks.without_mark(encodings[charset], b"")[0]))
         except CharmapRefused:

@@ -1,0 +1,205 @@
+"""Encodings with escapes and shifts, beside CPython's codecs: bytes, characters, positions, reasons and states."""
+
+from __future__ import annotations
+
+import codecs
+import io
+import random
+import re
+import unittest
+from typing import Callable, List, Tuple
+
+from support import SERVER, outcome
+
+import iconvd
+
+#: The encodings that CPython has too.
+NAMES = ["iso2022_jp", "iso2022_jp_1", "iso2022_jp_2", "iso2022_jp_ext", "iso2022_kr", "hz"]
+PIECES = [
+    b"\x1b$B", b"\x1b$@", b"\x1b(B", b"\x1b(J", b"\x1b(I", b"\x1b$(D", b"\x1b$(C", b"\x1b$A", b"\x1b$(A", b"\x1b$)C", b"\x1b.A", b"\x1b.F",
+    b"\x1bN", b"\x1b&@\x1b$B", b"\x1b$", b"\x1b(", b"\x1b", b"\x1b[0m", b"\x1b((((((((((((((((", b"\x1b)J", b"\x1b(A", b"\x1b(((\x1b$B", b"&@",
+    b"\x0e", b"\x0f", b"\n", b"\t", b"\0", b" ", b"\x7f", b"~{", b"~}", b"~~", b"~\n", b"~", b"a", b"Zz", b"0!", b"F|K\\", b"\"7", b"\"h", b"\"f", b"5Y",
+    b"+1", b"\x7e\x7e", b"\xff", b"\x80\xa1", b"$", b"*", b"!", b"\\", b"@", b"1", b"x",
+]  # fmt: skip
+ESCAPE = re.compile(rb"\x1b[()$.&](?:&@.|[^@-Z])*", re.S)
+CHARACTERS = "aZ~\\\n\t\0\x1b\x0e¥‾ｱﾟ日本語〜～−é丂ｶ가힣똠啊囧Αж€①\x80\xa0\u378f\ue000\U00020000\ud800\udcff"
+
+
+def marked(error: UnicodeError) -> Tuple[str, int]:
+    """A handler that gives what every set has, and skips a byte or a character."""
+    assert isinstance(error, (UnicodeDecodeError, UnicodeEncodeError))
+    return f"<{error.start}>", min(error.start + 1, len(error.object))
+
+
+def putting_in(error: UnicodeError) -> Tuple[str, int]:
+    """A handler that gives a character of another set."""
+    assert isinstance(error, (UnicodeDecodeError, UnicodeEncodeError))
+    return "日¥", error.end
+
+
+def damaged(error: UnicodeError) -> Tuple[str, int]:
+    """A handler that gives what no set has."""
+    assert isinstance(error, (UnicodeDecodeError, UnicodeEncodeError))
+    return "a\ud800", error.end
+
+
+ERRORS = ["strict", "ignore", "replace", "backslashreplace", "xmlcharrefreplace", "surrogateescape", "sets.marked", "sets.putting", "sets.damaged"]
+
+
+def setUpModule() -> None:
+    codecs.register_error("sets.marked", marked)
+    codecs.register_error("sets.putting", putting_in)
+    codecs.register_error("sets.damaged", damaged)
+
+
+class Sets(unittest.TestCase):
+    def setUp(self) -> None:
+        client = iconvd.Client(SERVER, timeout=60)
+        before = iconvd.default()
+        iconvd.use(client)
+        iconvd.register()
+        self.addCleanup(client.close)
+        self.addCleanup(iconvd.use, before)
+        self.chance = random.Random(61)
+
+    def data(self) -> bytes:
+        return b"".join(self.chance.choice(PIECES) for _ in range(self.chance.randrange(9)))
+
+    def text(self) -> str:
+        return "".join(self.chance.choice(CHARACTERS) for _ in range(self.chance.randrange(9)))
+
+    def same(self, name: str, call: Callable[[str], object], label: object) -> None:
+        self.assertEqual(outcome(lambda: call("iconvd-" + name.replace("_", "-"))), outcome(lambda: call(name)), (name, label))
+
+    def test_decoding(self) -> None:
+        for name in NAMES:
+            for _ in range(1500):
+                data, errors = self.data(), self.chance.choice(ERRORS)
+                if is_faulty_in_cpython(data):
+                    continue
+                self.same(name, lambda codec: codecs.lookup(codec).decode(data, errors), (data, errors))
+
+    def test_encoding(self) -> None:
+        for name in NAMES:
+            for _ in range(1000):
+                text, errors = self.text(), self.chance.choice(ERRORS)
+                if name == "hz" and errors not in ("strict", "ignore", "replace"):
+                    # CPython drops the second tilde where a buffer ends, which may be after what a handler gave.
+                    text = text.replace("~", "")
+                self.same(name, lambda codec: codecs.lookup(codec).encode(text, errors), (text, errors))
+
+
+    def test_all_pairs(self) -> None:
+        """Each two bytes while each set is in use."""
+        every = [bytes((first, second)) for first in range(0x82) for second in range(0x82)]
+        for name in NAMES:
+            mine, theirs = codecs.lookup("iconvd-" + name.replace("_", "-")), codecs.lookup(name)
+            for before in (b"", b"~{", b"\x1b$)C\x0e", *DESIGNATED):
+                if before and outcome(lambda: theirs.decode(before)) != ["gives", ("", len(before))]:
+                    continue
+                text = b"".join(before + pair + b"\x1b(B\x0f~}\n" for pair in every)
+                self.assertEqual(mine.decode(text, "replace"), theirs.decode(text, "replace"), (name, before))
+
+    def test_all_characters(self) -> None:
+        for name in NAMES:
+            mine, theirs = codecs.lookup("iconvd-" + name.replace("_", "-")), codecs.lookup(name)
+            text = "".join(map(chr, range(0x30000)))
+            for each in (text, "\n".join(text)):
+                self.assertEqual(mine.encode(each, "ignore"), theirs.encode(each, "ignore"), name)
+
+    def test_decoding_in_pieces(self) -> None:
+        for name in NAMES:
+            for _ in range(700):
+                data, errors = self.data() + self.data(), self.chance.choice(ERRORS)
+                if is_faulty_in_cpython(data) or has_long_escape(data):
+                    continue
+                cuts = sorted(self.chance.randrange(len(data) + 1) for _ in range(4))
+                pieces = [data[begin:end] for begin, end in zip([0, *cuts], [*cuts, len(data)])]
+                kinds = [self.chance.choice("dddddfrs") for _ in pieces]
+                ways = list(zip(pieces, kinds))
+                self.same(name, lambda codec: decoded_in_pieces(codec, errors, ways), (ways, errors))
+
+    def test_encoding_in_pieces(self) -> None:
+        for name in NAMES:
+            for _ in range(700):
+                errors = self.chance.choice(ERRORS)
+                ways = [(self.text(), self.chance.choice("eeeefrs")) for _ in range(5)]
+                if name == "hz" and errors not in ("strict", "ignore", "replace"):
+                    # CPython drops the second tilde where a buffer ends, which may be after what a handler gave.
+                    ways = [(text.replace("~", ""), kind) for text, kind in ways]
+                self.same(name, lambda codec: encoded_in_pieces(codec, errors, ways), (ways, errors))
+
+    def test_streams(self) -> None:
+        for name in NAMES:
+            for _ in range(200):
+                data, errors = self.data() + self.data(), self.chance.choice(("strict", "replace", "ignore", "sets.marked"))
+                if is_faulty_in_cpython(data) or has_long_escape(data):
+                    continue
+                asked = [(self.chance.choice(("read", "readline", "readlines")), self.chance.choice((None, -1, 1, 2, 5, 9))) for _ in range(6)]
+                self.same(name, lambda codec: read_in_pieces(codec, data, errors, asked), (data, errors, asked))
+                lines = [self.text() for _ in range(4)]
+                self.same(name, lambda codec: written_in_pieces(codec, lines, errors), (lines, errors))
+
+
+DESIGNATED = [piece for piece in PIECES if len(piece) > 2 and piece[:1] == b"\x1b" and 0x40 <= piece[-1] <= 0x5A]
+
+
+def decoded_in_pieces(codec: str, errors: str, ways: List[Tuple[bytes, str]]) -> List[object]:
+    """Decodes pieces, and notes each text or fault and the state after it. Some are the last one, and others come after a reset or in
+    another decoder that goes on with the state."""
+    decoder = codecs.getincrementaldecoder(codec)(errors)
+    noted: List[object] = []
+    for piece, kind in ways:
+        if kind == "r":
+            decoder.reset()
+        if kind == "s":
+            state = decoder.getstate()
+            decoder = codecs.getincrementaldecoder(codec)(errors)
+            decoder.setstate(state)
+        noted += [outcome(lambda: decoder.decode(piece, kind == "f")), decoder.getstate()]
+    return noted
+
+
+def encoded_in_pieces(codec: str, errors: str, ways: List[Tuple[str, str]]) -> List[object]:
+    """Encodes pieces as `decoded_in_pieces` decodes them."""
+    encoder = codecs.getincrementalencoder(codec)(errors)
+    noted: List[object] = []
+    for piece, kind in ways:
+        if kind == "r":
+            encoder.reset()
+        if kind == "s":
+            state = encoder.getstate()
+            encoder = codecs.getincrementalencoder(codec)(errors)
+            encoder.setstate(state)
+        noted += [outcome(lambda: encoder.encode(piece, kind == "f")), encoder.getstate()]
+    return noted
+
+
+def read_in_pieces(codec: str, data: bytes, errors: str, asked: List[Tuple[str, object]]) -> List[object]:
+    """Reads a stream by several calls, and then the rest."""
+    reader = codecs.getreader(codec)(io.BytesIO(data), errors)
+    return [outcome(lambda: getattr(reader, method)(size)) for method, size in asked] + [outcome(reader.read)]
+
+
+def written_in_pieces(codec: str, lines: List[str], errors: str) -> List[object]:
+    """Writes lines, with a reset between them."""
+    file = io.BytesIO()
+    writer = codecs.getwriter(codec)(file, errors)
+    noted: List[object] = []
+    for line in lines:
+        noted += [outcome(lambda: writer.write(line)), outcome(lambda: writer.writelines([line, "a"])), outcome(writer.reset)]
+    return [*noted, file.getvalue()]
+
+
+def is_faulty_in_cpython(data: bytes) -> bool:
+    """Whether CPython's codec may raise a RuntimeError: after ESC N, if a set without single shifts is designated as G2."""
+    return b"\x1bN" in data and b"\x1b." in data
+
+
+def has_long_escape(data: bytes) -> bool:
+    """Whether CPython's decoders of pieces may raise a UnicodeError without a position, since they hold at most eight bytes."""
+    return any(len(escape[0]) > 8 for escape in ESCAPE.finditer(data))
+
+
+if __name__ == "__main__":
+    unittest.main()

@@ -9,8 +9,8 @@ from typing import NamedTuple
 LABELS = os.path.join(os.path.dirname(os.path.abspath(__file__)), 'labels.tsv')
 #: Encodings that the Python package makes of others, with their kind and target.
 PYTHON_OWN = {'UTF-8-SIG': ('builtin', 'UTF-8-SIG')}
-#: The names of encodings with shifts, which have a table of their own.
-SHIFTED = ('ISO-2022-', 'HZ')
+#: Encodings that only the C library has, as glibc: CPython has none of the kind.
+C_ALONE = {'ISO-2022-CN'}
 
 Table = dict[str, tuple[str, str]]
 
@@ -54,7 +54,7 @@ def left_out(table: Table, normal: Callable[[str], str], reasons: set[str]) -> l
         label
         for label in read()
         if label.source != 'python'
-        and not label.encoding.startswith(SHIFTED)
+        and label.encoding not in C_ALONE
         and normal(label.name) not in table
         and normal(label.encoding) not in reasons
     ]

@@ -28,16 +28,22 @@ class Texts:
         self._client = client
         self._kept: Dict[Encoded, str] = {}
 
+    def __deepcopy__(self, memo: object) -> Texts:
+        """Copies of a message share the client."""
+        return self
+
     def decode(self, texts: Sequence[Encoded], errors: str = "replace") -> List[str]:
         """Decodes texts. One in an encoding that the client lacks is read as US-ASCII."""
-        client = self._client if self._client is not None else default()
+        client = self._served()
         decoding = Decoding(client.library, errors)
         return client.run(lambda session: decode_all(session, texts, decoding)) if texts else []
 
+    def _served(self) -> Client:
+        return self._client if self._client is not None else default()
+
     def may_join(self, charset: str) -> bool:
         """Whether texts of a charset that follow each other are one text: they have neither marks nor shifts."""
-        client = self._client if self._client is not None else default()
-        return Decoding(client.library, "").is_plain(charset)
+        return Decoding(self._served().library, "").is_plain(charset)
 
     def words(self, words: Sequence[Encoded]) -> Iterator[str]:
         """Decodes the words of a header, most of which are asked for again."""

@@ -2,22 +2,24 @@
 
 from __future__ import annotations
 
+import itertools
 import re
 import urllib.parse
-from typing import Dict, List, NamedTuple, Union
+from typing import Dict, List, NamedTuple, Tuple, Union
 
 from .together import Encoded
 
-_TOKEN = r"[^\s()<>@,;:\\\"/\[\]?=]+"
+_SPECIAL = r"""\s()<>@,;:\\"/\[\]?="""
+_TOKEN = rf"[^{_SPECIAL}]+"
 _TYPE = re.compile(rf"\s*({_TOKEN}/{_TOKEN})")
 _DISPOSITION = re.compile(rf"\s*({_TOKEN})")
 #: What is between two semicolons: text, and quoted strings, the last of which may be open.
-_SEGMENT = re.compile(r'(?:[^";]|"(?:[^"\\]|\\.)*(?:"|\Z))*', re.S)
+_SEGMENT = re.compile(r'(?:[^";]+|"(?:[^"\\]+|\\.)*(?:"|\\?\Z))*', re.S)
 #: A parameter. As in Python's email package, a special character ends a value without quotes, and the rest is passed over.
-_ATTRIBUTE = r"""[^\s()<>@,;:\\"/\[\]?=*']"""
+_ATTRIBUTE = rf"[^{_SPECIAL}*']*"
 _PARAMETER = re.compile(
-    rf"""\s*(?P<name>(?:(?!%){_ATTRIBUTE})+)(?:\*(?P<section>[0-9]{{1,4}}))?(?P<extended>\*)?\s*
-    (?:=\s*(?:"(?P<quoted>(?:[^"\\]|\\.)*)|(?P<plain>(?:{_ATTRIBUTE}*'{_ATTRIBUTE}*')?{_ATTRIBUTE}*)))?""",
+    rf"""\s*(?P<name>[^{_SPECIAL}*'%]+)(?:\*(?P<section>[0-9]{{1,4}}))?(?P<extended>\*)?\s*
+    (?:=\s*(?:"(?P<quoted>(?:[^"\\]+|\\.)*)|(?P<plain>(?:{_ATTRIBUTE}'{_ATTRIBUTE}')?{_ATTRIBUTE})))?""",
     re.S | re.X,
 )
 _ESCAPED = re.compile(r"\\(.)", re.S)
@@ -48,26 +50,23 @@ class _Value:
                 wanted += 1
 
     def _add(self, section: _Section) -> None:
-        if not section.is_extended:
-            self.parts.append(section.value)
-            return
-        data = urllib.parse.unquote_to_bytes(section.value.encode("utf-8", "surrogateescape"))
-        if self.parts and isinstance(self.parts[-1], bytes):
-            self.parts[-1] += data
-        else:
-            self.parts.append(data)
+        data = section.value.encode("utf-8", "surrogateescape") if section.is_extended else b""
+        self.parts.append(urllib.parse.unquote_to_bytes(data) if section.is_extended else section.value)
 
     def pieces(self, name: str) -> List[Union[str, Encoded]]:
         """Returns the parameter. If it has bytes, what is not Encoded is percent-encoded."""
-        if not any(isinstance(part, bytes) for part in self.parts):
-            text = "".join(part for part in self.parts if isinstance(part, str))
-            return [f"; {name}=" + '"' + text.replace("\\", r"\\").replace('"', r"\"") + '"']
+        texts = [part for part in self.parts if isinstance(part, str)]
+        if len(texts) == len(self.parts):
+            return [f"; {name}=" + '"' + "".join(texts).replace("\\", r"\\").replace('"', r"\"") + '"']
         found: List[Union[str, Encoded]] = [f"; {name}*=utf-8''"]
-        found.extend(Encoded(self.charset, part) if isinstance(part, bytes) else written(part) for part in self.parts)
+        for is_text, group in itertools.groupby(self.parts, lambda part: isinstance(part, str)):
+            parts = list(group)
+            data = b"".join(part for part in parts if isinstance(part, bytes))
+            found.append(written("".join(part for part in parts if isinstance(part, str))) if is_text else Encoded(self.charset, data))
         return found
 
 
-def _charset(value: str) -> "tuple[str, str]":
+def _charset(value: str) -> Tuple[str, str]:
     """Returns the charset of a value, and what follows it."""
     pieces = value.split("'", 2)
     return (pieces[0], pieces[2]) if len(pieces) == 3 else ("us-ascii", value)

@@ -43,18 +43,22 @@ def split(value: str, may_join: Callable[[str], bool]) -> List[Union[str, Encode
     """Returns the encoded words of a header, and what is between them. Words that follow each other and have the same charset are one if
     that `may_join`: a character may begin in one and end in the next."""
     pieces: List[Union[str, Encoded]] = []
-    at = 0
+    run: List[bytes] = []
+    charset, at = "", 0
     for found in _WORD.finditer(value):
         data = _data(found[2], found[3])
         if data is None:
             continue
-        between, charset = value[at : found.start()], found[1].partition("*")[0].lower()
-        before = pieces[-1] if pieces else ""
-        if isinstance(before, Encoded) and before.charset == charset and not between.strip() and may_join(charset):
-            pieces[-1] = Encoded(charset, before.data + data)
-        else:
-            pieces.extend((between, Encoded(charset, data)))
-        at = found.end()
+        between, own = value[at : found.start()], found[1].partition("*")[0].lower()
+        if run and (own != charset or between.strip() or not may_join(own)):
+            pieces.append(Encoded(charset, b"".join(run)))
+            run = []
+        if not run:
+            pieces.append(between)
+        run.append(data)
+        charset, at = own, found.end()
+    if run:
+        pieces.append(Encoded(charset, b"".join(run)))
     return [*pieces, value[at:]]
 
 

@@ -45,11 +45,13 @@ class Decoding(NamedTuple):
         return marks.mark_of(encoding)[0] == encoding and encoding != UTF_7 and not is_shifted(encoding)
 
     def steps(self, session: Session, text: Encoded, encoding: Encoding) -> Steps[str]:
-        """Decodes one text."""
+        """Decodes one text, as US-ASCII if a charmap is missing or refused."""
         ordered, begin = marks.without_mark(encoding, text.data)
-        codec = codec_of(text.charset, ordered, self.library)
-        decoded = yield from codec.decode(session, text.data, self.errors, True, begin)
-        return decoded.text
+        try:
+            codec = codec_of(text.charset, ordered, self.library)
+            return (yield from codec.decode(session, text.data, self.errors, True, begin)).text
+        except CharmapRefused:
+            return (yield from self.steps(session, text, US_ASCII))
 
 
 def side_by_side(running: Sequence[Steps[T]]) -> Steps[List[T]]:
@@ -82,12 +84,12 @@ def decode_all(session: Session, texts: Sequence[Encoded], decoding: Decoding) -
     encodings: Dict[str, Encoding] = {}
     for charset in {text.charset for text in texts}:
         encodings[charset] = decoding.encoding(charset)
-        if is_shifted(encodings[charset]):
-            continue
-        try:
-            yield from session.descriptor(Pair(UTF_8, marks.without_mark(encodings[charset], b"")[0]))
-        except CharmapRefused:
-            encodings[charset] = US_ASCII
+        if not is_shifted(encodings[charset]):
+            # Opened once, so that the texts do not wait for each other.
+            try:
+                yield from session.descriptor(Pair(UTF_8, marks.without_mark(encodings[charset], b"")[0]))
+            except CharmapRefused:
+                encodings[charset] = US_ASCII
     running = [decoding.steps(session, text, encodings[text.charset]) for text in texts]
     found: Dict[int, str] = {}
     for place, text in enumerate(texts):

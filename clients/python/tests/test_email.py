@@ -5,6 +5,7 @@ from __future__ import annotations
 import base64
 import codecs
 import contextlib
+import copy
 import email
 import email.policy
 import io
@@ -14,6 +15,7 @@ import textwrap
 import time
 import unittest
 from typing import List, Optional
+from unittest import mock
 
 import mailbox
 from meter import metered
@@ -155,6 +157,14 @@ class Texts(ClientTest):
             message.get_content(errors="strict")
         self.assertEqual(message.get_content(errors="ignore"), "t")
 
+    def test_charmaps_that_are_missing(self) -> None:
+        with mock.patch.dict(os.environ, {"ICONVD_CHARMAPS": "/nowhere"}):
+            for charset in (b"koi8-r", b"iso-2022-jp", b"utf-16"):
+                data = b"Subject: =?%s?q?=C1?= =?%s?q?=C1?=\nContent-Type: text/plain; charset=%s\n\nab\xc1" % (charset, charset, charset)
+                message = parsed(data, self.policy)
+                self.assertEqual(set(str(message["subject"])), {"\ufffd"}, charset)
+                self.assertEqual(message.get_content()[-1], "\ufffd", charset)
+
     def test_characters_that_words_cut(self) -> None:
         """Many mailers cut a text at a number of bytes."""
         for charset, text in (("utf-8", "日本語"), ("gbk", "中文"), ("koi8-r", "да")):
@@ -199,6 +209,12 @@ class Texts(ClientTest):
             message.add_attachment(b"x", maintype="a", subtype="b", filename="é")
         self.assertEqual(re.sub(b"=+[0-9]+==", b"", ours.as_bytes()), re.sub(b"=+[0-9]+==", b"", theirs.as_bytes()))
         self.assertEqual(self.policy.clone(linesep="\r\n").linesep, "\r\n")
+        # Python copies a message with its policy for this.
+        data = b"Content-Type: text/plain; charset=koi8-r\nContent-Transfer-Encoding: 8bit\n\n\xc1\n"
+        seven = [parsed(data, self.policy).as_bytes(policy=self.policy.clone(cte_type="7bit"))]
+        seven.append(email.message_from_bytes(data, policy=email.policy.default).as_bytes(policy=email.policy.default.clone(cte_type="7bit")))
+        self.assertEqual(*seven)
+        self.assertEqual(copy.deepcopy(parsed(data, self.policy)).get_content(), "а\n")
 
     def test_cost(self) -> None:
         """Headers of many words and parameters, and a body of faults, cost few round trips."""

@@ -118,6 +118,7 @@ static const struct name NAMES[] = {
     {"UTF-8", 1},        {"utf8", 1},          {"u8", 1},          {"cp65001", 1},       {"utf_16_be", 1},       {"UTF-8//IGNORE", 1},
     {"", 1},             {"1252", 1},          {"x-cp1252", 1},    {"mac_roman", 1},     {"x-mac-roman", 1},     {"ks_c_5601-1987", 1},
     {"KS_C_5601_1987", 1}, {"koi8_r", 1},      {"iso-ir-9-1", 1},  {"csISOLatin9", 1},   {"unicodefffe", 1},     {"L9", 1},
+    {"iso2022_jp", 1},   {"HZ", 1},            {"hz-gb-2312", 1},  {"csJISEncoding", 1},  {"iso_2022_kr", 1},    {"windows-50221", 1},
     {"iso-ir-91", 0},    {"NOPE", 0},          {"-", 0},           {"8", 0},             {"utf", 1},             {"UTF-8-SIG", 0},
     {"x-user-defined", 0}, {"replacement", 0}, {"rot13", 0},       {"cp720", 0},         {"../../etc/passwd", 0}, {"UCS-2", 0},
 };

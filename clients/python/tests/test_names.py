@@ -9,7 +9,7 @@ import re
 import sys
 import tempfile
 import unittest
-from typing import Set
+from typing import Dict, Set
 from unittest import mock
 
 from support import HERE, ClientTest
@@ -20,8 +20,11 @@ from iconvd import names
 SOURCES = os.path.join(os.path.dirname(os.path.dirname(HERE)), "names")
 sys.path.insert(0, SOURCES)
 
+sys.path.insert(0, os.path.join(os.path.dirname(SOURCES), "c"))
+
 import generate  # noqa: E402
 import labels  # noqa: E402
+import tables  # noqa: E402
 
 #: Hostile names, and names that begin as others do.
 NONE = ["", "-", "no-such-charset", "../../../etc/passwd", "utf-8//IGNORE", "iconvd-utf-8", "x" * 100_000, "é", "8", "iso-ir-9-9", "utf"[:2]]
@@ -68,6 +71,15 @@ class Names(ClientTest):
             self.assertTrue(re.sub("[^a-z0-9]", "_", alias.lower()) in listed, alias)
             for spelling in (alias, alias.upper(), alias.replace("_", "-"), alias.replace("_", "-", 1)):
                 self.assertEqual(iconvd.supports(spelling), iconvd.supports(alias), spelling)
+
+    def test_spellings(self) -> None:
+        """The C library takes the same for a spelling of a name, and no spelling is one of two encodings."""
+        meant: Dict[str, names.Encoding] = {}
+        for name, encoding in names.table().exact.items():
+            spelling = tables.loose(name)
+            self.assertEqual(names.find(spelling), meant.setdefault(spelling, encoding), name)
+            self.assertEqual(meant[spelling], encoding, name)
+            self.assertEqual(names.find("_" + name.lower().replace("-", "_") + " "), encoding, name)
 
     def test_names_of_mail(self) -> None:
         for name in ("utf-8-sig", "1252", "u8", "cp65001", "ks_c_5601_1987", "ks_c_5601-1987", "mac_roman", "x-mac-roman", "x-cp1251", "L9", "x-gbk"):

@@ -119,7 +119,7 @@ static iconvd_status put_planned(struct writer *writer, const struct planned *pl
     iconvd_status status = ICONVD_OK;
     if (planned->kind == MORE)
         return ICONVD_OK;
-    if (writer->out_left == 0)
+    if (writer->out_left < shift_least_room(writer->shifter, &writer->state))
         return ICONVD_E2BIG;
     if (planned->kind == LACKS)
         return ICONVD_ENOCHAR;
@@ -151,7 +151,7 @@ iconvd_status shift_write(struct iconvd_cd *cd, const struct shift_plan *plan, s
                             .out_left = progress->out_left};
     const struct planned *planned = (const struct planned *)(const void *)plan->planned.bytes;
     size_t count = plan->planned.length / sizeof *planned;
-    iconvd_status status = count == 0 || put_header(&writer) ? ICONVD_OK : ICONVD_E2BIG;
+    iconvd_status status = put_header(&writer) ? ICONVD_OK : ICONVD_E2BIG;
     *used = 0;
     for (size_t i = 0; status == ICONVD_OK && i < count; i++) {
         status = put_planned(&writer, &planned[i], count - i, progress);

@@ -267,16 +267,18 @@ iconvd_status shifted_open(struct iconvd_cd *cd, bool to_wide) {
 iconvd_status shifted_reset(struct iconvd_cd *cd, char **out, size_t *out_left) {
     struct shifted *shifted = cd->shifted;
     bool writes = out && *out;
+    iconvd_status status = ICONVD_OK;
     /* The source's side first, which has nothing to write: as in the C library it is reset even where the other one has no room. */
     if (shifted->from)
         shifted->reading = shift_begin(shifted->from, false);
-    if (shifted->to && writes && !shift_end(shifted->to, &shifted->writing, out, out_left))
-        return ICONVD_E2BIG;
-    if (!shifted->from || !shifted->to) {
-        iconvd_status status = iconvd_reset(&shifted->inner, shifted->to ? NULL : out, shifted->to ? NULL : out_left);
-        if (status != ICONVD_OK)
-            return status;
-    }
+    else
+        status = iconvd_reset(&shifted->inner, NULL, NULL);
+    if (!shifted->to)
+        status = iconvd_reset(&shifted->inner, out, out_left);
+    else if (writes && !shift_end(shifted->to, &shifted->writing, out, out_left))
+        status = ICONVD_E2BIG;
+    if (status != ICONVD_OK)
+        return status;
     if (shifted->to)
         shifted->writing = shift_begin(shifted->to, true);
     shifted->stopped = false;

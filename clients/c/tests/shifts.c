@@ -110,9 +110,10 @@ static size_t compare_step(struct passing *passing, uint64_t *state) {
     calls++;
     if (!is_equal(passing, &mine, &other, length, room))
         return 0;
-    /* Behind what is in the way both go on one byte later, or one character of four. */
+    /* Behind what is in the way both go on one unit later. */
     bool wide = strcmp(passing->from, "WCHAR_T") == 0 || strcmp(passing->from, "UTF-32BE") == 0;
-    size_t skip = mine.error == EILSEQ && !passing->ignore ? (wide ? 4 : 1) : 0;
+    size_t unit = wide ? 4 : strncmp(passing->from, "UTF-16", 6) == 0 ? 2 : 1;
+    size_t skip = mine.error == EILSEQ && !passing->ignore ? unit : 0;
     passing->done += mine.used + (mine.used + skip <= length ? skip : 0);
     return mine.used + 1;
 }

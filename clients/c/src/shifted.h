@@ -169,6 +169,10 @@ iconvd_status shift_write(struct iconvd_cd *cd, const struct shift_plan *plan, s
 /* Writes what a text ends with. False: it has no room. */
 bool shift_end(const struct shifter *shifter, struct shift_state *state, char **out, size_t *out_left);
 
+/* The sequences that bring a reader to a state, in SHIFT_SEQUENCES bytes at most, and how many they are. */
+enum { SHIFT_SEQUENCES = 16 };
+size_t shift_spell(const struct shifter *shifter, const struct shift_state *state, char *out);
+
 /* shifted.c: the conversions. */
 
 struct shifted {

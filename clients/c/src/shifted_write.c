@@ -172,3 +172,14 @@ bool shift_end(const struct shifter *shifter, struct shift_state *state, char **
     *out_left = writer.out_left;
     return true;
 }
+
+size_t shift_spell(const struct shifter *shifter, const struct shift_state *state, char *out) {
+    struct writer writer = {.shifter = shifter, .state = shift_begin(shifter, true), .out = out, .out_left = SHIFT_SEQUENCES};
+    if (state->g2 != NO_SET)
+        put_set(&writer, state->g2);
+    if (state->set != shifter->encoding->start)
+        put_set(&writer, state->set);
+    if (state->out)
+        put_set(&writer, state->g1);
+    return SHIFT_SEQUENCES - writer.out_left;
+}

@@ -29,18 +29,23 @@ const struct shifted_sequence *shift_find(const struct shifter *shifter, enum me
     const struct shifted_sequence *found = NULL;
     for (size_t i = 0; i < shifter->encoding->count; i++) {
         const struct shifted_sequence *sequence = &shifter->sequences[i];
-        if (sequence->meaning == meaning && (set == NO_SET || sequence->set == set) && (!found || sequence->order > 0))
+        bool better = !found || (found->order == 0 && sequence->order > 0);
+        if (sequence->meaning == meaning && (set == NO_SET || sequence->set == set) && better)
             found = sequence;
     }
     return found;
 }
 
-struct shift_state shift_begin(const struct shifter *shifter) {
-    const struct shifted_sequence *header = shift_find(shifter, HEADER, NO_SET);
-    return (struct shift_state){.set = shifter->encoding->start,
-                                .g1 = header ? header->set : NO_SET,
-                                .g2 = NO_SET,
-                                .header_due = header != NULL};
+struct shift_state shift_begin(const struct shifter *shifter, bool writes) {
+    const struct shifted_sequence *header = shift_find(shifter, HEADER, NO_SET), *first = shift_find(shifter, G1, NO_SET);
+    struct shift_state state = {.set = shifter->encoding->start, .g1 = NO_SET, .g2 = NO_SET, .header_due = header != NULL};
+    if (header)
+        state.g1 = header->set;
+    if (first && !writes) {
+        state.g1 = first->set;
+        state.g2 = shift_find(shifter, G2, NO_SET)->set;
+    }
+    return state;
 }
 
 /* A row and a cell, counted from 0, as Shift_JIS packs them. */

@@ -119,7 +119,7 @@ static iconvd_status put_planned(struct writer *writer, const struct planned *pl
     iconvd_status status = ICONVD_OK;
     if (planned->kind == MORE)
         return ICONVD_OK;
-    if (writer->out_left == 0)
+    if (writer->out_left < shift_least_room(writer->shifter, &writer->state))
         return ICONVD_E2BIG;
     if (planned->kind == LACKS)
         return ICONVD_ENOCHAR;
@@ -151,7 +151,7 @@ iconvd_status shift_write(struct iconvd_cd *cd, const struct shift_plan *plan, s
                             .out_left = progress->out_left};
     const struct planned *planned = (const struct planned *)(const void *)plan->planned.bytes;
     size_t count = plan->planned.length / sizeof *planned;
-    iconvd_status status = count == 0 || put_header(&writer) ? ICONVD_OK : ICONVD_E2BIG;
+    iconvd_status status = put_header(&writer) ? ICONVD_OK : ICONVD_E2BIG;
     *used = 0;
     for (size_t i = 0; status == ICONVD_OK && i < count; i++) {
         status = put_planned(&writer, &planned[i], count - i, progress);
@@ -171,4 +171,15 @@ bool shift_end(const struct shifter *shifter, struct shift_state *state, char **
     *out = writer.out;
     *out_left = writer.out_left;
     return true;
+}
+
+size_t shift_spell(const struct shifter *shifter, const struct shift_state *state, char *out) {
+    struct writer writer = {.shifter = shifter, .state = shift_begin(shifter, true), .out = out, .out_left = SHIFT_SEQUENCES};
+    if (state->g2 != NO_SET)
+        put_set(&writer, state->g2);
+    if (state->set != shifter->encoding->start)
+        put_set(&writer, state->set);
+    if (state->out)
+        put_set(&writer, state->g1);
+    return SHIFT_SEQUENCES - writer.out_left;
 }

@@ -8,7 +8,7 @@ from __future__ import annotations
 
 import functools
 import re
-from typing import Dict, Iterator, List, NamedTuple, Optional, Set, Tuple
+from typing import Dict, Iterator, List, Mapping, NamedTuple, Optional, Set, Tuple
 
 from . import names
 from .mappings import Range
@@ -33,6 +33,17 @@ class SetRow(NamedTuple):
     #: What that encoding has before the code.
     before: bytes
     how: str
+    #: Whether it has codes of two characters.
+    composes: bool = False
+
+
+class Exceptions(NamedTuple):
+    """What CPython's codecs read and write otherwise than the charmap."""
+
+    #: Codes with their character, or with nothing if they are not read.
+    read: Dict[bytes, str]
+    #: Characters with their code.
+    written: Dict[str, bytes]
 
 
 @functools.lru_cache(maxsize=None)
@@ -41,16 +52,22 @@ def rows() -> Dict[str, SetRow]:
     found = {}
     for name, by, width, before, how, *_ in read_rows("shifted_sets.tsv"):
         found[name] = SetRow(name, names.find(by), int(width), bytes.fromhex(before.replace("-", "")), how)
+    for name, file, width, before, how in read_rows("shifted_composing_sets.tsv"):
+        found[name] = SetRow(name, Encoding(True, file), int(width), bytes.fromhex(before.replace("-", "")), how, True)
     return found
 
 
 @functools.lru_cache(maxsize=None)
-def exceptions() -> Dict[str, Dict[bytes, str]]:
-    """Returns by the name of the set the codes that CPython's codecs read otherwise than the charmap: with their character, or with
-    none. They are not written."""
-    found: Dict[str, Dict[bytes, str]] = {}
-    for name, code, point, *_ in read_rows("shifted_codes.tsv"):
-        found.setdefault(name, {})[bytes.fromhex(code)] = "" if point == "-" else chr(int(point, 16))
+def _exceptions() -> Dict[str, Exceptions]:
+    """Returns the exceptions by the name of the set."""
+    found: Dict[str, Exceptions] = {}
+    for name, digits, point, way, *_ in read_rows("shifted_codes.tsv"):
+        of_set = found.setdefault(name, Exceptions({}, {}))
+        code, character = bytes.fromhex(digits), "" if point == "-" else chr(int(point, 16))
+        if way != "write":
+            of_set.read[code] = character
+        if way != "read":
+            of_set.written[character] = code
     return found
 
 
@@ -69,12 +86,16 @@ def _packed() -> Dict[bytes, bytes]:
 class CodedSet:
     """A coded character set: which codes and which characters it has, and how its codes become those of the other encoding."""
 
-    def __init__(self, row: SetRow, ranges: List[Range]) -> None:
-        """`ranges` are the mappings of the other encoding."""
+    def __init__(self, row: SetRow, ranges: List[Range], pairs: Mapping[bytes, str]) -> None:
+        """`ranges` are the mappings of the other encoding, and `pairs` its codes of two characters."""
         self.row = row
         self.width = row.width
-        #: The codes that CPython reads otherwise, with their character.
-        self.other = exceptions().get(row.name, {})
+        exceptions = _exceptions().get(row.name, Exceptions({}, {}))
+        own_pairs = {own: pair for own, pair in ((self._own(code), pair) for code, pair in pairs.items()) if own}
+        #: Codes that the service does not read, or that CPython reads otherwise, with their characters.
+        self.read = {**exceptions.read, **own_pairs}
+        #: Such characters that are written, with their code.
+        self.written = {**exceptions.written, **{pair: own for own, pair in own_pairs.items()}}
         #: Characters that the service has converted, with their codes. So short pieces of text cost no request.
         self.known: Dict[str, bytes] = {}
         self._unpacked: Dict[bytes, bytes] = {}
@@ -91,7 +112,7 @@ class CodedSet:
             own = self._own(code)
             if own is None:
                 written.setdefault(point, code)
-            elif own not in self.other:
+            elif own not in self.read:
                 self._codes.setdefault(own[:-1], set()).add(own[-1])
                 if point > 0x7F:
                     self.points.add(point)
@@ -179,7 +200,7 @@ def _class(some: bytes) -> bytes:
 
 def characters(points: Set[int]) -> str:
     """Returns the pattern of one of some characters."""
-    return "[%s]" % "".join(f"{re.escape(chr(first))}-{re.escape(chr(last))}" for first, last in _spans(points)) if points else "(?!)"
+    return "[%s]" % "".join(f"{re.escape(chr(first))}-{re.escape(chr(last))}" for first, last in _spans(points)) if points else "[^\0-\U0010ffff]"
 
 
 def _spans(points: Set[int]) -> Iterator[Tuple[int, int]]:

@@ -106,9 +106,13 @@ class Framing:
         """Reads from `at` on, up to a fault or the end, but not much more than a window."""
         raise NotImplementedError
 
-    def write(self, state: State, text: str, at: int, parts: ByteParts) -> Stop:
-        """Writes from `at` on, up to a character that the encoding lacks or the end, but not much more than a window."""
+    def write(self, state: State, text: str, at: int, end: int, parts: ByteParts) -> Stop:
+        """Writes from `at` on, up to a character that the encoding lacks or `end`, but not much more than a window."""
         raise NotImplementedError
+
+    def held(self, text: str) -> int:
+        """Returns how many characters at the end of a piece have to wait for the next one, with which they may have one code."""
+        return 0
 
     def close(self, state: State) -> bytes:
         """Returns what ends a text that is written, and changes the state to that of ASCII."""

@@ -6,9 +6,10 @@ import functools
 from typing import Callable, Dict, List, NamedTuple
 
 from .coded_sets import CodedSet
+from .designations import Designation
 from .framing import Framing
 from .hz import Hz
-from .iso2022 import Designation, Iso2022
+from .iso2022 import Iso2022
 from .tables import read_rows
 
 _PLACES = {"use": 0, "header": 1, "g1": 1, "g2": 2}
@@ -30,7 +31,7 @@ class _Row(NamedTuple):
 def _table() -> Dict[str, List[_Row]]:
     """Returns the rows of each encoding."""
     found: Dict[str, List[_Row]] = {}
-    for encoding, *row in read_rows("shifted_encodings.tsv"):
+    for encoding, *row in read_rows("shifted_encodings.tsv") + read_rows("shifted_composing_encodings.tsv"):
         found.setdefault(encoding, []).append(_Row(*row))
     return found
 

@@ -64,10 +64,11 @@ class Hz(Framing):
 
     # ---- writing
 
-    def write(self, state: State, text: str, at: int, parts: ByteParts) -> Stop:
+    def write(self, state: State, text: str, at: int, end: int, parts: ByteParts) -> Stop:
         if self._pattern is None:
             self._pattern = re.compile(f"([\0-\x7f]+)|({characters(self._find().points)}+)|(.)", re.S)
-        for found in self._pattern.finditer(text, at, at + WINDOW):
+        limit = min(end, at + WINDOW)
+        for found in self._pattern.finditer(text, at, limit):
             if found.lastindex == 3:
                 return Stop(found.start(), 1)
             if found.lastindex == 1:
@@ -76,7 +77,7 @@ class Hz(Framing):
             parts.add(b"" if state.marks[0] else _INTO)
             state.marks[0] = 1
             parts.add_characters(self._find(), found[0])
-        return Stop(min(len(text), at + WINDOW))
+        return Stop(limit)
 
     def close(self, state: State) -> bytes:
         written = _BACK if state.marks[0] else b""

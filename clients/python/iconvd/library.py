@@ -159,11 +159,12 @@ class Library:
         """Returns a coded character set, from the charmap of the encoding that converts it. Raises CharmapRefused."""
         found = self._sets.get(name)
         if found is None:
-            row = coded_sets.rows()[name]
-            if row.encoding.is_charmap:
-                charmap = self.get(row.encoding.name)
-                ranges = mappings.ranges(charmap.body(), charmap.escape)
-            else:
-                ranges = [(0, 256, 0, 1)]
-            found = self._sets[name] = CodedSet(row, ranges)
+            found = self._sets[name] = self._make_set(coded_sets.rows()[name])
         return found
+
+    def _make_set(self, row: coded_sets.SetRow) -> CodedSet:
+        if not row.encoding.is_charmap:
+            return CodedSet(row, [(0, 256, 0, 1)], {})
+        charmap = self.get(row.encoding.name)
+        pairs = mappings.pairs(charmaps.read_file(row.encoding.name), charmap.escape) if row.composes else {}
+        return CodedSet(row, mappings.ranges(charmap.body(), charmap.escape), pairs)

@@ -70,6 +70,8 @@ def read_table(lines: List[str]) -> Table:
         name, kind, target = line.rstrip("\n").split("\t")
         if target not in _LEFT_OUT:
             exact.setdefault(name, Encoding(kind == "charmap", target))
+    for target, name, meaning, *_ in read_rows("shifted_composing_encodings.tsv"):
+        exact.setdefault(name if meaning == "name" else target, Encoding(False, target))
     loose: Dict[str, Encoding] = {}
     for name, encoding in exact.items():
         loose.setdefault(_loose(name), encoding)
@@ -79,7 +81,7 @@ def read_table(lines: List[str]) -> Table:
 @functools.lru_cache(maxsize=None)
 def _shifted() -> FrozenSet[str]:
     """Returns the encodings with escapes or shifts."""
-    return frozenset(row[0] for row in read_rows("shifted_encodings.tsv"))
+    return frozenset(row[0] for row in read_rows("shifted_encodings.tsv") + read_rows("shifted_composing_encodings.tsv"))
 
 
 def is_shifted(encoding: Encoding) -> bool:

@@ -72,15 +72,24 @@ class Encoder:
         self._known_errors = ""
 
     def encode(self, characters: str, errors: str) -> bytes:
-        """Returns the bytes of a text."""
-        output = self._client.run(lambda session: self._codec.encode(session, characters, errors))
+        """Returns the bytes of a text. See `finish`."""
+        codec = self._codec
+        if isinstance(codec, SetCodec):
+            encode_piece = codec.encode_piece
+            output = self._client.run(lambda session: encode_piece(session, characters, errors, False))
+        else:
+            output = self._client.run(lambda session: codec.encode(session, characters, errors))
         mark = b"" if self.is_started else self._mark
         self.is_started = True
         return mark + output
 
     def finish(self) -> bytes:
-        """Returns what ends the text: the escape or shift back to ASCII, if the encoding has any."""
-        return self._codec.finish()
+        """Returns what ends the text: a character that was held, and the escape or shift back to ASCII, if the encoding has any."""
+        codec = self._codec
+        if not isinstance(codec, SetCodec):
+            return b""
+        encode_piece = codec.encode_piece
+        return self._client.run(lambda session: encode_piece(session, "", "strict", True))
 
     def encode_piece(self, characters: str, errors: str) -> bytes:
         """Returns the bytes of the next piece of a text. In short pieces each character costs one request in all. So a text file

@@ -12,8 +12,7 @@ from .client import Client
 from .names import Encoding
 from .set_text import SetCodec
 
-#: The lowest byte of an encoder's number is how many bytes of a held character follow. Then G0, G1, and no G2.
-_HELD = 8
+#: The lowest byte of an encoder's number is how many bytes of a held character follow it. Then come the marks, without that of G2.
 _NO_G2 = ~(0xFF << 16)
 
 
@@ -32,8 +31,7 @@ class _Texts:
 
     def encode(self, codec: SetCodec, text: str, errors: str, is_end: bool) -> bytes:
         """Returns the bytes of the next piece, and what ends the text."""
-        encoded = self._client().run(lambda session: codec.encode(session, text, errors))
-        return encoded + codec.finish() if is_end else encoded
+        return self._client().run(lambda session: codec.encode_piece(session, text, errors, is_end))
 
     def decode(self, codec: SetCodec, data: bytes, errors: str, is_end: bool) -> Tuple[str, int]:
         """Returns the text of the next bytes, and how many were used."""
@@ -82,12 +80,17 @@ class SetIncrementalEncoder(codecs.IncrementalEncoder):
 
     def reset(self) -> None:
         self._codec.finish()
+        self._codec.held = ""
 
     def getstate(self) -> int:
-        return (self._codec.number & _NO_G2) << _HELD
+        held = self._codec.held.encode("utf-8")
+        number = self._codec.number & _NO_G2
+        return number << 8 * (1 + len(held)) | int.from_bytes(held, "little") << 8 | len(held)
 
     def setstate(self, state: int) -> None:  # type: ignore[override]
-        self._codec.number = state >> _HELD * (1 + (state & 0xFF))
+        size = state & 0xFF
+        self._codec.held = (state >> 8 & (1 << 8 * size) - 1).to_bytes(size, "little").decode("utf-8")
+        self._codec.number = state >> 8 * (1 + size)
 
 
 class SetIncrementalDecoder(codecs.IncrementalDecoder):
@@ -127,6 +130,11 @@ class SetStreamWriter(codecs.StreamWriter):
     def writelines(self, list: Iterable[str]) -> None:
         for line in list:
             self.write(line)
+
+    # As in CPython, it ends the text only if a character is held.
+    def reset(self) -> None:
+        if self._codec.held:
+            self.stream.write(self.texts.encode(self._codec, "", self.errors, True))
 
 
 class SetStreamReader(codecs.StreamReader):

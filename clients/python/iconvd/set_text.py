@@ -7,7 +7,7 @@ from __future__ import annotations
 
 import codecs
 import re
-from typing import Dict, List, Union
+from typing import Dict, List, Optional, Union
 
 from . import steps
 from .coded_sets import CodedSet
@@ -37,6 +37,8 @@ class SetCodec:
         self._library = library
         self._framing: Framing = library.framing(encoding)
         self._state: State = self._framing.start()
+        #: A character at the end of the last piece that is not written yet.
+        self.held = ""
         #: Whether bytes are left unused after a fault at the end of the text, as by CPython's decoders of pieces.
         self.stops_at_end = False
         #: Whether the last call ended at a code that the end of the text cuts.
@@ -113,15 +115,24 @@ class SetCodec:
 
     # ---- encoding
 
-    def encode(self, session: Session, text: str, errors: str, at: int = 0) -> Steps[bytes]:
-        """Encodes the characters from `at` on. See `finish`."""
+    def encode_piece(self, session: Session, text: str, errors: str, is_end: bool) -> Steps[bytes]:
+        """Encodes the next piece of a text, and what ends the text. The first of two characters that may have one code is held."""
+        whole = self.held + text
+        end = len(whole) if is_end else len(whole) - self._framing.held(whole)
+        encoded = yield from self.encode(session, whole, errors, 0, end)
+        self.held = whole[end:]
+        return encoded + self.finish() if is_end else encoded
+
+    def encode(self, session: Session, text: str, errors: str, at: int = 0, end: Optional[int] = None) -> Steps[bytes]:
+        """Encodes the characters from `at` on, up to `end` or the end. See `finish`."""
         state = self._state.copy()
         pieces: List[bytes] = []
-        while at < len(text):
+        end = len(text) if end is None else end
+        while at < end:
             parts = ByteParts()
             begin = at
-            while 0 <= at - begin < WINDOW and at < len(text):
-                stop = self._framing.write(state, text, at, parts)
+            while 0 <= at - begin < WINDOW and at < end:
+                stop = self._framing.write(state, text, at, end, parts)
                 at = self._put_in(state, text, stop, errors, parts) if stop.size else stop.at
             pieces.append((yield from self._encoded(session, parts)))
         self._state = state
@@ -130,7 +141,7 @@ class SetCodec:
     def _put_in(self, state: State, text: str, stop: Stop, errors: str, parts: ByteParts) -> int:
         """Adds what the error handler gives for a character that the encoding lacks. Returns where the text goes on."""
         if errors == "replace":
-            self._framing.write(state, "?", 0, parts)
+            self._framing.write(state, "?", 0, 1, parts)
         if errors in ("ignore", "replace"):
             return stop.at + 1
         error = UnicodeEncodeError(self._error_name, text, stop.at, stop.at + 1, _ILLEGAL)
@@ -149,7 +160,7 @@ class SetCodec:
         """Adds the text of an error handler, whose faults are faults of that text."""
         at = 0
         while at < len(text):
-            stop = self._framing.write(state, text, at, parts)
+            stop = self._framing.write(state, text, at, len(text), parts)
             if stop.size:
                 raise UnicodeEncodeError(self._error_name, text, stop.at, stop.at + 1, _ILLEGAL)
             at = stop.at

@@ -7,8 +7,12 @@ from collections.abc import Callable, Iterator
 from typing import NamedTuple
 
 LABELS = os.path.join(os.path.dirname(os.path.abspath(__file__)), 'labels.tsv')
-#: Encodings that the Python package makes of others, with their kind and target.
-PYTHON_OWN = {'UTF-8-SIG': ('builtin', 'UTF-8-SIG')}
+#: Encodings that only the Python package has, as CPython, with their kind and target.
+PYTHON_OWN = {
+    'UTF-8-SIG': ('builtin', 'UTF-8-SIG'),
+    'ISO-2022-JP-3': ('shifted', 'ISO-2022-JP-3'),
+    'ISO-2022-JP-2004': ('shifted', 'ISO-2022-JP-2004'),
+}
 #: Encodings that only the C library has, as glibc: CPython has none of the kind.
 C_ALONE = {'ISO-2022-CN'}
 

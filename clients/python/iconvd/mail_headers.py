@@ -47,13 +47,14 @@ class Texts:
 
     def words(self, words: Sequence[Encoded]) -> Iterator[str]:
         """Decodes the words of a header, most of which are asked for again."""
-        new = [word for word in words if word not in self._kept]
-        found = dict(zip(new, self.decode(new)))
-        for word in words:
-            yield found[word] if word in found else self._kept[word]
-        if len(self._kept) > _MAX_KEPT:
+        found = {word: self._kept.get(word) for word in words}
+        new = [word for word, text in found.items() if text is None]
+        found.update(zip(new, self.decode(new)))
+        if len(self._kept) + len(new) > _MAX_KEPT:
             self._kept.clear()
-        self._kept.update((word, text) for word, text in found.items() if len(word.data) <= _MAX_KEPT_BYTES)
+        if len(new) <= _MAX_KEPT:
+            self._kept.update((word, found[word] or "") for word in new if len(word.data) <= _MAX_KEPT_BYTES)
+        return iter([found[word] or "" for word in words])
 
 
 class Headers(HeaderRegistry):

@@ -232,6 +232,10 @@ class Texts(ClientTest):
                 message[name]
                 self.assertEqual(meter.excess(len(data)), [], name)
                 self.assertLess(time.monotonic() - began, 30)
+            message = parsed(b"Subject: =?koi8-r?q?=C1?=\nContent-Disposition: attachment; filename*=koi8-r''%C2\n\n", policy)
+            self.assertEqual((message["subject"], message.get_filename()), ("а", "б"))
+            meter.reset()
+            self.assertEqual((message["subject"], message.get_filename(), meter.trips), ("а", "б", 0))
             message = parsed(b"Content-Type: text/plain; charset=koi8-r\n\n" + b"\xc1\xff" * 50_000, policy)
             meter.reset()
             self.assertEqual(message.get_content(), "аЪ" * 50_000)

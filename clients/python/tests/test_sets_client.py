@@ -13,7 +13,7 @@ from support import SERVER, ClientTest
 import iconvd
 from iconvd import names
 
-ENCODINGS = ["ISO-2022-JP", "ISO-2022-JP-1", "ISO-2022-JP-2", "ISO-2022-JP-EXT", "ISO-2022-KR", "HZ", "CP50221"]
+ENCODINGS = ["ISO-2022-JP", "ISO-2022-JP-3", "ISO-2022-JP-2004", "ISO-2022-JP-1", "ISO-2022-JP-2", "ISO-2022-JP-EXT", "ISO-2022-KR", "HZ", "CP50221"]
 
 
 class Calls(ClientTest):

@@ -89,9 +89,12 @@ class Shifted:
         self.flags: set[str] = set()
         self.sequences: list[tuple[str, str, int, int]] = []
         self.start = 0
+        self.room = 255
         for sequence, meaning, argument, how in rows:
             if meaning == 'start':
                 self.start = sets.index(argument)
+            elif meaning == 'room':
+                self.room = sets.index(argument)
             elif meaning in ('pairs', 'strict', 'ascii'):
                 self.flags.add(meaning)
             elif how != '-' and meaning != 'name':
@@ -105,8 +108,8 @@ class Shifted:
             if meaning != 'LINE':
                 begins[int(sequence[:2], 16) // 32] |= 1 << int(sequence[:2], 16) % 32
         by_escapes = any(sequence.startswith('1B') and meaning == 'USE' for sequence, meaning, _, _ in self.sequences)
-        return '    {%d, %d, %d, %s, %d, {%s}},' % (
-            first, len(self.sequences), self.start, ', '.join(str(int(flag in self.flags)) for flag in ('pairs', 'strict', 'ascii')),
+        return '    {%d, %d, %d, %d, %s, %d, {%s}},' % (
+            first, len(self.sequences), self.start, self.room, ', '.join(str(int(flag in self.flags)) for flag in ('pairs', 'strict', 'ascii')),
             3 if by_escapes else 0, ', '.join('0x%XU' % word for word in begins))
 
 

@@ -1,7 +1,7 @@
 /* Conversions from and to encodings with shifts.
  *
  * A piece of the source is brought to UTF-16BE, and from there to the target. Where the target stops before the end of the piece, the
- * source is read again, up to the character that was the last. So both sides stop at the same place, with the states that they had there. */
+ * source is read again, up to the character that was the last. So both sides stop at the same place, each with its state there. */
 #include "shifted.h"
 
 /* PIECE is how much of the source is taken at once. AFTER_STOP is how much is taken first where a text has just stopped. */
@@ -76,20 +76,42 @@ static iconvd_status go_back(struct iconvd_cd *cd, const struct progress *progre
     *inner = piece->inner;
     inner->ahead = SIZE_MAX;
     piece->end = (struct progress){.in = progress->in, .in_left = piece->length, .out = piece->units.bytes, .out_left = used};
-    if (used == 0)
-        return mark_read(inner, &piece->end);
     iconvd_status status = convert_part(inner, &piece->end);
     return status == ICONVD_E2BIG || piece->end.out_left == 0 ? ICONVD_OK : status;
 }
 
-/* Moves on by the source of a piece. */
-static void move_on(struct iconvd_cd *cd, struct progress *progress, const struct piece *piece) {
-    const char *in = cd->shifted->from ? piece->reading.in : piece->end.in;
-    progress->skipped += cd->shifted->from ? piece->reading.faults : piece->end.skipped;
-    progress->in_left -= (size_t)(in - progress->in);
-    progress->in = in;
+/* Moves to a place of the source. */
+static void move_to(struct iconvd_cd *cd, struct progress *progress, const struct shift_place *place) {
+    progress->skipped += place->faults;
+    progress->in_left -= (size_t)(place->in - progress->in);
+    progress->in = place->in;
     if (cd->shifted->from)
-        cd->shifted->reading = piece->reading.state;
+        cd->shifted->reading = place->state;
+}
+
+/* Moves on by the source of a piece, and notes where that was after its last character. */
+static void move_on(struct iconvd_cd *cd, struct progress *progress, const struct piece *piece) {
+    const struct shift_reading *reading = &piece->reading;
+    const struct progress *end = &piece->end;
+    struct shift_place now = {.in = end->in, .faults = end->skipped};
+    struct shift_place last = {.in = end->in - end->loose, .faults = end->skipped - end->loose_faults};
+    if (cd->shifted->from) {
+        now = (struct shift_place){.state = reading->state, .in = reading->in, .faults = reading->faults};
+        last = reading->last;
+    }
+    if (piece->units.length > 0) {
+        cd->shifted->last = last;
+        cd->shifted->last.faults += progress->skipped;
+    }
+    move_to(cd, progress, &now);
+}
+
+/* Goes back to where the call was after its last character: sequences and faults after that are read again by the next one. */
+static void move_back(struct iconvd_cd *cd, struct progress *progress, const struct piece *piece) {
+    if (!cd->shifted->from)
+        cd->shifted->inner = piece->inner;
+    progress->skipped = 0;
+    move_to(cd, progress, &cd->shifted->last);
 }
 
 /* Brings a piece to a target with shifts. */
@@ -134,6 +156,10 @@ static iconvd_status put_piece(struct iconvd_cd *cd, struct progress *progress, 
         status = cd->shifted->to ? put_shifted(cd, piece, progress, &used) : put_plain(cd, piece, progress, &used);
     if (status == ICONVD_ENOCHAR)
         note_lacking(cd->shifted, piece, used);
+    if (used == 0 && status != ICONVD_OK) {
+        move_back(cd, progress, piece);
+        return status;
+    }
     if (used < piece->units.length) {
         iconvd_status back = go_back(cd, &before, piece, used);
         if (back != ICONVD_OK) {
@@ -160,13 +186,27 @@ static iconvd_status convert_one(struct iconvd_cd *cd, struct progress *progress
     return status;
 }
 
+/* What is done before the first piece of a call. */
+static iconvd_status begin(struct iconvd_cd *cd, struct progress *progress) {
+    struct shift_plan none = {.planned = {.bytes = NULL}};
+    iconvd_status status = cd->shifted->from ? ICONVD_OK : mark_read(&cd->shifted->inner, progress);
+    size_t used;
+    /* Without a step between, the header does not wait for a character. */
+    if (cd->from_wide && progress->in_left > 0)
+        status = shift_write(cd, &none, progress, &used);
+    cd->shifted->last = (struct shift_place){.state = cd->shifted->reading, .in = progress->in};
+    return status;
+}
+
 iconvd_status shifted_convert(struct iconvd_cd *cd, struct progress *progress) {
-    iconvd_status status = ICONVD_OK;
+    iconvd_status status = begin(cd, progress);
     size_t most = cd->shifted->stopped ? AFTER_STOP : input_for_room(PIECE, progress->out_left);
     while (status == ICONVD_OK && progress->in_left > 0) {
         status = convert_one(cd, progress, progress->in_left < most ? progress->in_left : most);
         most = PIECE;
     }
+    if (status == ICONVD_EILSEQ && cd->from_wide && progress->out_left < shift_least_room(cd->shifted->to, &cd->shifted->writing))
+        status = ICONVD_E2BIG;
     cd->shifted->stopped = status == ICONVD_ENOCHAR || status == ICONVD_EILSEQ;
     return status;
 }
@@ -206,9 +246,9 @@ iconvd_status shifted_open(struct iconvd_cd *cd, bool to_wide) {
     if (status != ICONVD_OK)
         return status;
     if (shifted->from)
-        shifted->reading = shift_begin(shifted->from);
+        shifted->reading = shift_begin(shifted->from, false);
     if (shifted->to)
-        shifted->writing = shift_begin(shifted->to);
+        shifted->writing = shift_begin(shifted->to, true);
     if (shifted->from && shifted->to)
         return ICONVD_OK;
     /* What is left of UTF-7 at a stop means something to its descriptor alone: it cannot be read again. */
@@ -227,17 +267,20 @@ iconvd_status shifted_open(struct iconvd_cd *cd, bool to_wide) {
 iconvd_status shifted_reset(struct iconvd_cd *cd, char **out, size_t *out_left) {
     struct shifted *shifted = cd->shifted;
     bool writes = out && *out;
-    if (shifted->to && writes && !shift_end(shifted->to, &shifted->writing, out, out_left))
-        return ICONVD_E2BIG;
-    if (!shifted->from || !shifted->to) {
-        iconvd_status status = iconvd_reset(&shifted->inner, shifted->to ? NULL : out, shifted->to ? NULL : out_left);
-        if (status != ICONVD_OK)
-            return status;
-    }
+    iconvd_status status = ICONVD_OK;
+    /* The source's side first, which has nothing to write: as in the C library it is reset even where the other one has no room. */
     if (shifted->from)
-        shifted->reading = shift_begin(shifted->from);
+        shifted->reading = shift_begin(shifted->from, false);
+    else
+        status = iconvd_reset(&shifted->inner, NULL, NULL);
+    if (!shifted->to)
+        status = iconvd_reset(&shifted->inner, out, out_left);
+    else if (writes && !shift_end(shifted->to, &shifted->writing, out, out_left))
+        status = ICONVD_E2BIG;
+    if (status != ICONVD_OK)
+        return status;
     if (shifted->to)
-        shifted->writing = shift_begin(shifted->to);
+        shifted->writing = shift_begin(shifted->to, true);
     shifted->stopped = false;
     return ICONVD_OK;
 }

@@ -22,7 +22,7 @@ struct shifted_set {
 };
 
 /* What a sequence means; clients/names/shifted_encodings.tsv explains each. */
-enum meaning { USE, G1, HEADER, G2, OUT, IN, SINGLE, LINE, ITSELF, NOTHING };
+enum meaning { USE, G1, HEADER, G2, OUT, IN, SINGLE, LINE, ITSELF, NOTHING, MEANINGS };
 
 struct shifted_sequence {
     unsigned char bytes[4];
@@ -35,6 +35,7 @@ struct shifted_sequence {
 struct shifted_encoding {
     unsigned char first, count; /* of its sequences */
     unsigned char start;        /* the set in use at first */
+    unsigned char room_first;   /* while this set is in use, there has to be room for a code before a character is looked at */
     bool pairs, strict, ascii;
     unsigned char least_escape; /* how many bytes an escape has at least; fewer are cut off, whatever they are */
     uint32_t begins[8];         /* a bit for each byte that begins a sequence */
@@ -54,6 +55,10 @@ struct set_map {
 struct shifter {
     const struct shifted_encoding *encoding;
     const struct shifted_sequence *sequences;
+    const struct shifted_sequence *ways[SETS];   /* the one that brings each set into use; NULL: none has to */
+    const struct shifted_sequence *of[MEANINGS]; /* the first one of each meaning; NULL: there is none */
+    unsigned char order[SETS];                   /* the sets in which they are tried when a character is written */
+    size_t order_count;
     const struct set_map *maps[SETS];
     unsigned char group_of[SETS];    /* sets of one encoding of the service are converted together; DIRECT: by arithmetic alone */
     struct encoding *groups[GROUPS];
@@ -72,15 +77,20 @@ struct shift_state {
 const struct shifted_encoding *shifted_encoding(size_t number);
 const struct shifted_set *shifted_set(size_t number);
 const struct shifted_sequence *shifted_sequences(const struct shifted_encoding *encoding);
-struct shift_state shift_begin(const struct shifter *shifter);
+struct shift_state shift_begin(const struct shifter *shifter, bool writes);
 
 /* The set in use. */
 static inline unsigned char shift_set(const struct shift_state *state) {
     return state->out ? state->g1 : state->set;
 }
 
-/* The sequence of a meaning, and of a set unless that is NO_SET; one that is written where there are more. NULL: there is none. */
-const struct shifted_sequence *shift_find(const struct shifter *shifter, enum meaning meaning, unsigned char set);
+/* How much room there has to be before a character is looked at. */
+static inline size_t shift_least_room(const struct shifter *shifter, const struct shift_state *state) {
+    return shift_set(state) == shifter->encoding->room_first ? 2 : 1;
+}
+
+/* Finds the sequences of an encoding. */
+void shift_sequences(struct shifter *shifter);
 
 /* The bytes by which the service's encoding has a code of a set, and how many; 0: no code has these bytes. */
 size_t set_to_service(const struct shifted_set *set, const unsigned char *code, unsigned char *bytes);
@@ -104,6 +114,13 @@ struct shift_text {
 };
 void shift_text_free(struct shift_text *text);
 
+/* Where reading was after the last character. */
+struct shift_place {
+    struct shift_state state;
+    const char *in;
+    size_t faults;
+};
+
 /* How far a text has been read. */
 struct shift_reading {
     const struct shifter *shifter;
@@ -113,6 +130,7 @@ struct shift_reading {
     size_t left;
     size_t characters;
     size_t faults; /* that were passed over */
+    struct shift_place last;
 };
 
 /* Reads up to `most` characters, and stops after the last one. Without `text` they are passed over. OK: all is used, or there are as many.
@@ -155,6 +173,10 @@ iconvd_status shift_write(struct iconvd_cd *cd, const struct shift_plan *plan, s
 /* Writes what a text ends with. False: it has no room. */
 bool shift_end(const struct shifter *shifter, struct shift_state *state, char **out, size_t *out_left);
 
+/* The sequences that bring a reader to a state, in SHIFT_SEQUENCES bytes at most, and how many they are. */
+enum { SHIFT_SEQUENCES = 16 };
+size_t shift_spell(const struct shifter *shifter, const struct shift_state *state, char *out);
+
 /* shifted.c: the conversions. */
 
 struct shifted {
@@ -163,6 +185,7 @@ struct shifted {
     bool to_wide;              /* the target is WCHAR_T, which the C library converts to without a step between */
     bool stopped;              /* the last call stopped at what is in the way: there may be more of it */
     struct iconvd_cd inner;    /* from or to UTF-16BE on the other side, unless both have shifts */
+    struct shift_place last;   /* where this call was after the last character; its faults are what progress counts as skipped */
     uint32_t lacking;          /* the character that has stopped the last call, and its length in the source */
     size_t lacking_length;
 };

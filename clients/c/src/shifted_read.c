@@ -32,7 +32,7 @@ static struct item code_at(const struct shifter *shifter, unsigned char number, 
     return item;
 }
 
-/* One code after a single shift. All of it is skipped where a well-formed code is no character. */
+/* One code after a single shift. As in the C library, a fault is all of it where it has one byte, and else the shift. */
 static struct item single_at(const struct shifter *shifter, unsigned char number, const unsigned char *in, size_t left, size_t shift) {
     if (number == NO_SET)
         return A_FAULT;
@@ -41,7 +41,8 @@ static struct item single_at(const struct shifter *shifter, unsigned char number
     struct item item = code_at(shifter, number, in + shift, left - shift);
     if (shifter->maps[number]->codes && shifted_set(number)->bytes == 1 && (in[shift] < 0x20 || in[shift] >= 0x80))
         return A_FAULT;
-    item.length = shift + shifted_set(number)->bytes;
+    bool is_half = item.kind == FAULT && shifted_set(number)->bytes > 1;
+    item.length = is_half ? shift : shift + shifted_set(number)->bytes;
     return item;
 }
 
@@ -134,6 +135,8 @@ static void pass(struct shift_reading *reading, size_t length, size_t characters
     reading->in += length;
     reading->left -= length;
     reading->characters += characters;
+    if (characters > 0)
+        reading->last = (struct shift_place){.state = reading->state, .in = reading->in, .faults = reading->faults};
 }
 
 iconvd_status shift_read(struct shift_reading *reading, size_t most, struct shift_text *text) {

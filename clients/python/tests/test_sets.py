@@ -15,10 +15,11 @@ import iconvd
 #: The encodings that CPython has too.
 NAMES = ["iso2022_jp", "iso2022_jp_1", "iso2022_jp_2", "iso2022_jp_3", "iso2022_jp_2004", "iso2022_jp_ext", "iso2022_kr", "hz"]
 PIECES = [
-    b"\x1b$B", b"\x1b$@", b"\x1b(B", b"\x1b(J", b"\x1b(I", b"\x1b$(D", b"\x1b$(C", b"\x1b$A", b"\x1b$(A", b"\x1b$)C", b"\x1b.A", b"\x1b.F",
-    b"\x1bN", b"\x1b&@\x1b$B", b"\x1b$", b"\x1b(", b"\x1b", b"\x1b[0m", b"\x1b((((((((((((((((", b"\x1b)J", b"\x1b(A", b"\x1b(((\x1b$B", b"&@",
-    b"\x0e", b"\x0f", b"\n", b"\t", b"\0", b" ", b"\x7f", b"~{", b"~}", b"~~", b"~\n", b"~", b"a", b"Zz", b"0!", b"F|K\\", b"\"7", b"\"h", b"\"f", b"5Y",
-    b"+1", b"\x1b$(O", b"\x1b$(P", b"\x1b$(Q", b"$w", b"+D", b"}{;", b"\x7e\x7e", b"\xff", b"\x80\xa1", b"$", b"*", b"!", b"\\", b"@", b"1", b"x",
+    b"\x1b$B", b"\x1b$@", b"\x1b(B", b"\x1b(J", b"\x1b(I", b"\x1b$(D", b"\x1b$(C", b"\x1b$A", b"\x1b$(A", b"\x1b$)C",
+    b"\x1b.A", b"\x1b.F", b"\x1bN", b"\x1b&@\x1b$B", b"\x1b$", b"\x1b(", b"\x1b", b"\x1b[0m", b"\x1b((((((((((((((((",
+    b"\x1b)J", b"\x1b(A", b"\x1b(((\x1b$B", b"&@", b"\x0e", b"\x0f", b"\n", b"\t", b"\0", b" ", b"\x7f", b"~{", b"~}",
+    b"~~", b"~\n", b"~", b"a", b"Zz", b"0!", b"F|K\\", b"\"7", b"\"h", b"\"f", b"5Y", b"+1", b"\x1b$(O", b"\x1b$(P",
+    b"\x1b$(Q", b"$w", b"+D", b"}{;", b"\x7e\x7e", b"\xff", b"\x80\xa1", b"$", b"*", b"!", b"\\", b"@", b"1", b"x",
 ]  # fmt: skip
 #: CPython's decoders of pieces hold at most eight bytes, and raise this without a position for a longer escape.
 TOO_LONG: List[object] = ["UnicodeError", None, None, None, None]
@@ -46,7 +47,7 @@ def damaged(error: UnicodeError) -> Tuple[str, int]:
     return "a\ud800", error.end
 
 
-ERRORS = ["strict", "ignore", "replace", "backslashreplace", "xmlcharrefreplace", "surrogateescape", "sets.marked", "sets.putting", "sets.damaged"]
+ERRORS = "strict ignore replace backslashreplace xmlcharrefreplace surrogateescape sets.marked sets.putting sets.damaged".split()
 
 
 def setUpModule() -> None:
@@ -163,7 +164,8 @@ class Sets(unittest.TestCase):
                 data, errors = self.data() + self.data(), self.chance.choice(("strict", "replace", "ignore", "sets.marked"))
                 if is_faulty_in_cpython(data):
                     continue
-                asked = [(self.chance.choice(("read", "readline", "readlines")), self.chance.choice((None, -1, 1, 2, 5, 9))) for _ in range(6)]
+                methods, sizes = ("read", "readline", "readlines"), (None, -1, 1, 2, 5, 9)
+                asked = [(self.chance.choice(methods), self.chance.choice(sizes)) for _ in range(6)]
                 self.same(name, lambda codec: read_in_pieces(codec, data, errors, asked), (data, errors, asked))
                 lines = [self.text(name, errors) for _ in range(4)]
                 self.same(name, lambda codec: written_in_pieces(codec, lines, errors), (lines, errors))

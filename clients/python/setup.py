@@ -23,7 +23,8 @@ def is_made() -> bool:
 
 def copies() -> List[pathlib.Path]:
     """Returns the tables that the package has as they are in the repository."""
-    return [TABLE.parent / source.name for source in GENERATOR.parent.glob("shifted_*.tsv")]
+    sources = [source for pattern in ("shifted_*.tsv", "repairs.tsv") for source in GENERATOR.parent.glob(pattern)]
+    return [TABLE.parent / source.name for source in sources]
 
 
 def make() -> None:

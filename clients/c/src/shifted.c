@@ -1,7 +1,7 @@
 /* Conversions from and to encodings with shifts.
  *
  * A piece of the source is brought to UTF-16BE, and from there to the target. Where the target stops before the end of the piece, the
- * source is read again, up to the character that was the last. So both sides stop at the same place, with the states that they had there. */
+ * source is read again, up to the character that was the last. So both sides stop at the same place, each with its state there. */
 #include "shifted.h"
 
 /* PIECE is how much of the source is taken at once. AFTER_STOP is how much is taken first where a text has just stopped. */

@@ -22,7 +22,7 @@ struct shifted_set {
 };
 
 /* What a sequence means; clients/names/shifted_encodings.tsv explains each. */
-enum meaning { USE, G1, HEADER, G2, OUT, IN, SINGLE, LINE, ITSELF, NOTHING };
+enum meaning { USE, G1, HEADER, G2, OUT, IN, SINGLE, LINE, ITSELF, NOTHING, MEANINGS };
 
 struct shifted_sequence {
     unsigned char bytes[4];
@@ -55,6 +55,10 @@ struct set_map {
 struct shifter {
     const struct shifted_encoding *encoding;
     const struct shifted_sequence *sequences;
+    const struct shifted_sequence *ways[SETS];   /* the one that brings each set into use; NULL: none has to */
+    const struct shifted_sequence *of[MEANINGS]; /* the first one of each meaning; NULL: there is none */
+    unsigned char order[SETS];                   /* the sets in which they are tried when a character is written */
+    size_t order_count;
     const struct set_map *maps[SETS];
     unsigned char group_of[SETS];    /* sets of one encoding of the service are converted together; DIRECT: by arithmetic alone */
     struct encoding *groups[GROUPS];
@@ -85,8 +89,8 @@ static inline size_t shift_least_room(const struct shifter *shifter, const struc
     return shift_set(state) == shifter->encoding->room_first ? 2 : 1;
 }
 
-/* The sequence of a meaning, and of a set unless that is NO_SET; one that is written where there are more. NULL: there is none. */
-const struct shifted_sequence *shift_find(const struct shifter *shifter, enum meaning meaning, unsigned char set);
+/* Finds the sequences of an encoding. */
+void shift_sequences(struct shifter *shifter);
 
 /* The bytes by which the service's encoding has a code of a set, and how many; 0: no code has these bytes. */
 size_t set_to_service(const struct shifted_set *set, const unsigned char *code, unsigned char *bytes);

@@ -21,13 +21,10 @@ void shift_plan_free(struct shift_plan *plan) {
 
 /* The first set in the order of writing that has a character. */
 static unsigned char first_set(const struct shifter *shifter, uint32_t character) {
-    const struct shifted_sequence *best = NULL;
-    for (size_t i = 0; i < shifter->encoding->count; i++) {
-        const struct shifted_sequence *sequence = &shifter->sequences[i];
-        if (sequence->order > 0 && (!best || sequence->order < best->order) && set_has(shifter, sequence->set, character))
-            best = sequence;
-    }
-    return best ? best->set : NO_SET;
+    for (size_t i = 0; i < shifter->order_count; i++)
+        if (set_has(shifter, shifter->order[i], character))
+            return shifter->order[i];
+    return NO_SET;
 }
 
 /* The set for a character: the one in use, the one that a single shift takes from, or the first that has it. */
@@ -45,13 +42,13 @@ static unsigned char choose(const struct shifter *shifter, const struct shift_st
 }
 
 void shift_written(const struct shifter *shifter, struct shift_state *state, unsigned char set, uint32_t character) {
-    const struct shifted_sequence *line = character == 0x0a ? shift_find(shifter, LINE, NO_SET) : NULL;
+    const struct shifted_sequence *line = character == 0x0a ? shifter->of[LINE] : NULL;
     if (set == shifter->encoding->start) {
         state->set = set;
         state->out = false;
-    } else if (shift_find(shifter, G2, set)) {
+    } else if (shifter->ways[set]->meaning == G2) {
         state->g2 = set;
-    } else if (shift_find(shifter, USE, set)) {
+    } else if (shifter->ways[set]->meaning == USE) {
         state->set = set;
     } else {
         state->g1 = set;

@@ -93,6 +93,7 @@ static iconvd_status add_set(struct iconvd_pool *pool, struct shifter *shifter, 
 iconvd_status shifter_open(struct iconvd_pool *pool, struct shifter *shifter, const struct encoding *encoding, bool writes) {
     *shifter = (struct shifter){.encoding = shifted_encoding(encoding->number)};
     shifter->sequences = shifted_sequences(shifter->encoding);
+    shift_sequences(shifter);
     iconvd_status status = add_set(pool, shifter, shifter->encoding->start, writes);
     for (size_t i = 0; status == ICONVD_OK && i < shifter->encoding->count; i++) {
         const struct shifted_sequence *sequence = &shifter->sequences[i];

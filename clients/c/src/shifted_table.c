@@ -25,25 +25,35 @@ const struct shifted_sequence *shifted_sequences(const struct shifted_encoding *
     return SHIFTED_SEQUENCES + encoding->first;
 }
 
-const struct shifted_sequence *shift_find(const struct shifter *shifter, enum meaning meaning, unsigned char set) {
-    const struct shifted_sequence *found = NULL;
+/* Puts a set in its place among those that are written. */
+static void add_to_order(struct shifter *shifter, const struct shifted_sequence *sequence) {
+    size_t at = shifter->order_count++;
+    for (; at > 0 && shifter->ways[shifter->order[at - 1]]->order > sequence->order; at--)
+        shifter->order[at] = shifter->order[at - 1];
+    shifter->order[at] = sequence->set;
+}
+
+void shift_sequences(struct shifter *shifter) {
     for (size_t i = 0; i < shifter->encoding->count; i++) {
         const struct shifted_sequence *sequence = &shifter->sequences[i];
-        bool better = !found || (found->order == 0 && sequence->order > 0);
-        if (sequence->meaning == meaning && (set == NO_SET || sequence->set == set) && better)
-            found = sequence;
+        if (!shifter->of[sequence->meaning])
+            shifter->of[sequence->meaning] = sequence;
+        if (sequence->meaning > G2 || (shifter->ways[sequence->set] && sequence->order == 0))
+            continue;
+        shifter->ways[sequence->set] = sequence;
+        if (sequence->order > 0)
+            add_to_order(shifter, sequence);
     }
-    return found;
 }
 
 struct shift_state shift_begin(const struct shifter *shifter, bool writes) {
-    const struct shifted_sequence *header = shift_find(shifter, HEADER, NO_SET), *first = shift_find(shifter, G1, NO_SET);
+    const struct shifted_sequence *header = shifter->of[HEADER], *first = shifter->of[G1];
     struct shift_state state = {.set = shifter->encoding->start, .g1 = NO_SET, .g2 = NO_SET, .header_due = header != NULL};
     if (header)
         state.g1 = header->set;
     if (first && !writes) {
         state.g1 = first->set;
-        state.g2 = shift_find(shifter, G2, NO_SET)->set;
+        state.g2 = shifter->of[G2]->set;
     }
     return state;
 }

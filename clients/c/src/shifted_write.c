@@ -29,10 +29,10 @@ static bool put_sequence(struct writer *writer, const struct shifted_sequence *s
 /* Brings the first set into use again. */
 static bool put_start(struct writer *writer) {
     unsigned char start = writer->shifter->encoding->start;
-    if (writer->state.out && !put_sequence(writer, shift_find(writer->shifter, IN, NO_SET)))
+    if (writer->state.out && !put_sequence(writer, writer->shifter->of[IN]))
         return false;
     writer->state.out = false;
-    if (writer->state.set != start && !put_sequence(writer, shift_find(writer->shifter, USE, start)))
+    if (writer->state.set != start && !put_sequence(writer, writer->shifter->ways[start]))
         return false;
     writer->state.set = start;
     return true;
@@ -42,20 +42,20 @@ static bool put_start(struct writer *writer) {
 static bool put_set(struct writer *writer, unsigned char set) {
     const struct shifter *shifter = writer->shifter;
     struct shift_state *state = &writer->state;
-    const struct shifted_sequence *use = shift_find(shifter, USE, set), *second = shift_find(shifter, G2, set);
+    const struct shifted_sequence *way = shifter->ways[set];
     if (set == shifter->encoding->start)
         return put_start(writer);
-    if (use || second) {
-        unsigned char *now = use ? &state->set : &state->g2;
-        if (*now != set && !put_sequence(writer, use ? use : second))
+    if (way->meaning == USE || way->meaning == G2) {
+        unsigned char *now = way->meaning == USE ? &state->set : &state->g2;
+        if (*now != set && !put_sequence(writer, way))
             return false;
         *now = set;
         return true;
     }
-    if (state->g1 != set && !put_sequence(writer, shift_find(shifter, G1, set)))
+    if (state->g1 != set && !put_sequence(writer, way))
         return false;
     state->g1 = set;
-    if (!state->out && !put_sequence(writer, shift_find(shifter, OUT, NO_SET)))
+    if (!state->out && !put_sequence(writer, shifter->of[OUT]))
         return false;
     state->out = true;
     return true;
@@ -66,13 +66,13 @@ static size_t spell(const struct writer *writer, const struct planned *planned, 
     const struct shifter *shifter = writer->shifter;
     const struct shifted_set *set = shifted_set(planned->set);
     size_t group = shifter->group_of[planned->set], length = 0;
-    if (shift_find(shifter, G2, planned->set)) {
-        const struct shifted_sequence *single = shift_find(shifter, SINGLE, NO_SET);
+    const struct shifted_sequence *way = shifter->ways[planned->set], *itself = shifter->of[ITSELF];
+    if (way && way->meaning == G2) {
+        const struct shifted_sequence *single = shifter->of[SINGLE];
         memcpy(bytes, single->bytes, single->length);
         length = single->length;
     }
-    const struct shifted_sequence *itself = planned->set == 0 ? shift_find(shifter, ITSELF, planned->code) : NULL;
-    if (itself) {
+    if (planned->set == 0 && itself && itself->set == planned->code) {
         memcpy(bytes, itself->bytes, itself->length);
         return itself->length;
     }
@@ -137,7 +137,7 @@ static iconvd_status put_planned(struct writer *writer, const struct planned *pl
 
 /* The header of a text, before its first character. */
 static bool put_header(struct writer *writer) {
-    if (writer->state.header_due && !put_sequence(writer, shift_find(writer->shifter, HEADER, NO_SET)))
+    if (writer->state.header_due && !put_sequence(writer, writer->shifter->of[HEADER]))
         return false;
     writer->state.header_due = false;
     return true;

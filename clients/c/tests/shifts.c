@@ -79,7 +79,7 @@ struct passing {
 static bool is_equal(const struct passing *passing, const struct result *mine, const struct result *other, size_t length, size_t room) {
     const char *in = passing->text + passing->done;
     bool same = mine->value == other->value && mine->error == other->error && mine->used == other->used && same_output(mine, other);
-    return check(same, "%s to %s%s, %zu bytes at %02x %02x %02x %02x, room %zu: value %zd errno %d used %zu wrote %zu, glibc %zd %d %zu %zu",
+    return check(same, "%s to %s%s, %zu bytes at %02x %02x %02x %02x, room %zu: %zd, errno %d, used %zu, wrote %zu, glibc %zd %d %zu %zu",
                  passing->from, passing->to, passing->ignore ? "//IGNORE" : "", length, in[0] & 255, in[1] & 255, in[2] & 255,
                  in[3] & 255, room, (ssize_t)mine->value, mine->error, mine->used, mine->produced, (ssize_t)other->value, other->error,
                  other->used, other->produced);

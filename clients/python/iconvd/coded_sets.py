@@ -200,7 +200,8 @@ def _class(some: bytes) -> bytes:
 
 def characters(points: Set[int]) -> str:
     """Returns the pattern of one of some characters."""
-    return "[%s]" % "".join(f"{re.escape(chr(first))}-{re.escape(chr(last))}" for first, last in _spans(points)) if points else "[^\0-\U0010ffff]"
+    spans = "".join(f"{re.escape(chr(first))}-{re.escape(chr(last))}" for first, last in _spans(points))
+    return f"[{spans}]" if spans else "[^\0-\U0010ffff]"
 
 
 def _spans(points: Set[int]) -> Iterator[Tuple[int, int]]:

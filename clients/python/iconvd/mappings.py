@@ -80,8 +80,11 @@ def ranges(body: bytes, escape: bytes) -> List[Range]:
 def pairs(text: bytes, escape: bytes) -> Dict[bytes, str]:
     """Returns the codes of two characters. The files have them in comments."""
     line = re.compile(rb"^%?<U([0-9A-Fa-f]{4,8})><U([0-9A-Fa-f]{4,8})>[ \t]+" + _CODE % re.escape(escape), re.M)
-    found = ((constants.replace(escape + b"x", b""), chr(int(first, 16)) + chr(int(second, 16))) for first, second, constants in line.findall(text))
-    return {bytes.fromhex(digits.decode("ascii")): pair for digits, pair in found}
+    found: Dict[bytes, str] = {}
+    for first, second, constants in line.findall(text):
+        code, length = _code(constants)
+        found[code.to_bytes(length, "big")] = chr(int(first, 16)) + chr(int(second, 16))
+    return found
 
 
 def _parts(body: bytes) -> Tuple[bytes, bytes]:

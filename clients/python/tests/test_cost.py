@@ -101,7 +101,15 @@ class Cost(unittest.TestCase):
             self.assertIn(errors, ("backslashreplace", "namereplace", "xmlcharrefreplace"), name)
 
     def test_converting(self) -> None:
-        for source, target in (("EUC-KR", "KOI8-R"), ("UTF-8", "EUC-JP"), ("TIS-620", "CP874"), ("UTF-16", "UTF-7"), ("CP1251", "UTF-16"), ("ISO-2022-JP-2", "EUC-KR"), ("EUC-JP", "CP50221")):
+        for source, target in (
+            ("EUC-KR", "KOI8-R"),
+            ("UTF-8", "EUC-JP"),
+            ("TIS-620", "CP874"),
+            ("UTF-16", "UTF-7"),
+            ("CP1251", "UTF-16"),
+            ("ISO-2022-JP-2", "EUC-KR"),
+            ("EUC-JP", "CP50221"),
+        ):
             for end in (source, target):
                 use_each_set(self.client, end)
             for kind, data in texts(self.client, source):

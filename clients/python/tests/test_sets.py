@@ -5,7 +5,6 @@ from __future__ import annotations
 import codecs
 import io
 import random
-import re
 import unittest
 from typing import Callable, List, Tuple
 
@@ -16,12 +15,17 @@ import iconvd
 #: The encodings that CPython has too.
 NAMES = ["iso2022_jp", "iso2022_jp_1", "iso2022_jp_2", "iso2022_jp_3", "iso2022_jp_2004", "iso2022_jp_ext", "iso2022_kr", "hz"]
 PIECES = [
-    b"\x1b$B", b"\x1b$@", b"\x1b(B", b"\x1b(J", b"\x1b(I", b"\x1b$(D", b"\x1b$(C", b"\x1b$A", b"\x1b$(A", b"\x1b$)C", b"\x1b.A", b"\x1b.F",
-    b"\x1bN", b"\x1b&@\x1b$B", b"\x1b$", b"\x1b(", b"\x1b", b"\x1b[0m", b"\x1b((((((((((((((((", b"\x1b)J", b"\x1b(A", b"\x1b(((\x1b$B", b"&@",
-    b"\x0e", b"\x0f", b"\n", b"\t", b"\0", b" ", b"\x7f", b"~{", b"~}", b"~~", b"~\n", b"~", b"a", b"Zz", b"0!", b"F|K\\", b"\"7", b"\"h", b"\"f", b"5Y",
-    b"+1", b"\x1b$(O", b"\x1b$(P", b"\x1b$(Q", b"$w", b"+D", b"}{;", b"\x7e\x7e", b"\xff", b"\x80\xa1", b"$", b"*", b"!", b"\\", b"@", b"1", b"x",
+    b"\x1b$B", b"\x1b$@", b"\x1b(B", b"\x1b(J", b"\x1b(I", b"\x1b$(D", b"\x1b$(C", b"\x1b$A", b"\x1b$(A", b"\x1b$)C",
+    b"\x1b.A", b"\x1b.F", b"\x1bN", b"\x1b&@\x1b$B", b"\x1b$", b"\x1b(", b"\x1b", b"\x1b[0m", b"\x1b((((((((((((((((",
+    b"\x1b)J", b"\x1b(A", b"\x1b(((\x1b$B", b"&@", b"\x0e", b"\x0f", b"\n", b"\t", b"\0", b" ", b"\x7f", b"~{", b"~}",
+    b"~~", b"~\n", b"~", b"a", b"Zz", b"0!", b"F|K\\", b"\"7", b"\"h", b"\"f", b"5Y", b"+1", b"\x1b$(O", b"\x1b$(P",
+    b"\x1b$(Q", b"$w", b"+D", b"}{;", b"\x7e\x7e", b"\xff", b"\x80\xa1", b"$", b"*", b"!", b"\\", b"@", b"1", b"x",
 ]  # fmt: skip
-ESCAPE = re.compile(rb"\x1b[()$.&](?:&@.|[^@-Z])*", re.S)
+#: CPython's decoders of pieces hold at most eight bytes, and raise this without a position for a longer escape.
+TOO_LONG: List[object] = ["UnicodeError", None, None, None, None]
+#: CPython's sets of JIS X 0213 have codes of two characters, which the encoders of Debian 12's version do not write.
+PAIRED = ("iso2022_jp_3", "iso2022_jp_2004")
+WRITES_PAIRS = outcome(lambda: codecs.encode("か\u309a", "iso2022_jp_3"))[0] == "gives"
 CHARACTERS = "aZ~\\\n\t\0\x1b\x0e¥‾ｱﾟ日本語〜～−é丂ｶ가힣똠啊囧Αж€①かか\u309aæ\u0300æ˩˥˩ㇷ゚鬜⦅俱🀀\U00020b9f\x80\xa0\u378f\ue000\U00020001\ud800\udcff"
 
 
@@ -43,7 +47,7 @@ def damaged(error: UnicodeError) -> Tuple[str, int]:
     return "a\ud800", error.end
 
 
-ERRORS = ["strict", "ignore", "replace", "backslashreplace", "xmlcharrefreplace", "surrogateescape", "sets.marked", "sets.putting", "sets.damaged"]
+ERRORS = "strict ignore replace backslashreplace xmlcharrefreplace surrogateescape sets.marked sets.putting sets.damaged".split()
 
 
 def setUpModule() -> None:
@@ -71,10 +75,14 @@ class Sets(unittest.TestCase):
         text = "".join(self.chance.choice(CHARACTERS) for _ in range(self.chance.randrange(9)))
         if name == "hz" and errors not in ("strict", "ignore", "replace"):
             return text.replace("~", "")
-        return text.replace("\0", "") if name in ("iso2022_jp_3", "iso2022_jp_2004") else text
+        if name not in PAIRED:
+            return text
+        return "".join(each for each in text if each not in "\0" + ("" if WRITES_PAIRS else "かæ˩˥ㇷ"))
 
     def same(self, name: str, call: Callable[[str], object], label: object) -> None:
-        self.assertEqual(outcome(lambda: call("iconvd-" + name.replace("_", "-"))), outcome(lambda: call(name)), (name, label))
+        wanted = outcome(lambda: call(name))
+        if not (isinstance(wanted[1], list) and TOO_LONG in wanted[1]):
+            self.assertEqual(outcome(lambda: call("iconvd-" + name.replace("_", "-"))), wanted, (name, label))
 
     def test_decoding(self) -> None:
         for name in NAMES:
@@ -110,11 +118,32 @@ class Sets(unittest.TestCase):
             for each in (text, "\n".join(text)):
                 self.assertEqual(mine.encode(each, "ignore"), theirs.encode(each, "ignore"), name)
 
+    def test_codes_of_two_characters(self) -> None:
+        """A first character alone, in pairs, and at the end of a piece."""
+        for text, data in (
+            ("か\u309aか", b"\x1b$(O$w\x1b$B$+\x1b(B"),
+            ("æ\u0300\u0300æ", b"\x1b$(O+D+\\)\\\x1b(B"),
+            ("ææ\u0300", b"\x1b$(O)\\+D\x1b(B"),
+            ("˩˥˩", b"\x1b$(O+e+d\x1b(B"),
+            ("ㇷ\u309aa", b"\x1b$(O&x\x1b(Ba"),
+        ):
+            self.assertEqual(text.encode("iconvd-iso2022-jp-3"), data, text)
+            self.assertEqual(text.encode("iconvd-iso2022-jp-2004"), data.replace(b"(O", b"(Q"), text)
+            self.assertEqual(data.decode("iconvd-iso2022-jp-3"), text)
+            encoder = codecs.getincrementalencoder("iconvd-iso2022-jp-3")()
+            self.assertEqual(b"".join(encoder.encode(each) for each in text) + encoder.encode("", True), data, text)
+            file = io.BytesIO()
+            writer = codecs.getwriter("iconvd-iso2022-jp-3")(file)
+            for each in text:
+                writer.write(each)
+            writer.reset()
+            self.assertEqual(file.getvalue().removesuffix(b"\x1b(B"), data.removesuffix(b"\x1b(B"), text)
+
     def test_decoding_in_pieces(self) -> None:
         for name in NAMES:
             for _ in range(700):
                 data, errors = self.data() + self.data(), self.chance.choice(ERRORS)
-                if is_faulty_in_cpython(data) or has_long_escape(data):
+                if is_faulty_in_cpython(data):
                     continue
                 cuts = sorted(self.chance.randrange(len(data) + 1) for _ in range(4))
                 pieces = [data[begin:end] for begin, end in zip([0, *cuts], [*cuts, len(data)])]
@@ -133,9 +162,10 @@ class Sets(unittest.TestCase):
         for name in NAMES:
             for _ in range(200):
                 data, errors = self.data() + self.data(), self.chance.choice(("strict", "replace", "ignore", "sets.marked"))
-                if is_faulty_in_cpython(data) or has_long_escape(data):
+                if is_faulty_in_cpython(data):
                     continue
-                asked = [(self.chance.choice(("read", "readline", "readlines")), self.chance.choice((None, -1, 1, 2, 5, 9))) for _ in range(6)]
+                methods, sizes = ("read", "readline", "readlines"), (None, -1, 1, 2, 5, 9)
+                asked = [(self.chance.choice(methods), self.chance.choice(sizes)) for _ in range(6)]
                 self.same(name, lambda codec: read_in_pieces(codec, data, errors, asked), (data, errors, asked))
                 lines = [self.text(name, errors) for _ in range(4)]
                 self.same(name, lambda codec: written_in_pieces(codec, lines, errors), (lines, errors))
@@ -194,11 +224,6 @@ def written_in_pieces(codec: str, lines: List[str], errors: str) -> List[object]
 def is_faulty_in_cpython(data: bytes) -> bool:
     """Whether CPython's codec may raise a RuntimeError: after ESC N, if a set without single shifts is designated as G2."""
     return b"\x1bN" in data and b"\x1b." in data
-
-
-def has_long_escape(data: bytes) -> bool:
-    """Whether CPython's decoders of pieces may raise a UnicodeError without a position, since they hold at most eight bytes."""
-    return any(len(escape[0]) > 8 for escape in ESCAPE.finditer(data))
 
 
 if __name__ == "__main__":

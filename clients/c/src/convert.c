@@ -160,15 +160,18 @@ iconvd_status next_character(struct iconvd_cd *cd, const struct progress *progre
 /* Says why the conversion stopped. The lacking character is asked for; where the service has gone meanwhile it stays unknown. */
 static void describe(struct iconvd_cd *cd, const struct progress *progress, iconvd_status status, iconvd_stop *stop) {
     *stop = (iconvd_stop){.status = status, .replaced = progress->replaced, .skipped = progress->skipped};
+    if (cd->shifted) {
+        shifted_describe(cd, progress, stop);
+        return;
+    }
     if (status == ICONVD_EILSEQ)
         stop->length = faulty_length(cd->pair.from->kind, progress->in, progress->in_left);
     if (status == ICONVD_ENOCHAR && next_character(cd, progress, &stop->character, &stop->length) != ICONVD_OK)
         stop->character = 0;
 }
 
-iconvd_status convert_text(struct iconvd_cd *cd, struct progress *progress) {
+iconvd_status convert_part(struct iconvd_cd *cd, struct progress *progress) {
     struct progress before = *progress;
-    atomic_fetch_add_explicit(&cd->pool->conversions, 1, memory_order_relaxed);
     iconvd_status status = mark_read(cd, progress);
     if (status != ICONVD_OK)
         return status;
@@ -176,6 +179,11 @@ iconvd_status convert_text(struct iconvd_cd *cd, struct progress *progress) {
     status = convert_all(cd, progress);
     mark_settle(cd, progress, &before, status);
     return status;
+}
+
+iconvd_status convert_text(struct iconvd_cd *cd, struct progress *progress) {
+    atomic_fetch_add_explicit(&cd->pool->conversions, 1, memory_order_relaxed);
+    return cd->shifted ? shifted_convert(cd, progress) : convert_part(cd, progress);
 }
 
 iconvd_status iconvd_convert(iconvd_cd *cd, const char **in, size_t *in_left, char **out, size_t *out_left, iconvd_stop *stop) {
@@ -195,11 +203,12 @@ static bool is_policy(int policy) {
 }
 
 /* The two encodings of a conversion, with what stands behind the target's name. */
-static iconvd_status find_encodings(struct iconvd_cd *cd, const char *to, const char *from) {
+static iconvd_status find_encodings(struct iconvd_cd *cd, const char *to, const char *from, bool *to_wide) {
     struct parsed_name target, source;
     if (!name_parse(&target, to) || !name_parse(&source, from))
         return ICONVD_UNSUPPORTED;
     cd->from_wide = strcmp(source.name, "WCHAR_T") == 0;
+    *to_wide = strcmp(target.name, "WCHAR_T") == 0;
     cd->policy |= (target.translit ? ICONVD_TRANSLIT : 0) | (target.ignore ? ICONVD_IGNORE : 0);
     if (!is_policy(cd->policy))
         return ICONVD_BADPOLICY;
@@ -209,7 +218,7 @@ static iconvd_status find_encodings(struct iconvd_cd *cd, const char *to, const 
     return status;
 }
 
-static iconvd_status open_pair(struct iconvd_cd *cd) {
+iconvd_status open_pair(struct iconvd_cd *cd) {
     bool little = machine_is_little();
     cd->pair = (struct pair){
         .to = mark_free(cd->to, little), .from = mark_free(cd->from, little), .strict = !(cd->policy & ICONVD_SUBSTITUTE)};
@@ -230,9 +239,10 @@ iconvd_status iconvd_open(iconvd_pool *pool, const char *to, const char *from, i
     made->pool = pool;
     made->policy = policy;
     made->ahead = SIZE_MAX;
-    iconvd_status status = find_encodings(made, to, from);
+    bool to_wide;
+    iconvd_status status = find_encodings(made, to, from, &to_wide);
     if (status == ICONVD_OK)
-        status = open_pair(made);
+        status = made->to->kind == SHIFTED || made->from->kind == SHIFTED ? shifted_open(made, to_wide) : open_pair(made);
     if (status == ICONVD_OK)
         *cd = made;
     else
@@ -241,6 +251,8 @@ iconvd_status iconvd_open(iconvd_pool *pool, const char *to, const char *from, i
 }
 
 iconvd_status iconvd_reset(iconvd_cd *cd, char **out, size_t *out_left) {
+    if (cd->shifted)
+        return shifted_reset(cd, out, out_left);
     iconvd_status status = cd->own ? own_reset(cd, out, out_left) : ICONVD_OK;
     if (status != ICONVD_OK)
         return status;
@@ -256,5 +268,6 @@ void iconvd_close(iconvd_cd *cd) {
         return;
     own_end(cd);
     foresight_end(cd);
+    shifted_end(cd);
     free(cd);
 }

@@ -15,6 +15,7 @@ struct iconvd_cd {
     bool order_known;    /* from UTF-16 and UTF-32 */
     bool from_wide;      /* the source is WCHAR_T, which the C library converts without a step between */
     struct own *own;     /* with UTF-7 on either side: a descriptor of its own; otherwise NULL */
+    struct shifted *shifted; /* with shifts on either side; otherwise NULL */
     struct foresight *foresight; /* what follows a fault, where the caller goes on after it; else NULL */
 };
 
@@ -62,6 +63,12 @@ static inline void progress_back(struct progress *progress) {
 /* What iconvd_convert() does, on a progress. */
 iconvd_status convert_text(struct iconvd_cd *cd, struct progress *progress);
 
+/* The same for a conversion that is a part of another one, and is not counted. */
+iconvd_status convert_part(struct iconvd_cd *cd, struct progress *progress);
+
+/* Opens what the service converts by. */
+iconvd_status open_pair(struct iconvd_cd *cd);
+
 /* One piece, by the shared descriptor or by the conversion's own. */
 iconvd_status convert_piece(struct iconvd_cd *cd, struct work *work);
 
@@ -96,6 +103,14 @@ iconvd_status next_character(struct iconvd_cd *cd, const struct progress *progre
 /* foresight.c: answers a call after one that has stopped at a fault. True: it stops at a fault again, as the service would say. */
 bool foresight_answer(struct iconvd_cd *cd, struct progress *progress);
 void foresight_end(struct iconvd_cd *cd);
+
+/* shifted.c: conversions from and to encodings with shifts. */
+struct shifted;
+iconvd_status shifted_open(struct iconvd_cd *cd, bool to_wide);
+iconvd_status shifted_convert(struct iconvd_cd *cd, struct progress *progress);
+iconvd_status shifted_reset(struct iconvd_cd *cd, char **out, size_t *out_left);
+void shifted_describe(struct iconvd_cd *cd, const struct progress *progress, iconvd_stop *stop);
+void shifted_end(struct iconvd_cd *cd);
 
 /* own.c: conversions that have a state in the service. */
 struct own;

@@ -42,6 +42,8 @@ void encodings_end(struct encodings *encodings) {
         next = encodings->added->next;
         encoding_free(encodings->added);
     }
+    for (size_t i = 0; i < SETS; i++)
+        set_map_free(atomic_load(&encodings->set_maps[i]));
     free(encodings->files);
     free(encodings->directory);
     pthread_mutex_destroy(&encodings->mutex);
@@ -121,13 +123,27 @@ static iconvd_status find_file(struct encodings *encodings, size_t number, struc
     return status;
 }
 
+struct encoding *encodings_known(struct encodings *encodings, const char *name) {
+    pthread_mutex_lock(&encodings->mutex);
+    struct encoding *added = find_added(encodings, name);
+    pthread_mutex_unlock(&encodings->mutex);
+    int number = added ? 0 : name_find(name);
+    if (added || number < 0)
+        return added;
+    if (number >= BUILTIN_COUNT + (int)charmap_count())
+        return encoding_shifted((size_t)number - BUILTIN_COUNT - charmap_count());
+    return number < BUILTIN_COUNT ? &BUILTINS[number] : find_read(encodings, (size_t)number - BUILTIN_COUNT);
+}
+
 iconvd_status encodings_find(struct encodings *encodings, const char *name, struct encoding **found) {
     pthread_mutex_lock(&encodings->mutex);
     *found = find_added(encodings, name);
     pthread_mutex_unlock(&encodings->mutex);
     int number = *found ? 0 : name_find(name);
     iconvd_status status = number < 0 ? ICONVD_UNSUPPORTED : ICONVD_OK;
-    if (!*found && number >= BUILTIN_COUNT)
+    if (!*found && number >= BUILTIN_COUNT + (int)charmap_count())
+        *found = encoding_shifted((size_t)number - BUILTIN_COUNT - charmap_count());
+    else if (!*found && number >= BUILTIN_COUNT)
         status = find_file(encodings, (size_t)number - BUILTIN_COUNT, found);
     else if (!*found && number >= 0)
         *found = &BUILTINS[number];

@@ -11,6 +11,7 @@
 
 struct encoding {
     enum builtin kind;   /* BUILTIN_COUNT: a charmap */
+    unsigned number;     /* SHIFTED: which one */
     char name[80];       /* the service's name of it */
     struct charmap map;  /* of a charmap */
     char known_as[NAME_ROOM]; /* of a charmap that the host has added: its name as name_parse() writes it */
@@ -22,12 +23,16 @@ struct encoding {
     struct encoding *next; /* of those that the host has added */
 };
 
+/* How many sets of characters encodings with shifts may have together. */
+enum { SETS = 16 };
+
 struct encodings {
     pthread_mutex_t mutex;   /* of what follows; never held for long */
     pthread_mutex_t reading; /* held while a file is read, and taken before the other one */
     char *directory;
     struct encoding **files; /* one for each charmap file; NULL: not read yet */
     struct encoding *added;
+    struct set_map *_Atomic set_maps[SETS]; /* of encodings with shifts, each made when one first needs it */
 };
 
 bool encodings_begin(struct encodings *encodings, const char *directory);
@@ -39,8 +44,18 @@ void encodings_renew(struct encodings *encodings);
 /* The encoding of a name that name_parse() has taken apart. UNSUPPORTED, ENOMEM. */
 iconvd_status encodings_find(struct encodings *encodings, const char *name, struct encoding **found);
 
+/* The same, as far as it is known: NULL also for a charmap whose file has not been read yet. */
+struct encoding *encodings_known(struct encodings *encodings, const char *name);
+
 /* One of the service's own. */
 struct encoding *encoding_builtin(enum builtin builtin);
+
+/* An encoding with shifts; NULL: there are fewer (shifted_table.c). */
+struct encoding *encoding_shifted(size_t number);
+
+/* What is known of a set of characters (shifted_sets.c). */
+struct set_map;
+void set_map_free(struct set_map *map);
 
 /* Makes an encoding of a charmap of the host's, which nobody finds yet. EXISTS, ENOMEM; UNSUPPORTED where the name is too long. */
 iconvd_status encodings_make(struct encodings *encodings, const char *name, const char *text, size_t length, struct encoding **made);

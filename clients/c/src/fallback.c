@@ -3,6 +3,7 @@
 #include <stdio.h>
 
 #include "preload.h"
+#include "shifted.h"
 
 /* The name to go on by in the middle of a text: once a mark is written or read, UTF-16 and UTF-32 have an order. */
 static const char *name_now(const struct encoding *asked, const struct encoding *now, bool begun, const char *name) {
@@ -10,22 +11,24 @@ static const char *name_now(const struct encoding *asked, const struct encoding 
 }
 
 static iconv_t open_now(const struct handle *handle) {
-    const struct iconvd_cd *cd = handle->cd;
+    /* Of a conversion with shifts on one side, the other one may have an order. */
+    const struct iconvd_cd *cd = handle->cd->shifted ? &handle->cd->shifted->inner : handle->cd;
     char to[300];
     const char *name = name_now(cd->to, cd->pair.to, cd->mark_written, handle->to);
     bool same = name == handle->to;
-    snprintf(to, sizeof to, "%s%s%s", name, !same && cd->policy & ICONVD_TRANSLIT ? "//TRANSLIT" : "",
-             !same && cd->policy & ICONVD_IGNORE ? "//IGNORE" : "");
+    snprintf(to, sizeof to, "%s%s%s", name, !same && handle->cd->policy & ICONVD_TRANSLIT ? "//TRANSLIT" : "",
+             !same && handle->cd->policy & ICONVD_IGNORE ? "//IGNORE" : "");
     return settings()->libc.open(to, name_now(cd->from, cd->pair.from, cd->order_known, handle->from));
 }
 
-/* Brings a conversion from or to UTF-7 to the state that the service's had. What it writes the host has had. */
+/* Brings a conversion from or to UTF-7, or from an encoding with shifts, to the state that ours had. What it writes the host has had. */
 static bool feed_history(const struct handle *handle) {
-    const char *bytes;
-    size_t left;
-    if (!handle->cd->own)
-        return true;
-    if (!own_history(handle->cd, &bytes, &left))
+    char sequences[SHIFT_SEQUENCES];
+    const char *bytes = sequences;
+    size_t left = 0;
+    if (handle->cd->shifted && handle->cd->shifted->from)
+        left = shift_spell(handle->cd->shifted->from, &handle->cd->shifted->reading, sequences);
+    else if (handle->cd->own && !own_history(handle->cd, &bytes, &left))
         return false;
     char dropped[4096];
     char *in = (char *)(uintptr_t)bytes;
@@ -51,6 +54,18 @@ bool handle_fall_back(struct handle *handle, iconvd_status why) {
     }
     handle->in_the_middle = there;
     return there;
+}
+
+bool handle_shift_back(struct handle *handle, char **out, size_t *out_left) {
+    struct shifted *shifted = handle->cd->shifted;
+    /* Where the header is due nothing was written yet, and the C library writes it. */
+    if (!settings()->falls_back || !shifted || !shifted->to || shifted->writing.header_due || !out || !*out)
+        return true;
+    if (!shift_end(shifted->to, &shifted->writing, out, out_left))
+        return false;
+    shifted->writing = shift_begin(shifted->to, true);
+    shifted->writing.header_due = false;
+    return true;
 }
 
 bool handle_start_again(struct handle *handle) {

@@ -136,6 +136,8 @@ static size_t convert(struct handle *handle, char **in, size_t *in_left, char **
         *out = progress.out;
         *out_left = progress.out_left;
     }
+    if (status == ICONVD_LOST && !handle_shift_back(handle, out, out_left))
+        return failed(ICONVD_E2BIG);
     if (status == ICONVD_LOST && handle_fall_back(handle, status)) {
         size_t more = go_on(handle, in, in_left, out, out_left);
         return more == (size_t)-1 ? more : more + progress.replaced;

@@ -10,9 +10,10 @@ static iconvd_pool *pool;
 static const char *where;
 
 /* Texts of the tests. */
-enum text { RANDOM, GERMAN, FRENCH, DAMAGED, EACH_SECOND, FAULTS, CHUNK_ENDS, LEADS, LACKING, TEXTS };
+enum text { RANDOM, GERMAN, FRENCH, DAMAGED, EACH_SECOND, FAULTS, CHUNK_ENDS, LEADS, SHIFTS, ESCAPES, KANA, LACKING, TEXTS };
 static const char *const TEXT_NAMES[TEXTS] = {"random", "German", "French", "damaged", "each second byte", "nothing but faults",
-                                              "faults at the ends of chunks", "lone lead bytes", "lacking characters"};
+                                              "faults at the ends of chunks", "lone lead bytes", "many sets of ISO-2022-JP-2", "nothing but escapes",
+                                              "katakana of one byte", "lacking characters"};
 
 /* What is repeated. */
 static const char *const PIECES[TEXTS] = {
@@ -21,6 +22,9 @@ static const char *const PIECES[TEXTS] = {
     [EACH_SECOND] = "a\xff",
     [FAULTS] = "\xff",
     [LEADS] = "a\xb0 \x81 \xe2 ",
+    [SHIFTS] = "\x1b$B0!\x1b(Ba\x1b$(DPQ\x1b$A0!\x1b$(C0!\x1b(J\\\x1b(I1\x1b.AaN\x1bNi\x1b.F\x1bNa\x0e\x0f~{~}",
+    [ESCAPES] = "\x1b$B\x1b(B",
+    [KANA] = "\x1b(I1234567890ABCDEF",
 };
 
 static void repeat(char *text, size_t length, const char *piece, size_t step) {

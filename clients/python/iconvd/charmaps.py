@@ -67,6 +67,12 @@ def listed() -> List[str]:
     return sorted(name[: -len(".gz")] if name.endswith(".gz") else name for name in files)
 
 
+def is_there(name: str) -> bool:
+    """Whether the folder has a charmap file of that name."""
+    path = os.path.join(folder(), name)
+    return os.path.exists(path + ".gz") or os.path.exists(path)
+
+
 def _why_missing(path: str) -> str:
     """Returns what is missing: the folder of charmaps, or the file in it."""
     there = os.path.isdir(folder())

@@ -4,11 +4,13 @@ from __future__ import annotations
 
 from typing import Dict, Optional, Tuple, Union
 
-from . import charmaps, forms, names, shifted
+from . import charmaps, coded_sets, forms, framings, mappings, names, shifted
 from .charmaps import Beginning, Charmap
+from .coded_sets import CodedSet
 from .codes import CharmapForm
 from .errors import CharmapRefused, UnknownEncoding
 from .forms import Form
+from .framing import Framing
 from .known import Known, known_of
 from .names import Encoding
 
@@ -31,6 +33,8 @@ class Library:
         self._found: Dict[str, Encoding] = {}
         self._forms: Dict[Encoding, Form] = {}
         self._known: Dict[Tuple[Encoding, str], Known] = {}
+        self._framings: Dict[Encoding, Framing] = {}
+        self._sets: Dict[str, CodedSet] = {}
 
     def find(self, name: str) -> Encoding:
         """Returns the encoding of that name, in any case of its letters. Raises UnknownEncoding."""
@@ -41,6 +45,16 @@ class Library:
             if len(self._found) < _MAX_FOUND:
                 self._found[name] = found
         return found
+
+    def supports(self, name: str) -> bool:
+        """Whether an encoding has that name, and its charmap is there. No charmap is read or uploaded."""
+        try:
+            encoding = self.find(name)
+        except UnknownEncoding:
+            return False
+        if not encoding.is_charmap or encoding.name in self._read:
+            return True
+        return encoding.name not in self._refused and charmaps.is_there(encoding.name)
 
     def get(self, file: str) -> Charmap:
         """Returns the charmap of that file, which is read once. Raises CharmapRefused."""
@@ -131,3 +145,26 @@ class Library:
         if known is None or len(known) > _MAX_KNOWN:
             known = self._known[encoding, errors] = known_of(self.form(encoding))
         return known
+
+    # ---- encodings with escapes and shifts
+
+    def framing(self, encoding: Encoding) -> Framing:
+        """Returns how an encoding with escapes or shifts is read and written."""
+        found = self._framings.get(encoding)
+        if found is None:
+            found = self._framings[encoding] = framings.framing(encoding.name, self.coded_set)
+        return found
+
+    def coded_set(self, name: str) -> CodedSet:
+        """Returns a coded character set, from the charmap of the encoding that converts it. Raises CharmapRefused."""
+        found = self._sets.get(name)
+        if found is None:
+            found = self._sets[name] = self._make_set(coded_sets.rows()[name])
+        return found
+
+    def _make_set(self, row: coded_sets.SetRow) -> CodedSet:
+        if not row.encoding.is_charmap:
+            return CodedSet(row, [(0, 256, 0, 1)], {})
+        charmap = self.get(row.encoding.name)
+        pairs = mappings.pairs(charmaps.read_file(row.encoding.name), charmap.escape) if row.composes else {}
+        return CodedSet(row, mappings.ranges(charmap.body(), charmap.escape), pairs)

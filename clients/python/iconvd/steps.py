@@ -2,7 +2,7 @@
 
 from __future__ import annotations
 
-from typing import List, NamedTuple
+from typing import List, NamedTuple, Sequence, Tuple
 
 from . import frames
 from .errors import RequestRefused
@@ -58,6 +58,36 @@ def run(session: Session, pair: Pair, data: bytes, is_careful: bool = False) -> 
         (reply,) = yield [_reset(descriptor, _CLOSING)]
         pieces.append(_accepted("RESET", reply).body)
     return Run(b"".join(pieces), at, Status.OK if at == len(data) else status)
+
+
+def run_at_once(session: Session, work: Sequence[Tuple[Pair, List[bytes]]]) -> Steps[List[bytes]]:
+    """Converts the pieces of several texts that have no faults, all by one round trip. Returns the output of each text."""
+    requests: List[Request] = []
+    for pair, pieces in work:
+        descriptor = yield from session.descriptor(pair, is_whole=True)
+        requests += [_convert(descriptor, piece) for piece in pieces]
+    replies = iter((yield requests) if requests else [])
+    return [b"".join(_whole(next(replies), piece) for piece in pieces) for _, pieces in work]
+
+
+def cut(codes: bytes, width: int) -> List[bytes]:
+    """Cuts codes of some bytes each into pieces for a request."""
+    size = frames.CHUNK // width * width
+    return [codes[at : at + size] for at in range(0, len(codes), size)]
+
+
+def cut_text(text: str) -> List[bytes]:
+    """Cuts a text into pieces for a request, in UTF-8."""
+    size = frames.CHUNK // 4
+    return [text[at : at + size].encode("utf-8") for at in range(0, len(text), size)]
+
+
+def _whole(reply: Reply, piece: bytes) -> bytes:
+    """Returns the output for a piece without faults."""
+    done = frames.read_converted(_accepted("CONV", reply), len(piece))
+    if done.status != Status.OK or done.left:
+        raise RequestRefused("CONV", done.status)
+    return done.output
 
 
 def _convert(descriptor: Descriptor, data: bytes) -> Request:

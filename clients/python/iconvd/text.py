@@ -6,8 +6,6 @@ cutting.py), window by window, and sends what is between them.
 
 from __future__ import annotations
 
-import codecs
-import sys
 from typing import AnyStr, Iterable, List, NamedTuple, Sequence, Tuple, Union
 
 from . import shifted, steps
@@ -38,28 +36,6 @@ class Decoded(NamedTuple):
 
     text: str
     used: int
-
-
-def without_mark(encoding: Encoding, data: bytes) -> Tuple[Encoding, int]:
-    """Returns the encoding with the byte order of a text in UTF-16 or UTF-32, and the size of its mark. Without a mark it is the
-    machine's order."""
-    if encoding.is_charmap or encoding.name not in ("UTF-16", "UTF-32"):
-        return encoding, 0
-    wide = encoding.name == "UTF-32"
-    little, big = (codecs.BOM_UTF32_LE, codecs.BOM_UTF32_BE) if wide else (codecs.BOM_UTF16_LE, codecs.BOM_UTF16_BE)
-    if data.startswith(little):
-        return Encoding(False, encoding.name + "LE"), len(little)
-    if data.startswith(big):
-        return Encoding(False, encoding.name + "BE"), len(big)
-    return Encoding(False, encoding.name + ("LE" if sys.byteorder == "little" else "BE")), 0
-
-
-def mark_of(encoding: Encoding) -> Tuple[Encoding, bytes]:
-    """Returns the encoding of the text after the mark of UTF-16 or UTF-32, and the mark."""
-    if encoding.is_charmap or encoding.name not in ("UTF-16", "UTF-32"):
-        return encoding, b""
-    ordered = Encoding(False, encoding.name + ("LE" if sys.byteorder == "little" else "BE"))
-    return ordered, codecs.BOM_UTF32 if encoding.name == "UTF-32" else codecs.BOM_UTF16
 
 
 class TextCodec:
@@ -190,6 +166,10 @@ class TextCodec:
         yield from self._learn(session, unlike, known)
         encoded = {text: known.bytes_of(text) or b"" for text in unlike}
         return [encoded[text] if isinstance(text, str) else text for text in texts]
+
+    def finish(self) -> bytes:
+        """Returns what ends a text. The server closes each shifted sequence itself."""
+        return b""
 
     def known(self, errors: str) -> Known:
         """Returns the known characters of the encoding."""

@@ -7,7 +7,7 @@ import random
 import unittest
 from typing import Callable, List, Tuple
 
-from meter import every_encoding, metered
+from meter import OF_EACH_SET, every_encoding, metered, use_each_set
 from support import SERVER
 
 import iconvd
@@ -70,6 +70,7 @@ class Cost(unittest.TestCase):
     def test_decoding(self) -> None:
         policies = "replace ignore test.marked backslashreplace test.skipping replace surrogateescape".split()
         for number, name in enumerate(every_encoding()):
+            use_each_set(self.client, name)
             for turn, (kind, data) in enumerate(texts(self.client, name)):
                 errors = policies[(number + turn) % len(policies)]
                 self.measured(len(data), (name, kind, errors), lambda: self.decoded(data, name, errors))
@@ -85,6 +86,7 @@ class Cost(unittest.TestCase):
         chance = random.Random(5)
         strange = "".join(chr(chance.choice((chance.randrange(0x250), chance.randrange(0xD800), 0xDC80))) for _ in range(15_000))
         for number, name in enumerate(every_encoding()):
+            use_each_set(self.client, name)
             for turn, text in enumerate((SCRIPTS * 400, strange)):
                 errors = policies[(number + turn) % len(policies)]
                 size = len(text.encode("utf-8", "surrogatepass"))
@@ -99,7 +101,17 @@ class Cost(unittest.TestCase):
             self.assertIn(errors, ("backslashreplace", "namereplace", "xmlcharrefreplace"), name)
 
     def test_converting(self) -> None:
-        for source, target in (("EUC-KR", "KOI8-R"), ("UTF-8", "EUC-JP"), ("TIS-620", "CP874"), ("UTF-16", "UTF-7"), ("CP1251", "UTF-16")):
+        for source, target in (
+            ("EUC-KR", "KOI8-R"),
+            ("UTF-8", "EUC-JP"),
+            ("TIS-620", "CP874"),
+            ("UTF-16", "UTF-7"),
+            ("CP1251", "UTF-16"),
+            ("ISO-2022-JP-2", "EUC-KR"),
+            ("EUC-JP", "CP50221"),
+        ):
+            for end in (source, target):
+                use_each_set(self.client, end)
             for kind, data in texts(self.client, source):
                 self.client.convert(b"", to=target, source=source)
                 label = (source, target, kind)
@@ -122,7 +134,8 @@ class Cost(unittest.TestCase):
         before = iconvd.default()
         iconvd.use(self.client)
         self.addCleanup(iconvd.use, before)
-        for name in ("EUC-KR", "UTF-8", "GB18030", "UTF-16LE", "CP1253"):
+        for name in ("EUC-KR", "UTF-8", "GB18030", "UTF-16LE", "CP1253", "ISO-2022-JP-2", "HZ"):
+            use_each_set(self.client, name)
             whole = dict(texts(self.client, name))
             for kind, data in (("damaged", whole["damaged"]), ("random", whole["random"][:8000])):
                 ways: List[Callable[[bytes], object]] = [
@@ -140,7 +153,8 @@ class Cost(unittest.TestCase):
 
     def test_a_handler_that_skips_a_byte(self) -> None:
         codecs.register_error("test.byte", lambda error: ("?", getattr(error, "start") + 1))
-        for name in ("EUC-KR", "UTF-8", "GB18030", "UTF-16LE", "CP1253"):
+        for name in ("EUC-KR", "UTF-8", "GB18030", "UTF-16LE", "CP1253", "ISO-2022-KR"):
+            use_each_set(self.client, name)
             for kind, data in texts(self.client, name):
                 self.measured(len(data), (name, kind), lambda: self.client.decode(data, name, "test.byte"))
 
@@ -164,6 +178,21 @@ class Cost(unittest.TestCase):
             size = len(text.encode())
             self.measured(size, (name, "ignore"), lambda: self.client.encode(text, name, "ignore"))
             self.assertEqual(self.client.decode(self.client.encode(text, name, "ignore"), name), good * (SIZE // 10_000))
+
+    def test_texts_that_change_sets_often(self) -> None:
+        """Each character in another set than the one before, and escapes and shifts without characters."""
+        for name in ("ISO-2022-JP-2", "ISO-2022-JP-EXT", "ISO-2022-KR", "HZ", "CP50221"):
+            use_each_set(self.client, name)
+            text = (OF_EACH_SET + "a\n") * 8000
+            size = len(text.encode())
+            self.measured(size, name, lambda: self.client.encode(text, name, "ignore"))
+            data = self.client.encode(text, name, "ignore")
+            self.measured(len(data), name, lambda: self.client.decode(data, name))
+            self.assertEqual(self.client.encode(self.client.decode(data, name), name), data)
+            for kind in (b"\x1b$B\x1b(B", b"\x1b$B0!\xff", b"\x1b", b"\x1b(", b"\x0e\x0f", b"~{~}", b"~{0!~", b"\x1bN", b"\n\x1b$)C\x0e0!"):
+                hostile = repeated(kind)
+                for errors in ("replace", "ignore", "test.marked"):
+                    self.measured(len(hostile), (name, kind, errors), lambda: self.decoded(hostile, name, errors))
 
     def test_surrogateescape(self) -> None:
         for name in ("UTF-8", "US-ASCII", "CP1253", "EUC-KR"):

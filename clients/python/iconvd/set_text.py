@@ -67,6 +67,7 @@ class SetCodec:
 
     def decode(self, session: Session, data: bytes, errors: str, final: bool, at: int = 0) -> Steps[Decoded]:
         """Decodes the bytes from `at` on. If `final` is false, an incomplete code or escape at the end is not used."""
+        data = bytes(data)
         state = self._state.copy()
         pieces: List[str] = []
         is_done = False

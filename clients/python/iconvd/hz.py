@@ -2,13 +2,13 @@
 
 from __future__ import annotations
 
+import functools
 import re
-from typing import Callable, Optional, Pattern
+from typing import Callable, Pattern
 
 from .coded_sets import CodedSet, characters
 from .framing import RUN, WINDOW, ByteParts, Framing, State, Stop, TextParts
 
-_TILDE = ord("~")
 _TEXT = re.compile(rb"[\0-}\x7f]+")
 _INTO = b"~{"
 _BACK = b"~}"
@@ -20,18 +20,18 @@ class Hz(Framing):
     def __init__(self, find: Callable[[], CodedSet]) -> None:
         """`find` returns the set of GB 2312."""
         self._find = find
-        self._codes: Optional[Pattern[bytes]] = None
-        self._pattern: Optional[Pattern[str]] = None
 
     def start(self) -> State:
         return State((0,))
 
     # ---- reading
 
+    @functools.cached_property
+    def _codes(self) -> Pattern[bytes]:
+        # A tilde begins a shift.
+        return re.compile(rb"(?:(?!~)%s)+" % self._find().codes)
+
     def read(self, state: State, data: bytes, at: int, parts: TextParts) -> Stop:
-        if self._codes is None:
-            # A tilde begins a shift.
-            self._codes = re.compile(rb"(?:(?!~)%s)+" % self._find().codes)
         limit = min(len(data), at + WINDOW)
         while at < limit:
             run = (self._codes if state.marks[0] else _TEXT).match(data, at, at + RUN)
@@ -64,9 +64,14 @@ class Hz(Framing):
 
     # ---- writing
 
+    @functools.cached_property
+    def _pattern(self) -> Pattern[str]:
+        return re.compile(f"([\0-\x7f]+)|({characters(self._find().points)}+)|(.)", re.S)
+
     def write(self, state: State, text: str, at: int, end: int, parts: ByteParts) -> Stop:
-        if self._pattern is None:
-            self._pattern = re.compile(f"([\0-\x7f]+)|({characters(self._find().points)}+)|(.)", re.S)
+        if text.isascii():
+            parts.add(self.close(state) + text[at:end].encode("ascii").replace(b"~", b"~~") if at < end else b"")
+            return Stop(end)
         limit = min(end, at + WINDOW)
         for found in self._pattern.finditer(text, at, limit):
             if found.lastindex == 3:

@@ -33,6 +33,10 @@ class Writer:
 
     def write(self, state: State, text: str, at: int, end: int, parts: ByteParts) -> Stop:
         """See Framing."""
+        if text.isascii() and at < end:
+            # No set has to be read from its charmap.
+            parts.add(self._into_ascii(state) + text[at:end].encode("ascii"))
+            return Stop(end)
         groups = self._groups()
         limit = self._limit(text, at, end, groups.firsts)
         for found in groups.pattern.finditer(text, at, limit):
@@ -61,6 +65,8 @@ class Writer:
     def held(self, text: str) -> int:
         """Returns how many characters at the end of a text may have a code together with the next one: none or the last one, unless
         it has one together with that before it."""
+        if text.isascii():
+            return 0
         groups = self._groups()
         at = len(text)
         while at and text[at - 1] in groups.firsts:

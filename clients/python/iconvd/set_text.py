@@ -43,6 +43,8 @@ class SetCodec:
         self.stops_at_end = False
         #: Whether the last call ended at a code that the end of the text cuts.
         self.is_cut_at_end = False
+        # Where the last call that encoded ended.
+        self._end = 0
 
     # ---- the state
 
@@ -67,6 +69,8 @@ class SetCodec:
 
     def decode(self, session: Session, data: bytes, errors: str, final: bool, at: int = 0) -> Steps[Decoded]:
         """Decodes the bytes from `at` on. If `final` is false, an incomplete code or escape at the end is not used."""
+        data = bytes(data)
+        self.is_cut_at_end = False
         state = self._state.copy()
         pieces: List[str] = []
         is_done = False
@@ -120,7 +124,8 @@ class SetCodec:
         whole = self.held + text
         end = len(whole) if is_end else len(whole) - self._framing.held(whole)
         encoded = yield from self.encode(session, whole, errors, 0, end)
-        self.held = whole[end:]
+        # An error handler may have gone on after that character.
+        self.held = whole[max(end, self._end) :]
         return encoded + self.finish() if is_end else encoded
 
     def encode(self, session: Session, text: str, errors: str, at: int = 0, end: Optional[int] = None) -> Steps[bytes]:
@@ -135,7 +140,7 @@ class SetCodec:
                 stop = self._framing.write(state, text, at, end, parts)
                 at = self._put_in(state, text, stop, errors, parts) if stop.size else stop.at
             pieces.append((yield from self._encoded(session, parts)))
-        self._state = state
+        self._state, self._end = state, at
         return b"".join(pieces)
 
     def _put_in(self, state: State, text: str, stop: Stop, errors: str, parts: ByteParts) -> int:

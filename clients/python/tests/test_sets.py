@@ -132,6 +132,10 @@ class Sets(unittest.TestCase):
             self.assertEqual(data.decode("iconvd-iso2022-jp-3"), text)
             encoder = codecs.getincrementalencoder("iconvd-iso2022-jp-3")()
             self.assertEqual(b"".join(encoder.encode(each) for each in text) + encoder.encode("", True), data, text)
+            # A handler that goes on at the end of the piece leaves nothing to hold.
+            codecs.register_error("sets.end", lambda error: ("", len(getattr(error, "object"))))
+            encoder = codecs.getincrementalencoder("iconvd-iso2022-jp-3")("sets.end")
+            self.assertEqual(encoder.encode("\ud800æ") + encoder.encode("\u0300", True), b"\x1b$(O+\\\x1b(B")
             file = io.BytesIO()
             writer = codecs.getwriter("iconvd-iso2022-jp-3")(file)
             for each in text:

@@ -4,8 +4,10 @@ from __future__ import annotations
 
 import asyncio
 import io
+import os
 import unittest
 from typing import Iterator, Tuple
+from unittest import mock
 
 from meter import OF_EACH_SET
 from support import SERVER, ClientTest
@@ -73,6 +75,18 @@ class Calls(ClientTest):
             self.assertEqual(converted, [self.client.encode(text, "UTF-7") for _, text, _ in rows])
 
         asyncio.run(run())
+
+    def test_ascii_needs_no_charmap(self) -> None:
+        with mock.patch.dict(os.environ, {"ICONVD_CHARMAPS": "/no/such/folder"}):
+            for name in ENCODINGS:
+                self.assertEqual(self.client.encode("a\n", name), b"a\n")
+                self.assertEqual(self.client.decode(b"a\n", name), "a\n")
+                with self.assertRaises(iconvd.CharmapRefused):
+                    self.client.encode("日", name)
+
+    def test_bytes_of_another_kind(self) -> None:
+        for name, text, data in self.texts():
+            self.assertEqual(self.client.decode(bytearray(data), name), text)
 
     def test_a_long_text(self) -> None:
         """More than one window, whose end is within a run of codes."""

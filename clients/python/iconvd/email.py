@@ -37,6 +37,10 @@ class MailMessage(EmailMessage):
             payload._depth = self._depth + 1
         super().attach(payload)
 
+    def set_payload(self, payload: Any, charset: Any = None) -> None:
+        """Sets the payload. A text of both raw bytes and other characters becomes bytes of UTF-8: Python has no bytes for it."""
+        super().set_payload(_as_bytes(payload) if isinstance(payload, str) else payload, charset)
+
     def get_content_type(self) -> str:
         """Returns the type. What is deeper than MAX_DEPTH is not taken apart: its type is `application/octet-stream`."""
         found = super().get_content_type()
@@ -96,6 +100,21 @@ class ServiceContent(ContentManager):
         if part.is_multipart():
             raise KeyError(part.get_content_type())
         return _data(part)
+
+
+def _as_bytes(text: str) -> str:
+    """Returns a text that is ASCII and escaped bytes, or has no escaped bytes."""
+    for encoding, errors in (("utf-8", "strict"), ("ascii", "surrogateescape")):
+        try:
+            text.encode(encoding, errors)
+            return text
+        except UnicodeEncodeError:
+            continue
+    try:
+        data = text.encode("utf-8", "surrogateescape")
+    except UnicodeEncodeError:
+        data = text.encode("utf-8", "surrogatepass")
+    return data.decode("ascii", "surrogateescape")
 
 
 def _data(part: Message) -> bytes:

@@ -66,13 +66,13 @@ def parsed(data: bytes, policy: Optional[email.policy.EmailPolicy] = None) -> ic
 
 def read_all(message: iconvd.email.MailMessage) -> List[object]:
     """All that a program may ask a message for."""
-    found: List[object] = []
+    found: List[object] = [message.get_charsets(), message.get_body()]
     for part in message.walk():
         for name in HEADERS:
             for header in part.get_all(name, []):
                 found += [str(header), header.defects, header.name, getattr(header, "addresses", ()), getattr(header, "params", {})]
-        found += [part.get_filename(), part.get_content_charset(), part.get_charsets(), part.get_boundary(), part.is_attachment()]
-        found += [part.get_content_type(), part.get_content_disposition(), part.get_body(), part.items(), part.get_params()]
+        found += [part.get_filename(), part.get_content_charset(), part.get_boundary(), part.is_attachment()]
+        found += [part.get_content_type(), part.get_content_disposition(), part.items(), part.get_params()]
         if not part.is_multipart() or part.get_content_maintype() == "message":
             found.append(part.get_content())
     return found
@@ -111,6 +111,17 @@ class Hostile(ClientTest):
         for data in HOSTILE:
             with self.subTest(data=data[:80]):
                 self.assertIsInstance(read_all(parsed(data)), list)
+
+    def test_no_exception_for_text(self) -> None:
+        """A message that is parsed from text may have characters and raw bytes in one body."""
+        for data in HOSTILE[2:]:
+            for more in ("é\u20ac", "\ud800", "\udcc3", "\u20ac\udcc3", "\ud800\udcc3"):
+                with self.subTest(data=data[:80], more=ascii(more)):
+                    message = email.message_from_string(data.decode("latin-1") + more, policy=iconvd.email.policy)
+                    assert isinstance(message, iconvd.email.MailMessage)
+                    self.assertIsInstance(read_all(message), list)
+        mixed = email.message_from_string("Content-Type: text/plain; charset=utf-8\n\n\u20ac\udcc3\udca9", policy=iconvd.email.policy)
+        self.assertEqual(mixed.get_content(), "\u20acé")
 
     def test_no_name_of_a_charset_gets_to_python(self) -> None:
         asked: List[str] = []

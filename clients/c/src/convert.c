@@ -209,8 +209,9 @@ static iconvd_status find_encodings(struct iconvd_cd *cd, const char *to, const 
 
 static iconvd_status open_pair(struct iconvd_cd *cd) {
     bool little = machine_is_little();
-    cd->pair = (struct pair){
-        .to = mark_free(cd->to, little), .from = mark_free(cd->from, little), .strict = !(cd->policy & ICONVD_SUBSTITUTE)};
+    cd->pair = (struct pair){.to = encoding_written(mark_free(cd->to, little)),
+                             .from = mark_free(cd->from, little),
+                             .strict = !(cd->policy & ICONVD_SUBSTITUTE)};
     if (cd->to->kind != UTF_7 && cd->from->kind != UTF_7)
         return pool_open(cd->pool, &cd->pair);
     /* What is left of UTF-7 at a stop means something to its descriptor alone, and so nothing can be left out of it. */

@@ -26,7 +26,9 @@ static size_t cut_into_batch(const struct iconvd_cd *cd, const struct progress *
     size_t most = cd->ahead / ONE_READ < BATCH_PIECES ? cd->ahead / ONE_READ : BATCH_PIECES;
     const char *in = progress->in;
     batch->number = 0;
-    while (!cd->own && in_left > ONE_READ && batch->number < most) {
+    /* A piece to GB18030 may need more than its own request. */
+    bool alone = cd->own || cd->pair.to->is_computed;
+    while (!alone && in_left > ONE_READ && batch->number < most) {
         size_t length = cut_length(cd->pair.from, in, ONE_READ);
         size_t room = most_output(&cd->pair, length);
         if (length == 0 || room > out_left || room > ICONVD_MAX_ROOM)

@@ -21,6 +21,7 @@ struct encoding {
     struct repairs repairs; /* of a charmap file */
     struct encoding *written; /* what is written with where the charmap needs stand-ins for that; NULL: itself */
     bool has_stand_ins;       /* it is such a one */
+    bool is_computed;         /* the client computes its characters above U+FFFF, as GB18030's (planes.h) */
     unsigned char *_Atomic repertoire; /* made when a conversion first asks what the encoding has */
     struct codes *_Atomic codes; /* of a charmap; made when a conversion first meets bytes that are no character */
     struct encoding *next; /* of those that the host has added */

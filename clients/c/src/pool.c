@@ -133,7 +133,7 @@ static void settle(const struct pair *pair, const struct work *work) {
         repairs_settle(&pair->to->repairs, work->out, work->produced);
 }
 
-iconvd_status pool_convert(struct iconvd_pool *pool, const struct pair *pair, struct work *work) {
+iconvd_status pool_convert_mapped(struct iconvd_pool *pool, const struct pair *pair, struct work *work) {
     iconvd_status status;
     struct pair first;
     do {

@@ -31,6 +31,13 @@ bool repairs_are_computed(const struct repairs *repairs) {
     return has_kind(repairs, REPAIR_COMPUTED);
 }
 
+bool repairs_have(const struct repairs *repairs, uint32_t character) {
+    for (size_t i = 0; i < repairs->count; i++)
+        if (repairs->first[i].kind == REPAIR_BOTH && repairs->first[i].character == character)
+            return true;
+    return false;
+}
+
 bool repairs_have_stand_ins(const struct repairs *repairs) {
     return has_kind(repairs, REPAIR_WRITE);
 }

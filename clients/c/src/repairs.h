@@ -26,6 +26,9 @@ struct repairs repairs_of(const char *file);
 /* Whether the client computes the characters above U+FFFF (planes.h). */
 bool repairs_are_computed(const struct repairs *repairs);
 
+/* Whether a character has bytes by a repair, and so is not computed. */
+bool repairs_have(const struct repairs *repairs, uint32_t character);
+
 /* Whether a line of the charmap's file is dropped. */
 bool repairs_drop(const struct repairs *repairs, const char *line, char escape);
 

@@ -43,6 +43,8 @@ def _read_computed(session: Session, pair: Pair, data: bytes, is_careful: bool) 
         ran = ran._replace(status=Status.EINVAL)
     if pair.target == UTF_8:
         return ran._replace(output=text)
+    if is_careful and ran.status != Status.OK:
+        return ran._replace(output=b"")
     written = yield from run(session, Pair(pair.target, UTF_8), text)
     # Where it stopped is not known in the source: the caller begins again.
     return ran._replace(output=written.output) if written.status == Status.OK else Run(b"", 0, written.status)

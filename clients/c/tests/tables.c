@@ -5,6 +5,8 @@
  *
  * Each character is written by both libraries, and each sequence of up to two bytes is read by both; of EUC-TW and GB18030 also those of four
  * bytes. NAMES is the table of names, EXCEPTIONS the list of encodings that differ, each with its reason. */
+#include <errno.h>
+
 #include "tables.h"
 
 enum { STOPS = 70000, OUT = 1 << 20, WIDE = 0x110000 };
@@ -78,8 +80,6 @@ static void list_reading(const struct sides *sides, const char *code, size_t len
 /* Reads all codes that a byte begins, each of `length` bytes and with a line feed after it. False: they are read in different ways. */
 static bool compare_codes(const struct sides *sides, unsigned lead, size_t length) {
     char text[256 * 8], *at = text;
-    unsigned first = length == 1 ? 0 : lead;
-    (void)first;
     for (unsigned trail = 0; trail < 256; trail++) {
         if (length == 2)
             *at++ = (char)lead;
@@ -96,10 +96,83 @@ static bool compare_codes(const struct sides *sides, unsigned lead, size_t lengt
     return false;
 }
 
+/* Whether two bytes are the beginning of characters for the C library. */
+static bool begins_longer(const struct sides *sides, const char *code) {
+    char bytes[8], *in = (char *)(uintptr_t)code, *out = bytes;
+    size_t in_left = 2, out_left = sizeof bytes;
+    theirs.convert(sides->their_reader, NULL, NULL, NULL, NULL);
+    return theirs.convert(sides->their_reader, &in, &in_left, &out, &out_left) == (size_t)-1 && errno == EINVAL && in_left == 2;
+}
+
+/* Codes of four bytes, each with a line feed after it. */
+struct fours {
+    size_t length;
+    char text[256 * 16 * 12];
+};
+
+/* Adds the codes that three bytes begin: of all last bytes, or of digits. */
+static void add_fours(const struct sides *sides, struct fours *fours, const char *three, bool is_digit) {
+    for (unsigned last = is_digit ? 0x30 : 0; last <= (is_digit ? 0x39 : 0xff); last++) {
+        char *at = fours->text + fours->length;
+        memcpy(at, three, 3);
+        at[3] = (char)last;
+        memcpy(at + 4, sides->feed, sides->feed_length);
+        fours->length += 4 + sides->feed_length;
+    }
+}
+
+/* Reads them, and begins anew. */
+static bool compare_fours(const struct sides *sides, struct fours *fours) {
+    bool same = reads_alike(sides, fours->text, fours->length);
+    for (size_t at = 0; !same && lists && at < fours->length; at += 4 + sides->feed_length)
+        list_reading(sides, fours->text + at, 4);
+    fours->length = 0;
+    return same;
+}
+
+/* Codes of four bytes that two begin. */
+static bool compare_all_fours(const struct sides *sides, struct fours *fours, unsigned two) {
+    bool same = true;
+    for (unsigned third = 0; third < 256; third++) {
+        char code[3] = {(char)(two >> 8), (char)two, (char)third};
+        add_fours(sides, fours, code, false);
+        same &= compare_fours(sides, fours);
+    }
+    return same;
+}
+
+/* The same, but only those that GB18030 may have. Where it has none a few are enough. */
+static bool compare_digits(const struct sides *sides, struct fours *fours, unsigned two) {
+    char code[4] = {(char)(two >> 8), (char)two, (char)0x81, 0x30};
+    follow(&theirs, sides->their_reader, code, sizeof code, &their_trace);
+    for (unsigned third = 0x81; third < 0xff; third += their_trace.count > 0 ? 0x7d : 1) {
+        code[2] = (char)third;
+        add_fours(sides, fours, code, true);
+    }
+    return compare_fours(sides, fours);
+}
+
+/* Codes of four bytes: of EUC-TW all, of GB18030 those that end in a digit, and all that one pair of bytes in 256 begins. */
+static bool compare_longer(const struct sides *sides) {
+    static struct fours fours;
+    bool same = true, has_digits = strcmp(sides->file, "GB18030") == 0;
+    unsigned pairs = 0;
+    for (unsigned two = 0; two < 0x10000; two++) {
+        char code[2] = {(char)(two >> 8), (char)two};
+        if (!begins_longer(sides, code))
+            continue;
+        bool is_all = !has_digits || pairs++ % 256 == 0;
+        same &= is_all ? compare_all_fours(sides, &fours, two) : compare_digits(sides, &fours, two);
+    }
+    return same;
+}
+
 static bool compare_readings(const struct sides *sides) {
     bool same = compare_codes(sides, 0, 1);
     for (unsigned lead = 0; lead < 256; lead++)
         same &= compare_codes(sides, lead, 2);
+    if (strcmp(sides->file, "GB18030") == 0 || strcmp(sides->file, "EUC-TW") == 0)
+        same &= compare_longer(sides);
     return same;
 }
 

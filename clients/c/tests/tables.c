@@ -152,17 +152,18 @@ static bool compare_digits(const struct sides *sides, struct fours *fours, unsig
     return compare_fours(sides, fours);
 }
 
-/* Codes of four bytes: of EUC-TW all, of GB18030 those that end in a digit, and all that one pair of bytes in 256 begins. */
+/* Codes of four bytes: of EUC-TW all, of GB18030 those that end in a digit, and all that the first three bytes begin. */
 static bool compare_longer(const struct sides *sides) {
     static struct fours fours;
     bool same = true, has_digits = strcmp(sides->file, "GB18030") == 0;
-    unsigned pairs = 0;
+    if (has_digits) {
+        add_fours(sides, &fours, "\x81\x30\x81", false);
+        same = compare_fours(sides, &fours);
+    }
     for (unsigned two = 0; two < 0x10000; two++) {
         char code[2] = {(char)(two >> 8), (char)two};
-        if (!begins_longer(sides, code))
-            continue;
-        bool is_all = !has_digits || pairs++ % 256 == 0;
-        same &= is_all ? compare_all_fours(sides, &fours, two) : compare_digits(sides, &fours, two);
+        if (begins_longer(sides, code))
+            same &= has_digits ? compare_digits(sides, &fours, two) : compare_all_fours(sides, &fours, two);
     }
     return same;
 }

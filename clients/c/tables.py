@@ -1,5 +1,5 @@
 #!/usr/bin/env python3
-"""Turns the tables of clients/names into names_table.h, translit_table.h and shifted_table.h.
+"""Turns the tables of clients/names into names_table.h, translit_table.h, shifted_table.h and repairs_table.h.
 
     tables.py TABLES_DIRECTORY OUTPUT_DIRECTORY
 
@@ -13,6 +13,7 @@ import os
 import re
 import sys
 
+REPAIRS = os.path.join(os.path.dirname(os.path.abspath(__file__)), '..', 'names', 'repairs.tsv')
 # The order of enum builtin in names.h.
 BUILTINS = ['US-ASCII', 'ISO-8859-1', 'UTF-8', 'UTF-16', 'UTF-16BE', 'UTF-16LE', 'UTF-32', 'UTF-32BE', 'UTF-32LE', 'UTF-7']
 
@@ -149,6 +150,27 @@ def shifted_header(encodings: list[list[str]], sets: list[list[str]]) -> str:
                         for number, encoding in enumerate(shifted)) + '\n};\n')
 
 
+# The order of enum repair_kind in repairs.h.
+KINDS = ['write', 'read', 'both', 'none', 'computed']
+
+
+def repairs_header(table: list[list[str]]) -> str:
+    """The C library's lines, those of a charmap one after another."""
+    lines: list[str] = []
+    files: list[str] = []
+    mine = [row for row in table if row[1] == 'glibc']
+    for file in sorted({row[0] for row in mine}):
+        repairs = [row for row in mine if row[0] == file]
+        files.append('    {"%s", %d, %d},' % (file, len(lines), len(repairs)))
+        for _, _, kind, code, character, stand_in, *_ in repairs:
+            first = code.split('-')[0]
+            point = character[2:].split('-')[0] if character != '-' else '0'
+            numbers = (first, point, stand_in if stand_in != '-' else '0', len(first) // 2, KINDS.index(kind))
+            lines.append('    {0x%s, 0x%s, 0x%s, %d, %d},' % numbers)
+    return ('static const struct repair REPAIRS[] = {\n' + '\n'.join(lines) + '\n};\n'
+            'static const struct repaired_file REPAIRED_FILES[] = {\n' + '\n'.join(files) + '\n};\n')
+
+
 def write(path: str, text: str) -> None:
     with open(path, 'w', encoding='ascii') as out:
         out.write('/* Made by tables.py. */\n' + text)
@@ -157,6 +179,8 @@ def write(path: str, text: str) -> None:
 def main() -> None:
     source, output = sys.argv[1:3]
     write(os.path.join(output, 'names_table.h'), names_header(rows(os.path.join(source, 'names.tsv'))))
+    repairs = [row for row in rows(REPAIRS) if not row[0].startswith('#')]
+    write(os.path.join(output, 'repairs_table.h'), repairs_header(repairs))
     write(os.path.join(output, 'translit_table.h'), translit_header(rows(os.path.join(source, 'translit.tsv'))))
     write(os.path.join(output, 'shifted_table.h'), shifted_header(rows(os.path.join(source, 'shifted_encodings.tsv')),
                                                                   rows(os.path.join(source, 'shifted_sets.tsv'))))

@@ -28,7 +28,9 @@ static size_t cut_into_batch(const struct iconvd_cd *cd, const struct progress *
     size_t most = cd->ahead / piece < BATCH_PIECES ? cd->ahead / piece : BATCH_PIECES;
     const char *in = progress->in;
     batch->number = 0;
-    while (!cd->own && in_left > 0 && batch->number < most) {
+    /* A piece to GB18030 may need more than its own request. */
+    bool alone = cd->own || cd->pair.to->is_computed;
+    while (!alone && in_left > 0 && batch->number < most) {
         size_t length = in_left > piece ? cut_length(cd->pair.from, in, piece) : in_left;
         size_t room = most_output(&cd->pair, length);
         if (length == 0 || room > out_left || room > ICONVD_MAX_ROOM)
@@ -220,8 +222,9 @@ static iconvd_status find_encodings(struct iconvd_cd *cd, const char *to, const 
 
 iconvd_status open_pair(struct iconvd_cd *cd) {
     bool little = machine_is_little();
-    cd->pair = (struct pair){
-        .to = mark_free(cd->to, little), .from = mark_free(cd->from, little), .strict = !(cd->policy & ICONVD_SUBSTITUTE)};
+    cd->pair = (struct pair){.to = encoding_written(mark_free(cd->to, little)),
+                             .from = mark_free(cd->from, little),
+                             .strict = !(cd->policy & ICONVD_SUBSTITUTE)};
     if (cd->to->kind != UTF_7 && cd->from->kind != UTF_7)
         return pool_open(cd->pool, &cd->pair);
     /* What is left of UTF-7 at a stop means something to its descriptor alone, and so nothing can be left out of it. */

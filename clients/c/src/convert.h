@@ -132,6 +132,7 @@ bool own_history(const struct iconvd_cd *cd, const char **bytes, size_t *length)
 struct fronts {
     enum builtin kind;
     const struct codes *codes; /* of a charmap */
+    bool is_computed;          /* and the codes of planes.h */
 };
 
 /* ENOMEM. The encoding is not UTF-7. */

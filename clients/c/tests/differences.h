@@ -9,7 +9,7 @@ enum kind { EARLY, ABOVE, ONE_WAY, FAULTY_LENGTH, WRITES_MARK, NO_ROOM, ROOM_FIR
 static const char *const KIND_NAMES[KINDS] = {
     "EILSEQ at once, of a multibyte charmap, where glibc waits for more",
     "values that Unicode has not, in UTF-8, UCS-4 and WCHAR_T, which glibc copies or passes over",
-    "mappings that glibc has and the charmap has not",
+    "the tags U+E0000 to U+E007F, which glibc passes over where the target lacks them",
     "how many faulty bytes of a multibyte charmap //IGNORE leaves out",
     "glibc writes a mark before it has a character",
     "E2BIG by glibc where the room of WCHAR_T, or of UCS-4 from it, is full and the input is faulty or cut, too",
@@ -41,7 +41,8 @@ static bool is_above(const char *name, const unsigned char *in, size_t length) {
 }
 
 static bool is_multibyte(const char *name) {
-    static const char *const NAMES[] = {"EUC-JP", "EUC-KR", "GBK", "BIG5", "SJIS", "EUC-TW"};
+    static const char *const NAMES[] = {"EUC-JP", "EUC-KR", "GBK",       "BIG5", "SJIS",
+                                        "EUC-TW", "CP932",  "EUC-JP-MS", "GB18030"};
     for (size_t i = 0; i < sizeof NAMES / sizeof *NAMES; i++)
         if (strcmp(NAMES[i], name) == 0)
             return true;

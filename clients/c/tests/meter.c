@@ -85,6 +85,14 @@ static void test_large(void) {
     }
 }
 
+/* Characters that the client computes, each after one that the service converts. */
+static void test_planes(void) {
+    static const char *const PAIRS[][2] = {{"UTF-8", "GB18030"}, {"GB18030", "UTF-8"},  {"UTF-16LE", "GB18030"},
+                                           {"GB18030", "UTF-16"}, {"GB18030", "KOI8-R"}, {"GB18030", "GB18030"}};
+    for (size_t i = 0; i < sizeof PAIRS / sizeof *PAIRS * POLICY_COUNT; i++)
+        test_large_text(PAIRS[i / POLICY_COUNT][0], PAIRS[i / POLICY_COUNT][1], PLANES, POLICIES[i % POLICY_COUNT]);
+}
+
 /* Little room. */
 static void test_rooms(void) {
     static const char *const FROM[] = {"EUC-KR", "UTF-8", "ISO-2022-JP-2", "HZ", "GB18030", "KOI8-R"};
@@ -174,6 +182,7 @@ int main(void) {
     connect_anew("meter");
     double begin = seconds();
     test_large();
+    test_planes();
     double large = seconds();
     test_rooms();
     double rooms = seconds();

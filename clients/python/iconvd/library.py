@@ -2,9 +2,9 @@
 
 from __future__ import annotations
 
-from typing import Dict, Optional, Tuple, Union
+from typing import Callable, Dict, Optional, Tuple, Union
 
-from . import charmaps, coded_sets, forms, framings, mappings, names, shifted
+from . import charmaps, coded_sets, forms, framings, mappings, names, repairs, shifted
 from .charmaps import Beginning, Charmap
 from .coded_sets import CodedSet
 from .codes import CharmapForm
@@ -13,6 +13,7 @@ from .forms import Form
 from .framing import Framing
 from .known import Known, known_of
 from .names import Encoding
+from .planes_form import COMPUTED
 
 #: The beginning of the names of own charmaps. No file's name has it.
 _OWN = "/"
@@ -29,6 +30,9 @@ class Library:
         self._read: Dict[str, Charmap] = {}
         self._refused: Dict[str, CharmapRefused] = {}
         self._texts: Dict[str, bytes] = {}
+        # The charmaps for writing, and what is done after it, of encodings with repairs.
+        self._written: Dict[str, Charmap] = {}
+        self._settle: Dict[str, Optional[Callable[[bytes], bytes]]] = {}
         self._beginnings: Dict[str, Optional[Beginning]] = {}
         self._found: Dict[str, Encoding] = {}
         self._forms: Dict[Encoding, Form] = {}
@@ -41,7 +45,7 @@ class Library:
         found = self._found.get(name)
         if found is None:
             own = Encoding(True, _OWN + name.upper())
-            found = own if own.name in self._read else names.find(name)
+            found = own if own.name in self._read else repairs.variant(names.find(name), name)
             if len(self._found) < _MAX_FOUND:
                 self._found[name] = found
         return found
@@ -63,21 +67,50 @@ class Library:
             raise CharmapRefused(refused.name, refused.why, refused.line)
         if file not in self._read:
             try:
-                self._read[file] = charmaps.mend(file, self._texts.pop(file, b"") or charmaps.read_file(file))
+                self._read[file] = self._mended(file)
             except CharmapRefused as error:
                 self._refused[file] = error
                 raise
         return self._read[file]
 
+    def _mended(self, encoding: str) -> Charmap:
+        file, repaired = repairs.of(encoding)
+        text = self._texts.pop(encoding, b"") or charmaps.read_file(file)
+        if repaired is None:
+            return charmaps.mend(file, text)
+        found = charmaps.repaired(encoding, text, repaired)
+        self._written[encoding] = found.written
+        before = mappings.last_bytes(found.written.body(), found.written.escape) if repaired.meant else {}
+        self._settle[encoding] = repaired.settle(frozenset(each for each in before if len(each) == 1))
+        return found.read
+
+    def written(self, file: str) -> Charmap:
+        """Returns the charmap that is uploaded for conversions to an encoding. Raises CharmapRefused."""
+        read = self.get(file)
+        return self._written.get(file, read)
+
+    def settle(self, target: Encoding, output: bytes) -> bytes:
+        """Returns what a conversion to an encoding means, from what the server wrote."""
+        settled = self._settle.get(target.name) if self._settle else None
+        return settled(output) if settled else output
+
+    def is_computed(self, encoding: Encoding) -> bool:
+        """Whether the client computes the characters of an encoding above U+FFFF; see planes.py."""
+        if not encoding.is_charmap:
+            return False
+        repaired = repairs.of(encoding.name)[1]
+        return repaired is not None and repaired.is_computed
+
     def beginning(self, file: str) -> Optional[Beginning]:
         """Returns the beginning of a long file, which is uploaded first, or None for all of it. Raises CharmapRefused."""
         if file not in self._beginnings and file not in self._read and file not in self._refused:
+            name = repairs.of(file)[0]
             try:
-                text = charmaps.read_file(file)
+                text = charmaps.read_file(name)
             except CharmapRefused as error:
                 self._refused[file] = error
                 raise
-            self._beginnings[file] = charmaps.beginning(file, text)
+            self._beginnings[file] = None if name != file else charmaps.beginning(file, text)
             self._texts[file] = text
         return self._beginnings.get(file)
 
@@ -135,7 +168,8 @@ class Library:
             beginning = self.beginning(encoding.name)
             if beginning is not None:
                 return CharmapForm(beginning.charmap, beginning.rest)
-            return CharmapForm(self.get(encoding.name))
+            computed = COMPUTED if self.is_computed(encoding) else None
+            return CharmapForm(self.get(encoding.name), written=self.written(encoding.name), computed=computed)
         return shifted.Utf7Form() if encoding.name == "UTF-7" else forms.BUILTIN[encoding.name]()
 
     def known(self, encoding: Encoding, errors: str = "") -> Known:

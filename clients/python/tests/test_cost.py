@@ -40,6 +40,8 @@ def repeated(data: bytes) -> bytes:
 def texts(client: iconvd.Client, name: str) -> List[Tuple[str, bytes]]:
     """Random bytes, text of other encodings, text of this one with each hundredth byte damaged, and clean text with a fault."""
     good = repeated(client.encode(SCRIPTS, name, "ignore") or b"\0")
+    # The charmap for reading may be another one.
+    client.decode(good[:8], name, "ignore")
     damaged = bytearray(good)
     for at in range(0, len(damaged), 100):
         damaged[at] = (damaged[at] * 7 + at // 100 + 0x80) & 0xFF
@@ -49,7 +51,23 @@ def texts(client: iconvd.Client, name: str) -> List[Tuple[str, bytes]]:
         ("French in CP1252", repeated("Déjà l’été où l’on goûte “çà”. ".encode("cp1252"))),
         ("damaged", bytes(damaged)),
         ("a fault at the beginning", b"\xff" + good[:-1]),
+        ("characters above U+FFFF", repeated(client.encode("a\U0001f600", name, "ignore") or b"\0")),
     ]
+
+
+PAIRS = (
+    ("EUC-KR", "KOI8-R"),
+    ("UTF-8", "EUC-JP"),
+    ("TIS-620", "CP874"),
+    ("UTF-16", "UTF-7"),
+    ("CP1251", "UTF-16"),
+    ("UTF-8", "GB18030"),
+    ("UTF-16", "GB18030"),
+    ("GB18030", "KOI8-R"),
+    ("GB18030", "UTF-16"),
+    ("ISO-2022-JP-2", "EUC-KR"),
+    ("EUC-JP", "CP50221"),
+)
 
 
 class Cost(unittest.TestCase):
@@ -101,15 +119,7 @@ class Cost(unittest.TestCase):
             self.assertIn(errors, ("backslashreplace", "namereplace", "xmlcharrefreplace"), name)
 
     def test_converting(self) -> None:
-        for source, target in (
-            ("EUC-KR", "KOI8-R"),
-            ("UTF-8", "EUC-JP"),
-            ("TIS-620", "CP874"),
-            ("UTF-16", "UTF-7"),
-            ("CP1251", "UTF-16"),
-            ("ISO-2022-JP-2", "EUC-KR"),
-            ("EUC-JP", "CP50221"),
-        ):
+        for source, target in PAIRS:
             for end in (source, target):
                 use_each_set(self.client, end)
             for kind, data in texts(self.client, source):

@@ -162,10 +162,10 @@ def repairs_header(table: list[list[str]]) -> str:
     for file in sorted({row[0] for row in mine}):
         repairs = [row for row in mine if row[0] == file]
         files.append('    {"%s", %d, %d},' % (file, len(lines), len(repairs)))
-        for _, _, kind, code, character, stand_in, *_ in repairs:
+        for _, _, kind, code, character, placeholder, *_ in repairs:
             first = code.split('-')[0]
             point = character[2:].split('-')[0] if character != '-' else '0'
-            numbers = (first, point, stand_in if stand_in != '-' else '0', len(first) // 2, KINDS.index(kind))
+            numbers = (first, point, placeholder if placeholder != '-' else '0', len(first) // 2, KINDS.index(kind))
             lines.append('    {0x%s, 0x%s, 0x%s, %d, %d},' % numbers)
     return ('static const struct repair REPAIRS[] = {\n' + '\n'.join(lines) + '\n};\n'
             'static const struct repaired_file REPAIRED_FILES[] = {\n' + '\n'.join(files) + '\n};\n')

@@ -212,16 +212,16 @@ static iconvd_status open_file(struct gz_lines *lines, const char *directory, co
     return there ? ICONVD_ENOMEM : ICONVD_UNSUPPORTED;
 }
 
-/* The charmap with stand-ins, if the file has some. False: out of memory. */
+/* The charmap with placeholders, if the file has some. False: out of memory. */
 static bool begin_written(struct reading *reading, struct charmap *written) {
-    if (!repairs_have_stand_ins(&reading->repairs))
+    if (!repairs_have_placeholders(&reading->repairs))
         return true;
     struct buffer text = {.bytes = NULL};
     *written = *reading->charmap;
     written->text = text;
     const struct buffer *mappings = &reading->charmap->text;
     return buffer_append(&written->text, mappings->bytes, mappings->length) &&
-           repairs_append_stand_ins(&reading->repairs, reading->escape, written);
+           repairs_append_placeholders(&reading->repairs, reading->escape, written);
 }
 
 /* All charmaps from what was read. False: out of memory. */

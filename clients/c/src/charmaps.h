@@ -21,7 +21,7 @@ enum { LARGE_CHARMAP = 50000, LIGHT_BYTES = 2 };
 struct charmap_set {
     struct charmap whole;
     struct charmap light;   /* the mappings of at most LIGHT_BYTES bytes of a large one, which are compiled sooner */
-    struct charmap written; /* the whole with stand-ins, for conversions to the encoding (repairs.h) */
+    struct charmap written; /* the whole with placeholders, for conversions to the encoding (repairs.h) */
 };
 
 /* Reads `directory`/`file`.gz and mends it, so that the service reads it as the C library does:

@@ -90,7 +90,7 @@ static bool take_charmaps(struct encoding *encoding, struct charmap_set *set) {
         !add_other(&encoding->written, encoding, &set->written, "written"))
         return false;
     if (encoding->written)
-        encoding->written->has_stand_ins = true;
+        encoding->written->has_placeholders = true;
     return true;
 }
 

@@ -20,8 +20,8 @@ struct encoding {
     struct encoding *light; /* of a large charmap: the short mappings of it, which are compiled sooner; NULL: there is no such */
     atomic_bool needed;     /* a text has needed more than the light one */
     struct repairs repairs; /* of a charmap file */
-    struct encoding *written; /* what is written with where the charmap needs stand-ins for that; NULL: itself */
-    bool has_stand_ins;       /* it is such a one */
+    struct encoding *written; /* what is written with where the charmap needs placeholders for that; NULL: itself */
+    bool has_placeholders;       /* it is such a one */
     bool is_computed;         /* the client computes its characters above U+FFFF, as GB18030's (planes.h) */
     unsigned char *_Atomic repertoire; /* made when a conversion first asks what the encoding has */
     struct codes *_Atomic codes; /* of a charmap; made when a conversion first meets bytes that are no character */
@@ -74,7 +74,7 @@ void encoding_free(struct encoding *encoding);
 /* What a text is tried with first: the light encoding, until one has needed more. */
 struct encoding *encoding_first(struct encoding *encoding);
 
-/* The encoding by which the service writes another one: that one, or with stand-ins, which pool_convert() puts the right bytes for. */
+/* The encoding by which the service writes another one: that one, or with placeholders, which pool_convert() puts the right bytes for. */
 struct encoding *encoding_written(struct encoding *encoding);
 
 /* The codes of a charmap, which are made the first time. NULL: out of memory. */

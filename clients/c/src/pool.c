@@ -127,9 +127,9 @@ static iconvd_status convert_one(struct iconvd_pool *pool, struct slot *slot, co
     return remote_convert(&slot->stream, place, context);
 }
 
-/* Puts the bytes that are meant in the place of stand-ins. */
+/* Puts the bytes that are meant in the place of placeholders. */
 static void settle(const struct pair *pair, const struct work *work) {
-    if (pair->to->has_stand_ins)
+    if (pair->to->has_placeholders)
         repairs_settle(&pair->to->repairs, work->out, work->produced);
 }
 

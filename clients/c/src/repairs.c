@@ -38,7 +38,7 @@ bool repairs_have(const struct repairs *repairs, uint32_t character) {
     return false;
 }
 
-bool repairs_have_stand_ins(const struct repairs *repairs) {
+bool repairs_have_placeholders(const struct repairs *repairs) {
     return has_kind(repairs, REPAIR_WRITE);
 }
 
@@ -65,13 +65,13 @@ void repair_spell(char *line, uint32_t character, uint32_t code, unsigned bytes,
         length += sprintf(line + length, "%cx%02x", escape, (unsigned)(code >> 8 * (bytes - 1 - i) & 0xff));
 }
 
-bool repairs_append_stand_ins(const struct repairs *repairs, char escape, struct charmap *charmap) {
+bool repairs_append_placeholders(const struct repairs *repairs, char escape, struct charmap *charmap) {
     char line[64];
     for (size_t i = 0; i < repairs->count; i++) {
         const struct repair *repair = &repairs->first[i];
         if (repair->kind != REPAIR_WRITE)
             continue;
-        repair_spell(line, repair->character, repair->stand_in, repair->bytes, escape);
+        repair_spell(line, repair->character, repair->placeholder, repair->bytes, escape);
         strcat(line, "\n");
         if (!buffer_append(&charmap->text, line, strlen(line)))
             return false;
@@ -93,11 +93,11 @@ static uint32_t get_code(const unsigned char *in, unsigned bytes) {
     return code;
 }
 
-/* Replaces what is at a place, if it is a stand-in. Returns how many bytes that were; else 1. */
+/* Replaces what is at a place, if it is a placeholder. Returns how many bytes that were; else 1. */
 static size_t settle_one(const struct repairs *repairs, unsigned char *out, size_t left) {
     for (size_t i = 0; i < repairs->count; i++) {
         const struct repair *repair = &repairs->first[i];
-        if (repair->kind != REPAIR_WRITE || repair->bytes > left || get_code(out, repair->bytes) != repair->stand_in)
+        if (repair->kind != REPAIR_WRITE || repair->bytes > left || get_code(out, repair->bytes) != repair->placeholder)
             continue;
         put_code(out, repair->code, repair->bytes);
         return repair->bytes;
@@ -110,8 +110,8 @@ void repairs_settle(const struct repairs *repairs, char *out, size_t length) {
     bool begins[256] = {false};
     for (size_t i = 0; i < repairs->count; i++)
         if (repairs->first[i].kind == REPAIR_WRITE)
-            begins[repairs->first[i].stand_in >> 8 * (repairs->first[i].bytes - 1) & 0xff] = true;
-    /* No byte after the first one of a character begins a stand-in, so characters need not be told apart. */
+            begins[repairs->first[i].placeholder >> 8 * (repairs->first[i].bytes - 1) & 0xff] = true;
+    /* No byte after the first one of a character begins a placeholder, so characters need not be told apart. */
     for (size_t at = 0; at < length;)
         at += begins[bytes[at]] ? settle_one(repairs, bytes + at, length - at) : 1;
 }

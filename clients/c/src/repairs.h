@@ -10,7 +10,7 @@ enum repair_kind { REPAIR_WRITE, REPAIR_READ, REPAIR_BOTH, REPAIR_NONE, REPAIR_C
 struct repair {
     uint32_t code; /* the bytes as one number, the first byte the highest */
     uint32_t character;
-    uint32_t stand_in; /* of WRITE: as many bytes */
+    uint32_t placeholder; /* of WRITE: as many bytes */
     uint8_t bytes;
     uint8_t kind;
 };
@@ -35,12 +35,12 @@ bool repairs_drop(const struct repairs *repairs, const char *line, char escape);
 /* Writes the line of a mapping, which has at most 60 bytes. */
 void repair_spell(char *line, uint32_t character, uint32_t code, unsigned bytes, char escape);
 
-bool repairs_have_stand_ins(const struct repairs *repairs);
+bool repairs_have_placeholders(const struct repairs *repairs);
 
-/* Appends the mappings of stand-ins to a charmap's text, and counts them. False: out of memory. */
-bool repairs_append_stand_ins(const struct repairs *repairs, char escape, struct charmap *charmap);
+/* Appends the mappings of placeholders to a charmap's text, and counts them. False: out of memory. */
+bool repairs_append_placeholders(const struct repairs *repairs, char escape, struct charmap *charmap);
 
-/* Puts the bytes that are meant in the place of each stand-in, in what the service wrote: whole characters, of the same length. */
+/* Puts the bytes that are meant in the place of each placeholder, in what the service wrote: whole characters, of the same length. */
 void repairs_settle(const struct repairs *repairs, char *out, size_t length);
 
 #endif

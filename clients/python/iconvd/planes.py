@@ -1,7 +1,7 @@
 """The characters of GB18030 above U+FFFF, whose codes of four bytes are computed.
 
-No charmap has room for them. The server gets a stand-in for each, the code of U+FFFF, and the characters are put back into what it
-wrote. U+FFFF itself is put back too, so the stand-in tells nothing else.
+No charmap has room for them. The server gets a placeholder for each, the code of U+FFFF, and the characters are put back into what it
+wrote. U+FFFF itself is put back too, so the placeholder tells nothing else.
 """
 
 from __future__ import annotations
@@ -48,14 +48,14 @@ def may_begin(rest: bytes) -> bool:
 
 
 class Marked(NamedTuple):
-    """A text with stand-ins, and what is meant by each, in the target's bytes."""
+    """A text with placeholders, and what is meant by each, in the target's bytes."""
 
     data: bytes
     meant: List[bytes]
 
 
 def marked_codes(data: bytes) -> Marked:
-    """Puts stand-ins of as many bytes into GB18030. What is meant is in UTF-8."""
+    """Puts placeholders of as many bytes into GB18030. What is meant is in UTF-8."""
     meant: List[bytes] = []
 
     def marked(found: Match[bytes]) -> bytes:
@@ -76,7 +76,7 @@ def characters_put_back(output: bytes, meant: List[bytes]) -> bytes:
 
 
 def marked_characters(data: bytes) -> Marked:
-    """Puts stand-ins into UTF-8. What is meant is in GB18030. The stand-in of a computed character has one byte less."""
+    """Puts placeholders into UTF-8. What is meant is in GB18030. The placeholder of a computed character has one byte less."""
     meant: List[bytes] = []
 
     def marked(found: Match[bytes]) -> bytes:
@@ -91,7 +91,7 @@ def marked_characters(data: bytes) -> Marked:
 
 
 class PutBack(NamedTuple):
-    """Codes that were put back, and by how many bytes the text for them was longer than its stand-ins."""
+    """Codes that were put back, and by how many bytes the text for them was longer than its placeholders."""
 
     output: bytes
     longer: int

@@ -34,9 +34,9 @@ class Repairs(NamedTuple):
     dropped: FrozenSet[bytes]
     both: List[Mapping]
     read: List[Mapping]
-    #: Characters that are only written, by their stand-ins.
+    #: Characters that are only written, by their placeholders.
     written: List[Mapping]
-    #: The bytes that are meant, by the stand-ins.
+    #: The bytes that are meant, by the placeholders.
     meant: Dict[bytes, bytes]
     #: Whether the client computes the characters above U+FFFF; see planes.py.
     is_computed: bool
@@ -47,15 +47,15 @@ class Repairs(NamedTuple):
         return bool(self.read or self.written)
 
     def settle(self, leads: FrozenSet[bytes]) -> Optional[Callable[[bytes], bytes]]:
-        """Returns what puts the bytes that are meant in the place of stand-ins, if there are any. `leads` are the first bytes of
-        characters of two bytes. Stand-ins that begin with one of them are looked for where characters begin."""
+        """Returns what puts the bytes that are meant in the place of placeholders, if there are any. `leads` are the first bytes of
+        characters of two bytes. Placeholders that begin with one of them are looked for where characters begin."""
         if not self.meant:
             return None
-        stand_in = b"|".join(map(re.escape, self.meant))
+        placeholder = b"|".join(map(re.escape, self.meant))
         if not any(each[:1] in leads for each in self.meant):
-            return functools.partial(re.compile(stand_in, re.S).sub, lambda found: self.meant[found[0]])
+            return functools.partial(re.compile(placeholder, re.S).sub, lambda found: self.meant[found[0]])
         lead = b"".join(map(re.escape, sorted(leads)))
-        pattern = re.compile(b"(%s)|(?:(?!%s)[%s].)+" % (stand_in, stand_in, lead), re.S)
+        pattern = re.compile(b"(%s)|(?:(?!%s)[%s].)+" % (placeholder, placeholder, lead), re.S)
         return functools.partial(pattern.sub, lambda found: self.meant[found[1]] if found[1] else found[0])
 
 
@@ -73,13 +73,13 @@ def _points(text: str, count: int) -> List[int]:
 def _repairs(rows: List[List[str]]) -> Repairs:
     found = Repairs(frozenset(), [], [], [], {}, any(row[2] == "computed" for row in rows))
     dropped = set()
-    for _, _, kind, code, character, stand_in, _ in rows:
+    for _, _, kind, code, character, placeholder, _ in rows:
         if kind == "computed":
             continue
         codes = _codes(code)
         if kind == "write":
-            found.written.append(Mapping(int(character[2:], 16), bytes.fromhex(stand_in)))
-            found.meant[bytes.fromhex(stand_in)] = codes[0]
+            found.written.append(Mapping(int(character[2:], 16), bytes.fromhex(placeholder)))
+            found.meant[bytes.fromhex(placeholder)] = codes[0]
             continue
         dropped.update(codes)
         to = found.both if kind == "both" else found.read

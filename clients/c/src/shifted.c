@@ -4,8 +4,9 @@
  * source is read again, up to the character that was the last. So both sides stop at the same place, each with its state there. */
 #include "shifted.h"
 
-/* PIECE is how much of the source is taken at once. AFTER_STOP is how much is taken first where a text has just stopped. */
-enum { PIECE = 131072, AFTER_STOP = 64 };
+/* PIECE is how much of the source is taken at once. AFTER_STOP is how much is taken first where a text has just stopped, since there may
+   be more of what is in the way; and GROWTH times as much then. */
+enum { PIECE = 131072, AFTER_STOP = 64, GROWTH = 16 };
 
 /* A piece on its way. */
 struct piece {
@@ -203,7 +204,7 @@ iconvd_status shifted_convert(struct iconvd_cd *cd, struct progress *progress) {
     size_t most = cd->shifted->stopped ? AFTER_STOP : input_for_room(PIECE, progress->out_left);
     while (status == ICONVD_OK && progress->in_left > 0) {
         status = convert_one(cd, progress, progress->in_left < most ? progress->in_left : most);
-        most = PIECE;
+        most = cd->shifted->stopped && most < PIECE / GROWTH ? GROWTH * most : PIECE;
     }
     if (status == ICONVD_EILSEQ && cd->from_wide && progress->out_left < shift_least_room(cd->shifted->to, &cd->shifted->writing))
         status = ICONVD_E2BIG;

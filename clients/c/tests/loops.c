@@ -73,8 +73,8 @@ static void compare_loop(const struct loop *loop) {
 
 /* To a target that has all characters, to one that lacks many, and to one of several bytes; what these lack is replaced. */
 static void test_loops(void) {
-    static const char *const FROM[] = {"EUC-KR", "UTF-8", "GB18030", "SHIFT_JIS", "BIG5", "EUC-JP", "US-ASCII"};
-    static const enum text KINDS[] = {RANDOM, GERMAN, FRENCH, EACH_SECOND, FAULTS, LEADS, DAMAGED};
+    static const char *const FROM[] = {"EUC-KR", "UTF-8", "GB18030", "SHIFT_JIS", "BIG5", "EUC-JP", "US-ASCII", "ISO-2022-JP", "ISO-2022-KR", "HZ"};
+    static const enum text KINDS[] = {RANDOM, GERMAN, FRENCH, EACH_SECOND, FAULTS, LEADS, DAMAGED, SHIFTS};
     static const struct {
         const char *to;
         int policy;

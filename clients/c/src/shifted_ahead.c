@@ -5,7 +5,7 @@
  * them by few round trips, as long as the bytes are those that were looked at. */
 #include "shifted.h"
 
-enum { LEAST = 256, GROWTH = 16, MOST = 65536 };
+enum { LEAST = 256, GROWTH = 16, MOST = 65536, CODE = 8 };
 
 struct shift_ahead {
     struct iconvd_cd cd; /* from UTF-8 to the target */
@@ -66,10 +66,15 @@ static bool look(struct iconvd_cd *cd, struct shift_ahead *ahead, const struct p
     return there && ahead->text.length > 0;
 }
 
-/* Whether the rest of the window is the caller's. */
-static bool is_next(const struct shift_ahead *ahead, const struct progress *progress) {
+/* Whether the caller's bytes are those of the window, up to the next fault and what decides that it is one. */
+static bool is_next(const struct iconvd_cd *cd, const struct shift_ahead *ahead, const struct progress *progress) {
     size_t left = ahead->in.length - ahead->used;
-    return ahead->read < ahead->text.length && left <= progress->in_left && memcmp(ahead->in.bytes + ahead->used, progress->in, left) == 0;
+    if (ahead->read >= ahead->text.length || left > progress->in_left)
+        return false;
+    struct shift_reading reading = begin_reading(cd, progress->in, left);
+    shift_read(&reading, SIZE_MAX, NULL);
+    size_t needed = (size_t)(reading.in - progress->in) + CODE;
+    return memcmp(ahead->in.bytes + ahead->used, progress->in, needed < left ? needed : left) == 0;
 }
 
 /* Moves on by what was converted of the text, up to the fault if one has stopped it. */
@@ -112,7 +117,7 @@ iconvd_status shift_ahead_convert(struct iconvd_cd *cd, struct progress *progres
     if (!shifted->ahead)
         shifted->ahead = begin(cd);
     struct shift_ahead *ahead = shifted->ahead;
-    if (!ahead || (!is_next(ahead, progress) && !look(cd, ahead, progress)))
+    if (!ahead || (!is_next(cd, ahead, progress) && !look(cd, ahead, progress)))
         return ICONVD_OK;
     struct progress part = *progress;
     part.in = ahead->text.bytes + ahead->read;

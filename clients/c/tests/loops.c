@@ -32,11 +32,17 @@ static struct step step_after(iconvd_cd *cd, const struct step *last, char *out)
 
 static const struct step FIRST = {.left = sizeof loop_text, .room = sizeof loop_out, .status = ICONVD_EILSEQ};
 
+static bool is_shifted(const char *name) {
+    return strncmp(name, "ISO-2022", 8) == 0 || strcmp(name, "HZ") == 0;
+}
+
 /* Its calls cost together what one call costs; twice as many requests where the target lacks characters. */
 static void meter_loop(struct loop *loop) {
     iconvd_cd *cd = NULL;
     struct step step = FIRST;
     uint64_t most = (strcmp(loop->to, "UTF-8") == 0 ? 8 : 16) * ((SMALL + 65535) / 65536);
+    /* With shifts each window is converted twice: its sets, and all of it to the target. */
+    most *= is_shifted(loop->from) ? 2 : 1;
     loop->count = 0;
     check(iconvd_open(pool, loop->to, loop->from, loop->policy, &cd) == ICONVD_OK, "%s to %s", loop->from, loop->to);
     uint64_t bytes = text_bytes_sent, requests = texts_sent;
@@ -83,6 +89,8 @@ static void test_loops(void) {
     for (size_t i = 0; i < sizeof FROM / sizeof *FROM; i++)
         for (size_t j = 0; j < TARGET_COUNT * sizeof KINDS / sizeof *KINDS; j++) {
             struct loop loop = {.from = FROM[i], .kind = KINDS[j / TARGET_COUNT]};
+            if (is_shifted(loop.from) != (loop.kind == SHIFTS) && loop.kind != RANDOM && loop.kind != EACH_SECOND)
+                continue;
             loop.to = TARGETS[j % TARGET_COUNT].to;
             loop.policy = TARGETS[j % TARGET_COUNT].policy;
             make_text(loop.kind, loop.from, loop_text, sizeof loop_text);

@@ -95,7 +95,9 @@ static void test_loops(void) {
             loop.policy = TARGETS[j % TARGET_COUNT].policy;
             make_text(loop.kind, loop.from, loop_text, sizeof loop_text);
             meter_loop(&loop);
-            compare_loop(&loop);
+            /* A conversion of its own for each call has no shifts before it: shifts.c compares these with the C library. */
+            if (!is_shifted(loop.from))
+                compare_loop(&loop);
         }
 }
 

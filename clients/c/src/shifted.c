@@ -4,8 +4,9 @@
  * source is read again, up to the character that was the last. So both sides stop at the same place, each with its state there. */
 #include "shifted.h"
 
-/* PIECE is how much of the source is taken at once. AFTER_STOP is how much is taken first where a text has just stopped. */
-enum { PIECE = 131072, AFTER_STOP = 64 };
+/* PIECE is how much of the source is taken at once. AFTER_STOP is how much is taken first where a text has just stopped, since there may
+   be more of what is in the way; and GROWTH times as much then. */
+enum { PIECE = 131072, AFTER_STOP = 64, GROWTH = 16 };
 
 /* A piece on its way. */
 struct piece {
@@ -198,16 +199,26 @@ static iconvd_status begin(struct iconvd_cd *cd, struct progress *progress) {
     return status;
 }
 
+/* Whether a call goes on by what shifted_ahead.c knows: to a target without marks, shifts or a state. */
+static bool looks_ahead(const struct iconvd_cd *cd) {
+    const struct iconvd_cd *inner = &cd->shifted->inner;
+    bool plain = inner->pair.to && inner->to == inner->pair.to && !inner->own && !cd->shifted->to_wide;
+    return cd->shifted->faulty && cd->shifted->from && plain && !(cd->policy & (ICONVD_IGNORE | ICONVD_SUBSTITUTE));
+}
+
 iconvd_status shifted_convert(struct iconvd_cd *cd, struct progress *progress) {
     iconvd_status status = begin(cd, progress);
+    if (status == ICONVD_OK && progress->in_left > 0 && looks_ahead(cd))
+        status = shift_ahead_convert(cd, progress);
     size_t most = cd->shifted->stopped ? AFTER_STOP : input_for_room(PIECE, progress->out_left);
     while (status == ICONVD_OK && progress->in_left > 0) {
         status = convert_one(cd, progress, progress->in_left < most ? progress->in_left : most);
-        most = PIECE;
+        most = cd->shifted->stopped && most < PIECE / GROWTH ? GROWTH * most : PIECE;
     }
     if (status == ICONVD_EILSEQ && cd->from_wide && progress->out_left < shift_least_room(cd->shifted->to, &cd->shifted->writing))
         status = ICONVD_E2BIG;
     cd->shifted->stopped = status == ICONVD_ENOCHAR || status == ICONVD_EILSEQ;
+    cd->shifted->faulty = status == ICONVD_EILSEQ;
     return status;
 }
 
@@ -225,72 +236,4 @@ void shifted_describe(struct iconvd_cd *cd, const struct progress *progress, ico
     } else if (shift_read(&reading, 1, NULL) == ICONVD_OK) {
         stop->length = progress->in_left - reading.left;
     }
-}
-
-/* Opens the side with shifts, if there is one. */
-static iconvd_status open_side(struct iconvd_pool *pool, const struct encoding *encoding, bool writes, struct shifter **side) {
-    if (encoding->kind != SHIFTED)
-        return ICONVD_OK;
-    *side = malloc(sizeof **side);
-    return *side ? shifter_open(pool, *side, encoding, writes) : ICONVD_ENOMEM;
-}
-
-iconvd_status shifted_open(struct iconvd_cd *cd, bool to_wide) {
-    struct shifted *shifted = cd->shifted = calloc(1, sizeof *shifted);
-    if (!shifted)
-        return ICONVD_ENOMEM;
-    shifted->to_wide = to_wide;
-    iconvd_status status = open_side(cd->pool, cd->from, false, &shifted->from);
-    if (status == ICONVD_OK)
-        status = open_side(cd->pool, cd->to, true, &shifted->to);
-    if (status != ICONVD_OK)
-        return status;
-    if (shifted->from)
-        shifted->reading = shift_begin(shifted->from, false);
-    if (shifted->to)
-        shifted->writing = shift_begin(shifted->to, true);
-    if (shifted->from && shifted->to)
-        return ICONVD_OK;
-    /* What is left of UTF-7 at a stop means something to its descriptor alone: it cannot be read again. */
-    if (cd->from->kind == UTF_7)
-        return ICONVD_UNSUPPORTED;
-    struct encoding *middle = encoding_builtin(UTF_16BE);
-    shifted->inner = (struct iconvd_cd){.pool = cd->pool,
-                                        .to = shifted->to ? middle : cd->to,
-                                        .from = shifted->from ? middle : cd->from,
-                                        .policy = shifted->to ? cd->policy & ICONVD_IGNORE : cd->policy,
-                                        .ahead = SIZE_MAX,
-                                        .from_wide = cd->from_wide};
-    return open_pair(&shifted->inner);
-}
-
-iconvd_status shifted_reset(struct iconvd_cd *cd, char **out, size_t *out_left) {
-    struct shifted *shifted = cd->shifted;
-    bool writes = out && *out;
-    iconvd_status status = ICONVD_OK;
-    /* The source's side first, which has nothing to write: as in the C library it is reset even where the other one has no room. */
-    if (shifted->from)
-        shifted->reading = shift_begin(shifted->from, false);
-    else
-        status = iconvd_reset(&shifted->inner, NULL, NULL);
-    if (!shifted->to)
-        status = iconvd_reset(&shifted->inner, out, out_left);
-    else if (writes && !shift_end(shifted->to, &shifted->writing, out, out_left))
-        status = ICONVD_E2BIG;
-    if (status != ICONVD_OK)
-        return status;
-    if (shifted->to)
-        shifted->writing = shift_begin(shifted->to, true);
-    shifted->stopped = false;
-    return ICONVD_OK;
-}
-
-void shifted_end(struct iconvd_cd *cd) {
-    if (!cd->shifted)
-        return;
-    own_end(&cd->shifted->inner);
-    foresight_end(&cd->shifted->inner);
-    free(cd->shifted->from);
-    free(cd->shifted->to);
-    free(cd->shifted);
 }

@@ -41,8 +41,8 @@ struct shifted_encoding {
     uint32_t begins[8];         /* a bit for each byte that begins a sequence */
 };
 
-/* How many groups of sets there may be; no set; and the group of those that are converted by arithmetic alone. */
-enum { GROUPS = 6, NO_SET = 255, DIRECT = 254 };
+/* How many groups of sets there may be; no set; the group of those that are converted by arithmetic alone; and that of faults. */
+enum { GROUPS = 6, NO_SET = 255, DIRECT = 254, FAULT_MARK = 253 };
 
 /* What is known of a set: shifted_sets.c. */
 struct set_map {
@@ -125,7 +125,8 @@ struct shift_place {
 struct shift_reading {
     const struct shifter *shifter;
     struct shift_state state;
-    bool ignores; /* goes on after faults */
+    bool ignores;      /* goes on after faults */
+    bool marks_faults; /* goes on a byte after each, which is a surrogate alone in the text */
     const char *in;
     size_t left;
     size_t characters;
@@ -177,7 +178,14 @@ bool shift_end(const struct shifter *shifter, struct shift_state *state, char **
 enum { SHIFT_SEQUENCES = 16 };
 size_t shift_spell(const struct shifter *shifter, const struct shift_state *state, char *out);
 
-/* shifted.c: the conversions. */
+/* shifted_ahead.c: a call after one that has stopped at a fault. It moves on by what is known of the text then, and may make no round
+   trip. OK: nothing is in the way of going on by pieces. */
+struct shifted;
+struct shift_ahead;
+iconvd_status shift_ahead_convert(struct iconvd_cd *cd, struct progress *progress);
+void shift_ahead_end(struct shifted *shifted);
+
+/* shifted.c and shifted_open.c: the conversions. */
 
 struct shifted {
     struct shifter *from, *to; /* NULL: that side has no shifts */
@@ -185,6 +193,8 @@ struct shifted {
     bool to_wide;              /* the target is WCHAR_T, which the C library converts to without a step between */
     bool stopped;              /* the last call stopped at what is in the way: there may be more of it */
     struct iconvd_cd inner;    /* from or to UTF-16BE on the other side, unless both have shifts */
+    struct shift_ahead *ahead; /* what follows a fault; NULL: none was met */
+    bool faulty;               /* the last call stopped at a fault of the source */
     struct shift_place last;   /* where this call was after the last character; its faults are what progress counts as skipped */
     uint32_t lacking;          /* the character that has stopped the last call, and its length in the source */
     size_t lacking_length;

@@ -151,7 +151,11 @@ iconvd_status shift_read(struct shift_reading *reading, size_t most, struct shif
         struct item item = item_at(reading->shifter, &reading->state, (const unsigned char *)reading->in, reading->left);
         if (item.kind == CUT)
             return ICONVD_EINVAL;
-        if (item.kind == FAULT && !reading->ignores)
+        if (item.kind == FAULT && reading->marks_faults)
+            item.length = 1;
+        if (item.kind == FAULT && reading->marks_faults && !buffer_append(&text->plan, (const char[]){(char)FAULT_MARK}, 1))
+            return ICONVD_ENOMEM;
+        if (item.kind == FAULT && !reading->ignores && !reading->marks_faults)
             return ICONVD_EILSEQ;
         if (item.kind == CHARACTER && text && !keep(reading->shifter, text, &item))
             return ICONVD_ENOMEM;
@@ -198,9 +202,9 @@ static iconvd_status merge(const struct shift_text *text, const struct buffer *o
     char *to = units->bytes;
     for (size_t i = 0; i < text->plan.length; i++) {
         unsigned char group = (unsigned char)text->plan.bytes[i];
-        if (group == DIRECT) {
-            *to++ = 0;
-            *to++ = text->direct.bytes[direct++];
+        if (group == DIRECT || group == FAULT_MARK) {
+            *to++ = group == DIRECT ? 0 : (char)0xdc;
+            *to++ = group == DIRECT ? text->direct.bytes[direct++] : 0;
             continue;
         }
         const char *from = outs[group].bytes + at[group];

@@ -58,7 +58,7 @@ class Library:
             return False
         if not encoding.is_charmap or encoding.name in self._read:
             return True
-        return encoding.name not in self._refused and charmaps.is_there(encoding.name)
+        return encoding.name not in self._refused and charmaps.is_there(repairs.of(encoding.name)[0])
 
     def get(self, file: str) -> Charmap:
         """Returns the charmap of that file, which is read once. Raises CharmapRefused."""

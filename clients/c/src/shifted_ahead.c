@@ -71,9 +71,13 @@ static bool is_next(const struct iconvd_cd *cd, const struct shift_ahead *ahead,
     size_t left = ahead->in.length - ahead->used;
     if (ahead->read >= ahead->text.length || left > progress->in_left)
         return false;
-    struct shift_reading reading = begin_reading(cd, progress->in, left);
-    shift_read(&reading, SIZE_MAX, NULL);
-    size_t needed = (size_t)(reading.in - progress->in) + CODE;
+    /* A fault has to be one in what the caller gives: a shorter text may only cut a code there. */
+    struct shift_reading reading = begin_reading(cd, progress->in, left + CODE < progress->in_left ? left + CODE : progress->in_left);
+    iconvd_status status = shift_read(&reading, SIZE_MAX, NULL);
+    size_t used = (size_t)(reading.in - progress->in), needed = used + CODE;
+    bool is_marked = memchr(ahead->text.bytes + ahead->read, 0xff, ahead->text.length - ahead->read) != NULL;
+    if ((status == ICONVD_EINVAL && used < left) || (status == ICONVD_EILSEQ && used < left) != is_marked)
+        return false;
     return memcmp(ahead->in.bytes + ahead->used, progress->in, needed < left ? needed : left) == 0;
 }
 

@@ -83,14 +83,14 @@ static bool is_next(const struct iconvd_cd *cd, const struct shift_ahead *ahead,
 
 /* Moves on by what was converted of the text, up to the fault if one has stopped it. */
 static void move_on(struct iconvd_cd *cd, struct shift_ahead *ahead, struct progress *progress, size_t read, iconvd_status status) {
-    struct shift_reading reading = begin_reading(cd, progress->in, ahead->in.length - ahead->used);
+    struct shift_reading reading = begin_reading(cd, progress->in, progress->in_left);
     size_t characters = 0;
     for (size_t i = 0; i < read; i++)
         characters += ((unsigned char)ahead->text.bytes[ahead->read + i] & 0xc0) != 0x80;
     shift_read(&reading, characters, NULL);
     if (characters > 0)
         cd->shifted->last = reading.last;
-    if (status == ICONVD_EILSEQ || status == ICONVD_OK)
+    if (status == ICONVD_EILSEQ)
         shift_read(&reading, SIZE_MAX, NULL);
     size_t used = (size_t)(reading.in - progress->in);
     cd->shifted->reading = reading.state;

@@ -71,22 +71,26 @@ static bool is_next(const struct iconvd_cd *cd, const struct shift_ahead *ahead,
     size_t left = ahead->in.length - ahead->used;
     if (ahead->read >= ahead->text.length || left > progress->in_left)
         return false;
-    struct shift_reading reading = begin_reading(cd, progress->in, left);
-    shift_read(&reading, SIZE_MAX, NULL);
-    size_t needed = (size_t)(reading.in - progress->in) + CODE;
+    /* A fault has to be one in what the caller gives: a shorter text may only cut a code there. */
+    struct shift_reading reading = begin_reading(cd, progress->in, left + CODE < progress->in_left ? left + CODE : progress->in_left);
+    iconvd_status status = shift_read(&reading, SIZE_MAX, NULL);
+    size_t used = (size_t)(reading.in - progress->in), needed = used + CODE;
+    bool is_marked = memchr(ahead->text.bytes + ahead->read, 0xff, ahead->text.length - ahead->read) != NULL;
+    if ((status == ICONVD_EINVAL && used < left) || (status == ICONVD_EILSEQ && used < left) != is_marked)
+        return false;
     return memcmp(ahead->in.bytes + ahead->used, progress->in, needed < left ? needed : left) == 0;
 }
 
 /* Moves on by what was converted of the text, up to the fault if one has stopped it. */
 static void move_on(struct iconvd_cd *cd, struct shift_ahead *ahead, struct progress *progress, size_t read, iconvd_status status) {
-    struct shift_reading reading = begin_reading(cd, progress->in, ahead->in.length - ahead->used);
+    struct shift_reading reading = begin_reading(cd, progress->in, progress->in_left);
     size_t characters = 0;
     for (size_t i = 0; i < read; i++)
         characters += ((unsigned char)ahead->text.bytes[ahead->read + i] & 0xc0) != 0x80;
     shift_read(&reading, characters, NULL);
     if (characters > 0)
         cd->shifted->last = reading.last;
-    if (status == ICONVD_EILSEQ || status == ICONVD_OK)
+    if (status == ICONVD_EILSEQ)
         shift_read(&reading, SIZE_MAX, NULL);
     size_t used = (size_t)(reading.in - progress->in);
     cd->shifted->reading = reading.state;

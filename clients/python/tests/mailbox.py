@@ -223,7 +223,14 @@ def squeezed(value: object) -> str:
 DOCUMENTED = (
     r"same|content, .*: (replaced|bytes of a type that Python does not read|its charmap differs)"
     r"|(subject|from|to|filename), .*: replaced|(subject|from|to|filename), damaged: (Python raises \w+|a damaged header)"
+    r"|filename, .*: Python has its charset under another name"
 )
+
+
+def filename_of(charset: str, source: str) -> str:
+    """The filename of a whole header, by CPython's codec."""
+    values = re.findall(r"filename\*[0-9*]*=(?:[^';]*'[^';]*')?\"?([^;\"]*)", source)
+    return urllib.parse.unquote("".join(values), encoding=python_name(charset))
 
 
 def kind_of(ours: Reading, theirs: Reading, is_damaged: bool) -> str:
@@ -245,6 +252,8 @@ def kind_of(ours: Reading, theirs: Reading, is_damaged: bool) -> str:
     if not is_filename and squeezed(ours.value) == squeezed(header_replaced(ours.place, ours.source)):
         return f"{what}: replaced"
     charset = re.search(r"=([^\s;']*)'", ours.source)
+    if is_filename and charset and charset[1] in PYTHON and ours.value == filename_of(charset[1], ours.source):
+        return f"{what}: Python has its charset under another name"
     if is_filename and ("\ufffd" in str(ours.value) or (charset and not is_known(charset[1]))):
         return f"{what}: replaced"
     if isinstance(theirs.value, Exception):

@@ -202,7 +202,7 @@ static iconvd_status begin(struct iconvd_cd *cd, struct progress *progress) {
 /* Whether a call goes on by what shifted_ahead.c knows: to a target without marks, shifts or a state. */
 static bool looks_ahead(const struct iconvd_cd *cd) {
     const struct iconvd_cd *inner = &cd->shifted->inner;
-    bool plain = inner->pair.to && inner->to == inner->pair.to && !inner->own && !cd->shifted->to_wide;
+    bool plain = inner->pair.to && inner->pair.to == encoding_written(inner->to) && !inner->own && !cd->shifted->to_wide;
     return cd->shifted->faulty && cd->shifted->from && plain && !(cd->policy & (ICONVD_IGNORE | ICONVD_SUBSTITUTE));
 }
 

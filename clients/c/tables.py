@@ -171,6 +171,29 @@ def repairs_header(table: list[list[str]]) -> str:
             'static const struct repaired_file REPAIRED_FILES[] = {\n' + '\n'.join(files) + '\n};\n')
 
 
+def composing_parts(written: dict[int, list[int]], point: int) -> list[int]:
+    """What a character is written as."""
+    return [part for each in written[point] for part in composing_parts(written, each)] if point in written else [point]
+
+
+def composing_header(table: list[list[str]]) -> str:
+    """The encodings that compose. Of each, the pairs that are read by letter and mark, and what is written by the character."""
+    encodings, compositions, decompositions = [], [], []
+    heads = {row[0]: row for row in reversed(table) if row[4] in ('once', 'more', 'pairs')}
+    for file, head in sorted(heads.items()):
+        mine = [row for row in table if row[0] == file and row[4] in ('both', 'read', 'write')]
+        read = sorted((int(row[2], 16), int(row[3], 16), int(row[1], 16)) for row in mine if row[4] != 'write')
+        written = {int(row[1], 16): [int(part, 16) for part in row[2:4] if part != '-'] for row in mine if row[4] != 'read'}
+        encodings.append('    {"%s", 0x%s, 0x%s, %s, %d, %d, %d, %d},' % (
+            file, head[1], head[2], 'COMPOSES_' + head[4].upper(), len(compositions), len(read), len(decompositions), len(written)))
+        compositions += ['    {0x%04X, 0x%04X, 0x%04X},' % row for row in read]
+        decompositions += ['    {0x%04X, {%s, 0}},' % (point, ', '.join('0x%04X' % part for part in composing_parts(written, point)))
+                           for point in sorted(written)]
+    return ('static const struct composing COMPOSING[] = {\n' + '\n'.join(encodings) + '\n};\n'
+            'static const struct composition COMPOSITIONS[] = {\n' + '\n'.join(compositions) + '\n};\n'
+            'static const struct decomposition DECOMPOSITIONS[] = {\n' + '\n'.join(decompositions) + '\n};\n')
+
+
 def write(path: str, text: str) -> None:
     with open(path, 'w', encoding='ascii') as out:
         out.write('/* Made by tables.py. */\n' + text)
@@ -181,6 +204,7 @@ def main() -> None:
     write(os.path.join(output, 'names_table.h'), names_header(rows(os.path.join(source, 'names.tsv'))))
     repairs = [row for row in rows(REPAIRS) if not row[0].startswith('#')]
     write(os.path.join(output, 'repairs_table.h'), repairs_header(repairs))
+    write(os.path.join(output, 'composing_table.h'), composing_header(rows(os.path.join(source, 'composing.tsv'))))
     write(os.path.join(output, 'translit_table.h'), translit_header(rows(os.path.join(source, 'translit.tsv'))))
     write(os.path.join(output, 'shifted_table.h'), shifted_header(rows(os.path.join(source, 'shifted_encodings.tsv')),
                                                                   rows(os.path.join(source, 'shifted_sets.tsv'))))

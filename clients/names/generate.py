@@ -1,5 +1,5 @@
 #!/usr/bin/env python3
-"""Writes the tables that the clients share: names.tsv, translit.tsv, shifted_encodings.tsv and shifted_sets.tsv.
+"""Writes the tables that the clients share: names.tsv, translit.tsv, composing.tsv, shifted_encodings.tsv and shifted_sets.tsv.
 
     generate.py [--gconv DIR] [--charmaps DIR] [--locales DIR] [--python] OUTPUT_DIRECTORY
 
@@ -17,7 +17,7 @@ character that may be transliterated: its code point in hexadecimal, then the ca
 The sources are files of the system, and lists beside this program: builtin.tsv (names that the C library has in its code and in no
 file), labels.tsv (names that WHATWG, CPython and IANA have), left_out.tsv (names that no charmap can serve, each with the reason), and
 shifted_encodings.tsv and shifted_sets.tsv (encodings with shifts and escapes), which are written again without comments. With --python
-the names are those of the Python package: labels.tsv says which differ.
+the names are those of the Python package: labels.tsv says which differ. composing.py makes composing.tsv.
 """
 
 from __future__ import annotations
@@ -30,6 +30,7 @@ import re
 import sys
 from collections.abc import Iterable
 
+import composing
 import labels
 
 HERE = os.path.dirname(os.path.abspath(__file__))
@@ -221,6 +222,7 @@ def main() -> None:
           (with_order('\t'.join((name,) + table[name]), order) for name in sorted(table)))
     for shifts in ('shifted_encodings.tsv', 'shifted_sets.tsv'):
         write(os.path.join(options.output, shifts), ('\t'.join(row) for row in read_table(os.path.join(HERE, shifts))))
+    write(os.path.join(options.output, 'composing.tsv'), composing.rows(options.charmaps))
     transliterations: dict[int, list[str]] = {}
     read_transliterations(options.locales, 'C', transliterations, set())
     write(os.path.join(options.output, 'translit.tsv'),

@@ -11,6 +11,7 @@ struct reading {
     struct charmap *charmap;
     struct charmap *light;
     struct repairs repairs;
+    bool is_composed;   /* the codes of several bytes are left out */
     struct buffer last; /* the mappings that are read and never written */
     struct buffer light_last;
     char escape;
@@ -154,12 +155,19 @@ static bool begin_mappings(struct reading *reading) {
     return true;
 }
 
+static bool is_dropped(const struct reading *reading, const char *line) {
+    struct mapping mapping;
+    if (reading->is_composed && charmap_mapping(line, reading->escape, &mapping) && mapping.bytes > 1)
+        return true;
+    return repairs_drop(&reading->repairs, line, reading->escape);
+}
+
 /* False: out of memory. */
 static bool read_mapping(struct reading *reading, const char *line) {
     static const char ONE_WAY[] = "%IRREVERSIBLE%";
     bool is_one_way = strncmp(line, ONE_WAY, sizeof ONE_WAY - 1) == 0;
     const char *mapping = is_one_way ? line + sizeof ONE_WAY - 1 : line;
-    if (*mapping != '<' || (!is_one_way && *line == reading->comment) || repairs_drop(&reading->repairs, mapping, reading->escape))
+    if (*mapping != '<' || (!is_one_way && *line == reading->comment) || is_dropped(reading, mapping))
         return true;
     if (is_one_way)
         return keep_mapping(reading, mapping, &reading->last, &reading->light_last);
@@ -248,8 +256,12 @@ void charmap_set_free(struct charmap_set *set) {
 iconvd_status charmap_read(struct charmap_set *set, const char *directory, const char *file, const char *name) {
     static const struct charmap EMPTY = {.least_bytes = 8, .most_bytes = 1};
     *set = (struct charmap_set){.whole = EMPTY, .light = EMPTY, .written = EMPTY};
-    struct reading reading = {
-        .charmap = &set->whole, .light = &set->light, .repairs = repairs_of(file), .escape = '\\', .comment = '#'};
+    struct reading reading = {.charmap = &set->whole,
+                              .light = &set->light,
+                              .repairs = repairs_of(file),
+                              .is_composed = charmap_is_composed(file),
+                              .escape = '\\',
+                              .comment = '#'};
     struct gz_lines lines;
     iconvd_status status = open_file(&lines, directory, file);
     if (status != ICONVD_OK)

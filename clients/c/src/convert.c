@@ -1,5 +1,5 @@
 /* iconvd_open(), iconvd_convert() and their companions. */
-#include "convert.h"
+#include "composed.h"
 
 /* A server reads 65,536 bytes at a time: a request of one read is answered at once. From WORTH_CUTTING on a text goes in PARTS, so that
    the service converts one while the next is under way. AFTER_STOP is how much is sent at first where a text has stopped at something
@@ -162,6 +162,10 @@ iconvd_status next_character(struct iconvd_cd *cd, const struct progress *progre
 /* Says why the conversion stopped. The lacking character is asked for; where the service has gone meanwhile it stays unknown. */
 static void describe(struct iconvd_cd *cd, const struct progress *progress, iconvd_status status, iconvd_stop *stop) {
     *stop = (iconvd_stop){.status = status, .replaced = progress->replaced, .skipped = progress->skipped};
+    if (cd->composed) {
+        composed_describe(cd, progress, stop);
+        return;
+    }
     if (cd->shifted) {
         shifted_describe(cd, progress, stop);
         return;
@@ -183,9 +187,15 @@ iconvd_status convert_part(struct iconvd_cd *cd, struct progress *progress) {
     return status;
 }
 
+iconvd_status convert_any(struct iconvd_cd *cd, struct progress *progress) {
+    if (cd->composed)
+        return cd->composed->source ? decomposed_convert(cd, progress) : composed_convert(cd, progress);
+    return cd->shifted ? shifted_convert(cd, progress) : convert_part(cd, progress);
+}
+
 iconvd_status convert_text(struct iconvd_cd *cd, struct progress *progress) {
     atomic_fetch_add_explicit(&cd->pool->conversions, 1, memory_order_relaxed);
-    return cd->shifted ? shifted_convert(cd, progress) : convert_part(cd, progress);
+    return convert_any(cd, progress);
 }
 
 iconvd_status iconvd_convert(iconvd_cd *cd, const char **in, size_t *in_left, char **out, size_t *out_left, iconvd_stop *stop) {
@@ -234,6 +244,12 @@ iconvd_status open_pair(struct iconvd_cd *cd) {
     return cd->own ? own_open(cd) : ICONVD_ENOMEM;
 }
 
+iconvd_status convert_open(struct iconvd_cd *cd, bool to_wide) {
+    if (cd->to->composing || cd->from->composing)
+        return composed_open(cd, to_wide);
+    return cd->to->kind == SHIFTED || cd->from->kind == SHIFTED ? shifted_open(cd, to_wide) : open_pair(cd);
+}
+
 iconvd_status iconvd_open(iconvd_pool *pool, const char *to, const char *from, int policy, iconvd_cd **cd) {
     fork_check(pool);
     struct iconvd_cd *made = calloc(1, sizeof *made);
@@ -245,7 +261,7 @@ iconvd_status iconvd_open(iconvd_pool *pool, const char *to, const char *from, i
     bool to_wide;
     iconvd_status status = find_encodings(made, to, from, &to_wide);
     if (status == ICONVD_OK)
-        status = made->to->kind == SHIFTED || made->from->kind == SHIFTED ? shifted_open(made, to_wide) : open_pair(made);
+        status = convert_open(made, to_wide);
     if (status == ICONVD_OK)
         *cd = made;
     else
@@ -254,6 +270,8 @@ iconvd_status iconvd_open(iconvd_pool *pool, const char *to, const char *from, i
 }
 
 iconvd_status iconvd_reset(iconvd_cd *cd, char **out, size_t *out_left) {
+    if (cd->composed)
+        return composed_reset(cd, out, out_left);
     if (cd->shifted)
         return shifted_reset(cd, out, out_left);
     iconvd_status status = cd->own ? own_reset(cd, out, out_left) : ICONVD_OK;
@@ -272,5 +290,6 @@ void iconvd_close(iconvd_cd *cd) {
     own_end(cd);
     foresight_end(cd);
     shifted_end(cd);
+    composed_end(cd);
     free(cd);
 }

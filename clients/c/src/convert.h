@@ -16,6 +16,7 @@ struct iconvd_cd {
     bool from_wide;      /* the source is WCHAR_T, which the C library converts without a step between */
     struct own *own;     /* with UTF-7 on either side: a descriptor of its own; otherwise NULL */
     struct shifted *shifted; /* with shifts on either side; otherwise NULL */
+    struct composed *composed;   /* with an encoding that composes on one side: composed.h; else NULL */
     struct foresight *foresight; /* what follows a fault, where the caller goes on after it; else NULL */
 };
 
@@ -65,6 +66,12 @@ iconvd_status convert_text(struct iconvd_cd *cd, struct progress *progress);
 
 /* The same for a conversion that is a part of another one, and is not counted. */
 iconvd_status convert_part(struct iconvd_cd *cd, struct progress *progress);
+
+/* A call of a conversion of any kind, also of one that stands behind another one. */
+iconvd_status convert_any(struct iconvd_cd *cd, struct progress *progress);
+
+/* Opens a conversion whose encodings and policy are there. `to_wide` says that the target is WCHAR_T. */
+iconvd_status convert_open(struct iconvd_cd *cd, bool to_wide);
 
 /* Opens what the service converts by. */
 iconvd_status open_pair(struct iconvd_cd *cd);

@@ -111,6 +111,7 @@ static iconvd_status read_file(struct encodings *encodings, size_t number, struc
     encoding->kind = BUILTIN_COUNT;
     encoding->repairs = repairs_of(charmap_file(number));
     encoding->is_computed = repairs_are_computed(&encoding->repairs);
+    encoding->composing = composing_of(charmap_file(number));
     snprintf(encoding->name, sizeof encoding->name, "map-%s", charmap_file(number));
     iconvd_status status = charmap_read(&set, encodings->directory, charmap_file(number), encoding->name);
     if (status == ICONVD_OK && !take_charmaps(encoding, &set))

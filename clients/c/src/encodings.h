@@ -10,6 +10,10 @@
 #include "names.h"
 #include "repairs.h"
 
+/* The encoding of a charmap's file, if its converter composes (composed.h); else NULL. */
+struct composing;
+const struct composing *composing_of(const char *file);
+
 struct encoding {
     enum builtin kind;   /* BUILTIN_COUNT: a charmap */
     unsigned number;     /* SHIFTED: which one */
@@ -20,6 +24,7 @@ struct encoding {
     struct encoding *light; /* of a large charmap: the short mappings of it, which are compiled sooner; NULL: there is no such */
     atomic_bool needed;     /* a text has needed more than the light one */
     struct repairs repairs; /* of a charmap file */
+    const struct composing *composing; /* its converter composes (composed.h); else NULL */
     struct encoding *written; /* what is written with where the charmap needs placeholders for that; NULL: itself */
     bool has_placeholders;       /* it is such a one */
     bool is_computed;         /* the client computes its characters above U+FFFF, as GB18030's (planes.h) */

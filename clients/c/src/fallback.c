@@ -2,6 +2,7 @@
 #include <errno.h>
 #include <stdio.h>
 
+#include "composed.h"
 #include "preload.h"
 #include "shifted.h"
 
@@ -12,7 +13,10 @@ static const char *name_now(const struct encoding *asked, const struct encoding 
 
 static iconv_t open_now(const struct handle *handle) {
     /* Of a conversion with shifts on one side, the other one may have an order. */
-    const struct iconvd_cd *cd = handle->cd->shifted ? &handle->cd->shifted->inner : handle->cd;
+    const struct iconvd_cd *cd = handle->cd;
+    if (cd->composed)
+        cd = cd->composed->source ? cd->composed->source : cd->composed->target;
+    cd = cd->shifted ? &cd->shifted->inner : cd;
     char to[300];
     const char *name = name_now(cd->to, cd->pair.to, cd->mark_written, handle->to);
     bool same = name == handle->to;
@@ -21,15 +25,37 @@ static iconv_t open_now(const struct handle *handle) {
     return settings()->libc.open(to, name_now(cd->from, cd->pair.from, cd->order_known, handle->from));
 }
 
+/* The bytes of the letter that a conversion holds, in the source's encoding. Returns how many; 0: it cannot be told. */
+static size_t spell_held(const struct handle *handle, char *bytes, size_t room) {
+    const struct composed *composed = handle->cd->composed;
+    char text[4], *in = text;
+    struct buffer units = {.bytes = text};
+    units_append(&units, composed->held);
+    size_t left = units.length, before = room;
+    iconv_t cd = settings()->libc.open(handle->from, "UTF-16BE");
+    /* Of a code that is a letter and a mark the first one is written already. */
+    bool is_whole = composed->source || composed->by->kind != COMPOSES_PAIRS;
+    if (cd == (iconv_t)-1)
+        return 0;
+    bool there = is_whole && settings()->libc.convert(cd, &in, &left, &bytes, &room) == 0;
+    settings()->libc.close(cd);
+    return there ? before - room : 0;
+}
+
 /* Brings a conversion from or to UTF-7, or from an encoding with shifts, to the state that ours had. What it writes the host has had. */
 static bool feed_history(const struct handle *handle) {
     char sequences[SHIFT_SEQUENCES];
     const char *bytes = sequences;
     size_t left = 0;
-    if (handle->cd->shifted && handle->cd->shifted->from)
+    if (handle->cd->shifted && handle->cd->shifted->from) {
         left = shift_spell(handle->cd->shifted->from, &handle->cd->shifted->reading, sequences);
-    else if (handle->cd->own && !own_history(handle->cd, &bytes, &left))
+    } else if (handle->cd->composed && handle->cd->composed->held) {
+        left = spell_held(handle, sequences, sizeof sequences);
+        if (left == 0)
+            return false;
+    } else if (handle->cd->own && !own_history(handle->cd, &bytes, &left)) {
         return false;
+    }
     char dropped[4096];
     char *in = (char *)(uintptr_t)bytes;
     while (left > 0) {

@@ -80,6 +80,7 @@ struct composed {
     struct iconvd_cd *target;     /* from UTF-16BE */
     struct composed_place last;   /* where this call was after the last character that was given out */
     uint32_t lacking;             /* the character that has stopped the last call */
+    size_t replaced;              /* characters for which the last reset has written others */
 };
 
 /* composed.c: where the source composes. */
@@ -90,6 +91,9 @@ void composed_describe(struct iconvd_cd *cd, const struct progress *progress, ic
 iconvd_status decomposed_convert(struct iconvd_cd *cd, struct progress *progress);
 
 /* composed_open.c */
+
+/* Writes the character that is held. ENOCHAR: the target lacks it, or the policy has left it out. */
+iconvd_status composed_write_held(struct composed *composed, char **out, size_t *out_left);
 iconvd_status composed_open(struct iconvd_cd *cd, bool to_wide);
 iconvd_status composed_reset(struct iconvd_cd *cd, char **out, size_t *out_left);
 void composed_end(struct iconvd_cd *cd);

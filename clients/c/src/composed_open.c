@@ -55,8 +55,7 @@ iconvd_status composed_open(struct iconvd_cd *cd, bool to_wide) {
     return cd->from->composing ? open_reading(cd, to_wide) : open_writing(cd);
 }
 
-/* Writes the character that is held. */
-static iconvd_status write_held(struct composed *composed, char **out, size_t *out_left) {
+iconvd_status composed_write_held(struct composed *composed, char **out, size_t *out_left) {
     char bytes[4];
     struct buffer text = {.bytes = bytes};
     units_append(&text, composed->held);
@@ -64,6 +63,7 @@ static iconvd_status write_held(struct composed *composed, char **out, size_t *o
     iconvd_status status = convert_any(composed->target, &progress);
     *out = progress.out;
     *out_left = progress.out_left;
+    composed->replaced = progress.replaced;
     if (status != ICONVD_OK)
         return status;
     composed->held = 0;
@@ -73,9 +73,10 @@ static iconvd_status write_held(struct composed *composed, char **out, size_t *o
 iconvd_status composed_reset(struct iconvd_cd *cd, char **out, size_t *out_left) {
     struct composed *composed = cd->composed;
     bool writes = out && *out;
+    composed->replaced = 0;
     iconvd_status status = composed->source ? iconvd_reset(composed->source, NULL, NULL) : ICONVD_OK;
     if (status == ICONVD_OK && writes && composed->held)
-        status = write_held(composed, out, out_left);
+        status = composed_write_held(composed, out, out_left);
     if (status != ICONVD_OK)
         return status;
     composed->held = 0;

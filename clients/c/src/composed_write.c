@@ -193,10 +193,26 @@ static iconvd_status convert_one(struct iconvd_cd *cd, struct progress *progress
     return status == ICONVD_OK ? piece->status : status;
 }
 
+/* From WCHAR_T there is no step between: the C library looks for room, and writes what is held, before it looks at the next value. */
+static iconvd_status settle_wide(struct iconvd_cd *cd, struct progress *progress, iconvd_status status) {
+    struct composed *composed = cd->composed;
+    bool is_source = status == ICONVD_OK || status == ICONVD_EILSEQ || status == ICONVD_EINVAL;
+    if (is_source && progress->out_left == 0) {
+        progress->in_left += (size_t)(progress->in - composed->last.in);
+        progress->in = composed->last.in;
+        return progress->in_left >= 4 ? ICONVD_E2BIG : progress->in_left > 0 ? ICONVD_EINVAL : ICONVD_OK;
+    }
+    if (status != ICONVD_EILSEQ || !composed->held)
+        return status;
+    iconvd_status held = composed_write_held(composed, &progress->out, &progress->out_left);
+    return held == ICONVD_OK ? status : held;
+}
+
 iconvd_status decomposed_convert(struct iconvd_cd *cd, struct progress *progress) {
     struct composed *composed = cd->composed;
     size_t most = composed->stopped ? COMPOSED_AFTER_STOP : input_for_room(COMPOSED_PIECE, progress->out_left);
     iconvd_status status = mark_read(composed->source, progress);
+    const struct progress before = *progress;
     composed->last = (struct composed_place){.in = progress->in};
     while (status == ICONVD_OK && progress->in_left > 0) {
         size_t left = progress->in_left;
@@ -209,8 +225,8 @@ iconvd_status decomposed_convert(struct iconvd_cd *cd, struct progress *progress
             status = ICONVD_OK;
         most = COMPOSED_PIECE;
     }
-    if (status == ICONVD_EILSEQ && cd->from_wide && progress->out_left == 0)
-        status = ICONVD_E2BIG;
+    if (cd->from_wide && before.in_left > 0)
+        status = settle_wide(cd, progress, status);
     composed->stopped = status == ICONVD_ENOCHAR || status == ICONVD_EILSEQ;
     return status;
 }

@@ -5,6 +5,7 @@
  *
  * COMPARE_CALLS says how many calls (200,000), COMPARE_SEED where the numbers begin (1). */
 #include <errno.h>
+#include <locale.h>
 #include <stdbool.h>
 #include <string.h>
 
@@ -14,7 +15,7 @@ enum { TEXT = 400, ROOM = 1600 };
 
 static const char *const COMPOSING[] = {"CP1255", "CP1258", "TCVN", "BIG5-HKSCS"};
 static const char *const OTHERS[] = {"UTF-8", "UTF-16LE", "UTF-32BE", "WCHAR_T", "ASCII", "LATIN1", "CP1255", "CP1258", "TCVN", "BIG5-HKSCS", "KOI8-R"};
-static const char *const POLICIES[] = {"", "", "", "//IGNORE"};
+static const char *const POLICIES[] = {"", "", "//IGNORE", "//TRANSLIT"};
 enum { COMPOSING_COUNT = 4, OTHER_COUNT = 11 };
 
 static struct library ours, theirs;
@@ -50,7 +51,9 @@ static size_t make_text(const char *name, uint64_t *state, char *text) {
     bool is_damaged = next_random(state) % 3 == 0;
     for (unsigned times = 1 + next_random(state) % 3; is_damaged && times > 0 && out > text; times--) {
         size_t at = next_random(state) % (size_t)(out - text);
-        text[at] = (char)next_random(state);
+        /* Values that Unicode has not are a difference of every conversion. */
+        bool is_wide = strcmp(name, "WCHAR_T") == 0 || strcmp(name, "UTF-32BE") == 0;
+        text[is_wide && at > 0 ? at - at % 4 + 1 : at] = (char)(next_random(state) % (is_wide ? 0xd8 : 0xf0));
     }
     return (size_t)(out - text);
 }
@@ -131,6 +134,7 @@ int main(void) {
     const char *count = getenv("COMPARE_CALLS"), *seed = getenv("COMPARE_SEED");
     unsigned long wanted_calls = count ? strtoul(count, NULL, 10) : 200000;
     uint64_t state = 0x9e3779b97f4a7c15u ^ (seed ? strtoul(seed, NULL, 10) : 1);
+    setlocale(LC_ALL, "C.UTF-8"); /* whose transliterations ours are */
     ours = library_load(wanted("PRELOAD"));
     theirs = library_load("libc.so.6");
     while (calls < wanted_calls && checks_failed < 20)

@@ -15,6 +15,8 @@ PYTHON_OWN = {
 }
 #: Encodings that only the C library has, as glibc: CPython has none of the kind.
 C_ALONE = {'ISO-2022-CN'}
+#: A charmap that composes as glibc, and that CPython has not.
+C_ALONE_CHARMAP = 'TCVN5712-1'
 
 Table = dict[str, tuple[str, str]]
 
@@ -50,6 +52,9 @@ def add(table: Table, normal: Callable[[str], str], is_python: bool) -> None:
             table[normal(label.name)] = target
         else:
             table.setdefault(normal(label.name), target)
+    if is_python:
+        for name in [name for name, (_, target) in table.items() if target == C_ALONE_CHARMAP]:
+            del table[name]
 
 
 def left_out(table: Table, normal: Callable[[str], str], reasons: set[str]) -> list[Label]:

@@ -35,7 +35,8 @@ def make() -> None:
     TABLE.parent.mkdir(exist_ok=True)
     for copy in copies():
         shutil.copyfile(GENERATOR.parent / copy.name, copy)
-    shutil.copyfile(HERE / "out" / "names.tsv", TABLE)
+    for table in ("composing.tsv", TABLE.name):
+        shutil.copyfile(HERE / "out" / table, TABLE.parent / table)
 
 
 if not is_made():

@@ -100,6 +100,7 @@ static bool compare_call(const iconv_t cds[2], const char *names, const char *in
 /* A whole text through both, in pieces. */
 static void compare_text(const iconv_t cds[2], const char *names, const char *text, size_t length, uint64_t *state) {
     size_t done = 0, used;
+    size_t unit = strncmp(names, "WCHAR_T", 7) == 0 || strncmp(names, "UTF-32", 6) == 0 ? 4 : 1;
     for (unsigned steps = 0; done < length && steps < 60; steps++) {
         bool is_small = next_random(state) % 3 > 0;
         size_t room = next_random(state) % (is_small ? 9 : 200);
@@ -108,7 +109,8 @@ static void compare_text(const iconv_t cds[2], const char *names, const char *te
         if (!compare_call(cds, names, resets ? NULL : text + done, resets ? 0 : part, room, &used))
             return;
         done += used;
-        done += !resets && used == 0 && next_random(state) % 3 == 0;
+        bool steps_over = !resets && used == 0 && next_random(state) % 3 == 0;
+        done += steps_over ? unit : 0;
     }
     compare_call(cds, names, NULL, 0, next_random(state) % 6, &used);
     compare_call(cds, names, NULL, 0, 20, &used);

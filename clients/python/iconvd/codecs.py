@@ -38,7 +38,8 @@ def info(name: str, encoding: Encoding, client: Optional[Client] = None) -> code
             self.reset()
 
         def encode(self, input: str, final: bool = False) -> bytes:
-            return self._encoder.encode_piece(input, self.errors)
+            encoded = self._encoder.encode_piece(input, self.errors)
+            return encoded + self._encoder.finish() if final else encoded
 
         def reset(self) -> None:
             self._encoder = Encoder(_client(client), name, encoding)

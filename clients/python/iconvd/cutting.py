@@ -202,10 +202,11 @@ class EncodingHandling(_Handling):
         """Returns None if the handler has to see the characters' place in the text."""
         form = self._form
         items = form.special.findall(window)
-        replaced = self.replaced(set(items) - {form.mark})
+        replaced = self.replaced(set(items) - {form.mark} - form.pairs.keys())
         if replaced is None:
             return None
         replaced[form.mark] = form.separator
+        replaced.update(form.pairs)
         return EncodingCut(form.special.split(window), [replaced[item] for item in items], end)
 
     def replaced(self, items: Iterable[str]) -> Optional[Dict[str, Union[str, bytes]]]:
@@ -232,8 +233,8 @@ class EncodingHandling(_Handling):
                 break
             good.append(text[at : found.start()])
             size += len(good[-1]) + 1
-            if found[0] == form.mark:
-                between.append(form.separator)
+            if found[0] == form.mark or found[0] in form.pairs:
+                between.append(form.pairs.get(found[0], form.separator))
                 at = found.end()
                 continue
             error = UnicodeEncodeError(self._name, text, found.start(), found.end(), form.lacking_reason)

@@ -4,7 +4,7 @@ from __future__ import annotations
 
 from typing import Callable, Dict, Optional, Tuple, Union
 
-from . import charmaps, coded_sets, forms, framings, mappings, names, repairs, shifted
+from . import charmaps, coded_sets, forms, framings, joined, mappings, names, repairs, shifted
 from .charmaps import Beginning, Charmap
 from .coded_sets import CodedSet
 from .codes import CharmapForm
@@ -169,7 +169,10 @@ class Library:
             if beginning is not None:
                 return CharmapForm(beginning.charmap, beginning.rest)
             computed = COMPUTED if self.is_computed(encoding) else None
-            return CharmapForm(self.get(encoding.name), written=self.written(encoding.name), computed=computed)
+            form = CharmapForm(self.get(encoding.name), written=self.written(encoding.name), computed=computed)
+            pairs = joined.pairs_of(encoding)
+            form.pairs = pairs.written if pairs else {}
+            return form
         return shifted.Utf7Form() if encoding.name == "UTF-7" else forms.BUILTIN[encoding.name]()
 
     def known(self, encoding: Encoding, errors: str = "") -> Known:

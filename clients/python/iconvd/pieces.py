@@ -67,6 +67,9 @@ class Encoder:
         ordered, self._mark = marks.mark_of(encoding)
         self._codec = codec_of(name, ordered, client.library)
         self.is_started = False
+        #: Whether a letter at the end of a piece is held, since a mark may follow.
+        self.has_pairs = isinstance(self._codec, text.TextCodec) and self._codec.pairs is not None
+        self._held = ""
         # The known characters, and their error handler, once the text is started.
         self._known: Optional[Known] = None
         self._known_errors = ""
@@ -87,13 +90,18 @@ class Encoder:
         """Returns what ends the text: a character that was held, and the escape or shift back to ASCII, if the encoding has any."""
         codec = self._codec
         if not isinstance(codec, SetCodec):
-            return b""
+            held, self._held = self._held, ""
+            return self.encode(held, "strict") if held else b""
         encode_piece = codec.encode_piece
         return self._client.run(lambda session: encode_piece(session, "", "strict", True))
 
     def encode_piece(self, characters: str, errors: str) -> bytes:
         """Returns the bytes of the next piece of a text. In short pieces each character costs one request in all. So a text file
         that is written line by line, and needs the bytes of each line at once, costs no request for each line."""
+        if isinstance(self._codec, text.TextCodec) and self._codec.pairs is not None:
+            whole = self._held + characters
+            self._held = whole[-1:] if whole and whole[-1] in self._codec.pairs.letters else ""
+            return self.encode(whole[: len(whole) - len(self._held)], errors)
         if self._known is not None and errors == self._known_errors and len(characters) <= _SHORT:
             encoded = self._known.bytes_of(characters)
             if encoded is not None:
@@ -135,7 +143,8 @@ class Conversion:
         held = self._held + data
         decoded, used = self._decoder.decode(held, errors, final)
         self._held = held[used:]
-        encoded = self._encoder.encode(decoded, errors) if decoded else b""
+        encode = self._encoder.encode_piece if self._encoder.has_pairs else self._encoder.encode
+        encoded = encode(decoded, errors) if decoded else b""
         return encoded + self._encoder.finish() if final else encoded
 
     def reset(self) -> bytes:

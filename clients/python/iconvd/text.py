@@ -8,6 +8,7 @@ from __future__ import annotations
 
 from typing import AnyStr, Iterable, List, NamedTuple, Sequence, Tuple, Union
 
+from . import joined as joined_codes
 from . import shifted, steps
 from .cutting import WINDOW, DecodingCut, DecodingHandling, EncodingCut, EncodingHandling, gathered, joined
 from .errors import RequestRefused
@@ -51,6 +52,8 @@ class TextCodec:
         self.has_state = encoding == Encoding(False, "UTF-7")
         # After a piece with faults the next one of the text is not sent as it is.
         self._has_faults = has_faults
+        #: The codes that are two characters each, if the encoding has such.
+        self.pairs = joined_codes.pairs_of(encoding)
 
     # ---- decoding
 
@@ -62,7 +65,7 @@ class TextCodec:
         if not self._has_faults:
             at, waits = yield from self._decode_whole(session, data, (at, end), errors == _STRICT, pieces)
             if at == end or (waits and not final):
-                return Decoded("".join(pieces), at)
+                return Decoded(self._text(pieces), at)
             if self.has_state:
                 # The fault may be within a shifted sequence, of which only the beginning is known.
                 at = begin
@@ -76,7 +79,12 @@ class TextCodec:
             if cut.at == at and not cut.marks:
                 break
             at = cut.at
-        return Decoded("".join(pieces), at)
+        return Decoded(self._text(pieces), at)
+
+    def _text(self, pieces: List[str]) -> str:
+        """Joins the pieces of a text, with both characters of codes that are two."""
+        text = "".join(pieces)
+        return text.translate(self.pairs.read) if self.pairs else text
 
     def _end_of_whole(self, data: bytes) -> int:
         """Returns the end of the bytes that need not wait for others. An open shifted sequence has to wait. So has the beginning
@@ -118,13 +126,18 @@ class TextCodec:
     def encode(self, session: Session, text: str, errors: str, at: int = 0) -> Steps[bytes]:
         """Encodes the characters from `at` on."""
         pieces: List[bytes] = []
+        # The server knows no code of two characters.
+        self._has_faults |= self.pairs is not None and self.pairs.pattern.search(text, at) is not None
         if not self._has_faults:
             at = yield from self._encode_whole(session, text, at, errors == _STRICT, pieces)
         if at == len(text):
             return b"".join(pieces)
         handling = EncodingHandling(self._library.form(self.encoding), self._error_name, errors)
         while at < len(text):
-            cut = handling.cut(text, at, min(len(text), at + WINDOW))
+            stop = min(len(text), at + WINDOW)
+            if self.pairs and text[stop - 1] in self.pairs.letters:
+                stop = min(len(text), stop + 1)
+            cut = handling.cut(text, at, stop)
             self._has_faults = bool(cut.between)
             pieces.append((yield from self._encode_cut(session, cut)))
             at = cut.at

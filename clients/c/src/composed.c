@@ -90,7 +90,8 @@ static iconvd_status convert_one(struct iconvd_cd *cd, struct progress *progress
     if (status != ICONVD_OK)
         return status;
     iconvd_status stop = composed_read(reading, most_characters(cd, progress), &piece->text);
-    if (stop == ICONVD_OK && reading->now.in < reading->end)
+    bool is_half = cd->composed->by->kind == COMPOSES_PAIRS && reading->now.held;
+    if (stop == ICONVD_OK && (reading->now.in < reading->end || is_half))
         stop = ICONVD_E2BIG;
     status = put(cd, piece, progress, &used);
     if (status != ICONVD_OK && used == 0) {

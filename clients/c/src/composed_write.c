@@ -39,7 +39,8 @@ static iconvd_status take(struct iconvd_cd *cd, const struct progress *progress,
     piece->status = convert_any(source, &piece->end);
     piece->units.length = (size_t)(piece->end.out - piece->units.bytes);
     /* A character may become three, and one is held from before. */
-    return buffer_reserve(&piece->text, COMPOSING_PARTS * piece->units.length + 8) && piece->status != ICONVD_ENOMEM ? ICONVD_OK : ICONVD_ENOMEM;
+    bool has_memory = buffer_reserve(&piece->text, COMPOSING_PARTS * piece->units.length + 8);
+    return has_memory && piece->status != ICONVD_ENOMEM ? ICONVD_OK : ICONVD_ENOMEM;
 }
 
 static void give(struct preparing *preparing, uint32_t character, struct buffer *text) {
@@ -75,7 +76,7 @@ static void prepare(struct preparing *preparing, size_t most, struct buffer *tex
             continue;
         }
         const uint16_t *parts = composing_split(preparing->by, character);
-        size_t length = width;
+        size_t length;
         for (length = parts ? 0 : width; parts && parts[length / 2]; length += 2)
             ;
         if (preparing->given + length > most)
@@ -116,11 +117,11 @@ static iconvd_status put(struct iconvd_cd *cd, struct piece *piece, struct progr
 }
 
 /* A letter is held where there is any room at all. */
-static iconvd_status hold(const struct progress *progress, struct preparing *preparing, iconvd_status status, size_t begin) {
+static iconvd_status hold(const struct progress *progress, struct preparing *preparing, iconvd_status status) {
     bool has_room = progress->out_left > 0;
     if (preparing->by->kind != COMPOSES_PAIRS)
         return status;
-    if (status == ICONVD_OK && preparing->held && preparing->at > begin && !has_room) {
+    if (status == ICONVD_OK && preparing->held && preparing->at > 0 && !has_room) {
         preparing->held = 0;
         preparing->at -= 2;
         return ICONVD_E2BIG;
@@ -171,15 +172,9 @@ static iconvd_status convert_one(struct iconvd_cd *cd, struct progress *progress
     struct preparing preparing = {
         .by = composed->by, .units = piece->units.bytes, .length = piece->units.length, .held = composed->held};
     status = put(cd, piece, progress, &preparing);
-    status = hold(progress, &preparing, status, 0);
-    if (status == ICONVD_LOST || status == ICONVD_ENOMEM || (status != ICONVD_OK && preparing.at == 0)) {
-        if (preparing.at > 0 && go_back(cd, before.in, piece, preparing.at) != ICONVD_OK)
-            return ICONVD_LOST;
+    status = hold(progress, &preparing, status);
+    if (status != ICONVD_OK && preparing.at == 0) {
         composed->held = preparing.held;
-        if (preparing.at > 0) {
-            move_on(cd, progress, piece);
-            return status;
-        }
         *composed->source = piece->source;
         move_to(progress, &composed->last);
         return status;

@@ -14,7 +14,8 @@
 enum { TEXT = 400, ROOM = 1600 };
 
 static const char *const COMPOSING[] = {"CP1255", "CP1258", "TCVN", "BIG5-HKSCS"};
-static const char *const OTHERS[] = {"UTF-8", "UTF-16LE", "UTF-32BE", "WCHAR_T", "ASCII", "LATIN1", "CP1255", "CP1258", "TCVN", "BIG5-HKSCS", "KOI8-R"};
+static const char *const OTHERS[] = {"UTF-8", "UTF-16LE", "UTF-32BE", "WCHAR_T", "ASCII", "LATIN1", "CP1255", "CP1258", "TCVN", 
+                                     "BIG5-HKSCS", "KOI8-R"};
 static const char *const POLICIES[] = {"", "", "//IGNORE", "//TRANSLIT"};
 enum { COMPOSING_COUNT = 4, OTHER_COUNT = 11 };
 
@@ -91,7 +92,8 @@ static bool compare_call(const iconv_t cds[2], const char *names, const char *in
     call(&theirs, cds[1], in, length, room, &other);
     calls++;
     *used = mine.used;
-    return check(is_equal(&mine, &other), "%s, %s%zu bytes at %02x %02x %02x, room %zu: value %zd errno %d used %zu wrote %zu, glibc %zd %d %zu %zu",
+    return check(is_equal(&mine, &other),
+                 "%s, %s%zu bytes at %02x %02x %02x, room %zu: value %zd errno %d used %zu wrote %zu, glibc %zd %d %zu %zu",
                  names, in ? "" : "reset, ", length, in ? in[0] & 255 : 0, in && length > 1 ? in[1] & 255 : 0,
                  in && length > 2 ? in[2] & 255 : 0, room, (ssize_t)mine.value, mine.error, mine.used, mine.produced,
                  (ssize_t)other.value, other.error, other.used, other.produced);

@@ -54,8 +54,7 @@ class Form:
         self.mark = mark
         self._in_runs = in_runs
         self._special: Optional[Pattern[str]] = None
-        #: The bytes of two characters that have one code; see joined.py.
-        self.pairs: Dict[str, bytes] = {}
+        self.pairs: Dict[str, bytes] = {}  # two characters that have one code; see joined.py
 
     def has(self) -> Sequence[Span]:
         """Returns all characters of the encoding."""
@@ -95,8 +94,7 @@ class Form:
 
     def lacks(self, text: str) -> Optional[int]:
         """Returns the place of the first character that the encoding lacks."""
-        found = self.special.finditer(text)
-        return next((each.start() for each in found if each[0] != self.mark and each[0] not in self.pairs), None)
+        return next((each.start() for each in self.special.finditer(text) if each[0] not in {self.mark, *self.pairs}), None)
 
 
 class Patterns(NamedTuple):

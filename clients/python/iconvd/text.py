@@ -135,8 +135,7 @@ class TextCodec:
         handling = EncodingHandling(self._library.form(self.encoding), self._error_name, errors)
         while at < len(text):
             stop = min(len(text), at + WINDOW)
-            if self.pairs and text[stop - 1] in self.pairs.letters:
-                stop = min(len(text), stop + 1)
+            stop += self.pairs is not None and text[stop - 1 : stop + 1] in self.pairs.written
             cut = handling.cut(text, at, stop)
             self._has_faults = bool(cut.between)
             pieces.append((yield from self._encode_cut(session, cut)))

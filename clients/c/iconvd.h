@@ -249,7 +249,8 @@ ICONVD_API iconvd_status iconvd_convert(iconvd_cd *cd, const char **in, size_t *
                                         iconvd_stop *stop);
 
 /* Goes back to the start, as iconv() without input. It first writes the bytes that close the text to `out`: E2BIG if they do not fit,
-   and nothing has changed. With `out` NULL it writes nothing. Only UTF-7 and encodings with shifts have such bytes, four at most. */
+   and nothing has changed; ENOCHAR if the target lacks a letter that was held. With `out` NULL it writes nothing. UTF-7, encodings with
+   shifts and those that hold a letter back, since a mark may follow, have such bytes, four at most. */
 ICONVD_API iconvd_status iconvd_reset(iconvd_cd *cd, char **out, size_t *out_left);
 
 /* Frees the conversion. NULL does nothing. */

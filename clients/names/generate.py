@@ -1,20 +1,23 @@
 #!/usr/bin/env python3
-"""Writes the tables that the clients share: names.tsv and translit.tsv.
+"""Writes the tables that the clients share: names.tsv, translit.tsv, composing.tsv, shifted_encodings.tsv and shifted_sets.tsv.
 
-    generate.py [--gconv DIR] [--charmaps DIR] [--locales DIR] OUTPUT_DIRECTORY
+    generate.py [--gconv DIR] [--charmaps DIR] [--locales DIR] [--python] OUTPUT_DIRECTORY
 
 names.tsv has one line for each name that a client accepts, sorted:
 
     NAME <tab> builtin <tab> the service's name        LATIN1  builtin  ISO-8859-1
     NAME <tab> charmap <tab> the charmap file's name   EUCKR   charmap  EUC-KR
+    NAME <tab> shifted <tab> an encoding with shifts   HZ      shifted  HZ
 
 NAME is in upper case and has only the characters that the C library keeps of a name. translit.tsv has one line for each
 character that may be transliterated: its code point in hexadecimal, then the candidates in order, in UTF-8.
 
     20AC <tab> EUR
 
-The sources are files of the system, and two lists beside this program: builtin.tsv (names that the C library has in its code and
-in no file) and left_out.tsv (names that no charmap can serve, each with the reason).
+The sources are files of the system, and lists beside this program: builtin.tsv (names that the C library has in its code and in no
+file), labels.tsv (names that WHATWG, CPython and IANA have), left_out.tsv (names that no charmap can serve, each with the reason), and
+shifted_encodings.tsv and shifted_sets.tsv (encodings with shifts and escapes), which are written again without comments. With --python
+the names are those of the Python package: labels.tsv says which differ. composing.py makes composing.tsv.
 """
 
 from __future__ import annotations
@@ -26,6 +29,9 @@ import os
 import re
 import sys
 from collections.abc import Iterable
+
+import composing
+import labels
 
 HERE = os.path.dirname(os.path.abspath(__file__))
 GCONV = '/usr/lib/*/gconv'
@@ -100,6 +106,14 @@ def read_charmaps(directory: str) -> dict[str, list[str]]:
     return {os.path.basename(path)[:-len('.gz')]: charmap_names(path) for path in files}
 
 
+def read_shifted(groups: Groups) -> list[str]:
+    """The encodings with shifts and escapes; their other names join their groups."""
+    rows = read_table(os.path.join(HERE, 'shifted_encodings.tsv'))
+    for encoding, sequence, meaning in (row[:3] for row in rows):
+        groups.join(normal(sequence) if meaning == 'name' else encoding, encoding)
+    return sorted({row[0] for row in rows})
+
+
 def charmap_of(names: list[str], charmaps: dict[str, list[str]]) -> str | None:
     """The charmap file of a group of names: by the file's own name, else by what stands in it."""
     for wanted in range(2):
@@ -111,6 +125,7 @@ def charmap_of(names: list[str], charmaps: dict[str, list[str]]) -> str | None:
 
 def names_table(groups: Groups, charmaps: dict[str, list[str]]) -> dict[str, tuple[str, str]]:
     """Each name with its kind and target."""
+    shifted = read_shifted(groups)
     table: dict[str, tuple[str, str]] = {}
     builtins = {normal(name): target for name, target in read_table(os.path.join(HERE, 'builtin.tsv'))}
     left_out = {normal(row[0]) for row in read_table(os.path.join(HERE, 'left_out.tsv'))}
@@ -118,8 +133,11 @@ def names_table(groups: Groups, charmaps: dict[str, list[str]]) -> dict[str, tup
     for names in groups.all():
         target = next((builtins[name] for name in names if name in builtins), None)
         file = charmap_of(names, charmaps)
+        shifts = next((name for name in names if name in shifted), None)
         if left_out & set(names):
             dropped.update(names)
+        elif shifts:
+            table.update((name, ('shifted', shifts)) for name in names)
         elif target:
             table.update((name, ('builtin', target)) for name in names)
         elif file:
@@ -185,6 +203,7 @@ def main() -> None:
     arguments.add_argument('--gconv', default=GCONV, help='folder of gconv-modules; may be a pattern')
     arguments.add_argument('--charmaps', default=CHARMAPS)
     arguments.add_argument('--locales', default=LOCALES)
+    arguments.add_argument('--python', action='store_true', help='the names of the Python package')
     arguments.add_argument('output')
     options = arguments.parse_args()
     groups = Groups()
@@ -197,9 +216,13 @@ def main() -> None:
         sys.exit('generate.py: no gconv-modules (package libc6) or no charmaps (package locales)')
     order = 'LE' if sys.byteorder == 'little' else 'BE'
     table = names_table(groups, charmaps)
+    labels.add(table, normal, options.python)
     os.makedirs(options.output, exist_ok=True)
     write(os.path.join(options.output, 'names.tsv'),
           (with_order('\t'.join((name,) + table[name]), order) for name in sorted(table)))
+    for shifts in ('shifted_encodings.tsv', 'shifted_sets.tsv'):
+        write(os.path.join(options.output, shifts), ('\t'.join(row) for row in read_table(os.path.join(HERE, shifts))))
+    write(os.path.join(options.output, 'composing.tsv'), composing.rows(options.charmaps))
     transliterations: dict[int, list[str]] = {}
     read_transliterations(options.locales, 'C', transliterations, set())
     write(os.path.join(options.output, 'translit.tsv'),

@@ -15,6 +15,8 @@ struct iconvd_cd {
     bool order_known;    /* from UTF-16 and UTF-32 */
     bool from_wide;      /* the source is WCHAR_T, which the C library converts without a step between */
     struct own *own;     /* with UTF-7 on either side: a descriptor of its own; otherwise NULL */
+    struct shifted *shifted; /* with shifts on either side; otherwise NULL */
+    struct composed *composed;   /* with an encoding that composes on one side: composed.h; else NULL */
     struct foresight *foresight; /* what follows a fault, where the caller goes on after it; else NULL */
 };
 
@@ -62,6 +64,18 @@ static inline void progress_back(struct progress *progress) {
 /* What iconvd_convert() does, on a progress. */
 iconvd_status convert_text(struct iconvd_cd *cd, struct progress *progress);
 
+/* The same for a conversion that is a part of another one, and is not counted. */
+iconvd_status convert_part(struct iconvd_cd *cd, struct progress *progress);
+
+/* A call of a conversion of any kind, also of one that stands behind another one. */
+iconvd_status convert_any(struct iconvd_cd *cd, struct progress *progress);
+
+/* Opens a conversion whose encodings and policy are there. `to_wide` says that the target is WCHAR_T. */
+iconvd_status convert_open(struct iconvd_cd *cd, bool to_wide);
+
+/* Opens what the service converts by. */
+iconvd_status open_pair(struct iconvd_cd *cd);
+
 /* One piece, by the shared descriptor or by the conversion's own. */
 iconvd_status convert_piece(struct iconvd_cd *cd, struct work *work);
 
@@ -97,6 +111,14 @@ iconvd_status next_character(struct iconvd_cd *cd, const struct progress *progre
 bool foresight_answer(struct iconvd_cd *cd, struct progress *progress);
 void foresight_end(struct iconvd_cd *cd);
 
+/* shifted.c: conversions from and to encodings with shifts. */
+struct shifted;
+iconvd_status shifted_open(struct iconvd_cd *cd, bool to_wide);
+iconvd_status shifted_convert(struct iconvd_cd *cd, struct progress *progress);
+iconvd_status shifted_reset(struct iconvd_cd *cd, char **out, size_t *out_left);
+void shifted_describe(struct iconvd_cd *cd, const struct progress *progress, iconvd_stop *stop);
+void shifted_end(struct iconvd_cd *cd);
+
 /* own.c: conversions that have a state in the service. */
 struct own;
 struct own *own_begin(struct iconvd_pool *pool);
@@ -117,6 +139,7 @@ bool own_history(const struct iconvd_cd *cd, const char **bytes, size_t *length)
 struct fronts {
     enum builtin kind;
     const struct codes *codes; /* of a charmap */
+    bool is_computed;          /* and the codes of planes.h */
 };
 
 /* ENOMEM. The encoding is not UTF-7. */

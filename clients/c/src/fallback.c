@@ -2,7 +2,9 @@
 #include <errno.h>
 #include <stdio.h>
 
+#include "composed.h"
 #include "preload.h"
+#include "shifted.h"
 
 /* The name to go on by in the middle of a text: once a mark is written or read, UTF-16 and UTF-32 have an order. */
 static const char *name_now(const struct encoding *asked, const struct encoding *now, bool begun, const char *name) {
@@ -10,23 +12,50 @@ static const char *name_now(const struct encoding *asked, const struct encoding 
 }
 
 static iconv_t open_now(const struct handle *handle) {
+    /* Of a conversion with shifts on one side, the other one may have an order. */
     const struct iconvd_cd *cd = handle->cd;
+    if (cd->composed)
+        cd = cd->composed->source ? cd->composed->source : cd->composed->target;
+    cd = cd->shifted ? &cd->shifted->inner : cd;
     char to[300];
     const char *name = name_now(cd->to, cd->pair.to, cd->mark_written, handle->to);
     bool same = name == handle->to;
-    snprintf(to, sizeof to, "%s%s%s", name, !same && cd->policy & ICONVD_TRANSLIT ? "//TRANSLIT" : "",
-             !same && cd->policy & ICONVD_IGNORE ? "//IGNORE" : "");
+    snprintf(to, sizeof to, "%s%s%s", name, !same && handle->cd->policy & ICONVD_TRANSLIT ? "//TRANSLIT" : "",
+             !same && handle->cd->policy & ICONVD_IGNORE ? "//IGNORE" : "");
     return settings()->libc.open(to, name_now(cd->from, cd->pair.from, cd->order_known, handle->from));
 }
 
-/* Brings a conversion from or to UTF-7 to the state that the service's had. What it writes the host has had. */
+/* The bytes of the letter that a conversion holds, in the source's encoding. Returns how many; 0: it cannot be told. */
+static size_t spell_held(const struct handle *handle, char *bytes, size_t room) {
+    const struct composed *composed = handle->cd->composed;
+    char text[4], *in = text;
+    struct buffer units = {.bytes = text};
+    units_append(&units, composed->held);
+    size_t left = units.length, before = room;
+    iconv_t cd = settings()->libc.open(handle->from, "UTF-16BE");
+    /* Of a code that is a letter and a mark the first one is written already. */
+    bool is_whole = composed->source || composed->by->kind != COMPOSES_PAIRS;
+    if (cd == (iconv_t)-1)
+        return 0;
+    bool there = is_whole && settings()->libc.convert(cd, &in, &left, &bytes, &room) == 0;
+    settings()->libc.close(cd);
+    return there ? before - room : 0;
+}
+
+/* Brings a conversion from or to UTF-7, or from an encoding with shifts, to the state that ours had. What it writes the host has had. */
 static bool feed_history(const struct handle *handle) {
-    const char *bytes;
-    size_t left;
-    if (!handle->cd->own)
-        return true;
-    if (!own_history(handle->cd, &bytes, &left))
+    char sequences[SHIFT_SEQUENCES];
+    const char *bytes = sequences;
+    size_t left = 0;
+    if (handle->cd->shifted && handle->cd->shifted->from) {
+        left = shift_spell(handle->cd->shifted->from, &handle->cd->shifted->reading, sequences);
+    } else if (handle->cd->composed && handle->cd->composed->held) {
+        left = spell_held(handle, sequences, sizeof sequences);
+        if (left == 0)
+            return false;
+    } else if (handle->cd->own && !own_history(handle->cd, &bytes, &left)) {
         return false;
+    }
     char dropped[4096];
     char *in = (char *)(uintptr_t)bytes;
     while (left > 0) {
@@ -51,6 +80,18 @@ bool handle_fall_back(struct handle *handle, iconvd_status why) {
     }
     handle->in_the_middle = there;
     return there;
+}
+
+bool handle_shift_back(struct handle *handle, char **out, size_t *out_left) {
+    struct shifted *shifted = handle->cd->shifted;
+    /* Where the header is due nothing was written yet, and the C library writes it. */
+    if (!settings()->falls_back || !shifted || !shifted->to || shifted->writing.header_due || !out || !*out)
+        return true;
+    if (!shift_end(shifted->to, &shifted->writing, out, out_left))
+        return false;
+    shifted->writing = shift_begin(shifted->to, true);
+    shifted->writing.header_due = false;
+    return true;
 }
 
 bool handle_start_again(struct handle *handle) {

@@ -1,4 +1,4 @@
-/* Looks names up as the C library does. */
+/* Looks names up as the C library does, and then by their letters and digits. */
 #include "names.h"
 
 #include <langinfo.h>
@@ -15,7 +15,7 @@ struct name_row {
 
 #include "names_table.h"
 
-enum { NAME_COUNT = sizeof NAME_ROWS / sizeof *NAME_ROWS };
+enum { NAME_COUNT = sizeof NAME_ROWS / sizeof *NAME_ROWS, LOOSE_COUNT = sizeof LOOSE_ROWS / sizeof *LOOSE_ROWS };
 
 const char *builtin_name(enum builtin builtin) {
     static const char NAMES[BUILTIN_COUNT][12] = {
@@ -36,19 +36,63 @@ const char *iconvd_name(size_t number) {
     return number < NAME_COUNT ? NAME_STRINGS + NAME_ROWS[number].string : NULL;
 }
 
-int name_find(const char *name) {
-    size_t low = 0, high = NAME_COUNT;
+static bool is_digit(char c) {
+    return c >= '0' && c <= '9';
+}
+
+/* What decides of a name that no row has exactly: its letters and digits, with `-` where two digits are apart. ISO-IR-9-1 is not
+   ISO-IR-91. tables.py has the same. */
+static void loosen(char loose[NAME_ROOM], const char *name) {
+    size_t length = 0;
+    bool apart = false;
+    for (; *name; name++) {
+        bool counts = is_digit(*name) || (*name >= 'A' && *name <= 'Z');
+        if (counts && apart && length > 0 && is_digit(loose[length - 1]) && is_digit(*name))
+            loose[length++] = '-';
+        if (counts)
+            loose[length++] = *name;
+        apart = !counts;
+    }
+    loose[length] = 0;
+}
+
+/* How a name compares to that of a row. */
+typedef int comparing(const char *name, size_t row);
+
+static int compare_exactly(const char *name, size_t row) {
+    return strcmp(name, NAME_STRINGS + NAME_ROWS[row].string);
+}
+
+static int compare_loosely(const char *loose, size_t row) {
+    char other[NAME_ROOM];
+    loosen(other, NAME_STRINGS + NAME_ROWS[LOOSE_ROWS[row]].string);
+    return strcmp(loose, other);
+}
+
+/* The place of a name among `count` rows; `count` if it is none of them. */
+static size_t search(const char *name, size_t count, comparing *compare) {
+    size_t low = 0, high = count;
     while (low < high) {
         size_t middle = (low + high) / 2;
-        int order = strcmp(NAME_STRINGS + NAME_ROWS[middle].string, name);
+        int order = compare(name, middle);
         if (order == 0)
-            return NAME_ROWS[middle].number;
-        if (order < 0)
+            return middle;
+        if (order > 0)
             low = middle + 1;
         else
             high = middle;
     }
-    return -1;
+    return count;
+}
+
+int name_find(const char *name) {
+    char loose[NAME_ROOM];
+    size_t row = search(name, NAME_COUNT, compare_exactly);
+    if (row < NAME_COUNT)
+        return NAME_ROWS[row].number;
+    loosen(loose, name);
+    row = search(loose, LOOSE_COUNT, compare_loosely);
+    return row < LOOSE_COUNT ? NAME_ROWS[LOOSE_ROWS[row]].number : -1;
 }
 
 /* Letters and digits of ASCII whatever the locale is. */

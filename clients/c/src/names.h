@@ -5,8 +5,8 @@
 #include <stdbool.h>
 #include <stddef.h>
 
-/* The service's own encodings; the order is that of tables.py. */
-enum builtin { US_ASCII, ISO_8859_1, UTF_8, UTF_16, UTF_16BE, UTF_16LE, UTF_32, UTF_32BE, UTF_32LE, UTF_7, BUILTIN_COUNT };
+/* The service's own encodings, in the order of tables.py. BUILTIN_COUNT is a charmap, and SHIFTED an encoding with shifts. */
+enum builtin { US_ASCII, ISO_8859_1, UTF_8, UTF_16, UTF_16BE, UTF_16LE, UTF_32, UTF_32BE, UTF_32LE, UTF_7, BUILTIN_COUNT, SHIFTED };
 
 /* The service's name of one of them. */
 const char *builtin_name(enum builtin builtin);
@@ -24,7 +24,8 @@ struct parsed_name {
 /* False: it is too long for a name. */
 bool name_parse(struct parsed_name *parsed, const char *written);
 
-/* The number of a name: an enum builtin, or BUILTIN_COUNT plus the number of a charmap file; -1 for none. */
+/* The number of a name: an enum builtin, or BUILTIN_COUNT plus the number of a charmap file, or that number plus charmap_count() for an
+   encoding with shifts; -1 for none. */
 int name_find(const char *name);
 
 /* How many charmap files there are, and their names without folder and ending. */

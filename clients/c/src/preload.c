@@ -1,6 +1,7 @@
 /* iconv_open(), iconv() and iconv_close() by the service. */
 #include <errno.h>
 
+#include "composed.h"
 #include "preload.h"
 
 const char HANDLE_MARK[] = "iconvd";
@@ -103,7 +104,7 @@ static size_t reset(struct handle *handle, char **out, size_t *out_left) {
     if (handle->real == (iconv_t)-1) {
         iconvd_status status = iconvd_reset(handle->cd, out, out_left);
         if (status == ICONVD_OK)
-            return 0;
+            return handle->cd->composed ? handle->cd->composed->replaced : 0;
         if (status != ICONVD_LOST || !handle_fall_back(handle, status))
             return failed(status);
     }
@@ -136,6 +137,8 @@ static size_t convert(struct handle *handle, char **in, size_t *in_left, char **
         *out = progress.out;
         *out_left = progress.out_left;
     }
+    if (status == ICONVD_LOST && !handle_shift_back(handle, out, out_left))
+        return failed(ICONVD_E2BIG);
     if (status == ICONVD_LOST && handle_fall_back(handle, status)) {
         size_t more = go_on(handle, in, in_left, out, out_left);
         return more == (size_t)-1 ? more : more + progress.replaced;

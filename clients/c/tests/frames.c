@@ -170,13 +170,14 @@ static void test_long_lines(void) {
     /* The lengths near a block's end have each byte of the line after them there. */
     for (size_t row = 0; row < sizeof LENGTHS / sizeof *LENGTHS + 140; row++) {
         size_t length = row < 140 ? 65536 - 120 + row : LENGTHS[row - 140];
-        struct charmap map, light;
+        struct charmap_set set;
+        const struct charmap *map = &set.whole;
         write_charmap(path, length, row % 2 ? 0 : 'x');
-        iconvd_status status = charmap_read(&map, &light, folder, "TOY", "map-TOY");
-        check(status == ICONVD_OK && map.mappings == 2 && map.text.length == sizeof TEXT - 1 &&
-                  memcmp(map.text.bytes, TEXT, sizeof TEXT - 1) == 0,
+        iconvd_status status = charmap_read(&set, folder, "TOY", "map-TOY");
+        check(status == ICONVD_OK && map->mappings == 2 && map->text.length == sizeof TEXT - 1 &&
+                  memcmp(map->text.bytes, TEXT, sizeof TEXT - 1) == 0,
               "a comment of %zu bytes: status %d", length, (int)status);
-        buffer_free(&map.text);
+        charmap_set_free(&set);
     }
     unlink(path);
     rmdir(folder);

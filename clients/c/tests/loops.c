@@ -32,11 +32,18 @@ static struct step step_after(iconvd_cd *cd, const struct step *last, char *out)
 
 static const struct step FIRST = {.left = sizeof loop_text, .room = sizeof loop_out, .status = ICONVD_EILSEQ};
 
+static bool is_shifted(const char *name) {
+    return strncmp(name, "ISO-2022", 8) == 0 || strcmp(name, "HZ") == 0;
+}
+
 /* Its calls cost together what one call costs; twice as many requests where the target lacks characters. */
 static void meter_loop(struct loop *loop) {
     iconvd_cd *cd = NULL;
     struct step step = FIRST;
     uint64_t most = (strcmp(loop->to, "UTF-8") == 0 ? 8 : 16) * ((SMALL + 65535) / 65536);
+    /* Each window is converted twice with shifts, its sets and all of it to the target, and from GB18030 with codes above U+FFFF, which
+       damage makes. */
+    most *= is_shifted(loop->from) || strcmp(loop->from, "GB18030") == 0 ? 2 : 1;
     loop->count = 0;
     check(iconvd_open(pool, loop->to, loop->from, loop->policy, &cd) == ICONVD_OK, "%s to %s", loop->from, loop->to);
     uint64_t bytes = text_bytes_sent, requests = texts_sent;
@@ -73,8 +80,8 @@ static void compare_loop(const struct loop *loop) {
 
 /* To a target that has all characters, to one that lacks many, and to one of several bytes; what these lack is replaced. */
 static void test_loops(void) {
-    static const char *const FROM[] = {"EUC-KR", "UTF-8", "GB18030", "SHIFT_JIS", "BIG5", "EUC-JP", "US-ASCII"};
-    static const enum text KINDS[] = {RANDOM, GERMAN, FRENCH, EACH_SECOND, FAULTS, LEADS, DAMAGED};
+    static const char *const FROM[] = {"EUC-KR", "UTF-8", "GB18030", "SHIFT_JIS", "BIG5", "EUC-JP", "US-ASCII", "ISO-2022-JP", "ISO-2022-KR", "HZ"};
+    static const enum text KINDS[] = {RANDOM, GERMAN, FRENCH, EACH_SECOND, FAULTS, LEADS, DAMAGED, SHIFTS};
     static const struct {
         const char *to;
         int policy;
@@ -83,11 +90,15 @@ static void test_loops(void) {
     for (size_t i = 0; i < sizeof FROM / sizeof *FROM; i++)
         for (size_t j = 0; j < TARGET_COUNT * sizeof KINDS / sizeof *KINDS; j++) {
             struct loop loop = {.from = FROM[i], .kind = KINDS[j / TARGET_COUNT]};
+            if (is_shifted(loop.from) != (loop.kind == SHIFTS) && loop.kind != RANDOM && loop.kind != EACH_SECOND)
+                continue;
             loop.to = TARGETS[j % TARGET_COUNT].to;
             loop.policy = TARGETS[j % TARGET_COUNT].policy;
             make_text(loop.kind, loop.from, loop_text, sizeof loop_text);
             meter_loop(&loop);
-            compare_loop(&loop);
+            /* A conversion of its own for each call has no shifts before it: shifts.c compares these with the C library. */
+            if (!is_shifted(loop.from))
+                compare_loop(&loop);
         }
 }
 

@@ -5,13 +5,13 @@ from __future__ import annotations
 import codecs
 from typing import Any, List, Optional, Tuple
 
+from . import set_codecs
 from .client import Client, default, find
 from .errors import UnknownEncoding
-from .names import Encoding
+from .names import Encoding, is_shifted
 from .pieces import Decoder, Encoder
 
 _PREFIX = "iconvd"
-_ORDERS = ("", "LE", "BE")
 
 
 def _client(client: Optional[Client]) -> Client:
@@ -20,6 +20,8 @@ def _client(client: Optional[Client]) -> Client:
 
 def info(name: str, encoding: Encoding, client: Optional[Client] = None) -> codecs.CodecInfo:
     """Returns the codec of an encoding, which exceptions call `name`."""
+    if is_shifted(encoding):
+        return set_codecs.info(name, encoding, lambda: _client(client))
 
     def encode(input: str, errors: str = "strict") -> Tuple[bytes, int]:
         return Encoder(_client(client), name, encoding).encode(input, errors or "strict"), len(input)
@@ -36,12 +38,13 @@ def info(name: str, encoding: Encoding, client: Optional[Client] = None) -> code
             self.reset()
 
         def encode(self, input: str, final: bool = False) -> bytes:
-            return self._encoder.encode_piece(input, self.errors)
+            encoded = self._encoder.encode_piece(input, self.errors)
+            return encoded + self._encoder.finish() if final else encoded
 
         def reset(self) -> None:
             self._encoder = Encoder(_client(client), name, encoding)
 
-        # As in CPython's utf_16: 2 before the mark of UTF-16 or UTF-32 is written, 0 after it.
+        # As in CPython's utf_16: 2 before the mark is written, 0 after it.
         def getstate(self) -> int:
             return 0 if self._encoder.is_started else 2
 
@@ -54,25 +57,22 @@ def info(name: str, encoding: Encoding, client: Optional[Client] = None) -> code
 
         def __init__(self, errors: str = "strict") -> None:
             super().__init__(errors)
-            self._decoder = Decoder(_client(client), name, encoding, needs_mark=True)
+            self._decoder = Decoder(_client(client), name, encoding, is_stream=True)
 
         def _buffer_decode(self, input: Any, errors: str, final: bool) -> Tuple[str, int]:
             return self._decoder.decode(bytes(input), errors, final)
 
         def reset(self) -> None:
             super().reset()
-            self._decoder = Decoder(_client(client), name, encoding, needs_mark=True)
+            self._decoder = Decoder(_client(client), name, encoding, is_stream=True)
 
-        # The number says which byte order the text has: 0 if it is not known yet.
+        # The number says what the mark of the text said: 0 if that is not known yet.
         def getstate(self) -> Tuple[bytes, int]:
-            found = self._decoder.encoding
-            return super().getstate()[0], _ORDERS.index(found.name[-2:]) if found and found.name[-2:] in _ORDERS else 0
+            return super().getstate()[0], self._decoder.state()
 
         def setstate(self, state: Tuple[bytes, int]) -> None:
             super().setstate((state[0], 0))
-            order = _ORDERS[state[1]] if 0 <= state[1] < len(_ORDERS) else ""
-            has_mark = not encoding.is_charmap and encoding.name in ("UTF-16", "UTF-32")
-            self._decoder.set_encoding(Encoding(False, encoding.name + order) if order and has_mark else None)
+            self._decoder.set_state(state[1])
 
     class StreamWriter(codecs.StreamWriter):
         """Writes text to a file of bytes."""
@@ -93,7 +93,7 @@ def info(name: str, encoding: Encoding, client: Optional[Client] = None) -> code
 
         def __init__(self, stream: object, errors: str = "strict") -> None:
             super().__init__(stream, errors)  # type: ignore[arg-type]
-            self._decoder = Decoder(_client(client), name, encoding, needs_mark=True)
+            self._decoder = Decoder(_client(client), name, encoding, is_stream=True)
 
         def decode(self, input: bytes, errors: str = "strict") -> Tuple[str, int]:
             return self._decoder.decode(bytes(input), errors, False)
@@ -107,7 +107,7 @@ def info(name: str, encoding: Encoding, client: Optional[Client] = None) -> code
 
         def reset(self) -> None:
             super().reset()
-            self._decoder = Decoder(_client(client), name, encoding, needs_mark=True)
+            self._decoder = Decoder(_client(client), name, encoding, is_stream=True)
 
     return codecs.CodecInfo(
         encode=encode,

@@ -8,7 +8,7 @@ from __future__ import annotations
 
 import functools
 import re
-from typing import Dict, Iterator, List, Optional, Set, Tuple
+from typing import Callable, Dict, FrozenSet, Iterator, List, NamedTuple, Optional, Set, Tuple
 
 from . import mappings
 from .charmaps import Charmap
@@ -22,11 +22,27 @@ _UNDEFINED = "character maps to <undefined>"
 _ILLEGAL = "illegal multibyte sequence"
 
 
+class Computed(NamedTuple):
+    """Codes of four bytes that are in no charmap, and that the client computes."""
+
+    #: The first of their characters, and the last.
+    span: Span
+    box: Box
+    #: The first two bytes of each.
+    beginnings: FrozenSet[bytes]
+    #: The pattern of a code, and that of its first two or three bytes.
+    multiple: bytes
+    cut: bytes
+    #: Adds the last bytes of computed codes to those of a charmap.
+    last_bytes: Callable[[LastBytes], LastBytes]
+
+
 class _Strings:
     """Byte strings as bits: the last bytes, by the bytes before them."""
 
-    def __init__(self, found: LastBytes) -> None:
+    def __init__(self, found: LastBytes, computed: Optional[Computed] = None) -> None:
         self._leaves = found
+        self._computed = computed
 
     def scanner(self, separator: bytes) -> Optional[Scanner]:
         """Returns the scanner that finds the faults of a text, or None if there is none for these strings."""
@@ -40,7 +56,12 @@ class _Strings:
         boxes: List[Box] = [(leads, last) for last, leads in pairs.items()]
         boxes.extend(self._box(size, prefixes) for size, prefixes in by_size.items() if size > 1)
         shorter = {prefix[:size] for size in range(max(by_size)) for prefix in self._leaves if len(prefix) > size}
-        return Scanner.of(self._leaves.get(b"", 0), boxes, separator, Strings(self._leaves, shorter))
+        leaves = self._leaves
+        if self._computed:
+            boxes.append(self._computed.box)
+            shorter |= self._computed.beginnings
+            leaves = self._computed.last_bytes(leaves)
+        return Scanner.of(leaves.get(b"", 0), boxes, separator, Strings(leaves, shorter))
 
     def _box(self, size: int, prefixes: List[bytes]) -> Box:
         """Returns the bytes that strings have at each place."""
@@ -65,13 +86,21 @@ class _Strings:
         single, leads = leaves.get(b"", 0), 0
         for bits in kinds.values():
             leads |= bits
-        return Patterns(
+        patterns = Patterns(
             single=_class(single),
             lead=_class(leads),
             multiple=b"|".join(_class(bits) + rest for (rest, _), bits in _by_size(kinds)),
             never=_class(_ALL & ~(single | leads)),
             bad=b"|".join(_class(bits) + (b"(?:(?:%s)\\Z)?" % cut if cut else b"") for (_, cut), bits in _by_size(kinds)),
             cut=b"|".join(_class(bits) + (b"(?:%s)?" % cut if cut else b"") for (_, cut), bits in _by_size(kinds)),
+        )
+        computed = self._computed
+        if computed is None:
+            return patterns
+        return patterns._replace(
+            multiple=patterns.multiple + b"|" + computed.multiple,
+            bad=b"(?:%s)\\Z|%s" % (computed.cut, patterns.bad),
+            cut=computed.cut + b"|" + patterns.cut,
         )
 
 
@@ -148,10 +177,14 @@ def _usual_separator(charmap: Charmap, body: bytes, rest: bytes) -> Optional[Tup
 class CharmapForm(PatternForm):
     """The form of a charmap's encoding. Its parts are made when they are first needed."""
 
-    def __init__(self, charmap: Charmap, rest: bytes = b"") -> None:
-        """`charmap` may be the beginning of a longer one, whose other lines are `rest`."""
+    def __init__(
+        self, charmap: Charmap, rest: bytes = b"", written: Optional[Charmap] = None, computed: Optional[Computed] = None
+    ) -> None:
+        """`charmap` may be the beginning of a longer one, whose other lines are `rest`. `written` is the one for writing."""
         self._charmap = charmap
+        self._written = written or charmap
         self._rest = rest
+        self._computed = computed
         self.is_multibyte = charmap.longest > 1
         mark, separator = _usual_separator(charmap, charmap.body(), rest) or _separator(self._ranges())
         super().__init__(separator, mark, not self.is_multibyte)
@@ -166,7 +199,7 @@ class CharmapForm(PatternForm):
         found = mappings.last_bytes(self._charmap.body(), self._charmap.escape)
         for before, last in mappings.last_bytes(self._rest, self._charmap.escape).items():
             found[before] = found.get(before, 0) | last
-        return _Strings(found)
+        return _Strings(found, self._computed)
 
     @functools.cached_property
     def _scanner(self) -> Optional[Scanner]:
@@ -179,8 +212,9 @@ class CharmapForm(PatternForm):
         return self._strings.patterns(self.separator)
 
     def has(self) -> List[Span]:
-        found = mappings.spans(self._charmap.body(), self._charmap.escape)
-        return list(_runs(sorted([*found, *self._rest_spans])))
+        found = mappings.spans(self._written.body(), self._written.escape)
+        computed = [(self._computed.span[0], self._computed.span[1] + 1)] if self._computed else []
+        return list(_runs(sorted([*found, *self._rest_spans, *computed])))
 
     # ---- the rest of a charmap of which only the beginning is uploaded
 

@@ -54,6 +54,7 @@ class Form:
         self.mark = mark
         self._in_runs = in_runs
         self._special: Optional[Pattern[str]] = None
+        self.pairs: Dict[str, bytes] = {}  # two characters that have one code; see joined.py
 
     def has(self) -> Sequence[Span]:
         """Returns all characters of the encoding."""
@@ -87,12 +88,13 @@ class Form:
     def special(self) -> Pattern[str]:
         """The pattern of the mark, and of the lacking characters that CPython reports at once."""
         if self._special is None:
-            self._special = re.compile(f"{re.escape(self.mark)}|{_lacking(self.has())}" + ("+" if self._in_runs else ""))
+            pairs = "".join(re.escape(pair) + "|" for pair in self.pairs)
+            self._special = re.compile(f"{pairs}{re.escape(self.mark)}|{_lacking(self.has())}" + ("+" if self._in_runs else ""))
         return self._special
 
     def lacks(self, text: str) -> Optional[int]:
         """Returns the place of the first character that the encoding lacks."""
-        return next((found.start() for found in self.special.finditer(text) if found[0] != self.mark), None)
+        return next((each.start() for each in self.special.finditer(text) if each[0] not in {self.mark, *self.pairs}), None)
 
 
 class Patterns(NamedTuple):

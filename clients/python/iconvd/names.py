@@ -1,7 +1,7 @@
 """Names of encodings: which built-in encoding or which charmap a name means.
 
-The C library has the same table. When the package is built, `clients/names/generate.py` makes it from glibc's gconv-modules and
-from the system's charmaps.
+When the package is built, `clients/names/generate.py` makes the table from glibc's gconv-modules, from the system's charmaps and from
+the names that WHATWG, CPython and IANA have. The C library has the same, except for names that CPython reads otherwise than glibc.
 """
 
 from __future__ import annotations
@@ -9,9 +9,10 @@ from __future__ import annotations
 import functools
 import os
 import re
-from typing import Dict, List, NamedTuple, Tuple
+from typing import Dict, FrozenSet, List, NamedTuple, Tuple
 
 from .errors import UnknownEncoding
+from .tables import read_rows
 
 #: The built-in encodings of the server.
 BUILTIN = (
@@ -27,19 +28,27 @@ BUILTIN = (
     "UTF-7",
 )
 
+#: UTF-8 that begins with a mark, as CPython's `utf-8-sig`: the client writes and skips the mark.
+UTF_8_SIG = "UTF-8-SIG"
+
 _OTHER = re.compile(r"[^A-Z0-9_\-.,:/]")
-_NEITHER_LETTER_NOR_DIGIT = re.compile(r"[^A-Z0-9]")
+_BETWEEN_DIGITS = re.compile(r"(?<=[0-9])[^A-Z0-9]+(?=[0-9])")
+_SEPARATOR = re.compile(r"[^A-Z0-9-]|-(?![0-9])|(?<![0-9])-")
+
+
+#: The encodings with escapes or shifts that only the C library has.
+_LEFT_OUT = frozenset(("ISO-2022-CN",))
 
 
 class Encoding(NamedTuple):
-    """An encoding: a built-in one, or a charmap, by the name of its file."""
+    """An encoding: a built-in one, one with escapes or shifts, or a charmap, by the name of its file."""
 
     is_charmap: bool
     name: str
 
 
 class Table(NamedTuple):
-    """The encodings by name, and by only the letters and digits of the name."""
+    """The encodings by name, and by what decides of a name that is none of these."""
 
     exact: Dict[str, Encoding]
     loose: Dict[str, Encoding]
@@ -50,19 +59,34 @@ def _normal(name: str) -> str:
 
 
 def _loose(name: str) -> str:
-    return _NEITHER_LETTER_NOR_DIGIT.sub("", name.upper())
+    """Returns the letters and digits of a name, with `-` where two digits are apart: ISO-IR-9-1 is not ISO-IR-91."""
+    return _SEPARATOR.sub("", _BETWEEN_DIGITS.sub("-", name.upper()))
 
 
 def read_table(lines: List[str]) -> Table:
-    """Reads the lines `NAME<TAB>builtin|charmap<TAB>ENCODING`."""
+    """Reads the lines `NAME<TAB>builtin|charmap|shifted<TAB>ENCODING`."""
     exact = {name: Encoding(False, name) for name in BUILTIN}
     for line in lines:
         name, kind, target = line.rstrip("\n").split("\t")
-        exact.setdefault(name, Encoding(kind == "charmap", target))
+        if target not in _LEFT_OUT:
+            exact.setdefault(name, Encoding(kind == "charmap", target))
+    for target, name, meaning, *_ in read_rows("shifted_composing_encodings.tsv"):
+        exact.setdefault(name if meaning == "name" else target, Encoding(False, target))
     loose: Dict[str, Encoding] = {}
     for name, encoding in exact.items():
         loose.setdefault(_loose(name), encoding)
     return Table(exact, loose)
+
+
+@functools.lru_cache(maxsize=None)
+def _shifted() -> FrozenSet[str]:
+    """Returns the encodings with escapes or shifts."""
+    return frozenset(row[0] for row in read_rows("shifted_encodings.tsv") + read_rows("shifted_composing_encodings.tsv"))
+
+
+def is_shifted(encoding: Encoding) -> bool:
+    """Whether an encoding has escapes or shifts, and is made of sets that the service converts."""
+    return not encoding.is_charmap and encoding.name in _shifted()
 
 
 @functools.lru_cache(maxsize=None)

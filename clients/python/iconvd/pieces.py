@@ -3,12 +3,13 @@
 from __future__ import annotations
 
 from types import TracebackType
-from typing import TYPE_CHECKING, Optional, Tuple, Type
+from typing import TYPE_CHECKING, Optional, Tuple, Type, Union
 
-from . import text
+from . import marks, text
 from .errors import ConversionError
 from .known import Known
 from .names import Encoding
+from .set_text import SetCodec, codec_of
 
 if TYPE_CHECKING:
     from .client import Client
@@ -20,36 +21,42 @@ _SHORT = 1024
 class Decoder:
     """Decodes one text, which may be in pieces."""
 
-    def __init__(self, client: Client, name: str, encoding: Encoding, needs_mark: bool = False) -> None:
-        """With `needs_mark` a text in UTF-16 or UTF-32 without a mark is refused, as by CPython's streams."""
+    def __init__(self, client: Client, name: str, encoding: Encoding, is_stream: bool = False) -> None:
+        """With `is_stream` marks are read as by CPython's streams: a text in UTF-16 or UTF-32 without a mark is refused, and the
+        beginning of the mark of UTF-8-SIG is no text."""
         self._client = client
         self._name = name
         self._declared = encoding
-        self._needs_mark = needs_mark
-        self._codec: Optional[text.TextCodec] = None
+        self._is_stream = is_stream
+        self._codec: Optional[Union[text.TextCodec, SetCodec]] = None
 
     def decode(self, data: bytes, errors: str, final: bool) -> Tuple[str, int]:
         """Returns the text of the first bytes, and how many they are: all but an incomplete character if `final` is false."""
         skipped = 0
         if self._codec is None:
-            ordered, skipped = text.without_mark(self._declared, data)
-            if ordered != self._declared and len(data) < (4 if self._declared.name == "UTF-32" else 2) and not final:
+            is_needed = marks.is_needed(self._declared)
+            if marks.waits(self._declared, data) and not (final and (is_needed or not self._is_stream)):
                 return "", 0
-            if self._needs_mark and ordered != self._declared and data and not skipped:
+            ordered, skipped = marks.without_mark(self._declared, data)
+            if self._is_stream and is_needed and data and not skipped:
                 raise UnicodeError(f"{self._declared.name} stream does not start with BOM")
-            self._codec = text.TextCodec(self._name, ordered, self._client.library)
+            self._codec = codec_of(self._name, ordered, self._client.library)
         codec = self._codec
-        decoded = self._client.run(lambda session: codec.decode(session, data, errors, final, skipped))
-        return decoded.text, decoded.used
+        if skipped and not marks.is_needed(self._declared):
+            # As in CPython's utf-8-sig, positions of faults count from after the mark.
+            rest = data[skipped:]
+            found = self._client.run(lambda session: codec.decode(session, rest, errors, final))
+            return found.text, found.used + skipped
+        return self._client.run(lambda session: codec.decode(session, data, errors, final, skipped))
 
-    @property
-    def encoding(self) -> Optional[Encoding]:
-        """The encoding with its byte order, once that is known."""
-        return self._codec.encoding if self._codec else None
+    def state(self) -> int:
+        """Returns what the mark of the text said, as a number; 0 before the text begins."""
+        return marks.state_of(self._declared, self._codec.encoding) if self._codec else 0
 
-    def set_encoding(self, encoding: Optional[Encoding]) -> None:
-        """Goes on with the byte order that another decoder found."""
-        self._codec = text.TextCodec(self._name, encoding, self._client.library) if encoding else None
+    def set_state(self, state: int) -> None:
+        """Goes on after a mark that another decoder read."""
+        found = marks.encoding_of(self._declared, state)
+        self._codec = text.TextCodec(self._name, found, self._client.library) if found != self._declared else None
 
 
 class Encoder:
@@ -57,23 +64,44 @@ class Encoder:
 
     def __init__(self, client: Client, name: str, encoding: Encoding) -> None:
         self._client = client
-        ordered, self._mark = text.mark_of(encoding)
-        self._codec = text.TextCodec(name, ordered, client.library)
+        ordered, self._mark = marks.mark_of(encoding)
+        self._codec = codec_of(name, ordered, client.library)
         self.is_started = False
+        #: Whether a letter at the end of a piece is held, since a mark may follow.
+        self.has_pairs = isinstance(self._codec, text.TextCodec) and self._codec.pairs is not None
+        self._held = ""
         # The known characters, and their error handler, once the text is started.
         self._known: Optional[Known] = None
         self._known_errors = ""
 
     def encode(self, characters: str, errors: str) -> bytes:
-        """Returns the bytes of a text."""
-        output = self._client.run(lambda session: self._codec.encode(session, characters, errors))
+        """Returns the bytes of a text. See `finish`."""
+        codec = self._codec
+        if isinstance(codec, SetCodec):
+            encode_piece = codec.encode_piece
+            output = self._client.run(lambda session: encode_piece(session, characters, errors, False))
+        else:
+            output = self._client.run(lambda session: codec.encode(session, characters, errors))
         mark = b"" if self.is_started else self._mark
         self.is_started = True
         return mark + output
 
+    def finish(self) -> bytes:
+        """Returns what ends the text: a character that was held, and the escape or shift back to ASCII, if the encoding has any."""
+        codec = self._codec
+        if not isinstance(codec, SetCodec):
+            held, self._held = self._held, ""
+            return self.encode(held, "strict") if held else b""
+        encode_piece = codec.encode_piece
+        return self._client.run(lambda session: encode_piece(session, "", "strict", True))
+
     def encode_piece(self, characters: str, errors: str) -> bytes:
         """Returns the bytes of the next piece of a text. In short pieces each character costs one request in all. So a text file
         that is written line by line, and needs the bytes of each line at once, costs no request for each line."""
+        if isinstance(self._codec, text.TextCodec) and self._codec.pairs is not None:
+            whole = self._held + characters
+            self._held = whole[-1:] if whole and whole[-1] in self._codec.pairs.letters else ""
+            return self.encode(whole[: len(whole) - len(self._held)], errors)
         if self._known is not None and errors == self._known_errors and len(characters) <= _SHORT:
             encoded = self._known.bytes_of(characters)
             if encoded is not None:
@@ -82,11 +110,13 @@ class Encoder:
 
     def _encode_new(self, characters: str, errors: str) -> bytes:
         """Returns the bytes of a piece that is long, begins the text, or has unknown characters."""
-        if not self.is_started or len(characters) > _SHORT:
+        codec = self._codec
+        if isinstance(codec, SetCodec) or not self.is_started or len(characters) > _SHORT:
             return self.encode(characters, errors)
-        known = self._known = self._codec.known(errors)
+        known = self._known = codec.known(errors)
         self._known_errors = errors
-        self._client.run(lambda session: self._codec.learn(session, characters, errors, known))
+        learn = codec.learn
+        self._client.run(lambda session: learn(session, characters, errors, known))
         encoded = known.bytes_of(characters)
         return self.encode(characters, errors) if encoded is None else encoded
 
@@ -108,19 +138,23 @@ class Conversion:
         self._held = b""
 
     def convert(self, data: bytes, errors: str = "strict", final: bool = False) -> bytes:
-        """Converts the next bytes. An incomplete character at the end is kept for the next call, unless `final` is true."""
+        """Converts the next bytes. An incomplete character at the end is kept for the next call, unless `final` is true. Then the
+        bytes also end a text with escapes or shifts."""
         held = self._held + data
         decoded, used = self._decoder.decode(held, errors, final)
         self._held = held[used:]
-        return self._encoder.encode(decoded, errors) if decoded else b""
+        encode = self._encoder.encode_piece if self._encoder.has_pairs else self._encoder.encode
+        encoded = encode(decoded, errors) if decoded else b""
+        return encoded + self._encoder.finish() if final else encoded
 
     def reset(self) -> bytes:
-        """Ends the text and goes back to the start. Raises ConversionError if it ends inside a character."""
-        held = self._held
+        """Ends the text and goes back to the start. Returns the escape or shift that ends it, if the target has any. Raises
+        ConversionError if the text ends inside a character."""
+        held, ending = self._held, self._encoder.finish()
         self._start()
         if held:
             raise ConversionError("the text ends inside a character", 0)
-        return b""
+        return ending
 
     def close(self) -> None:
         """Forgets kept bytes and the state. The server's descriptors are shared, and stay open."""

@@ -6,10 +6,9 @@ cutting.py), window by window, and sends what is between them.
 
 from __future__ import annotations
 
-import codecs
-import sys
 from typing import AnyStr, Iterable, List, NamedTuple, Sequence, Tuple, Union
 
+from . import joined as joined_codes
 from . import shifted, steps
 from .cutting import WINDOW, DecodingCut, DecodingHandling, EncodingCut, EncodingHandling, gathered, joined
 from .errors import RequestRefused
@@ -40,28 +39,6 @@ class Decoded(NamedTuple):
     used: int
 
 
-def without_mark(encoding: Encoding, data: bytes) -> Tuple[Encoding, int]:
-    """Returns the encoding with the byte order of a text in UTF-16 or UTF-32, and the size of its mark. Without a mark it is the
-    machine's order."""
-    if encoding.is_charmap or encoding.name not in ("UTF-16", "UTF-32"):
-        return encoding, 0
-    wide = encoding.name == "UTF-32"
-    little, big = (codecs.BOM_UTF32_LE, codecs.BOM_UTF32_BE) if wide else (codecs.BOM_UTF16_LE, codecs.BOM_UTF16_BE)
-    if data.startswith(little):
-        return Encoding(False, encoding.name + "LE"), len(little)
-    if data.startswith(big):
-        return Encoding(False, encoding.name + "BE"), len(big)
-    return Encoding(False, encoding.name + ("LE" if sys.byteorder == "little" else "BE")), 0
-
-
-def mark_of(encoding: Encoding) -> Tuple[Encoding, bytes]:
-    """Returns the encoding of the text after the mark of UTF-16 or UTF-32, and the mark."""
-    if encoding.is_charmap or encoding.name not in ("UTF-16", "UTF-32"):
-        return encoding, b""
-    ordered = Encoding(False, encoding.name + ("LE" if sys.byteorder == "little" else "BE"))
-    return ordered, codecs.BOM_UTF32 if encoding.name == "UTF-32" else codecs.BOM_UTF16
-
-
 class TextCodec:
     """Decodes and encodes texts of one encoding."""
 
@@ -75,6 +52,8 @@ class TextCodec:
         self.has_state = encoding == Encoding(False, "UTF-7")
         # After a piece with faults the next one of the text is not sent as it is.
         self._has_faults = has_faults
+        #: The codes that are two characters each, if the encoding has such.
+        self.pairs = joined_codes.pairs_of(encoding)
 
     # ---- decoding
 
@@ -86,7 +65,7 @@ class TextCodec:
         if not self._has_faults:
             at, waits = yield from self._decode_whole(session, data, (at, end), errors == _STRICT, pieces)
             if at == end or (waits and not final):
-                return Decoded("".join(pieces), at)
+                return Decoded(self._text(pieces), at)
             if self.has_state:
                 # The fault may be within a shifted sequence, of which only the beginning is known.
                 at = begin
@@ -100,7 +79,12 @@ class TextCodec:
             if cut.at == at and not cut.marks:
                 break
             at = cut.at
-        return Decoded("".join(pieces), at)
+        return Decoded(self._text(pieces), at)
+
+    def _text(self, pieces: List[str]) -> str:
+        """Joins the pieces of a text, with both characters of codes that are two."""
+        text = "".join(pieces)
+        return text.translate(self.pairs.read) if self.pairs else text
 
     def _end_of_whole(self, data: bytes) -> int:
         """Returns the end of the bytes that need not wait for others. An open shifted sequence has to wait. So has the beginning
@@ -142,13 +126,17 @@ class TextCodec:
     def encode(self, session: Session, text: str, errors: str, at: int = 0) -> Steps[bytes]:
         """Encodes the characters from `at` on."""
         pieces: List[bytes] = []
+        # The server knows no code of two characters.
+        self._has_faults |= self.pairs is not None and self.pairs.pattern.search(text, at) is not None
         if not self._has_faults:
             at = yield from self._encode_whole(session, text, at, errors == _STRICT, pieces)
         if at == len(text):
             return b"".join(pieces)
         handling = EncodingHandling(self._library.form(self.encoding), self._error_name, errors)
         while at < len(text):
-            cut = handling.cut(text, at, min(len(text), at + WINDOW))
+            stop = min(len(text), at + WINDOW)
+            stop += self.pairs is not None and text[stop - 1 : stop + 1] in self.pairs.written
+            cut = handling.cut(text, at, stop)
             self._has_faults = bool(cut.between)
             pieces.append((yield from self._encode_cut(session, cut)))
             at = cut.at
@@ -190,6 +178,10 @@ class TextCodec:
         yield from self._learn(session, unlike, known)
         encoded = {text: known.bytes_of(text) or b"" for text in unlike}
         return [encoded[text] if isinstance(text, str) else text for text in texts]
+
+    def finish(self) -> bytes:
+        """Returns what ends a text. The server closes each shifted sequence itself."""
+        return b""
 
     def known(self, errors: str) -> Known:
         """Returns the known characters of the encoding."""

@@ -8,7 +8,7 @@ from unittest import mock
 
 import support  # noqa: F401
 
-from iconvd import names, transport
+from iconvd import Client, names, transport
 from iconvd.frames import Reply, Request
 from iconvd.names import Encoding
 
@@ -47,6 +47,23 @@ def metered() -> Iterator[Meter]:
 
     with mock.patch("iconvd.client.Stream", MeteredStream):
         yield meter
+
+
+#: Characters of each coded set of the encodings with escapes and shifts, and codes of those that are only read.
+OF_EACH_SET = "日丂가啊ｱ¥"
+READ_ONLY = b"\x1b.A\x1bNi\x1b.F\x1bNa\x1b(J\\\x1b(B"
+
+
+def use_each_set(client: Client, name: str) -> None:
+    """Has the client upload the charmaps of all sets of an encoding with escapes or shifts, and open their descriptors."""
+    if names.is_shifted(client.library.find(name)):
+        client.decode(client.encode(OF_EACH_SET, name, "ignore"), name)
+        client.decode(READ_ONLY, name, "ignore")
+
+
+def every_form() -> List[str]:
+    """Returns a name of each encoding but those with escapes or shifts that are made of coded sets."""
+    return [name for name in every_encoding() if not names.is_shifted(names.find(name))]
 
 
 def every_encoding() -> List[str]:

@@ -1,0 +1,170 @@
+/* Chooses the set that each character of a text is written in, and asks the service for the codes. */
+#include "shifted.h"
+#include "translit.h"
+
+/* A text that is being planned. */
+struct planning {
+    struct iconvd_cd *cd;
+    const struct shifter *shifter;
+    struct shift_state state;
+    struct shift_plan *plan;
+    bool memory; /* none was lacking */
+};
+
+void shift_plan_free(struct shift_plan *plan) {
+    buffer_free(&plan->planned);
+    for (size_t i = 0; i < GROUPS; i++) {
+        buffer_free(&plan->units[i]);
+        buffer_free(&plan->codes[i]);
+    }
+}
+
+/* The first set in the order of writing that has a character. */
+static unsigned char first_set(const struct shifter *shifter, uint32_t character) {
+    for (size_t i = 0; i < shifter->order_count; i++)
+        if (set_has(shifter, shifter->order[i], character))
+            return shifter->order[i];
+    return NO_SET;
+}
+
+/* The set for a character: the one in use, the one that a single shift takes from, or the first that has it. */
+static unsigned char choose(const struct shifter *shifter, const struct shift_state *state, uint32_t character) {
+    unsigned char now = shift_set(state), start = shifter->encoding->start;
+    if (character < 0x80) {
+        bool stays = !shifter->encoding->ascii && now != start && character > 0x20 && character < 0x7f && set_has(shifter, now, character);
+        return stays ? now : start;
+    }
+    if (now != start && set_has(shifter, now, character))
+        return now;
+    if (state->g2 != NO_SET && set_has(shifter, state->g2, character))
+        return state->g2;
+    return first_set(shifter, character);
+}
+
+void shift_written(const struct shifter *shifter, struct shift_state *state, unsigned char set, uint32_t character) {
+    const struct shifted_sequence *line = character == 0x0a ? shifter->of[LINE] : NULL;
+    if (set == shifter->encoding->start) {
+        state->set = set;
+        state->out = false;
+    } else if (shifter->ways[set]->meaning == G2) {
+        state->g2 = set;
+    } else if (shifter->ways[set]->meaning == USE) {
+        state->set = set;
+    } else {
+        state->g1 = set;
+        state->out = true;
+    }
+    if (line)
+        state->g2 = NO_SET;
+    if (line && line->set > 1)
+        state->g1 = NO_SET;
+}
+
+/* Adds a character, which a set has. */
+static void add(struct planning *planning, enum planned_kind kind, unsigned char set, uint32_t character, size_t width) {
+    struct shift_plan *plan = planning->plan;
+    struct planned planned = {.kind = kind, .set = set, .code = (unsigned char)(character & 0x7f), .width = (unsigned char)width};
+    planning->memory &= buffer_append(&plan->planned, (const char *)&planned, sizeof planned);
+    if (kind > MORE)
+        return;
+    shift_written(planning->shifter, &planning->state, set, character);
+    if (planning->shifter->group_of[set] == DIRECT)
+        return;
+    unsigned char units[4];
+    uint32_t high = 0xd800 + ((character - 0x10000) >> 10), low = 0xdc00 | (character & 0x3ff);
+    bool wide = character >= 0x10000;
+    uint32_t first = wide ? high : character;
+    units[0] = (unsigned char)(first >> 8);
+    units[1] = (unsigned char)first;
+    units[2] = (unsigned char)(low >> 8);
+    units[3] = (unsigned char)low;
+    planning->memory &= buffer_append(&plan->units[planning->shifter->group_of[set]], (const char *)units, wide ? 4 : 2);
+}
+
+/* Whether each character of a candidate can be written. */
+static bool has_all(const struct shifter *shifter, const char *text, size_t length) {
+    for (size_t at = 0; at < length;) {
+        uint32_t character;
+        at += utf8_read(text + at, &character);
+        if (character >= 0x80 && first_set(shifter, character) == NO_SET)
+            return false;
+    }
+    return true;
+}
+
+/* The first candidate that can be written, else `?`. */
+static const char *find_candidate(const struct shifter *shifter, uint32_t character, size_t *length) {
+    const char *end;
+    for (const char *at = translit_candidates(translit_number(character)); *at; at = end + 1) {
+        end = strchr(at, '\xff');
+        *length = (size_t)(end - at);
+        if (has_all(shifter, at, *length))
+            return at;
+    }
+    *length = 1;
+    return "?";
+}
+
+static void add_transliteration(struct planning *planning, uint32_t lacking, size_t width) {
+    size_t length;
+    const char *text = find_candidate(planning->shifter, lacking, &length);
+    enum planned_kind kind = PHRASE;
+    if (length == 0)
+        add(planning, EMPTY, 0, 0, width);
+    for (size_t at = 0; at < length;) {
+        uint32_t character;
+        at += utf8_read(text + at, &character);
+        add(planning, kind, choose(planning->shifter, &planning->state, character), character, kind == PHRASE ? width : 0);
+        kind = MORE;
+    }
+}
+
+/* Plans the next character. False: the text ends here. */
+static bool plan_next(struct planning *planning, uint32_t character, size_t width) {
+    unsigned char set = choose(planning->shifter, &planning->state, character);
+    int policy = planning->cd->policy;
+    if (set != NO_SET)
+        add(planning, WRITTEN, set, character, width);
+    else if (policy & ICONVD_TRANSLIT)
+        add_transliteration(planning, character, width);
+    else if (policy & ICONVD_SUBSTITUTE)
+        add(planning, PHRASE, planning->shifter->encoding->start, '?', width);
+    else
+        add(planning, policy & ICONVD_IGNORE ? LEFT : LACKS, 0, 0, width);
+    return set != NO_SET || policy != ICONVD_STRICT;
+}
+
+/* Asks the service for the codes of a group. */
+static iconvd_status convert_group(struct iconvd_pool *pool, struct encoding *to, const struct buffer *units, struct buffer *codes) {
+    struct pair pair = {.to = to, .from = encoding_builtin(UTF_16BE), .strict = true};
+    size_t room = units->length / 2 * encoding_most_bytes(to);
+    room = room < ICONVD_MAX_ROOM ? room : ICONVD_MAX_ROOM;
+    if (units->length == 0)
+        return ICONVD_OK;
+    if (!buffer_reserve(codes, room))
+        return ICONVD_ENOMEM;
+    struct work work = {.in = units->bytes, .in_length = units->length, .out = codes->bytes, .room = room};
+    iconvd_status status = pool_convert(pool, &pair, &work);
+    codes->length = work.produced;
+    if (status == ICONVD_ENOMEM)
+        return status;
+    return status == ICONVD_OK && work.used == units->length ? ICONVD_OK : ICONVD_LOST;
+}
+
+iconvd_status shift_plan(struct iconvd_cd *cd, struct shift_plan *plan, const struct buffer *text) {
+    const struct shifter *shifter = cd->shifted->to;
+    struct planning planning = {
+        .cd = cd, .shifter = shifter, .state = cd->shifted->writing, .plan = plan, .memory = true};
+    const struct fronts fronts = {.kind = UTF_16BE};
+    bool more = true;
+    for (size_t at = 0, width; more && planning.memory && at < text->length; at += width) {
+        uint32_t character;
+        width = ((unsigned char)text->bytes[at] & 0xfc) == 0xd8 ? 4 : 2;
+        front_character(&fronts, text->bytes + at, width, &character);
+        more = plan_next(&planning, character, width);
+    }
+    iconvd_status status = planning.memory ? ICONVD_OK : ICONVD_ENOMEM;
+    for (size_t i = 0; status == ICONVD_OK && i < shifter->group_count; i++)
+        status = convert_group(cd->pool, shifter->groups[i], &plan->units[i], &plan->codes[i]);
+    return status;
+}

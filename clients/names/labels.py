@@ -1,0 +1,69 @@
+"""Reads labels.tsv: names of encodings beside those of the C library and of the charmaps."""
+
+from __future__ import annotations
+
+import os
+from collections.abc import Callable, Iterator
+from typing import NamedTuple
+
+LABELS = os.path.join(os.path.dirname(os.path.abspath(__file__)), 'labels.tsv')
+#: Encodings that only the Python package has, as CPython, with their kind and target.
+PYTHON_OWN = {
+    'UTF-8-SIG': ('builtin', 'UTF-8-SIG'),
+    'ISO-2022-JP-3': ('shifted', 'ISO-2022-JP-3'),
+    'ISO-2022-JP-2004': ('shifted', 'ISO-2022-JP-2004'),
+}
+#: Encodings that only the C library has, as glibc: CPython has none of the kind.
+C_ALONE = {'ISO-2022-CN'}
+#: A charmap that composes as glibc, and that CPython has not.
+C_ALONE_CHARMAP = 'TCVN5712-1'
+
+Table = dict[str, tuple[str, str]]
+
+
+class Label(NamedTuple):
+    """A name of an encoding, which another name of it says, and who has the name."""
+
+    name: str
+    encoding: str
+    source: str
+
+
+def read(path: str = LABELS) -> Iterator[Label]:
+    """Yields the labels."""
+    with open(path, encoding='utf-8') as lines:
+        for line in lines:
+            if line.strip() and not line.startswith('#'):
+                encoding, source, labels = line.rstrip('\n').split('\t')
+                yield from (Label(label, encoding, source) for label in labels.split(' '))
+
+
+def add(table: Table, normal: Callable[[str], str], is_python: bool) -> None:
+    """Adds the labels of the encodings that a table has. A name that the table has keeps its meaning, unless the Python package reads it
+    as CPython does."""
+    if is_python:
+        table.update(PYTHON_OWN)
+    known = dict(table)
+    for label in read():
+        target = known.get(normal(label.encoding))
+        if target is None or (label.source == 'python' and not is_python):
+            continue
+        if label.source == 'python':
+            table[normal(label.name)] = target
+        else:
+            table.setdefault(normal(label.name), target)
+    if is_python:
+        for name in [name for name, (_, target) in table.items() if target == C_ALONE_CHARMAP]:
+            del table[name]
+
+
+def left_out(table: Table, normal: Callable[[str], str], reasons: set[str]) -> list[Label]:
+    """Returns the labels that are no names in a table, though nothing says why."""
+    return [
+        label
+        for label in read()
+        if label.source != 'python'
+        and label.encoding not in C_ALONE
+        and normal(label.name) not in table
+        and normal(label.encoding) not in reasons
+    ]

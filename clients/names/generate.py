@@ -7,9 +7,11 @@ names.tsv has one line for each name that a client accepts, sorted:
 
     NAME <tab> builtin <tab> the service's name        LATIN1  builtin  ISO-8859-1
     NAME <tab> charmap <tab> the charmap file's name   EUCKR   charmap  EUC-KR
+    NAME <tab> charmap <tab> the file/the encoding     CP1140  charmap  IBM037/IBM1140
     NAME <tab> shifted <tab> an encoding with shifts   HZ      shifted  HZ
 
-NAME is in upper case and has only the characters that the C library keeps of a name. translit.tsv has one line for each
+The second charmap is of an encoding without a file of its own: repairs.tsv makes it from another one's. NAME is in upper case and has
+only the characters that the C library keeps of a name. translit.tsv has one line for each
 character that may be transliterated: its code point in hexadecimal, then the candidates in order, in UTF-8.
 
     20AC <tab> EUR
@@ -123,16 +125,25 @@ def charmap_of(names: list[str], charmaps: dict[str, list[str]]) -> str | None:
     return None
 
 
+def read_made(groups: Groups) -> dict[str, str]:
+    """The encodings that repairs.tsv makes from the charmap of another one, each with its target. Each is a group of names at least."""
+    made = {row[1]: row[0] + '/' + row[1] for row in read_table(os.path.join(HERE, 'repairs.tsv')) if row[1] != row[1].lower()}
+    for name in made:
+        groups.root(name)
+    return made
+
+
 def names_table(groups: Groups, charmaps: dict[str, list[str]]) -> dict[str, tuple[str, str]]:
     """Each name with its kind and target."""
     shifted = read_shifted(groups)
+    made = read_made(groups)
     table: dict[str, tuple[str, str]] = {}
     builtins = {normal(name): target for name, target in read_table(os.path.join(HERE, 'builtin.tsv'))}
     left_out = {normal(row[0]) for row in read_table(os.path.join(HERE, 'left_out.tsv'))}
     dropped: set[str] = set()
     for names in groups.all():
         target = next((builtins[name] for name in names if name in builtins), None)
-        file = charmap_of(names, charmaps)
+        file = next((made[name] for name in names if name in made), None) or charmap_of(names, charmaps)
         shifts = next((name for name in names if name in shifted), None)
         if left_out & set(names):
             dropped.update(names)
@@ -148,7 +159,7 @@ def names_table(groups: Groups, charmaps: dict[str, list[str]]) -> dict[str, tup
     taken = set(table) | dropped | left_out
     for file, own in charmaps.items():
         if own[0] not in left_out:
-            table.update((name, ('charmap', file)) for name in own if name not in taken)
+            table.update((name, ('charmap', made.get(own[0], file))) for name in own if name not in taken)
     return table
 
 

@@ -43,7 +43,7 @@ def reasons() -> Set[str]:
 class Names(ClientTest):
     def test_each_label_is_a_name_or_is_left_out_with_a_reason(self) -> None:
         self.assertEqual(labels.left_out(table(), generate.normal, reasons()), [])
-        counts = {"whatwg": 0, "cpython": 0, "iana": 0, "python": 0}
+        counts = {"whatwg": 0, "cpython": 0, "iana": 0, "glibc": 0, "python": 0}
         for label in labels.read():
             counts[label.source] += 1
             same = label.name in ("ms_kanji", "mskanji") or iconvd.supports(label.name) == iconvd.supports(label.encoding)

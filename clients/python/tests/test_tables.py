@@ -77,13 +77,14 @@ class Tables(unittest.TestCase):
         self.assertGreaterEqual(len(found), 60)
 
     def test_each_line(self) -> None:
-        """Each line of repairs names a codec that CPython has, or the C library's."""
+        """Each line of repairs names a codec that CPython has, or the C library's, or is of an encoding that is made from another one."""
         path = os.path.join(os.path.dirname(iconvd.__file__), "data", "repairs.tsv")
         with open(path, encoding="utf-8") as file:
             rows = [line.rstrip("\n").split("\t") for line in file if not line.startswith("#")]
         for row in rows:
             self.assertEqual(len(row), 7, row)
-            self.assertTrue(row[1] == "glibc" or codecs.lookup(row[1]), row)
+            is_made = iconvd.supports(row[1]) and names.find(row[1]).name == f"{row[0]}/{row[1]}"
+            self.assertTrue(row[1] == "glibc" or is_made or codecs.lookup(row[1]), row)
             self.assertTrue(row[6], row)
 
 

@@ -8,10 +8,10 @@ from . import steps
 from .frames import Status
 from .library import Library
 from .marks import mark_of, without_mark
-from .names import is_shifted
+from .names import is_direct
 from .order import Ends
 from .session import UTF_8, Pair, Session, Steps
-from .set_text import codec_of
+from .set_text import codec_of, decoder_of
 from .text import TextCodec
 
 
@@ -30,13 +30,13 @@ class WholeConversion:
     @property
     def first_pair(self) -> Optional[Pair]:
         """The pair whose descriptor is needed first. The sets of encodings with escapes or shifts have pairs of their own."""
-        if is_shifted(self._origin):
-            return None if is_shifted(self._target) else Pair(self._target, UTF_8)
-        return Pair(UTF_8, self._origin) if is_shifted(self._target) else self._pair
+        if not is_direct(self._origin):
+            return Pair(self._target, UTF_8) if is_direct(self._target) else None
+        return self._pair if is_direct(self._target) else Pair(UTF_8, self._origin)
 
     def run(self, session: Session) -> Steps[bytes]:
         """Converts bytes to bytes up to the first fault, and the rest by decoding and encoding."""
-        if is_shifted(self._origin) or is_shifted(self._target):
+        if not is_direct(self._origin) or not is_direct(self._target):
             return (yield from self._by_text(session))
         data = self._data[self._begin :] if self._begin else self._data
         ran = yield from steps.run(session, self._pair, data, self._ends.errors == "strict")
@@ -47,7 +47,7 @@ class WholeConversion:
 
     def _by_text(self, session: Session) -> Steps[bytes]:
         """Converts by decoding and encoding."""
-        decoder = codec_of(self._ends.source, self._origin, self._library)
+        decoder = decoder_of(self._ends.source, self._origin, self._library)
         encoder = codec_of(self._ends.to, self._target, self._library)
         decoded = yield from decoder.decode(session, self._data, self._ends.errors, True, self._begin)
         encoded = yield from encoder.encode(session, decoded.text, self._ends.errors)

@@ -36,12 +36,13 @@ _BETWEEN_DIGITS = re.compile(r"(?<=[0-9])[^A-Z0-9]+(?=[0-9])")
 _SEPARATOR = re.compile(r"[^A-Z0-9-]|-(?![0-9])|(?<![0-9])-")
 
 
-#: The encodings with escapes or shifts that only the C library has.
-_LEFT_OUT = frozenset(("ISO-2022-CN",))
+#: WHATWG's encoding of which nothing is read, and those that are read as it; see replacement.py.
+REPLACEMENT = "REPLACEMENT"
+_REPLACED = frozenset((REPLACEMENT, "ISO-2022-CN", "ISO-2022-CN-EXT"))
 
 
 class Encoding(NamedTuple):
-    """An encoding: a built-in one, one with escapes or shifts, or a charmap, by the name of its file."""
+    """An encoding: a built-in one, one with escapes or shifts, or a charmap, by the name of its file (see repairs.py)."""
 
     is_charmap: bool
     name: str
@@ -64,12 +65,11 @@ def _loose(name: str) -> str:
 
 
 def read_table(lines: List[str]) -> Table:
-    """Reads the lines `NAME<TAB>builtin|charmap|shifted<TAB>ENCODING`."""
+    """Reads the lines `NAME<TAB>builtin|charmap|shifted|whatwg<TAB>ENCODING`."""
     exact = {name: Encoding(False, name) for name in BUILTIN}
     for line in lines:
         name, kind, target = line.rstrip("\n").split("\t")
-        if target not in _LEFT_OUT:
-            exact.setdefault(name, Encoding(kind == "charmap", target))
+        exact.setdefault(name, Encoding(kind == "charmap", target))
     for target, name, meaning, *_ in read_rows("shifted_composing_encodings.tsv"):
         exact.setdefault(name if meaning == "name" else target, Encoding(False, target))
     loose: Dict[str, Encoding] = {}
@@ -86,7 +86,17 @@ def _shifted() -> FrozenSet[str]:
 
 def is_shifted(encoding: Encoding) -> bool:
     """Whether an encoding has escapes or shifts, and is made of sets that the service converts."""
-    return not encoding.is_charmap and encoding.name in _shifted()
+    return not encoding.is_charmap and encoding.name in _shifted() and not is_replaced(encoding)
+
+
+def is_replaced(encoding: Encoding) -> bool:
+    """Whether nothing is read of an encoding, as of WHATWG's `replacement`."""
+    return not encoding.is_charmap and encoding.name in _REPLACED
+
+
+def is_direct(encoding: Encoding) -> bool:
+    """Whether the service converts texts in an encoding as they are, by a descriptor of that encoding."""
+    return not is_shifted(encoding) and not is_replaced(encoding)
 
 
 @functools.lru_cache(maxsize=None)

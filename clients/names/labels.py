@@ -12,6 +12,10 @@ PYTHON_OWN = {
     'UTF-8-SIG': ('builtin', 'UTF-8-SIG'),
     'ISO-2022-JP-3': ('shifted', 'ISO-2022-JP-3'),
     'ISO-2022-JP-2004': ('shifted', 'ISO-2022-JP-2004'),
+    'EUC-JISX0213': ('charmap', 'EUC-JISX0213/euc_jisx0213'),
+    'EUC-JIS-2004': ('charmap', 'EUC-JISX0213/euc_jis_2004'),
+    'SHIFT_JISX0213': ('charmap', 'SHIFT_JISX0213/shift_jisx0213'),
+    'SHIFT_JIS-2004': ('charmap', 'SHIFT_JISX0213/shift_jis_2004'),
 }
 #: Encodings that only the C library has, as glibc: CPython has none of the kind.
 C_ALONE = {'ISO-2022-CN'}

@@ -4,10 +4,10 @@ from __future__ import annotations
 
 from typing import Callable, Dict, Optional, Tuple, Union
 
-from . import charmaps, coded_sets, forms, framings, joined, mappings, names, repairs, shifted
+from . import charmaps, coded_sets, forms, framings, joined, mappings, names, repairs, shifted, waiting
 from .charmaps import Beginning, Charmap
 from .coded_sets import CodedSet
-from .codes import CharmapForm
+from .codes import Beside, CharmapForm
 from .errors import CharmapRefused, UnknownEncoding
 from .forms import Form
 from .framing import Framing
@@ -168,8 +168,10 @@ class Library:
             beginning = self.beginning(encoding.name)
             if beginning is not None:
                 return CharmapForm(beginning.charmap, beginning.rest)
-            computed = COMPUTED if self.is_computed(encoding) else None
-            form = CharmapForm(self.get(encoding.name), written=self.written(encoding.name), computed=computed)
+            file, repaired = repairs.of(encoding.name)
+            faults = repaired.faults if repaired else frozenset()
+            beside = Beside(COMPUTED if self.is_computed(encoding) else None, waiting.pattern_of(file), faults)
+            form = CharmapForm(self.get(encoding.name), written=self.written(encoding.name), beside=beside)
             pairs = joined.pairs_of(encoding)
             form.pairs = pairs.written if pairs else {}
             return form

@@ -10,7 +10,7 @@ import functools
 import os
 import re
 from encodings import aliases, normalize_encoding
-from typing import Callable, Dict, FrozenSet, List, NamedTuple, Optional, Tuple
+from typing import Callable, Dict, FrozenSet, List, NamedTuple, Optional, Set, Tuple
 
 from .names import Encoding
 
@@ -27,11 +27,20 @@ class Mapping(NamedTuple):
     code: bytes
 
 
+class More(NamedTuple):
+    """The codes of another charmap that an encoding has too: those that begin with some bytes."""
+
+    beginning: bytes
+    file: str
+
+
 class Repairs(NamedTuple):
     """The repairs of one encoding."""
 
     #: Bytes of which the charmap's lines are dropped.
     dropped: FrozenSet[bytes]
+    #: Those of them that are one fault together.
+    faults: FrozenSet[bytes]
     both: List[Mapping]
     read: List[Mapping]
     #: Characters that are only written, by their placeholders.
@@ -40,6 +49,7 @@ class Repairs(NamedTuple):
     meant: Dict[bytes, bytes]
     #: Whether the client computes the characters above U+FFFF; see planes.py.
     is_computed: bool
+    more: List[More]
 
     @property
     def has_two_texts(self) -> bool:
@@ -71,10 +81,14 @@ def _points(text: str, count: int) -> List[int]:
 
 
 def _repairs(rows: List[List[str]]) -> Repairs:
-    found = Repairs(frozenset(), [], [], [], {}, any(row[2] == "computed" for row in rows))
-    dropped = set()
+    found = Repairs(frozenset(), frozenset(), [], [], [], {}, any(row[2] == "computed" for row in rows), [])
+    dropped: Set[bytes] = set()
+    faults: Set[bytes] = set()
     for _, _, kind, code, character, placeholder, _ in rows:
         if kind == "computed":
+            continue
+        if kind == "more":
+            found.more.append(More(bytes.fromhex(code), character))
             continue
         codes = _codes(code)
         if kind == "write":
@@ -82,9 +96,10 @@ def _repairs(rows: List[List[str]]) -> Repairs:
             found.meant[bytes.fromhex(placeholder)] = codes[0]
             continue
         dropped.update(codes)
+        faults.update(codes if kind == "fault" else ())
         to = found.both if kind == "both" else found.read
         to.extend(map(Mapping, _points(character, len(codes)), codes))
-    return found._replace(dropped=frozenset(dropped))
+    return found._replace(dropped=frozenset(dropped), faults=frozenset(faults))
 
 
 @functools.lru_cache(maxsize=None)

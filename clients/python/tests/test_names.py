@@ -37,7 +37,8 @@ def table(is_python: bool = True) -> labels.Table:
 
 
 def reasons() -> Set[str]:
-    return {generate.normal(row[0]) for row in generate.read_table(os.path.join(SOURCES, "left_out.tsv"))}
+    """Returns the encodings that are left out with a reason."""
+    return generate.read_left_out(True)
 
 
 class Names(ClientTest):

@@ -1,0 +1,35 @@
+"""What CPython's codecs wait after at the end of a text: they look at a byte when they have as many as a character may need.
+
+So a byte that begins no character is a fault when the next byte is there, and before that the beginning of a character.
+"""
+
+from __future__ import annotations
+
+from typing import Dict
+
+_ANY = rb"[\x80-\xff]"
+_EUC_JP = rb"\x8f.|" + _ANY
+_SHIFT_JIS = rb"[\x81-\x9f\xe0-\xea]"
+_LONGER_SHIFT_JIS = rb"[\x81-\x9f\xe0-\xfc]"
+
+#: The patterns by the charmap's file.
+_PATTERNS: Dict[str, bytes] = {
+    "BIG5": _ANY,
+    "BIG5-HKSCS": _ANY,
+    "CP949": _ANY,
+    "EUC-JISX0213": _EUC_JP,
+    "EUC-JP": _EUC_JP,
+    "EUC-KR": _ANY,
+    "GB18030": _ANY + rb"(?:[0-9].?)?",
+    "GB2312": _ANY,
+    "GBK": _ANY,
+    "JOHAB": _ANY,
+    "SHIFT_JIS": _SHIFT_JIS,
+    "SHIFT_JISX0213": _LONGER_SHIFT_JIS,
+    "WINDOWS-31J": _LONGER_SHIFT_JIS,
+}
+
+
+def pattern_of(file: str) -> bytes:
+    """Returns the pattern of what is waited after in the encoding of a charmap's file, or nothing."""
+    return _PATTERNS.get(file, b"")

@@ -24,7 +24,7 @@ def info(name: str, encoding: Encoding, client: Optional[Client] = None) -> code
         return set_codecs.info(name, encoding, lambda: _client(client))
 
     def encode(input: str, errors: str = "strict") -> Tuple[bytes, int]:
-        return Encoder(_client(client), name, encoding).encode(input, errors or "strict"), len(input)
+        return Encoder(_client(client), name, encoding).encode(input, errors or "strict", True), len(input)
 
     def decode(input: bytes, errors: str = "strict") -> Tuple[str, int]:
         raw = bytes(input)
@@ -44,13 +44,18 @@ def info(name: str, encoding: Encoding, client: Optional[Client] = None) -> code
         def reset(self) -> None:
             self._encoder = Encoder(_client(client), name, encoding)
 
-        # As in CPython's utf_16: 2 before the mark is written, 0 after it.
         def getstate(self) -> int:
-            return 0 if self._encoder.is_started else 2
+            return self._encoder.number
 
         def setstate(self, state: int) -> None:  # type: ignore[override]
             self.reset()
-            self._encoder.is_started = not state
+            self._encoder.number = state
+
+        def finish(self) -> bytes:
+            """Returns what ends the text, and begins another one."""
+            ending = self._encoder.finish()
+            self.reset()
+            return ending
 
     class IncrementalDecoder(codecs.BufferedIncrementalDecoder):
         """Decodes bytes in pieces."""
@@ -58,6 +63,14 @@ def info(name: str, encoding: Encoding, client: Optional[Client] = None) -> code
         def __init__(self, errors: str = "strict") -> None:
             super().__init__(errors)
             self._decoder = Decoder(_client(client), name, encoding, is_stream=True)
+
+        def decode(self, input: Any, final: bool = False) -> str:
+            try:
+                return super().decode(input, final)
+            except (UnicodeError, LookupError, TypeError, IndexError) as error:
+                if self._decoder.drops_held(error):
+                    self.buffer = b""
+                raise
 
         def _buffer_decode(self, input: Any, errors: str, final: bool) -> Tuple[str, int]:
             return self._decoder.decode(bytes(input), errors, final)
@@ -85,8 +98,11 @@ def info(name: str, encoding: Encoding, client: Optional[Client] = None) -> code
             self._incremental.errors = errors
             return self._incremental.encode(input), len(input)
 
+        # As in CPython, a character that is held is written.
         def reset(self) -> None:
-            self._incremental.reset()
+            ending = self._incremental.finish()
+            if ending:
+                self.stream.write(ending)
 
     class StreamReader(codecs.StreamReader):
         """Reads text from a file of bytes."""

@@ -6,7 +6,9 @@ from types import TracebackType
 from typing import TYPE_CHECKING, Optional, Tuple, Type, Union
 
 from . import marks, text
+from .codes import INCOMPLETE
 from .errors import ConversionError
+from .joined import held_of, number_of
 from .known import Known
 from .names import Encoding
 from .set_text import SetCodec, codec_of
@@ -49,6 +51,13 @@ class Decoder:
             return found.text, found.used + skipped
         return self._client.run(lambda session: codec.decode(session, data, errors, final, skipped))
 
+    def drops_held(self, error: Exception) -> bool:
+        """Whether the bytes of an incomplete character before a piece are dropped after a fault in it, as by CPython's codecs of several
+        bytes. They are kept if the end of the text is the fault."""
+        if not self._declared.is_charmap or not self._client.library.form(self._declared).is_multibyte:
+            return False
+        return not isinstance(error, UnicodeDecodeError) or error.reason != INCOMPLETE
+
     def state(self) -> int:
         """Returns what the mark of the text said, as a number; 0 before the text begins."""
         return marks.state_of(self._declared, self._codec.encoding) if self._codec else 0
@@ -67,21 +76,14 @@ class Encoder:
         ordered, self._mark = marks.mark_of(encoding)
         self._codec = codec_of(name, ordered, client.library)
         self.is_started = False
-        #: Whether a letter at the end of a piece is held, since a mark may follow.
-        self.has_pairs = isinstance(self._codec, text.TextCodec) and self._codec.pairs is not None
-        self._held = ""
         # The known characters, and their error handler, once the text is started.
         self._known: Optional[Known] = None
         self._known_errors = ""
 
-    def encode(self, characters: str, errors: str) -> bytes:
-        """Returns the bytes of a text. See `finish`."""
+    def encode(self, characters: str, errors: str, is_end: bool = False) -> bytes:
+        """Returns the bytes of the next piece of a text, and what ends the text. See `finish`."""
         codec = self._codec
-        if isinstance(codec, SetCodec):
-            encode_piece = codec.encode_piece
-            output = self._client.run(lambda session: encode_piece(session, characters, errors, False))
-        else:
-            output = self._client.run(lambda session: codec.encode(session, characters, errors))
+        output = self._client.run(lambda session: codec.encode_piece(session, characters, errors, is_end))
         mark = b"" if self.is_started else self._mark
         self.is_started = True
         return mark + output
@@ -89,19 +91,23 @@ class Encoder:
     def finish(self) -> bytes:
         """Returns what ends the text: a character that was held, and the escape or shift back to ASCII, if the encoding has any."""
         codec = self._codec
-        if not isinstance(codec, SetCodec):
-            held, self._held = self._held, ""
-            return self.encode(held, "strict") if held else b""
-        encode_piece = codec.encode_piece
-        return self._client.run(lambda session: encode_piece(session, "", "strict", True))
+        if not isinstance(codec, SetCodec) and not codec.held:
+            return b""
+        return self._client.run(lambda session: codec.encode_piece(session, "", "strict", True))
+
+    @property
+    def number(self) -> int:
+        """The state as the number that CPython's encoder keeps it in: 2 before the mark of UTF-16 or UTF-32, and what is held."""
+        return 2 if self._mark and not self.is_started else number_of(self._codec.held)
+
+    @number.setter
+    def number(self, number: int) -> None:
+        self.is_started = not (self._mark and number)
+        self._codec.held = "" if self._mark else held_of(number)
 
     def encode_piece(self, characters: str, errors: str) -> bytes:
         """Returns the bytes of the next piece of a text. In short pieces each character costs one request in all. So a text file
         that is written line by line, and needs the bytes of each line at once, costs no request for each line."""
-        if isinstance(self._codec, text.TextCodec) and self._codec.pairs is not None:
-            whole = self._held + characters
-            self._held = whole[-1:] if whole and whole[-1] in self._codec.pairs.letters else ""
-            return self.encode(whole[: len(whole) - len(self._held)], errors)
         if self._known is not None and errors == self._known_errors and len(characters) <= _SHORT:
             encoded = self._known.bytes_of(characters)
             if encoded is not None:
@@ -111,7 +117,7 @@ class Encoder:
     def _encode_new(self, characters: str, errors: str) -> bytes:
         """Returns the bytes of a piece that is long, begins the text, or has unknown characters."""
         codec = self._codec
-        if isinstance(codec, SetCodec) or not self.is_started or len(characters) > _SHORT:
+        if isinstance(codec, SetCodec) or codec.pairs or not self.is_started or len(characters) > _SHORT:
             return self.encode(characters, errors)
         known = self._known = codec.known(errors)
         self._known_errors = errors
@@ -143,8 +149,7 @@ class Conversion:
         held = self._held + data
         decoded, used = self._decoder.decode(held, errors, final)
         self._held = held[used:]
-        encode = self._encoder.encode_piece if self._encoder.has_pairs else self._encoder.encode
-        encoded = encode(decoded, errors) if decoded else b""
+        encoded = self._encoder.encode(decoded, errors) if decoded else b""
         return encoded + self._encoder.finish() if final else encoded
 
     def reset(self) -> bytes:

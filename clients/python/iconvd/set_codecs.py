@@ -8,6 +8,7 @@ from __future__ import annotations
 import codecs
 from typing import Any, Callable, Iterable, List, Optional, Tuple, Type
 
+from . import joined
 from .client import Client
 from .names import Encoding
 from .set_text import SetCodec
@@ -83,14 +84,12 @@ class SetIncrementalEncoder(codecs.IncrementalEncoder):
         self._codec.held = ""
 
     def getstate(self) -> int:
-        held = self._codec.held.encode("utf-8")
-        number = self._codec.number & _NO_G2
-        return number << 8 * (1 + len(held)) | int.from_bytes(held, "little") << 8 | len(held)
+        held = joined.number_of(self._codec.held)
+        return (self._codec.number & _NO_G2) << 8 * (1 + (held & 0xFF)) | held
 
     def setstate(self, state: int) -> None:  # type: ignore[override]
-        size = state & 0xFF
-        self._codec.held = (state >> 8 & (1 << 8 * size) - 1).to_bytes(size, "little").decode("utf-8")
-        self._codec.number = state >> 8 * (1 + size)
+        self._codec.held = joined.held_of(state)
+        self._codec.number = state >> 8 * (1 + (state & 0xFF))
 
 
 class SetIncrementalDecoder(codecs.IncrementalDecoder):

@@ -3,19 +3,46 @@
 from __future__ import annotations
 
 import codecs
-from typing import Any, List, Optional, Tuple
+from typing import Any, Callable, List, Optional, Tuple
 
-from . import set_codecs
+from . import set_codecs, waiting
 from .client import Client, default, find
 from .errors import UnknownEncoding
+from .joined import MAX_HELD
 from .names import Encoding, is_shifted
 from .pieces import Decoder, Encoder
+from .streams import FAULTS, PieceReader, Pieces
 
 _PREFIX = "iconvd"
 
 
 def _client(client: Optional[Client]) -> Client:
     return client if client is not None else default()
+
+
+class _DecoderPieces:
+    """The pieces of a file. After a fault what was held is dropped, as in CPython."""
+
+    def __init__(self, make: Callable[[], Decoder]) -> None:
+        self._make = make
+        self._decoder = make()
+        self.held = b""
+
+    def decode(self, piece: bytes, errors: str, is_end: bool) -> str:
+        """Returns the text of the next piece."""
+        whole = self.held + piece
+        try:
+            decoded, used = self._decoder.decode(whole, errors, is_end)
+        except FAULTS:
+            self.held = b""
+            raise
+        self.held = whole[used:]
+        return decoded
+
+    def reset(self) -> None:
+        """Drops what is held, and goes back to the start."""
+        self._decoder = self._make()
+        self.held = b""
 
 
 def info(name: str, encoding: Encoding, client: Optional[Client] = None) -> codecs.CodecInfo:
@@ -27,7 +54,7 @@ def info(name: str, encoding: Encoding, client: Optional[Client] = None) -> code
         return Encoder(_client(client), name, encoding).encode(input, errors or "strict", True), len(input)
 
     def decode(input: bytes, errors: str = "strict") -> Tuple[str, int]:
-        raw = bytes(input)
+        raw = bytes(memoryview(input))
         return Decoder(_client(client), name, encoding).decode(raw, errors or "strict", True)[0], len(raw)
 
     class IncrementalEncoder(codecs.IncrementalEncoder):
@@ -67,7 +94,7 @@ def info(name: str, encoding: Encoding, client: Optional[Client] = None) -> code
         def decode(self, input: Any, final: bool = False) -> str:
             try:
                 return super().decode(input, final)
-            except (UnicodeError, LookupError, TypeError, IndexError) as error:
+            except FAULTS as error:
                 if self._decoder.drops_held(error):
                     self.buffer = b""
                 raise
@@ -84,8 +111,13 @@ def info(name: str, encoding: Encoding, client: Optional[Client] = None) -> code
             return super().getstate()[0], self._decoder.state()
 
         def setstate(self, state: Tuple[bytes, int]) -> None:
-            super().setstate((state[0], 0))
-            self._decoder.set_state(state[1])
+            held, number = state
+            if not isinstance(held, bytes) or not isinstance(number, int):
+                raise TypeError("the state of a decoder is bytes and a number")
+            if encoding.is_charmap and len(held) > MAX_HELD:
+                raise UnicodeError("more bytes are held than a character has")
+            super().setstate((held, 0))
+            self._decoder.set_state(number)
 
     class StreamWriter(codecs.StreamWriter):
         """Writes text to a file of bytes."""
@@ -125,10 +157,16 @@ def info(name: str, encoding: Encoding, client: Optional[Client] = None) -> code
             super().reset()
             self._decoder = Decoder(_client(client), name, encoding, is_stream=True)
 
+    class MultibyteStreamReader(PieceReader):
+        """Reads text from a file of bytes, in an encoding that CPython has a codec of several bytes for."""
+
+        def make_pieces(self) -> Pieces:
+            return _DecoderPieces(lambda: Decoder(_client(client), name, encoding))
+
     return codecs.CodecInfo(
         encode=encode,
         decode=decode,
-        streamreader=StreamReader,
+        streamreader=MultibyteStreamReader if waiting.pattern_of(encoding) else StreamReader,
         streamwriter=StreamWriter,
         incrementalencoder=IncrementalEncoder,
         incrementaldecoder=IncrementalDecoder,

@@ -15,6 +15,8 @@ from . import repairs
 from .names import Encoding
 
 _KIND = "pairs"
+#: The most bytes that CPython's coders hold.
+MAX_HELD = 8
 
 
 class Joined(NamedTuple):
@@ -61,8 +63,10 @@ def number_of(held: str) -> int:
 
 
 def held_of(number: int) -> str:
-    """Returns the held character of such a number, of which only the lowest bytes are looked at."""
+    """Returns the held character of such a number, of which only the lowest bytes are looked at. Raises UnicodeError."""
     size = number & 0xFF
+    if size > MAX_HELD:
+        raise UnicodeError("more bytes are held than a character has")
     return (number >> 8 & (1 << 8 * size) - 1).to_bytes(size, "little").decode("utf-8")
 
 

@@ -168,9 +168,9 @@ class Library:
             beginning = self.beginning(encoding.name)
             if beginning is not None:
                 return CharmapForm(beginning.charmap, beginning.rest)
-            file, repaired = repairs.of(encoding.name)
+            repaired = repairs.of(encoding.name)[1]
             faults = repaired.faults if repaired else frozenset()
-            beside = Beside(COMPUTED if self.is_computed(encoding) else None, waiting.pattern_of(file), faults)
+            beside = Beside(COMPUTED if self.is_computed(encoding) else None, waiting.pattern_of(encoding), faults)
             form = CharmapForm(self.get(encoding.name), written=self.written(encoding.name), beside=beside)
             pairs = joined.pairs_of(encoding)
             form.pairs = pairs.written if pairs else {}

@@ -31,6 +31,8 @@ class Decoder:
         self._declared = encoding
         self._is_stream = is_stream
         self._codec: Optional[Union[text.TextCodec, SetCodec]] = None
+        # The state of an encoding without one. A number that is set is kept, as by CPython's codecs, and means nothing.
+        self._number = 0
 
     def decode(self, data: bytes, errors: str, final: bool) -> Tuple[str, int]:
         """Returns the text of the first bytes, and how many they are: all but an incomplete character if `final` is false."""
@@ -60,10 +62,13 @@ class Decoder:
 
     def state(self) -> int:
         """Returns what the mark of the text said, as a number; 0 before the text begins."""
+        if self._declared.is_charmap:
+            return self._number
         return marks.state_of(self._declared, self._codec.encoding) if self._codec else 0
 
     def set_state(self, state: int) -> None:
         """Goes on after a mark that another decoder read."""
+        self._number = state
         found = marks.encoding_of(self._declared, state)
         self._codec = text.TextCodec(self._name, found, self._client.library) if found != self._declared else None
 

@@ -190,15 +190,18 @@ class TextCodec:
     def _as_bytes(self, session: Session, texts: Sequence[Union[str, bytes]]) -> Steps[List[bytes]]:
         """Encodes what error handlers returned, from the bytes of each unit. The server is asked once for each unit."""
         known = self._library.known(self.encoding)
-        unlike = {text for text in texts if isinstance(text, str)}
-        yield from self._learn(session, unlike, known)
-        encoded = {text: self._known_bytes(known, text) for text in unlike}
+        parts = {text: self._parts(text) for text in texts if isinstance(text, str)}
+        yield from self._learn(session, {part for each in parts.values() for part in each if isinstance(part, str)}, known)
+        encoded = {
+            text: b"".join((known.bytes_of(part) or b"") if isinstance(part, str) else part for part in each) for text, each in parts.items()
+        }
         return [encoded[text] if isinstance(text, str) else text for text in texts]
 
-    def _known_bytes(self, known: Known, text: str) -> bytes:
-        """Returns the bytes of a text whose characters are known."""
-        parts = self.pairs.parts(text) if self.pairs else (text,)
-        return b"".join(self.pairs.written[part] if self.pairs and part in self.pairs.written else known.bytes_of(part) or b"" for part in parts)
+    def _parts(self, text: str) -> List[Union[str, bytes]]:
+        """Returns the parts of a text: those that the server encodes, and codes of two characters."""
+        if self.pairs is None:
+            return [text]
+        return [self.pairs.written.get(part, part) for part in self.pairs.parts(text)]
 
     def finish(self) -> bytes:
         """Returns what ends a text. The server closes each shifted sequence itself."""

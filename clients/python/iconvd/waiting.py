@@ -7,12 +7,15 @@ from __future__ import annotations
 
 from typing import Dict
 
+from . import repairs
+from .names import Encoding
+
 _ANY = rb"[\x80-\xff]"
 _EUC_JP = rb"\x8f.|" + _ANY
 _SHIFT_JIS = rb"[\x81-\x9f\xe0-\xea]"
 _LONGER_SHIFT_JIS = rb"[\x81-\x9f\xe0-\xfc]"
 
-#: The patterns by the charmap's file.
+#: The patterns by the charmap's file, of all that CPython has a codec of several bytes for.
 _PATTERNS: Dict[str, bytes] = {
     "BIG5": _ANY,
     "BIG5-HKSCS": _ANY,
@@ -30,6 +33,6 @@ _PATTERNS: Dict[str, bytes] = {
 }
 
 
-def pattern_of(file: str) -> bytes:
-    """Returns the pattern of what is waited after in the encoding of a charmap's file, or nothing."""
-    return _PATTERNS.get(file, b"")
+def pattern_of(encoding: Encoding) -> bytes:
+    """Returns the pattern of what is waited after, or nothing if CPython has no codec of several bytes for the encoding's charmap."""
+    return _PATTERNS.get(repairs.of(encoding.name)[0], b"") if encoding.is_charmap else b""

@@ -6,7 +6,9 @@ of what follows: of the encodings of JIS X 0213 it loses such a character if the
 
 from __future__ import annotations
 
+import asyncio
 import codecs
+import io
 import os
 import random
 import unittest
@@ -120,6 +122,43 @@ class Joined(unittest.TestCase):
             for many in (text, text[1:], pair * 70_000):
                 self.assertEqual(many.encode(name, "ignore"), many.encode("iconvd-" + name, "ignore"))
             self.assertEqual(text.encode("iconvd-" + name).decode("iconvd-" + name), text)
+
+    def test_convert(self) -> None:
+        """Bytes to bytes, by calls, by files, and by one stream for many tasks."""
+        text = "\u304b\u309aa\u304b"
+        for name, other in (("euc_jis_2004", "shift_jis_2004"), ("shift_jisx0213", "utf-16-le"), ("utf-8", "euc_jisx0213")):
+            wanted = text.encode(other)
+            self.assertEqual(iconvd.convert(text.encode(name), to=other, source=name), wanted)
+            with iconvd.Client() as client, client.open(other, name) as conversion:
+                pieces = [conversion.convert(bytes((byte,))) for byte in text.encode(name)]
+                self.assertEqual(b"".join([*pieces, conversion.convert(b"", final=True)]), wanted)
+
+        async def convert() -> bytes:
+            async with iconvd.AsyncClient() as client:
+                return await client.convert(text.encode(), to="euc_jis_2004", source="utf-8")
+
+        self.assertEqual(asyncio.run(convert()), text.encode("euc_jis_2004"))
+
+    def test_files(self) -> None:
+        """A code is cut where a piece of a file ends."""
+        text = "a" * 131_071 + "\u304b\u309a" * 3 + "\u304b"
+        with iconvd.Client() as client:
+            pieces = client.convert_file(io.BytesIO(text.encode("utf-16-le")), "euc_jis_2004", "utf-16-le")
+            self.assertEqual(b"".join(pieces), text.encode("euc_jis_2004"))
+        for name in _LETTERS:
+            both = [io.BytesIO(), io.BytesIO()]
+            for file, codec in zip(both, (name, "iconvd-" + name)):
+                writer = codecs.getwriter(codec)(file)
+                writer.writelines(["\u00ca", "\u0304\u00ca"] if name == "big5hkscs" else ["\u304b", "\u309a\u304b"])
+                writer.reset()
+            self.assertEqual(both[0].getvalue(), both[1].getvalue(), name)
+
+    def test_handler_with_a_pair(self) -> None:
+        """What an error handler returns is a text of its own."""
+        codecs.register_error("test_joined.pair", lambda error: ("\u304b\u309a\u304b", error.end))
+        for name in ("euc_jis_2004", "shift_jisx0213"):
+            both = ["a\u0e01\u309ab".encode(each, "test_joined.pair") for each in (name, "iconvd-" + name)]
+            self.assertEqual(both[0], both[1], name)
 
     def test_faults_of_cpython(self) -> None:
         """What CPython 3.11 loses is not lost."""

@@ -70,11 +70,12 @@ def names_header(table: list[list[str]]) -> str:
     for name, kind, target in sorted(table, key=lambda row: row[0].encode()):
         number = targets.index(target, begins[kind])
         names.append('    {%d, %d},' % (strings.place(name.encode()), number))
-    files = ['    %d,' % strings.place(file.encode()) for file in charmaps]
+    # An encoding that repairs.tsv makes from the charmap of another one has its own name after the file's.
+    files = ['    {%d, %d},' % (strings.place(target.split('/')[0].encode()), strings.place(target.split('/')[-1].encode())) for target in charmaps]
     ordered = sorted((row[0] for row in table), key=str.encode)
     return (strings.array('NAME_STRINGS') + 'static const struct name_row NAME_ROWS[] = {\n' + '\n'.join(names) + '\n};\n'
             + loose_rows(ordered) +
-            'static const uint16_t CHARMAP_FILES[] = {\n' + '\n'.join(files) + '\n};\n'
+            'static const struct charmap_row CHARMAP_ROWS[] = {\n' + '\n'.join(files) + '\n};\n'
             'enum { CHARMAP_COUNT = %d };\n' % len(charmaps))
 
 
@@ -154,21 +155,28 @@ def shifted_header(encodings: list[list[str]], sets: list[list[str]]) -> str:
 KINDS = ['write', 'read', 'both', 'none', 'computed']
 
 
+def spread(row: list[str]) -> list[tuple[str, str]]:
+    """The codes and characters of a line, in hexadecimal; a computed range is one."""
+    (first, _, last), point = row[3].partition('-'), row[4][2:].split('-')[0] or '0'
+    count = int(last, 16) - int(first, 16) + 1 if last and row[2] != 'computed' else 1
+    return [('%0*x' % (len(first), int(first, 16) + step), '%04X' % (int(point, 16) + step)) for step in range(count)]
+
+
 def repairs_header(table: list[list[str]]) -> str:
-    """The C library's lines, those of a charmap one after another."""
+    """The C library's lines, those of an encoding one after another."""
     lines: list[str] = []
-    files: list[str] = []
-    mine = [row for row in table if row[1] == 'glibc']
-    for file in sorted({row[0] for row in mine}):
-        repairs = [row for row in mine if row[0] == file]
-        files.append('    {"%s", %d, %d},' % (file, len(lines), len(repairs)))
-        for _, _, kind, code, character, placeholder, *_ in repairs:
-            first = code.split('-')[0]
-            point = character[2:].split('-')[0] if character != '-' else '0'
-            numbers = (first, point, placeholder if placeholder != '-' else '0', len(first) // 2, KINDS.index(kind))
-            lines.append('    {0x%s, 0x%s, 0x%s, %d, %d},' % numbers)
+    encodings: list[str] = []
+    # An encoding that is made from the charmap of another one has its own name, in upper case, in the column FOR.
+    mine = [(row[0] if row[1] == 'glibc' else row[1], row) for row in table if row[1] == 'glibc' or row[1] != row[1].lower()]
+    for encoding in sorted({name for name, _ in mine}):
+        first = len(lines)
+        for row in (row for name, row in mine if name == encoding):
+            placeholder = row[5] if row[5] != '-' else '0'
+            lines += ['    {0x%s, 0x%s, 0x%s, %d, %d},' % (code, point, placeholder, len(code) // 2, KINDS.index(row[2]))
+                      for code, point in spread(row)]
+        encodings.append('    {"%s", %d, %d},' % (encoding, first, len(lines) - first))
     return ('static const struct repair REPAIRS[] = {\n' + '\n'.join(lines) + '\n};\n'
-            'static const struct repaired_file REPAIRED_FILES[] = {\n' + '\n'.join(files) + '\n};\n')
+            'static const struct repaired_charmap REPAIRED_CHARMAPS[] = {\n' + '\n'.join(encodings) + '\n};\n')
 
 
 def composing_parts(written: dict[int, list[int]], point: int) -> list[int]:

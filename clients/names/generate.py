@@ -7,11 +7,11 @@ names.tsv has one line for each name that a client accepts, sorted:
 
     NAME <tab> builtin <tab> the service's name        LATIN1  builtin  ISO-8859-1
     NAME <tab> charmap <tab> the charmap file's name   EUCKR   charmap  EUC-KR
-    NAME <tab> charmap <tab> FILE/ENCODING             CP1140  charmap  IBM037/IBM1140
+    NAME <tab> charmap <tab> the file/the encoding     CP1140  charmap  IBM037/IBM1140
     NAME <tab> shifted <tab> an encoding with shifts   HZ      shifted  HZ
 
-FILE/ENCODING is an encoding without a charmap of its own: that of FILE, with the lines that repairs.tsv has for ENCODING.
-NAME is in upper case and has only the characters that the C library keeps of a name. translit.tsv has one line for each
+The second charmap is of an encoding without a file of its own: repairs.tsv makes it from another one's. NAME is in upper case and has
+only the characters that the C library keeps of a name. translit.tsv has one line for each
 character that may be transliterated: its code point in hexadecimal, then the candidates in order, in UTF-8.
 
     20AC <tab> EUR
@@ -116,18 +116,6 @@ def read_shifted(groups: Groups) -> list[str]:
     return sorted({row[0] for row in rows})
 
 
-def read_repaired() -> dict[str, str]:
-    """The encodings without a charmap of their own, with their targets."""
-    rows = read_table(os.path.join(HERE, 'repairs.tsv'))
-    return {row[1]: '%s/%s' % (row[0], row[1]) for row in rows if row[1].isupper()}
-
-
-def read_left_out(is_python: bool) -> set[str]:
-    """The encodings that are left out, by one of their names."""
-    names = {normal(row[0]) for row in read_table(os.path.join(HERE, 'left_out.tsv'))}
-    return names - read_repaired().keys() if is_python else names
-
-
 def charmap_of(names: list[str], charmaps: dict[str, list[str]]) -> str | None:
     """The charmap file of a group of names: by the file's own name, else by what stands in it."""
     for wanted in range(2):
@@ -137,19 +125,25 @@ def charmap_of(names: list[str], charmaps: dict[str, list[str]]) -> str | None:
     return None
 
 
-def names_table(groups: Groups, charmaps: dict[str, list[str]], is_python: bool) -> dict[str, tuple[str, str]]:
+def read_made(groups: Groups) -> dict[str, str]:
+    """The encodings that repairs.tsv makes from the charmap of another one, each with its target. Each is a group of names at least."""
+    made = {row[1]: row[0] + '/' + row[1] for row in read_table(os.path.join(HERE, 'repairs.tsv')) if row[1] != row[1].lower()}
+    for name in made:
+        groups.root(name)
+    return made
+
+
+def names_table(groups: Groups, charmaps: dict[str, list[str]]) -> dict[str, tuple[str, str]]:
     """Each name with its kind and target."""
     shifted = read_shifted(groups)
-    repaired = read_repaired() if is_python else {}
-    for name in repaired:
-        groups.root(name)
+    made = read_made(groups)
     table: dict[str, tuple[str, str]] = {}
     builtins = {normal(name): target for name, target in read_table(os.path.join(HERE, 'builtin.tsv'))}
-    left_out = read_left_out(is_python)
+    left_out = {normal(row[0]) for row in read_table(os.path.join(HERE, 'left_out.tsv'))}
     dropped: set[str] = set()
     for names in groups.all():
         target = next((builtins[name] for name in names if name in builtins), None)
-        file = next((repaired[name] for name in names if name in repaired), None) or charmap_of(names, charmaps)
+        file = next((made[name] for name in names if name in made), None) or charmap_of(names, charmaps)
         shifts = next((name for name in names if name in shifted), None)
         if left_out & set(names):
             dropped.update(names)
@@ -165,7 +159,7 @@ def names_table(groups: Groups, charmaps: dict[str, list[str]], is_python: bool)
     taken = set(table) | dropped | left_out
     for file, own in charmaps.items():
         if own[0] not in left_out:
-            table.update((name, ('charmap', file)) for name in own if name not in taken)
+            table.update((name, ('charmap', made.get(own[0], file))) for name in own if name not in taken)
     return table
 
 
@@ -232,7 +226,7 @@ def main() -> None:
     if not groups.parent or not charmaps:
         sys.exit('generate.py: no gconv-modules (package libc6) or no charmaps (package locales)')
     order = 'LE' if sys.byteorder == 'little' else 'BE'
-    table = names_table(groups, charmaps, options.python)
+    table = names_table(groups, charmaps)
     labels.add(table, normal, options.python)
     os.makedirs(options.output, exist_ok=True)
     write(os.path.join(options.output, 'names.tsv'),

@@ -125,9 +125,9 @@ static const char *add_charmap(struct script *opening, const char *written) {
     if (number < BUILTIN_COUNT)
         return builtin_name((enum builtin)number);
     struct charmap_set set;
-    const char *name = charmap_file((size_t)number - BUILTIN_COUNT);
-    if (charmap_read(&set, "/usr/share/i18n/charmaps", name, name) != ICONVD_OK)
-        give_up(2, "no charmap in /usr/share/i18n/charmaps: %s", name);
+    const char *file = charmap_file((size_t)number - BUILTIN_COUNT), *name = charmap_name((size_t)number - BUILTIN_COUNT);
+    if (charmap_read(&set, "/usr/share/i18n/charmaps", file, name, name) != ICONVD_OK)
+        give_up(2, "no charmap in /usr/share/i18n/charmaps: %s", file);
     add_put(opening, &set.whole.text);
     charmap_set_free(&set);
     return name;

@@ -253,13 +253,13 @@ void charmap_set_free(struct charmap_set *set) {
     buffer_free(&set->written.text);
 }
 
-iconvd_status charmap_read(struct charmap_set *set, const char *directory, const char *file, const char *name) {
+iconvd_status charmap_read(struct charmap_set *set, const char *directory, const char *file, const char *charmap, const char *name) {
     static const struct charmap EMPTY = {.least_bytes = 8, .most_bytes = 1};
     *set = (struct charmap_set){.whole = EMPTY, .light = EMPTY, .written = EMPTY};
     struct reading reading = {.charmap = &set->whole,
                               .light = &set->light,
-                              .repairs = repairs_of(file),
-                              .is_composed = charmap_is_composed(file),
+                              .repairs = repairs_of(charmap),
+                              .is_composed = charmap_is_composed(charmap),
                               .escape = '\\',
                               .comment = '#'};
     struct gz_lines lines;

@@ -24,23 +24,24 @@ struct charmap_set {
     struct charmap written; /* the whole with placeholders, for conversions to the encoding (repairs.h) */
 };
 
-/* Reads `directory`/`file`.gz and mends it, so that the service reads it as the C library does:
+/* Whether the client composes what has a code of several bytes in a charmap (composed.h): those lines are left out. */
+bool charmap_is_composed(const char *charmap);
+
+/* Reads `directory`/`file`.gz for an encoding and mends it, so that the service reads it as the C library does. `charmap` is the encoding:
+ * that of the file, or one that repairs make from it (charmap_name()).
  *
  *   - it gets the name `name`, since two files of Debian have one name;
  *   - <mb_cur_min> and <mb_cur_max> are counted, since some files lack them and others are wrong;
  *   - lines marked %IRREVERSIBLE% go behind all others: both mappings are read, and the first is written;
  *   - combining sequences, which are no mappings of one character, are left out, and so is everything but mappings;
  *   - a line CHARMAP is added where there is none;
- *   - the repairs of the file are made.
+ *   - the repairs of `charmap` are made.
  *
  * The other charmaps are named `name`-light and `name`-written. A text that the light one converts without a stop is converted so by the
  * whole one.
  *
  * UNSUPPORTED: there is no such file, or no mapping in it. */
-/* Whether the client composes what has a code of several bytes in a file's charmap (composed.h): those lines are left out. */
-bool charmap_is_composed(const char *file);
-
-iconvd_status charmap_read(struct charmap_set *set, const char *directory, const char *file, const char *name);
+iconvd_status charmap_read(struct charmap_set *set, const char *directory, const char *file, const char *charmap, const char *name);
 void charmap_set_free(struct charmap_set *set);
 
 /* The characters of a charmap: a bit for each code point, or NULL where memory lacks. `symbols` is set where the text has names

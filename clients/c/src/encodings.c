@@ -109,11 +109,11 @@ static iconvd_status read_file(struct encodings *encodings, size_t number, struc
     if (!encoding)
         return ICONVD_ENOMEM;
     encoding->kind = BUILTIN_COUNT;
-    encoding->repairs = repairs_of(charmap_file(number));
+    encoding->repairs = repairs_of(charmap_name(number));
     encoding->is_computed = repairs_are_computed(&encoding->repairs);
-    encoding->composing = composing_of(charmap_file(number));
-    snprintf(encoding->name, sizeof encoding->name, "map-%s", charmap_file(number));
-    iconvd_status status = charmap_read(&set, encodings->directory, charmap_file(number), encoding->name);
+    encoding->composing = composing_of(charmap_name(number));
+    snprintf(encoding->name, sizeof encoding->name, "map-%s", charmap_name(number));
+    iconvd_status status = charmap_read(&set, encodings->directory, charmap_file(number), charmap_name(number), encoding->name);
     if (status == ICONVD_OK && !take_charmaps(encoding, &set))
         status = ICONVD_ENOMEM;
     if (status != ICONVD_OK) {

@@ -13,6 +13,12 @@ struct name_row {
     uint16_t number;
 };
 
+/* The places of a charmap's file and of its name. */
+struct charmap_row {
+    uint16_t file;
+    uint16_t name;
+};
+
 #include "names_table.h"
 
 enum { NAME_COUNT = sizeof NAME_ROWS / sizeof *NAME_ROWS, LOOSE_COUNT = sizeof LOOSE_ROWS / sizeof *LOOSE_ROWS };
@@ -29,7 +35,11 @@ size_t charmap_count(void) {
 }
 
 const char *charmap_file(size_t number) {
-    return NAME_STRINGS + CHARMAP_FILES[number];
+    return NAME_STRINGS + CHARMAP_ROWS[number].file;
+}
+
+const char *charmap_name(size_t number) {
+    return NAME_STRINGS + CHARMAP_ROWS[number].name;
 }
 
 const char *iconvd_name(size_t number) {

@@ -24,12 +24,17 @@ struct parsed_name {
 /* False: it is too long for a name. */
 bool name_parse(struct parsed_name *parsed, const char *written);
 
-/* The number of a name: an enum builtin, or BUILTIN_COUNT plus the number of a charmap file, or that number plus charmap_count() for an
+/* The number of a name: an enum builtin, or BUILTIN_COUNT plus the number of a charmap, or that number plus charmap_count() for an
    encoding with shifts; -1 for none. */
 int name_find(const char *name);
 
-/* How many charmap files there are, and their names without folder and ending. */
+/* How many charmaps there are. */
 size_t charmap_count(void);
+
+/* The file of one, without folder and ending. */
 const char *charmap_file(size_t number);
+
+/* Its own name: that of its file, or another one if repairs make it from the file of another encoding. */
+const char *charmap_name(size_t number);
 
 #endif

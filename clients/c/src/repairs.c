@@ -4,19 +4,19 @@
 #include <stdio.h>
 #include <string.h>
 
-/* The repairs of a charmap's file are one after another. */
-struct repaired_file {
-    char file[24];
+/* The repairs of a charmap are one after another. */
+struct repaired_charmap {
+    char charmap[24];
     uint16_t first;
     uint16_t count;
 };
 
 #include "repairs_table.h"
 
-struct repairs repairs_of(const char *file) {
-    for (size_t i = 0; i < sizeof REPAIRED_FILES / sizeof *REPAIRED_FILES; i++)
-        if (strcmp(REPAIRED_FILES[i].file, file) == 0)
-            return (struct repairs){.first = REPAIRS + REPAIRED_FILES[i].first, .count = REPAIRED_FILES[i].count};
+struct repairs repairs_of(const char *charmap) {
+    for (size_t i = 0; i < sizeof REPAIRED_CHARMAPS / sizeof *REPAIRED_CHARMAPS; i++)
+        if (strcmp(REPAIRED_CHARMAPS[i].charmap, charmap) == 0)
+            return (struct repairs){.first = REPAIRS + REPAIRED_CHARMAPS[i].first, .count = REPAIRED_CHARMAPS[i].count};
     return (struct repairs){.first = NULL};
 }
 

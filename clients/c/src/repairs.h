@@ -21,7 +21,8 @@ struct repairs {
     size_t count;
 };
 
-struct repairs repairs_of(const char *file);
+/* Those of a charmap_name(). */
+struct repairs repairs_of(const char *charmap);
 
 /* Whether the client computes the characters above U+FFFF (planes.h). */
 bool repairs_are_computed(const struct repairs *repairs);

@@ -173,7 +173,7 @@ static void test_long_lines(void) {
         struct charmap_set set;
         const struct charmap *map = &set.whole;
         write_charmap(path, length, row % 2 ? 0 : 'x');
-        iconvd_status status = charmap_read(&set, folder, "TOY", "map-TOY");
+        iconvd_status status = charmap_read(&set, folder, "TOY", "TOY", "map-TOY");
         check(status == ICONVD_OK && map->mappings == 2 && map->text.length == sizeof TEXT - 1 &&
                   memcmp(map->text.bytes, TEXT, sizeof TEXT - 1) == 0,
               "a comment of %zu bytes: status %d", length, (int)status);

@@ -103,9 +103,10 @@ static inline void sides_close(struct sides *sides) {
     theirs.close(sides->their_writer);
 }
 
-/* Whether the list of exceptions has an encoding. */
-static inline bool is_exception(const char *file) {
+/* Whether the list of exceptions has an encoding: that of a file, or one that repairs make from a file, whose name is after a slash. */
+static inline bool is_exception(const char *target) {
     static char *exceptions;
+    const char *slash = strchr(target, '/'), *file = slash ? slash + 1 : target;
     if (!exceptions)
         exceptions = file_text(wanted("EXCEPTIONS"));
     size_t length = strlen(file);

@@ -1,7 +1,8 @@
 """Repairs of charmaps: where an encoding of CPython or of the C library differs from the system's charmap.
 
 The table is `clients/names/repairs.tsv`, which says what each line means, and why. A name that CPython has means CPython's encoding,
-and every other name the C library's.
+and every other name the C library's. Some encodings have no charmap: they are that of another encoding with repairs, and the table of
+names has them as `FILE/ENCODING`.
 """
 
 from __future__ import annotations
@@ -16,7 +17,8 @@ from .names import Encoding
 
 #: The column FOR of the C library's lines.
 _C_LIBRARY = "glibc"
-#: What is between a charmap's file and the codec in an encoding's name. No file has it in its name.
+#: What is between a charmap's file and the codec, or the encoding that is made from it, in an encoding's name. No file has it in its
+#: name.
 _SLASH = "/"
 
 
@@ -104,7 +106,7 @@ def _repairs(rows: List[List[str]]) -> Repairs:
 
 @functools.lru_cache(maxsize=None)
 def _table() -> Dict[Tuple[str, str], List[List[str]]]:
-    """Returns the lines by the charmap's file and the codec."""
+    """Returns the lines by the charmap's file and the column FOR."""
     path = os.path.join(os.path.dirname(os.path.abspath(__file__)), "data", "repairs.tsv")
     rows: Dict[Tuple[str, str], List[List[str]]] = {}
     try:

@@ -64,6 +64,18 @@ class Names(ClientTest):
         self.assertTrue(iconvd.supports("ISO-IR-9-1"))
         self.assertFalse(iconvd.supports("ISO-IR-91"))
 
+    def test_reasons_of_charmaps(self) -> None:
+        """What is left out for want of a charmap has none, and the service refuses those that it is said to refuse."""
+        files = {name: file for file, own in generate.read_charmaps(generate.CHARMAPS).items() for name in own}
+        for name, reason in generate.read_table(os.path.join(SOURCES, "left_out.tsv")):
+            file = files.get(generate.normal(name))
+            if "no charmap" in reason:
+                self.assertIsNone(file, name)
+            elif reason.startswith("the service refuses"):
+                assert file is not None, name
+                with self.assertRaises(iconvd.CharmapRefused, msg=name):
+                    self.client.upload(file)
+
     def test_all_of_this_cpython(self) -> None:
         """Each codec and alias of this Python, with underscores and with hyphens, is in the table of labels."""
         listed = {re.sub("[^a-z0-9]", "_", label.name) for label in labels.read()}

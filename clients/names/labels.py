@@ -18,9 +18,7 @@ PYTHON_OWN = {
     'SHIFT_JIS-2004': ('charmap', 'SHIFT_JISX0213/shift_jis_2004'),
 }
 #: Encodings that only the C library has, as glibc: CPython has none of the kind.
-C_ALONE = {'ISO-2022-CN'}
-#: A charmap that composes as glibc, and that CPython has not.
-C_ALONE_CHARMAP = 'TCVN5712-1'
+C_ALONE = {'ISO-2022-CN', 'TCVN5712-1'}
 
 Table = dict[str, tuple[str, str]]
 
@@ -57,7 +55,7 @@ def add(table: Table, normal: Callable[[str], str], is_python: bool) -> None:
         else:
             table.setdefault(normal(label.name), target)
     if is_python:
-        for name in [name for name, (_, target) in table.items() if target == C_ALONE_CHARMAP]:
+        for name in [name for name, (_, target) in table.items() if target in C_ALONE]:
             del table[name]
 
 

@@ -12,7 +12,7 @@ from typing import Callable, Dict, FrozenSet, Iterator, List, NamedTuple, Option
 
 from . import mappings
 from .charmaps import Charmap
-from .errors import CharmapRefused
+from .errors import ILLEGAL, INCOMPLETE, CharmapRefused
 from .forms import PatternForm, Span
 from .mappings import LastBytes, Range
 from .patterns import Patterns
@@ -20,9 +20,6 @@ from .scan import Box, Scanner, Strings, union
 
 _ALL = (1 << 256) - 1
 _UNDEFINED = "character maps to <undefined>"
-_ILLEGAL = "illegal multibyte sequence"
-#: CPython's reason for the beginning of a character at the end of a text.
-INCOMPLETE = "incomplete multibyte sequence"
 
 
 class Computed(NamedTuple):
@@ -159,19 +156,7 @@ def _class(bits: int) -> bytes:
     if not bits:
         return b""
     spans = [(byte, byte + 1) for byte in range(256) if bits >> byte & 1]
-    return b"[%s]" % b"".join(b"\\x%02x-\\x%02x" % span for span in _runs(spans))
-
-
-def _runs(spans: List[Tuple[int, int]]) -> Iterator[Tuple[int, int]]:
-    """Joins sorted spans that touch, and yields the first and the last number of each."""
-    begin, end = spans[0]
-    for first, after in spans[1:]:
-        if first > end:
-            yield begin, end - 1
-            begin = first
-        if after > end:
-            end = after
-    yield begin, end - 1
+    return b"[%s]" % b"".join(b"\\x%02x-\\x%02x" % (first, end - 1) for first, end in mappings.merged(spans))
 
 
 def _separator(found: List[Range]) -> Tuple[str, bytes]:
@@ -207,7 +192,7 @@ class CharmapForm(PatternForm):
         self.is_multibyte = charmap.longest > 1
         mark, separator = _usual_separator(charmap, charmap.body(), rest) or _separator(self._ranges())
         super().__init__(separator, mark, not self.is_multibyte)
-        self.lacking_reason = _ILLEGAL if self.is_multibyte else _UNDEFINED
+        self.lacking_reason = ILLEGAL if self.is_multibyte else _UNDEFINED
 
     def _ranges(self) -> List[Range]:
         bodies = (self._charmap.body(), self._rest)
@@ -234,7 +219,7 @@ class CharmapForm(PatternForm):
         found = mappings.spans(self._written.body(), self._written.escape)
         computed = self._beside.computed
         more = [(computed.span[0], computed.span[1] + 1)] if computed else []
-        return list(_runs(sorted([*found, *self._rest_spans, *more])))
+        return [(first, end - 1) for first, end in mappings.merged(sorted([*found, *self._rest_spans, *more]))]
 
     # ---- the rest of a charmap of which only the beginning is uploaded
 

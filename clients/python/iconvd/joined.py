@@ -7,12 +7,12 @@ No charmap can say so. The table of repairs gives their bytes to characters that
 from __future__ import annotations
 
 import functools
-import os
 import re
 from typing import Container, Dict, FrozenSet, Iterator, NamedTuple, Optional, Pattern
 
 from . import repairs
 from .names import Encoding
+from .tables import read_rows
 
 _KIND = "pairs"
 #: The most bytes that CPython's coders hold.
@@ -73,12 +73,7 @@ def held_of(number: int) -> str:
 @functools.lru_cache(maxsize=None)
 def _tables() -> Dict[str, Dict[int, str]]:
     """Returns the pairs by the charmap's file."""
-    path = os.path.join(os.path.dirname(os.path.abspath(__file__)), "data", "composing.tsv")
-    try:
-        with open(path, encoding="utf-8") as file:
-            rows = [line.rstrip("\n").split("\t") for line in file]
-    except FileNotFoundError:
-        return {}
+    rows = read_rows("composing.tsv")
     found: Dict[str, Dict[int, str]] = {row[0]: {} for row in rows if row[4] == _KIND}
     for charmap, point, letter, mark, kind in rows:
         if charmap in found and kind != _KIND:

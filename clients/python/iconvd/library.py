@@ -51,14 +51,14 @@ class Library:
         return found
 
     def supports(self, name: str) -> bool:
-        """Whether an encoding has that name, and its charmap is there. No charmap is read or uploaded."""
+        """Whether an encoding has that name, and its charmaps are there. None is read or uploaded."""
         try:
             encoding = self.find(name)
         except UnknownEncoding:
             return False
         if not encoding.is_charmap or encoding.name in self._read:
             return True
-        return encoding.name not in self._refused and charmaps.is_there(repairs.of(encoding.name)[0])
+        return encoding.name not in self._refused and all(map(charmaps.is_there, repairs.files_of(encoding.name)))
 
     def get(self, file: str) -> Charmap:
         """Returns the charmap of that file, which is read once. Raises CharmapRefused."""

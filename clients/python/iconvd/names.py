@@ -7,7 +7,6 @@ the names that WHATWG, CPython and IANA have. The C library has the same, except
 from __future__ import annotations
 
 import functools
-import os
 import re
 from typing import Dict, FrozenSet, List, NamedTuple, Tuple
 
@@ -36,12 +35,9 @@ _BETWEEN_DIGITS = re.compile(r"(?<=[0-9])[^A-Z0-9]+(?=[0-9])")
 _SEPARATOR = re.compile(r"[^A-Z0-9-]|-(?![0-9])|(?<![0-9])-")
 
 
-#: The encodings with escapes or shifts that only the C library has.
-_LEFT_OUT = frozenset(("ISO-2022-CN",))
-
-
 class Encoding(NamedTuple):
-    """An encoding: a built-in one, one with escapes or shifts, or a charmap, by the name of its file."""
+    """An encoding: a built-in one, one with escapes or shifts, or a charmap. Its name is that of the charmap's file, and after a slash
+    that of its repairs (see repairs.py)."""
 
     is_charmap: bool
     name: str
@@ -63,13 +59,12 @@ def _loose(name: str) -> str:
     return _SEPARATOR.sub("", _BETWEEN_DIGITS.sub("-", name.upper()))
 
 
-def read_table(lines: List[str]) -> Table:
-    """Reads the lines `NAME<TAB>builtin|charmap|shifted<TAB>ENCODING`."""
+@functools.lru_cache(maxsize=None)
+def table() -> Table:
+    """Returns the table that was made when the package was built, or only the built-in names if there is none."""
     exact = {name: Encoding(False, name) for name in BUILTIN}
-    for line in lines:
-        name, kind, target = line.rstrip("\n").split("\t")
-        if target not in _LEFT_OUT:
-            exact.setdefault(name, Encoding(kind == "charmap", target))
+    for name, kind, target in read_rows("names.tsv"):
+        exact.setdefault(name, Encoding(kind == "charmap", target))
     for target, name, meaning, *_ in read_rows("shifted_composing_encodings.tsv"):
         exact.setdefault(name if meaning == "name" else target, Encoding(False, target))
     loose: Dict[str, Encoding] = {}
@@ -87,17 +82,6 @@ def _shifted() -> FrozenSet[str]:
 def is_shifted(encoding: Encoding) -> bool:
     """Whether an encoding has escapes or shifts, and is made of sets that the service converts."""
     return not encoding.is_charmap and encoding.name in _shifted()
-
-
-@functools.lru_cache(maxsize=None)
-def table() -> Table:
-    """Returns the table that was made when the package was built, or only the built-in names if there is none."""
-    path = os.path.join(os.path.dirname(os.path.abspath(__file__)), "data", "names.tsv")
-    try:
-        with open(path, encoding="utf-8") as file:
-            return read_table(file.readlines())
-    except FileNotFoundError:
-        return read_table([])
 
 
 @functools.lru_cache(maxsize=1024)

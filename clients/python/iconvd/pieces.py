@@ -6,8 +6,7 @@ from types import TracebackType
 from typing import TYPE_CHECKING, Optional, Tuple, Type, Union
 
 from . import marks, text
-from .codes import INCOMPLETE
-from .errors import ConversionError
+from .errors import INCOMPLETE, ConversionError
 from .joined import held_of, number_of
 from .known import Known
 from .names import Encoding

@@ -8,12 +8,12 @@ names has them as `FILE/ENCODING`.
 from __future__ import annotations
 
 import functools
-import os
 import re
 from encodings import aliases, normalize_encoding
 from typing import Callable, Dict, FrozenSet, List, NamedTuple, Optional, Set, Tuple
 
 from .names import Encoding
+from .tables import read_rows
 
 #: The column FOR of the C library's lines.
 _C_LIBRARY = "glibc"
@@ -107,16 +107,9 @@ def _repairs(rows: List[List[str]]) -> Repairs:
 @functools.lru_cache(maxsize=None)
 def _table() -> Dict[Tuple[str, str], List[List[str]]]:
     """Returns the lines by the charmap's file and the column FOR."""
-    path = os.path.join(os.path.dirname(os.path.abspath(__file__)), "data", "repairs.tsv")
     rows: Dict[Tuple[str, str], List[List[str]]] = {}
-    try:
-        with open(path, encoding="utf-8") as file:
-            for line in file:
-                if not line.startswith("#"):
-                    row = line.rstrip("\n").split("\t")
-                    rows.setdefault((row[0], row[1]), []).append(row)
-    except FileNotFoundError:
-        pass
+    for row in read_rows("repairs.tsv"):
+        rows.setdefault((row[0], row[1]), []).append(row)
     return rows
 
 
@@ -144,6 +137,12 @@ def of(encoding: str) -> Tuple[str, Optional[Repairs]]:
     file, _, who = encoding.partition(_SLASH)
     rows = _table().get((file, who))
     return file, _cached(file, who) if rows else None
+
+
+def files_of(encoding: str) -> List[str]:
+    """Returns the charmaps' files that an encoding needs."""
+    file, repaired = of(encoding)
+    return [file, *(more.file for more in repaired.more)] if repaired else [file]
 
 
 @functools.lru_cache(maxsize=None)

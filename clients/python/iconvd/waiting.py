@@ -1,6 +1,7 @@
-"""What CPython's codecs wait after at the end of a text: they look at a byte when they have as many as a character may need.
+"""What CPython's codecs of several bytes take for the beginning of a character at the end of a text.
 
-So a byte that begins no character is a fault when the next byte is there, and before that the beginning of a character.
+They look at a byte only when they have as many as its character may need. So a byte from 80 on that begins no character is incomplete
+at the end of a text, and a fault where another byte follows.
 """
 
 from __future__ import annotations
@@ -34,5 +35,5 @@ _PATTERNS: Dict[str, bytes] = {
 
 
 def pattern_of(encoding: Encoding) -> bytes:
-    """Returns the pattern of what is waited after, or nothing if CPython has no codec of several bytes for the encoding's charmap."""
+    """Returns the pattern of what is incomplete, or nothing if CPython has no codec of several bytes for the encoding's charmap."""
     return _PATTERNS.get(repairs.of(encoding.name)[0], b"") if encoding.is_charmap else b""

@@ -6,6 +6,7 @@ import encodings.aliases
 import os
 import pkgutil
 import re
+import shutil
 import sys
 import tempfile
 import unittest
@@ -108,6 +109,11 @@ class Names(ClientTest):
         with tempfile.TemporaryDirectory() as folder, mock.patch.dict(os.environ, {"ICONVD_CHARMAPS": folder}):
             self.assertFalse(self.client.supports("KOI8-R"))
             self.assertTrue(self.client.supports("UTF-8"))
+            shutil.copy(os.path.join(generate.CHARMAPS, "EUC-JISX0213.gz"), folder)
+            # It also has codes of EUC-JP's charmap.
+            self.assertFalse(self.client.supports("euc_jis_2004"))
+            shutil.copy(os.path.join(generate.CHARMAPS, "EUC-JP.gz"), folder)
+            self.assertTrue(self.client.supports("euc_jis_2004"))
         self.assertTrue(self.client.supports("koi8_r"))
 
     def test_charmaps_of_the_program(self) -> None:

@@ -1,10 +1,10 @@
 """The encodings whose converters compose: a letter and the mark behind it are one character.
 
 The C library's converters of CP1255, CP1258 and TCVN5712-1 hold a letter back, since a mark may follow, and write a character that the
-encoding lacks as a letter and a mark. BIG5-HKSCS has codes that are a letter and a mark each.
+encoding lacks as a letter and a mark. BIG5-HKSCS, EUC-JISX0213 and SHIFT_JISX0213 have codes that are a letter and a mark each.
 
-The pairs are canonical compositions, by Python's unicodedata, of the characters that the system's charmap has; those of BIG5-HKSCS are
-the charmap's own comments. What differs is in the constants below.
+The pairs are canonical compositions, by Python's unicodedata, of the characters that the system's charmap has; those of the last three are
+their charmaps' own comments. What differs is in the constants below.
 """
 
 from __future__ import annotations
@@ -36,8 +36,8 @@ ENCODINGS = (
     Composing('CP1258', 0x41, 0x1B0, False, written_alone={0x340: '\u0300', 0x341: '\u0301', 0x1FEE: '\u00a8\u0301'}),
     Composing('TCVN5712-1', 0x41, 0x1B0, False, read_alone=frozenset({0x1E4C, 0x1E4D, 0x1E78, 0x1E79})),
 )
-PAIRS = 'BIG5-HKSCS'
-#: Characters of no text: the first one stands for the first pair, and so on. repairs.tsv gives them the pairs' bytes.
+PAIRS = ('BIG5-HKSCS', 'EUC-JISX0213', 'SHIFT_JISX0213')
+#: Characters of no text: the first one stands for a charmap's first pair, and so on. repairs.tsv gives them the pairs' bytes.
 FIRST_PAIR = 0xFDD0
 
 
@@ -107,7 +107,8 @@ def rows(directory: str) -> Iterator[str]:
     for encoding in ENCODINGS:
         yield '\t'.join([encoding.charmap, '%04X' % encoding.first, '%04X' % encoding.last, '-', 'more' if encoding.goes_on else 'once'])
         yield from sorted(_rows(directory, encoding))
-    yield '\t'.join([PAIRS, '0000', '0000', '-', 'pairs'])
-    found = [re.match(r'%<U([0-9A-F]+)><U([0-9A-F]+)>\s', line) for line in _lines(directory, PAIRS)]
-    for number, each in enumerate(each for each in found if each):
-        yield '\t'.join([PAIRS, '%04X' % (FIRST_PAIR + number), each[1].zfill(4), each[2].zfill(4), 'both'])
+    for charmap in PAIRS:
+        yield '\t'.join([charmap, '0000', '0000', '-', 'pairs'])
+        found = [re.match(r'%<U([0-9A-F]+)><U([0-9A-F]+)>\s', line) for line in _lines(directory, charmap)]
+        for number, each in enumerate(each for each in found if each):
+            yield '\t'.join([charmap, '%04X' % (FIRST_PAIR + number), each[1].zfill(4), each[2].zfill(4), 'both'])

@@ -12,6 +12,10 @@ PYTHON_OWN = {
     'UTF-8-SIG': ('builtin', 'UTF-8-SIG'),
     'ISO-2022-JP-3': ('shifted', 'ISO-2022-JP-3'),
     'ISO-2022-JP-2004': ('shifted', 'ISO-2022-JP-2004'),
+    'EUC-JISX0213': ('charmap', 'EUC-JISX0213/euc_jisx0213'),
+    'EUC-JIS-2004': ('charmap', 'EUC-JISX0213/euc_jis_2004'),
+    'SHIFT_JISX0213': ('charmap', 'SHIFT_JISX0213/shift_jisx0213'),
+    'SHIFT_JIS-2004': ('charmap', 'SHIFT_JISX0213/shift_jis_2004'),
 }
 #: WHATWG's encoding of which nothing is read.
 REPLACEMENT = 'REPLACEMENT'
@@ -19,8 +23,8 @@ REPLACEMENT = 'REPLACEMENT'
 WHATWG = {'ISO-2022-CN-EXT': REPLACEMENT, 'UCS-2': 'UTF-16LE', 'UNICODE': 'UTF-16'}
 #: Encodings that the Python package has not: it reads them as WHATWG's standard does, and does not write them.
 PYTHON_REPLACED = ('ISO-2022-CN', 'ISO-2022-CN-EXT')
-#: A charmap that composes as glibc, and that CPython has not.
-C_ALONE_CHARMAP = 'TCVN5712-1'
+#: Encodings that only the C library has, as glibc: CPython has none of the kind.
+C_ALONE = {'TCVN5712-1'}
 
 Table = dict[str, tuple[str, str]]
 
@@ -62,7 +66,7 @@ def add(table: Table, normal: Callable[[str], str], is_python: bool) -> None:
         else:
             table.setdefault(normal(label.name), target)
     if is_python:
-        for name in [name for name, (_, target) in table.items() if target == C_ALONE_CHARMAP]:
+        for name in [name for name, (_, target) in table.items() if target in C_ALONE]:
             del table[name]
 
 

@@ -18,7 +18,7 @@ from typing import Dict, List, NamedTuple, Optional, Tuple
 
 from . import mappings
 from .errors import CharmapRefused
-from .repairs import Repairs
+from .repairs import Mapping, Repairs
 
 #: The folder of the system's charmaps. The environment variable ICONVD_CHARMAPS names another.
 FOLDER = "/usr/share/i18n/charmaps"
@@ -110,6 +110,12 @@ def _body(text: bytes) -> Tuple[bytes, bytes]:
     return text[: begin.start()], text[begin.end() : end]
 
 
+def _escape(header: bytes) -> bytes:
+    """Returns the escape character that a charmap's header declares."""
+    declared: Dict[bytes, bytes] = dict(_DECLARATION.findall(header))
+    return declared.get(b"escape_char", b"\\")[:1]
+
+
 def _span(name: bytes) -> int:
     """Returns how many mappings a name or a range has."""
     found = _RANGE.fullmatch(name)
@@ -163,7 +169,7 @@ def mend(file: str, text: bytes) -> Charmap:
     name = b"map-" + file.encode("ascii", "replace")
     if len(declared) == 5 and _is_clean(body, declared[b"comment_char"]):
         return _declared_charmap(name, body, declared, body.count(b"\n<") + 1 + _spans(body))
-    escape = declared.get(b"escape_char", b"\\")[:1]
+    escape = _escape(header)
     lines = _MAPPING.findall(body)
     found = _measured(name, b"", lines, escape)
     head = [
@@ -210,17 +216,38 @@ class Repaired(NamedTuple):
     written: Charmap
 
 
+def _codes(text: bytes) -> Dict[bytes, int]:
+    """Returns the codes of a charmap's text, with their characters."""
+    header, body = _body(text)
+    found = mappings.ranges(body, _escape(header))
+    return {(code + step).to_bytes(length, "big"): first + step for first, count, code, length in found for step in range(count)}
+
+
+def _added(text: bytes, repairs: Repairs) -> List[Mapping]:
+    """Returns the mappings of other charmaps that the repairs add to a charmap's text."""
+    if not repairs.more:
+        return []
+    taken = {*_codes(text), *repairs.dropped}
+    return [
+        Mapping(point, code)
+        for more in repairs.more
+        for code, point in _codes(read_file(more.file)).items()
+        if code.startswith(more.beginning) and code not in taken
+    ]
+
+
 def repaired(encoding: str, text: bytes, repairs: Repairs) -> Repaired:
     """Returns the charmaps of a file with its repairs. Of two codes of a character the first is written."""
     header, body = _body(text)
-    escape = dict(_DECLARATION.findall(header)).get(b"escape_char", b"\\")[:1]
+    escape = _escape(header)
     found = _MAPPING.findall(body)
     usual = _kept([(mapped, code) for one_way, mapped, code in found if not one_way], escape, repairs)
     read_only = _kept([(mapped, code) for one_way, mapped, code in found if one_way], escape, repairs)
-    both, read, written = (
+    both, more, read, written = (
         [b"<U%04X> %s" % (point, _spelled(code, escape)) for point, code in some]
-        for some in (repairs.both, repairs.read, repairs.written)
+        for some in (repairs.both, _added(text, repairs), repairs.read, repairs.written)
     )
+    usual += more
     name = b"map-" + encoding.replace("/", "-").encode("ascii", "replace")
     reading = _repaired_text(name, escape, both + usual + read_only + read)
     if not repairs.has_two_texts:
@@ -256,6 +283,5 @@ def beginning(file: str, text: bytes) -> Optional[Beginning]:
 def own(text: bytes) -> Charmap:
     """Returns a charmap of the caller's own, whose text is left as it is. Raises CharmapRefused if no line is a mapping."""
     header, body = _body(text)
-    declared = dict(_DECLARATION.findall(header))
-    name = declared.get(b"code_set_name", b"").strip(b'"')
-    return _measured(name, text, _MAPPING.findall(body), declared.get(b"escape_char", b"\\")[:1])
+    name = dict(_DECLARATION.findall(header)).get(b"code_set_name", b"").strip(b'"')
+    return _measured(name, text, _MAPPING.findall(body), _escape(header))

@@ -156,8 +156,7 @@ class Client:
 
     def encode(self, characters: str, target: str, errors: str = "strict") -> bytes:
         """Encodes a text as `str.encode` does."""
-        encoder = self.encoder(target, target)
-        return encoder.encode(characters, errors) + encoder.finish()
+        return self.encoder(target, target).encode(characters, errors, True)
 
     @overload
     def convert(self, data: bytes, *, to: str, source: str, errors: str = "strict") -> bytes: ...

@@ -3,13 +3,15 @@
 from __future__ import annotations
 
 import codecs
-from typing import Any, List, Optional, Tuple
+from typing import Any, Callable, List, Optional, Tuple
 
-from . import set_codecs
+from . import set_codecs, waiting
 from .client import Client, default, find
 from .errors import UnknownEncoding
+from .joined import MAX_HELD
 from .names import Encoding, is_shifted
 from .pieces import Decoder, Encoder
+from .streams import FAULTS, PieceReader, Pieces
 
 _PREFIX = "iconvd"
 
@@ -18,16 +20,41 @@ def _client(client: Optional[Client]) -> Client:
     return client if client is not None else default()
 
 
+class _DecoderPieces:
+    """The pieces of a file. After a fault what was held is dropped, as in CPython."""
+
+    def __init__(self, make: Callable[[], Decoder]) -> None:
+        self._make = make
+        self._decoder = make()
+        self.held = b""
+
+    def decode(self, piece: bytes, errors: str, is_end: bool) -> str:
+        """Returns the text of the next piece."""
+        whole = self.held + piece
+        try:
+            decoded, used = self._decoder.decode(whole, errors, is_end)
+        except FAULTS:
+            self.held = b""
+            raise
+        self.held = whole[used:]
+        return decoded
+
+    def reset(self) -> None:
+        """Drops what is held, and goes back to the start."""
+        self._decoder = self._make()
+        self.held = b""
+
+
 def info(name: str, encoding: Encoding, client: Optional[Client] = None) -> codecs.CodecInfo:
     """Returns the codec of an encoding, which exceptions call `name`."""
     if is_shifted(encoding):
         return set_codecs.info(name, encoding, lambda: _client(client))
 
     def encode(input: str, errors: str = "strict") -> Tuple[bytes, int]:
-        return Encoder(_client(client), name, encoding).encode(input, errors or "strict"), len(input)
+        return Encoder(_client(client), name, encoding).encode(input, errors or "strict", True), len(input)
 
     def decode(input: bytes, errors: str = "strict") -> Tuple[str, int]:
-        raw = bytes(input)
+        raw = bytes(memoryview(input))
         return Decoder(_client(client), name, encoding).decode(raw, errors or "strict", True)[0], len(raw)
 
     class IncrementalEncoder(codecs.IncrementalEncoder):
@@ -44,13 +71,18 @@ def info(name: str, encoding: Encoding, client: Optional[Client] = None) -> code
         def reset(self) -> None:
             self._encoder = Encoder(_client(client), name, encoding)
 
-        # As in CPython's utf_16: 2 before the mark is written, 0 after it.
         def getstate(self) -> int:
-            return 0 if self._encoder.is_started else 2
+            return self._encoder.number
 
         def setstate(self, state: int) -> None:  # type: ignore[override]
             self.reset()
-            self._encoder.is_started = not state
+            self._encoder.number = state
+
+        def finish(self) -> bytes:
+            """Returns what ends the text, and begins another one."""
+            ending = self._encoder.finish()
+            self.reset()
+            return ending
 
     class IncrementalDecoder(codecs.BufferedIncrementalDecoder):
         """Decodes bytes in pieces."""
@@ -58,6 +90,14 @@ def info(name: str, encoding: Encoding, client: Optional[Client] = None) -> code
         def __init__(self, errors: str = "strict") -> None:
             super().__init__(errors)
             self._decoder = Decoder(_client(client), name, encoding, is_stream=True)
+
+        def decode(self, input: Any, final: bool = False) -> str:
+            try:
+                return super().decode(input, final)
+            except FAULTS as error:
+                if self._decoder.drops_held(error):
+                    self.buffer = b""
+                raise
 
         def _buffer_decode(self, input: Any, errors: str, final: bool) -> Tuple[str, int]:
             return self._decoder.decode(bytes(input), errors, final)
@@ -71,8 +111,13 @@ def info(name: str, encoding: Encoding, client: Optional[Client] = None) -> code
             return super().getstate()[0], self._decoder.state()
 
         def setstate(self, state: Tuple[bytes, int]) -> None:
-            super().setstate((state[0], 0))
-            self._decoder.set_state(state[1])
+            held, number = state
+            if not isinstance(held, bytes) or not isinstance(number, int):
+                raise TypeError("the state of a decoder is bytes and a number")
+            if encoding.is_charmap and len(held) > MAX_HELD:
+                raise UnicodeError("more bytes are held than a character has")
+            super().setstate((held, 0))
+            self._decoder.set_state(number)
 
     class StreamWriter(codecs.StreamWriter):
         """Writes text to a file of bytes."""
@@ -85,8 +130,11 @@ def info(name: str, encoding: Encoding, client: Optional[Client] = None) -> code
             self._incremental.errors = errors
             return self._incremental.encode(input), len(input)
 
+        # As in CPython, a character that is held is written.
         def reset(self) -> None:
-            self._incremental.reset()
+            ending = self._incremental.finish()
+            if ending:
+                self.stream.write(ending)
 
     class StreamReader(codecs.StreamReader):
         """Reads text from a file of bytes."""
@@ -109,10 +157,16 @@ def info(name: str, encoding: Encoding, client: Optional[Client] = None) -> code
             super().reset()
             self._decoder = Decoder(_client(client), name, encoding, is_stream=True)
 
+    class MultibyteStreamReader(PieceReader):
+        """Reads text from a file of bytes, in an encoding that CPython has a codec of several bytes for."""
+
+        def make_pieces(self) -> Pieces:
+            return _DecoderPieces(lambda: Decoder(_client(client), name, encoding))
+
     return codecs.CodecInfo(
         encode=encode,
         decode=decode,
-        streamreader=StreamReader,
+        streamreader=MultibyteStreamReader if waiting.pattern_of(encoding) else StreamReader,
         streamwriter=StreamWriter,
         incrementalencoder=IncrementalEncoder,
         incrementaldecoder=IncrementalDecoder,

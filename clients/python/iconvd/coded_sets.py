@@ -10,7 +10,7 @@ import functools
 import re
 from typing import Dict, Iterator, List, Mapping, NamedTuple, Optional, Set, Tuple
 
-from . import names
+from . import mappings, names
 from .mappings import Range
 from .names import Encoding
 from .tables import read_rows
@@ -161,7 +161,7 @@ class CodedSet:
     def outer(self, codes: bytes) -> bytes:
         """Returns codes of the set as those of the other encoding."""
         if self.row.how == "rows":
-            return b"".join(map(_packed().__getitem__, _pairs(codes)))
+            return b"".join(map(_packed().__getitem__, slices(codes, 2)))
         raised = codes.translate(_HIGH) if self.row.how == "high" else codes
         size = len(self.row.before)
         if not size:
@@ -174,7 +174,7 @@ class CodedSet:
     def own(self, codes: bytes) -> bytes:
         """Returns codes of the other encoding as those of the set."""
         if self.row.how == "rows":
-            return b"".join(map(self._unpacked.__getitem__, _pairs(codes)))
+            return b"".join(map(self._unpacked.__getitem__, slices(codes, 2)))
         size = len(self.row.before)
         if size:
             kept = bytearray(len(codes) // self.outer_width * self.width)
@@ -189,8 +189,9 @@ class CodedSet:
         return len(self.row.before) + self.width
 
 
-def _pairs(codes: bytes) -> Iterator[bytes]:
-    return (codes[at : at + 2] for at in range(0, len(codes), 2))
+def slices(codes: bytes, width: int) -> List[bytes]:
+    """Returns codes of some bytes each, one by one."""
+    return [codes[at : at + width] for at in range(0, len(codes), width)]
 
 
 def _class(some: bytes) -> bytes:
@@ -200,19 +201,6 @@ def _class(some: bytes) -> bytes:
 
 def characters(points: Set[int]) -> str:
     """Returns the pattern of one of some characters."""
-    spans = "".join(f"{re.escape(chr(first))}-{re.escape(chr(last))}" for first, last in _spans(points))
+    merged = mappings.merged(sorted((point, point + 1) for point in points))
+    spans = "".join(f"{re.escape(chr(first))}-{re.escape(chr(end - 1))}" for first, end in merged)
     return f"[{spans}]" if spans else "[^\0-\U0010ffff]"
-
-
-def _spans(points: Set[int]) -> Iterator[Tuple[int, int]]:
-    """Yields the first and the last of each run of characters."""
-    begin = end = -2
-    for point in sorted(points):
-        if point != end + 1:
-            if end >= 0:
-                yield begin, end
-            begin = point
-        end = point
-    if end >= 0:
-        yield begin, end
-

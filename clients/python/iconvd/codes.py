@@ -12,14 +12,14 @@ from typing import Callable, Dict, FrozenSet, Iterator, List, NamedTuple, Option
 
 from . import mappings
 from .charmaps import Charmap
-from .errors import CharmapRefused
-from .forms import PatternForm, Patterns, Span
+from .errors import ILLEGAL, INCOMPLETE, CharmapRefused
+from .forms import PatternForm, Span
 from .mappings import LastBytes, Range
+from .patterns import Patterns
 from .scan import Box, Scanner, Strings, union
 
 _ALL = (1 << 256) - 1
 _UNDEFINED = "character maps to <undefined>"
-_ILLEGAL = "illegal multibyte sequence"
 
 
 class Computed(NamedTuple):
@@ -37,15 +37,27 @@ class Computed(NamedTuple):
     last_bytes: Callable[[LastBytes], LastBytes]
 
 
+class Beside(NamedTuple):
+    """What an encoding has beside the codes of its charmap."""
+
+    computed: Optional[Computed] = None
+    #: The pattern of what is cut at the end of a text, though no code may begin so.
+    waiting: bytes = b""
+    #: Bytes that are one fault together. Of all others the first byte is one.
+    faults: FrozenSet[bytes] = frozenset()
+
+
 class _Strings:
     """Byte strings as bits: the last bytes, by the bytes before them."""
 
-    def __init__(self, found: LastBytes, computed: Optional[Computed] = None) -> None:
+    def __init__(self, found: LastBytes, beside: Beside) -> None:
         self._leaves = found
-        self._computed = computed
+        self._computed, self._waiting, self._faults = beside
 
     def scanner(self, separator: bytes) -> Optional[Scanner]:
         """Returns the scanner that finds the faults of a text, or None if there is none for these strings."""
+        if self._faults:
+            return None
         by_size: Dict[int, List[bytes]] = {}
         for prefix in self._leaves:
             by_size.setdefault(len(prefix), []).append(prefix)
@@ -61,7 +73,8 @@ class _Strings:
             boxes.append(self._computed.box)
             shorter |= self._computed.beginnings
             leaves = self._computed.last_bytes(leaves)
-        return Scanner.of(leaves.get(b"", 0), boxes, separator, Strings(leaves, shorter))
+        waiting = re.compile(b"(?s)" + self._waiting) if self._waiting else None
+        return Scanner.of(leaves.get(b"", 0), boxes, separator, Strings(leaves, shorter, waiting))
 
     def _box(self, size: int, prefixes: List[bytes]) -> Box:
         """Returns the bytes that strings have at each place."""
@@ -94,6 +107,11 @@ class _Strings:
             bad=b"|".join(_class(bits) + (b"(?:(?:%s)\\Z)?" % cut if cut else b"") for (_, cut), bits in _by_size(kinds)),
             cut=b"|".join(_class(bits) + (b"(?:%s)?" % cut if cut else b"") for (_, cut), bits in _by_size(kinds)),
         )
+        if self._waiting:
+            patterns = patterns._replace(cut=self._waiting, waiting=self._waiting)
+        if self._faults:
+            whole = b"|".join(re.escape(each) for each in sorted(self._faults))
+            patterns = patterns._replace(bad=whole + b"|" + patterns.bad)
         computed = self._computed
         if computed is None:
             return patterns
@@ -138,19 +156,7 @@ def _class(bits: int) -> bytes:
     if not bits:
         return b""
     spans = [(byte, byte + 1) for byte in range(256) if bits >> byte & 1]
-    return b"[%s]" % b"".join(b"\\x%02x-\\x%02x" % span for span in _runs(spans))
-
-
-def _runs(spans: List[Tuple[int, int]]) -> Iterator[Tuple[int, int]]:
-    """Joins sorted spans that touch, and yields the first and the last number of each."""
-    begin, end = spans[0]
-    for first, after in spans[1:]:
-        if first > end:
-            yield begin, end - 1
-            begin = first
-        if after > end:
-            end = after
-    yield begin, end - 1
+    return b"[%s]" % b"".join(b"\\x%02x-\\x%02x" % (first, end - 1) for first, end in mappings.merged(spans))
 
 
 def _separator(found: List[Range]) -> Tuple[str, bytes]:
@@ -177,18 +183,16 @@ def _usual_separator(charmap: Charmap, body: bytes, rest: bytes) -> Optional[Tup
 class CharmapForm(PatternForm):
     """The form of a charmap's encoding. Its parts are made when they are first needed."""
 
-    def __init__(
-        self, charmap: Charmap, rest: bytes = b"", written: Optional[Charmap] = None, computed: Optional[Computed] = None
-    ) -> None:
+    def __init__(self, charmap: Charmap, rest: bytes = b"", written: Optional[Charmap] = None, beside: Beside = Beside()) -> None:
         """`charmap` may be the beginning of a longer one, whose other lines are `rest`. `written` is the one for writing."""
         self._charmap = charmap
         self._written = written or charmap
         self._rest = rest
-        self._computed = computed
+        self._beside = beside
         self.is_multibyte = charmap.longest > 1
         mark, separator = _usual_separator(charmap, charmap.body(), rest) or _separator(self._ranges())
         super().__init__(separator, mark, not self.is_multibyte)
-        self.lacking_reason = _ILLEGAL if self.is_multibyte else _UNDEFINED
+        self.lacking_reason = ILLEGAL if self.is_multibyte else _UNDEFINED
 
     def _ranges(self) -> List[Range]:
         bodies = (self._charmap.body(), self._rest)
@@ -199,7 +203,7 @@ class CharmapForm(PatternForm):
         found = mappings.last_bytes(self._charmap.body(), self._charmap.escape)
         for before, last in mappings.last_bytes(self._rest, self._charmap.escape).items():
             found[before] = found.get(before, 0) | last
-        return _Strings(found, self._computed)
+        return _Strings(found, self._beside)
 
     @functools.cached_property
     def _scanner(self) -> Optional[Scanner]:
@@ -213,8 +217,9 @@ class CharmapForm(PatternForm):
 
     def has(self) -> List[Span]:
         found = mappings.spans(self._written.body(), self._written.escape)
-        computed = [(self._computed.span[0], self._computed.span[1] + 1)] if self._computed else []
-        return list(_runs(sorted([*found, *self._rest_spans, *computed])))
+        computed = self._beside.computed
+        more = [(computed.span[0], computed.span[1] + 1)] if computed else []
+        return [(first, end - 1) for first, end in mappings.merged(sorted([*found, *self._rest_spans, *more]))]
 
     # ---- the rest of a charmap of which only the beginning is uploaded
 
@@ -237,5 +242,5 @@ class CharmapForm(PatternForm):
 
     def reason(self, item: bytes, is_cut: bool) -> str:
         if is_cut:
-            return "incomplete multibyte sequence"
+            return INCOMPLETE
         return self.lacking_reason

@@ -6,6 +6,7 @@ from typing import Optional
 
 from . import steps
 from .frames import Status
+from .joined import pairs_of
 from .library import Library
 from .marks import mark_of, without_mark
 from .names import is_direct
@@ -28,15 +29,20 @@ class WholeConversion:
         self._pair = Pair(self._target, self._origin)
 
     @property
+    def _is_by_text(self) -> bool:
+        """Whether the service can't convert from the one encoding to the other, but only from and to UTF-8."""
+        return any(not is_direct(end) or pairs_of(end) for end in self._pair)
+
+    @property
     def first_pair(self) -> Optional[Pair]:
         """The pair whose descriptor is needed first. The sets of encodings with escapes or shifts have pairs of their own."""
         if not is_direct(self._origin):
             return Pair(self._target, UTF_8) if is_direct(self._target) else None
-        return self._pair if is_direct(self._target) else Pair(UTF_8, self._origin)
+        return Pair(UTF_8, self._origin) if self._is_by_text else self._pair
 
     def run(self, session: Session) -> Steps[bytes]:
         """Converts bytes to bytes up to the first fault, and the rest by decoding and encoding."""
-        if not is_direct(self._origin) or not is_direct(self._target):
+        if self._is_by_text:
             return (yield from self._by_text(session))
         data = self._data[self._begin :] if self._begin else self._data
         ran = yield from steps.run(session, self._pair, data, self._ends.errors == "strict")

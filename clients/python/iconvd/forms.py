@@ -12,6 +12,7 @@ import functools
 import re
 from typing import Callable, Dict, List, NamedTuple, Optional, Pattern, Sequence, Tuple
 
+from .patterns import Patterns
 from .scan import Box, Scanner, bits
 
 #: The first and the last of a run of characters.
@@ -97,31 +98,6 @@ class Form:
         return next((each.start() for each in self.special.finditer(text) if each[0] not in {self.mark, *self.pairs}), None)
 
 
-class Patterns(NamedTuple):
-    """Regular expressions of the bytes of an encoding. None matches the separator, and each may be empty."""
-
-    #: One byte that is a character by itself.
-    single: bytes
-    #: The first byte of a character of several bytes, and such a character.
-    lead: bytes
-    multiple: bytes
-    #: A byte with which no character begins.
-    never: bytes
-    #: The bytes of a fault at the beginning of a character, or of a character that the end of the text cuts.
-    bad: bytes
-    #: A character that the end of the text cuts.
-    cut: bytes
-
-
-def _good(patterns: Patterns) -> bytes:
-    """Returns the pattern of any number of characters, which skips those of one byte fastest."""
-    single = patterns.single + b"*" if patterns.single else b""
-    if not patterns.multiple:
-        return single
-    first = b"(?=%s)" % patterns.lead if patterns.lead else b""
-    return b"%s(?:%s(?:%s)%s)*" % (single, first, patterns.multiple, single)
-
-
 class PatternForm(Form):
     """How bytes are cut into characters and faults, by a regular expression."""
 
@@ -132,8 +108,9 @@ class PatternForm(Form):
     @functools.cached_property
     def _tokens(self) -> Pattern[bytes]:
         patterns = self.patterns()
-        items = b"|".join(item for item in (patterns.never, re.escape(self.separator), patterns.bad, b"\\Z") if item)
-        return re.compile(b"(?s)(%s)(%s)" % (_good(patterns), items))
+        waiting = b"(?:%s)\\Z" % patterns.waiting if patterns.waiting else b""
+        items = b"|".join(item for item in (waiting, patterns.never, re.escape(self.separator), patterns.bad, b"\\Z") if item)
+        return re.compile(b"(?s)(%s)(%s)" % (patterns.good(), items))
 
     @functools.cached_property
     def _cut(self) -> Optional[Pattern[bytes]]:

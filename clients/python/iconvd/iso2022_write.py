@@ -5,6 +5,7 @@ from __future__ import annotations
 import re
 from typing import Callable, Dict, FrozenSet, List, NamedTuple, Optional, Pattern, Set, Tuple
 
+from . import joined
 from .coded_sets import CodedSet, characters
 from .designations import ASCII, SI, SO, Designation
 from .framing import WINDOW, ByteParts, State, Stop
@@ -63,17 +64,11 @@ class Writer:
         return limit
 
     def held(self, text: str) -> int:
-        """Returns how many characters at the end of a text may have a code together with the next one: none or the last one, unless
-        it has one together with that before it."""
+        """See Framing."""
         if text.isascii():
             return 0
         groups = self._groups()
-        at = len(text)
-        while at and text[at - 1] in groups.firsts:
-            at -= 1
-        while len(text) - at > 1:
-            at += 2 if text[at : at + 2] in groups.codes else 1
-        return len(text) - at
+        return joined.held(text, groups.firsts, groups.codes)
 
     def _groups(self) -> _Groups:
         if self._found is None:

@@ -1,4 +1,4 @@
-"""The codes of BIG5-HKSCS that are a letter and a mark each.
+"""Codes that are a letter and a mark each: in BIG5-HKSCS, and in the encodings of JIS X 0213 without escapes.
 
 No charmap can say so. The table of repairs gives their bytes to characters that no text has, which stand for the pairs;
 `clients/names/composing.py` says which.
@@ -7,14 +7,16 @@ No charmap can say so. The table of repairs gives their bytes to characters that
 from __future__ import annotations
 
 import functools
-import os
 import re
-from typing import Dict, NamedTuple, Optional, Pattern
+from typing import Container, Dict, FrozenSet, Iterator, NamedTuple, Optional, Pattern
 
 from . import repairs
 from .names import Encoding
+from .tables import read_rows
 
 _KIND = "pairs"
+#: The most bytes that CPython's coders hold.
+MAX_HELD = 8
 
 
 class Joined(NamedTuple):
@@ -27,18 +29,51 @@ class Joined(NamedTuple):
     #: Any pair.
     pattern: Pattern[str]
     #: The letters that a mark may follow.
-    letters: str
+    letters: FrozenSet[str]
+
+    def held(self, text: str) -> int:
+        """Returns how many characters at the end of a text may have a code together with the next one: none or the last one, unless
+        it has one together with that before it."""
+        return held(text, self.letters, self.written)
+
+    def parts(self, text: str) -> Iterator[str]:
+        """Yields the pairs of a text, and what is between them."""
+        at = 0
+        for found in self.pattern.finditer(text):
+            yield text[at : found.start()]
+            yield found[0]
+            at = found.end()
+        yield text[at:]
+
+
+def held(text: str, letters: Container[str], pairs: Container[str]) -> int:
+    """See Joined.held. A letter of a pair may be the mark of another one."""
+    at = len(text)
+    while at and text[at - 1] in letters:
+        at -= 1
+    while len(text) - at > 1:
+        at += 2 if text[at : at + 2] in pairs else 1
+    return len(text) - at
+
+
+def number_of(held: str) -> int:
+    """Returns the number by which CPython's encoders tell a held character: how many bytes it has in UTF-8, and these bytes."""
+    data = held.encode("utf-8")
+    return int.from_bytes(data, "little") << 8 | len(data)
+
+
+def held_of(number: int) -> str:
+    """Returns the held character of such a number, of which only the lowest bytes are looked at. Raises UnicodeError."""
+    size = number & 0xFF
+    if size > MAX_HELD:
+        raise UnicodeError("more bytes are held than a character has")
+    return (number >> 8 & (1 << 8 * size) - 1).to_bytes(size, "little").decode("utf-8")
 
 
 @functools.lru_cache(maxsize=None)
 def _tables() -> Dict[str, Dict[int, str]]:
     """Returns the pairs by the charmap's file."""
-    path = os.path.join(os.path.dirname(os.path.abspath(__file__)), "data", "composing.tsv")
-    try:
-        with open(path, encoding="utf-8") as file:
-            rows = [line.rstrip("\n").split("\t") for line in file]
-    except FileNotFoundError:
-        return {}
+    rows = read_rows("composing.tsv")
     found: Dict[str, Dict[int, str]] = {row[0]: {} for row in rows if row[4] == _KIND}
     for charmap, point, letter, mark, kind in rows:
         if charmap in found and kind != _KIND:
@@ -54,5 +89,5 @@ def pairs_of(encoding: Encoding) -> Optional[Joined]:
     if not read or repaired is None:
         return None
     written = {read[each.point]: each.code for each in [*repaired.both, *repaired.read] if each.point in read}
-    letters = "".join(sorted({pair[0] for pair in written}))
+    letters = frozenset(pair[0] for pair in written)
     return Joined(read, written, re.compile("|".join(map(re.escape, written))), letters)

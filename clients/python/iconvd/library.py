@@ -4,10 +4,10 @@ from __future__ import annotations
 
 from typing import Callable, Dict, Optional, Tuple, Union
 
-from . import charmaps, coded_sets, forms, framings, joined, mappings, names, repairs, shifted
+from . import charmaps, coded_sets, forms, framings, joined, mappings, names, repairs, shifted, waiting
 from .charmaps import Beginning, Charmap
 from .coded_sets import CodedSet
-from .codes import CharmapForm
+from .codes import Beside, CharmapForm
 from .errors import CharmapRefused, UnknownEncoding
 from .forms import Form
 from .framing import Framing
@@ -51,14 +51,14 @@ class Library:
         return found
 
     def supports(self, name: str) -> bool:
-        """Whether an encoding has that name, and its charmap is there. No charmap is read or uploaded."""
+        """Whether an encoding has that name, and its charmaps are there. None is read or uploaded."""
         try:
             encoding = self.find(name)
         except UnknownEncoding:
             return False
         if not encoding.is_charmap or encoding.name in self._read:
             return True
-        return encoding.name not in self._refused and charmaps.is_there(repairs.of(encoding.name)[0])
+        return encoding.name not in self._refused and all(map(charmaps.is_there, repairs.files_of(encoding.name)))
 
     def get(self, file: str) -> Charmap:
         """Returns the charmap of that file, which is read once. Raises CharmapRefused."""
@@ -168,8 +168,10 @@ class Library:
             beginning = self.beginning(encoding.name)
             if beginning is not None:
                 return CharmapForm(beginning.charmap, beginning.rest)
-            computed = COMPUTED if self.is_computed(encoding) else None
-            form = CharmapForm(self.get(encoding.name), written=self.written(encoding.name), computed=computed)
+            repaired = repairs.of(encoding.name)[1]
+            faults = repaired.faults if repaired else frozenset()
+            beside = Beside(COMPUTED if self.is_computed(encoding) else None, waiting.pattern_of(encoding), faults)
+            form = CharmapForm(self.get(encoding.name), written=self.written(encoding.name), beside=beside)
             pairs = joined.pairs_of(encoding)
             form.pairs = pairs.written if pairs else {}
             return form

@@ -114,6 +114,18 @@ def spans(body: bytes, escape: bytes) -> List[Tuple[int, int]]:
     return sorted(found)
 
 
+def merged(spans: List[Tuple[int, int]]) -> Iterator[Tuple[int, int]]:
+    """Joins sorted spans that touch: yields the first number of each, and the one after its last."""
+    begin, end = spans[0] if spans else (0, 0)
+    for first, after in spans:
+        if first > end:
+            yield begin, end
+            begin = first
+        end = max(end, after)
+    if spans:
+        yield begin, end
+
+
 def _alike(items: List[bytes]) -> List[List[bytes]]:
     """Returns the items in groups of one length."""
     sizes = set(map(len, items))

@@ -7,7 +7,6 @@ the names that WHATWG, CPython and IANA have. The C library has the same, except
 from __future__ import annotations
 
 import functools
-import os
 import re
 from typing import Dict, FrozenSet, List, NamedTuple, Tuple
 
@@ -42,7 +41,8 @@ _REPLACED = frozenset((REPLACEMENT, "ISO-2022-CN", "ISO-2022-CN-EXT"))
 
 
 class Encoding(NamedTuple):
-    """An encoding: a built-in one, one with escapes or shifts, or a charmap, by the name of its file (see repairs.py)."""
+    """An encoding: a built-in one, one with escapes or shifts, or a charmap. Its name is that of the charmap's file, and after a slash
+    that of its repairs (see repairs.py)."""
 
     is_charmap: bool
     name: str
@@ -64,11 +64,11 @@ def _loose(name: str) -> str:
     return _SEPARATOR.sub("", _BETWEEN_DIGITS.sub("-", name.upper()))
 
 
-def read_table(lines: List[str]) -> Table:
-    """Reads the lines `NAME<TAB>builtin|charmap|shifted|whatwg<TAB>ENCODING`."""
+@functools.lru_cache(maxsize=None)
+def table() -> Table:
+    """Returns the table that was made when the package was built, or only the built-in names if there is none."""
     exact = {name: Encoding(False, name) for name in BUILTIN}
-    for line in lines:
-        name, kind, target = line.rstrip("\n").split("\t")
+    for name, kind, target in read_rows("names.tsv"):
         exact.setdefault(name, Encoding(kind == "charmap", target))
     for target, name, meaning, *_ in read_rows("shifted_composing_encodings.tsv"):
         exact.setdefault(name if meaning == "name" else target, Encoding(False, target))
@@ -97,17 +97,6 @@ def is_replaced(encoding: Encoding) -> bool:
 def is_direct(encoding: Encoding) -> bool:
     """Whether the service converts texts in an encoding as they are, by a descriptor of that encoding."""
     return not is_shifted(encoding) and not is_replaced(encoding)
-
-
-@functools.lru_cache(maxsize=None)
-def table() -> Table:
-    """Returns the table that was made when the package was built, or only the built-in names if there is none."""
-    path = os.path.join(os.path.dirname(os.path.abspath(__file__)), "data", "names.tsv")
-    try:
-        with open(path, encoding="utf-8") as file:
-            return read_table(file.readlines())
-    except FileNotFoundError:
-        return read_table([])
 
 
 @functools.lru_cache(maxsize=1024)

@@ -6,7 +6,8 @@ from types import TracebackType
 from typing import TYPE_CHECKING, Optional, Tuple, Type, Union
 
 from . import marks, text
-from .errors import ConversionError
+from .errors import INCOMPLETE, ConversionError
+from .joined import held_of, number_of
 from .known import Known
 from .names import Encoding, is_replaced
 from .replacement import ReplacementCodec
@@ -30,6 +31,8 @@ class Decoder:
         self._declared = encoding
         self._is_stream = is_stream
         self._codec: Optional[Union[text.TextCodec, SetCodec, ReplacementCodec]] = None
+        # The state of an encoding without one. A number that is set is kept, as by CPython's codecs, and means nothing.
+        self._number = 0
 
     def decode(self, data: bytes, errors: str, final: bool) -> Tuple[str, int]:
         """Returns the text of the first bytes, and how many they are: all but an incomplete character if `final` is false."""
@@ -50,15 +53,25 @@ class Decoder:
             return found.text, found.used + skipped
         return self._client.run(lambda session: codec.decode(session, data, errors, final, skipped))
 
+    def drops_held(self, error: Exception) -> bool:
+        """Whether the bytes of an incomplete character before a piece are dropped after a fault in it, as by CPython's codecs of several
+        bytes. They are kept if the end of the text is the fault."""
+        if not self._declared.is_charmap or not self._client.library.form(self._declared).is_multibyte:
+            return False
+        return not isinstance(error, UnicodeDecodeError) or error.reason != INCOMPLETE
+
     def state(self) -> int:
         """Returns what the mark of the text said, as a number; 0 before the text begins. Of a text of which nothing is read 1 says that the
         fault was reported."""
+        if self._declared.is_charmap:
+            return self._number
         if isinstance(self._codec, ReplacementCodec):
             return int(self._codec.is_told)
         return marks.state_of(self._declared, self._codec.encoding) if self._codec else 0
 
     def set_state(self, state: int) -> None:
         """Goes on after a mark, or a fault, that another decoder read."""
+        self._number = state
         if is_replaced(self._declared):
             self._codec = ReplacementCodec(self._name, self._declared)
             self._codec.is_told = bool(state)
@@ -75,21 +88,14 @@ class Encoder:
         ordered, self._mark = marks.mark_of(encoding)
         self._codec = codec_of(name, ordered, client.library)
         self.is_started = False
-        #: Whether a letter at the end of a piece is held, since a mark may follow.
-        self.has_pairs = isinstance(self._codec, text.TextCodec) and self._codec.pairs is not None
-        self._held = ""
         # The known characters, and their error handler, once the text is started.
         self._known: Optional[Known] = None
         self._known_errors = ""
 
-    def encode(self, characters: str, errors: str) -> bytes:
-        """Returns the bytes of a text. See `finish`."""
+    def encode(self, characters: str, errors: str, is_end: bool = False) -> bytes:
+        """Returns the bytes of the next piece of a text, and what ends the text. See `finish`."""
         codec = self._codec
-        if isinstance(codec, SetCodec):
-            encode_piece = codec.encode_piece
-            output = self._client.run(lambda session: encode_piece(session, characters, errors, False))
-        else:
-            output = self._client.run(lambda session: codec.encode(session, characters, errors))
+        output = self._client.run(lambda session: codec.encode_piece(session, characters, errors, is_end))
         mark = b"" if self.is_started else self._mark
         self.is_started = True
         return mark + output
@@ -97,19 +103,23 @@ class Encoder:
     def finish(self) -> bytes:
         """Returns what ends the text: a character that was held, and the escape or shift back to ASCII, if the encoding has any."""
         codec = self._codec
-        if not isinstance(codec, SetCodec):
-            held, self._held = self._held, ""
-            return self.encode(held, "strict") if held else b""
-        encode_piece = codec.encode_piece
-        return self._client.run(lambda session: encode_piece(session, "", "strict", True))
+        if not isinstance(codec, SetCodec) and not codec.held:
+            return b""
+        return self._client.run(lambda session: codec.encode_piece(session, "", "strict", True))
+
+    @property
+    def number(self) -> int:
+        """The state as the number that CPython's encoder keeps it in: 2 before the mark of UTF-16 or UTF-32, and what is held."""
+        return 2 if self._mark and not self.is_started else number_of(self._codec.held)
+
+    @number.setter
+    def number(self, number: int) -> None:
+        self.is_started = not (self._mark and number)
+        self._codec.held = "" if self._mark else held_of(number)
 
     def encode_piece(self, characters: str, errors: str) -> bytes:
         """Returns the bytes of the next piece of a text. In short pieces each character costs one request in all. So a text file
         that is written line by line, and needs the bytes of each line at once, costs no request for each line."""
-        if isinstance(self._codec, text.TextCodec) and self._codec.pairs is not None:
-            whole = self._held + characters
-            self._held = whole[-1:] if whole and whole[-1] in self._codec.pairs.letters else ""
-            return self.encode(whole[: len(whole) - len(self._held)], errors)
         if self._known is not None and errors == self._known_errors and len(characters) <= _SHORT:
             encoded = self._known.bytes_of(characters)
             if encoded is not None:
@@ -119,7 +129,7 @@ class Encoder:
     def _encode_new(self, characters: str, errors: str) -> bytes:
         """Returns the bytes of a piece that is long, begins the text, or has unknown characters."""
         codec = self._codec
-        if isinstance(codec, SetCodec) or not self.is_started or len(characters) > _SHORT:
+        if isinstance(codec, SetCodec) or codec.pairs or not self.is_started or len(characters) > _SHORT:
             return self.encode(characters, errors)
         known = self._known = codec.known(errors)
         self._known_errors = errors
@@ -151,8 +161,7 @@ class Conversion:
         held = self._held + data
         decoded, used = self._decoder.decode(held, errors, final)
         self._held = held[used:]
-        encode = self._encoder.encode_piece if self._encoder.has_pairs else self._encoder.encode
-        encoded = encode(decoded, errors) if decoded else b""
+        encoded = self._encoder.encode(decoded, errors) if decoded else b""
         return encoded + self._encoder.finish() if final else encoded
 
     def reset(self) -> bytes:

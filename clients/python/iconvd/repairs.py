@@ -8,12 +8,12 @@ names has them as `FILE/ENCODING`.
 from __future__ import annotations
 
 import functools
-import os
 import re
 from encodings import aliases, normalize_encoding
-from typing import Callable, Dict, FrozenSet, List, NamedTuple, Optional, Tuple
+from typing import Callable, Dict, FrozenSet, List, NamedTuple, Optional, Set, Tuple
 
 from .names import Encoding
+from .tables import read_rows
 
 #: The column FOR of the C library's lines.
 _C_LIBRARY = "glibc"
@@ -29,11 +29,20 @@ class Mapping(NamedTuple):
     code: bytes
 
 
+class More(NamedTuple):
+    """The codes of another charmap that an encoding has too: those that begin with some bytes."""
+
+    beginning: bytes
+    file: str
+
+
 class Repairs(NamedTuple):
     """The repairs of one encoding."""
 
     #: Bytes of which the charmap's lines are dropped.
     dropped: FrozenSet[bytes]
+    #: Those of them that are one fault together.
+    faults: FrozenSet[bytes]
     both: List[Mapping]
     read: List[Mapping]
     #: Characters that are only written, by their placeholders.
@@ -42,6 +51,7 @@ class Repairs(NamedTuple):
     meant: Dict[bytes, bytes]
     #: Whether the client computes the characters above U+FFFF; see planes.py.
     is_computed: bool
+    more: List[More]
 
     @property
     def has_two_texts(self) -> bool:
@@ -73,10 +83,14 @@ def _points(text: str, count: int) -> List[int]:
 
 
 def _repairs(rows: List[List[str]]) -> Repairs:
-    found = Repairs(frozenset(), [], [], [], {}, any(row[2] == "computed" for row in rows))
-    dropped = set()
+    found = Repairs(frozenset(), frozenset(), [], [], [], {}, any(row[2] == "computed" for row in rows), [])
+    dropped: Set[bytes] = set()
+    faults: Set[bytes] = set()
     for _, _, kind, code, character, placeholder, _ in rows:
         if kind == "computed":
+            continue
+        if kind == "more":
+            found.more.append(More(bytes.fromhex(code), character))
             continue
         codes = _codes(code)
         if kind == "write":
@@ -84,24 +98,18 @@ def _repairs(rows: List[List[str]]) -> Repairs:
             found.meant[bytes.fromhex(placeholder)] = codes[0]
             continue
         dropped.update(codes)
+        faults.update(codes if kind == "fault" else ())
         to = found.both if kind == "both" else found.read
         to.extend(map(Mapping, _points(character, len(codes)), codes))
-    return found._replace(dropped=frozenset(dropped))
+    return found._replace(dropped=frozenset(dropped), faults=frozenset(faults))
 
 
 @functools.lru_cache(maxsize=None)
 def _table() -> Dict[Tuple[str, str], List[List[str]]]:
     """Returns the lines by the charmap's file and the column FOR."""
-    path = os.path.join(os.path.dirname(os.path.abspath(__file__)), "data", "repairs.tsv")
     rows: Dict[Tuple[str, str], List[List[str]]] = {}
-    try:
-        with open(path, encoding="utf-8") as file:
-            for line in file:
-                if not line.startswith("#"):
-                    row = line.rstrip("\n").split("\t")
-                    rows.setdefault((row[0], row[1]), []).append(row)
-    except FileNotFoundError:
-        pass
+    for row in read_rows("repairs.tsv"):
+        rows.setdefault((row[0], row[1]), []).append(row)
     return rows
 
 
@@ -129,6 +137,12 @@ def of(encoding: str) -> Tuple[str, Optional[Repairs]]:
     file, _, who = encoding.partition(_SLASH)
     rows = _table().get((file, who))
     return file, _cached(file, who) if rows else None
+
+
+def files_of(encoding: str) -> List[str]:
+    """Returns the charmaps' files that an encoding needs."""
+    file, repaired = of(encoding)
+    return [file, *(more.file for more in repaired.more)] if repaired else [file]
 
 
 @functools.lru_cache(maxsize=None)

@@ -6,11 +6,13 @@ They behave as CPython's multibyte codecs, whose states they share: a state of o
 from __future__ import annotations
 
 import codecs
-from typing import Any, Callable, Iterable, List, Optional, Tuple, Type
+from typing import Any, Callable, Iterable, Tuple, Type
 
+from . import joined
 from .client import Client
 from .names import Encoding
 from .set_text import SetCodec
+from .streams import FAULTS, PieceReader, Pieces
 
 #: The lowest byte of an encoder's number is how many bytes of a held character follow it. Then come the marks, without that of G2.
 _NO_G2 = ~(0xFF << 16)
@@ -54,7 +56,7 @@ class _PieceDecoder:
         whole = self.held + piece
         try:
             decoded, used = self._texts.decode(self.codec, whole, errors, is_end)
-        except (UnicodeError, LookupError, TypeError, IndexError):
+        except FAULTS:
             self.held = self.held if self._keeps_end and self.codec.is_cut_at_end else b""
             raise
         self.held = whole[used:]
@@ -83,14 +85,12 @@ class SetIncrementalEncoder(codecs.IncrementalEncoder):
         self._codec.held = ""
 
     def getstate(self) -> int:
-        held = self._codec.held.encode("utf-8")
-        number = self._codec.number & _NO_G2
-        return number << 8 * (1 + len(held)) | int.from_bytes(held, "little") << 8 | len(held)
+        held = joined.number_of(self._codec.held)
+        return (self._codec.number & _NO_G2) << 8 * (1 + (held & 0xFF)) | held
 
     def setstate(self, state: int) -> None:  # type: ignore[override]
-        size = state & 0xFF
-        self._codec.held = (state >> 8 & (1 << 8 * size) - 1).to_bytes(size, "little").decode("utf-8")
-        self._codec.number = state >> 8 * (1 + size)
+        self._codec.held = joined.held_of(state)
+        self._codec.number = state >> 8 * (1 + (state & 0xFF))
 
 
 class SetIncrementalDecoder(codecs.IncrementalDecoder):
@@ -103,7 +103,7 @@ class SetIncrementalDecoder(codecs.IncrementalDecoder):
         self._pieces = _PieceDecoder(self.texts, True)
 
     def decode(self, input: Any, final: bool = False) -> str:
-        return self._pieces.decode(bytes(input), self.errors, final)
+        return self._pieces.decode(bytes(memoryview(input)), self.errors, final)
 
     def reset(self) -> None:
         self._pieces.reset()
@@ -137,37 +137,13 @@ class SetStreamWriter(codecs.StreamWriter):
             self.stream.write(self.texts.encode(self._codec, "", self.errors, True))
 
 
-class SetStreamReader(codecs.StreamReader):
-    """Reads text from a file of bytes. A size counts bytes, as in CPython."""
+class SetStreamReader(PieceReader):
+    """Reads text from a file of bytes."""
 
     texts: _Texts
 
-    def __init__(self, stream: object, errors: str = "strict") -> None:
-        super().__init__(stream, errors)  # type: ignore[arg-type]
-        self._pieces = _PieceDecoder(self.texts, False)
-
-    def _read(self, read: Callable[..., bytes], size: Optional[int]) -> str:
-        size = -1 if size is None else size
-        while True:
-            piece = read() if size < 0 else read(size)
-            is_empty = not piece and not self._pieces.held
-            decoded = self._pieces.decode(piece, self.errors, not piece or size < 0)
-            if decoded or size < 0 or is_empty or not piece:
-                return decoded
-            # One more byte may complete a code.
-            size = 1
-
-    def read(self, size: Optional[int] = None, chars: int = -1, firstline: bool = False) -> str:
-        return self._read(self.stream.read, size)
-
-    def readline(self, size: Optional[int] = None, keepends: bool = True) -> str:
-        return self._read(self.stream.readline, size)  # type: ignore[attr-defined]
-
-    def readlines(self, sizehint: Optional[int] = None, keepends: bool = True) -> List[str]:
-        return self._read(self.stream.read, sizehint).splitlines(keepends)
-
-    def reset(self) -> None:
-        self._pieces.reset()
+    def make_pieces(self) -> Pieces:
+        return _PieceDecoder(self.texts, False)
 
 
 def info(name: str, encoding: Encoding, client: Callable[[], Client]) -> codecs.CodecInfo:
@@ -178,7 +154,7 @@ def info(name: str, encoding: Encoding, client: Callable[[], Client]) -> codecs.
         return texts.encode(texts.codec(), input, errors or "strict", True), len(input)
 
     def decode(input: bytes, errors: str = "strict") -> Tuple[str, int]:
-        raw = bytes(input)
+        raw = bytes(memoryview(input))
         return texts.decode(texts.codec(), raw, errors or "strict", True)[0], len(raw)
 
     def own(kind: Type[Any]) -> Any:

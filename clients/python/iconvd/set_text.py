@@ -10,9 +10,9 @@ import re
 from typing import Dict, List, Optional, Union
 
 from . import steps
-from .coded_sets import CodedSet
+from .coded_sets import CodedSet, slices
 from .cutting import encoded_by, position, text_of
-from .errors import RequestRefused
+from .errors import ILLEGAL, INCOMPLETE, RequestRefused
 from .frames import Status
 from .framing import WINDOW, ByteParts, Framing, State, Stop, TextParts
 from .library import Library
@@ -21,8 +21,6 @@ from .replacement import ReplacementCodec
 from .session import UTF_8, Pair, Session, Steps
 from .text import Decoded, TextCodec
 
-_ILLEGAL = "illegal multibyte sequence"
-_INCOMPLETE = "incomplete multibyte sequence"
 _EIGHT_BITS = re.compile(rb"[\x80-\xff]{1,65536}")
 #: The most characters of a piece whose bytes are kept.
 _SHORT = 1024
@@ -96,7 +94,7 @@ class SetCodec:
             count = len(run[0]) if run else 1
             parts.add("\ufffd" * count if errors == "replace" else "")
             return stop.at + (count if run else stop.size)
-        reason = _INCOMPLETE if stop.is_cut else _ILLEGAL
+        reason = INCOMPLETE if stop.is_cut else ILLEGAL
         error = UnicodeDecodeError(self._error_name, data, stop.at, stop.at + stop.size, reason)
         try:
             replaced, at = text_of(codecs.lookup_error(errors)(error), len(data))
@@ -150,7 +148,7 @@ class SetCodec:
             self._framing.write(state, "?", 0, 1, parts)
         if errors in ("ignore", "replace"):
             return stop.at + 1
-        error = UnicodeEncodeError(self._error_name, text, stop.at, stop.at + 1, _ILLEGAL)
+        error = UnicodeEncodeError(self._error_name, text, stop.at, stop.at + 1, ILLEGAL)
         try:
             replaced, at = encoded_by(codecs.lookup_error(errors)(error))
             if isinstance(replaced, bytes):
@@ -168,7 +166,7 @@ class SetCodec:
         while at < len(text):
             stop = self._framing.write(state, text, at, len(text), parts)
             if stop.size:
-                raise UnicodeEncodeError(self._error_name, text, stop.at, stop.at + 1, _ILLEGAL)
+                raise UnicodeEncodeError(self._error_name, text, stop.at, stop.at + 1, ILLEGAL)
             at = stop.at
 
     def _encoded(self, session: Session, parts: ByteParts) -> Steps[bytes]:
@@ -178,7 +176,7 @@ class SetCodec:
             return parts.filled((yield from self._converted(session, texts)))
         new = {coded: "".join(sorted(set(text) - coded.known.keys())) for coded, text in texts.items()}
         for coded, codes in (yield from self._converted(session, {coded: text for coded, text in new.items() if text})).items():
-            coded.known.update(zip(new[coded], _slices(codes, coded.width)))
+            coded.known.update(zip(new[coded], slices(codes, coded.width)))
         return parts.filled({coded: b"".join(map(coded.known.__getitem__, text)) for coded, text in texts.items()})
 
     @staticmethod
@@ -201,10 +199,6 @@ def codec_of(error_name: str, encoding: Encoding, library: Library, has_faults: 
 def decoder_of(error_name: str, encoding: Encoding, library: Library) -> Union[TextCodec, SetCodec, ReplacementCodec]:
     """Returns what decodes a text in any encoding."""
     return ReplacementCodec(error_name, encoding) if is_replaced(encoding) else codec_of(error_name, encoding, library)
-
-
-def _slices(codes: bytes, width: int) -> List[bytes]:
-    return [codes[at : at + width] for at in range(0, len(codes), width)]
 
 
 def _check(is_as_long: bool) -> None:

@@ -6,6 +6,7 @@ import encodings.aliases
 import os
 import pkgutil
 import re
+import shutil
 import sys
 import tempfile
 import unittest
@@ -37,6 +38,7 @@ def table(is_python: bool = True) -> labels.Table:
 
 
 def reasons() -> Set[str]:
+    """Returns the encodings that are left out with a reason."""
     return {generate.normal(row[0]) for row in generate.read_table(os.path.join(SOURCES, "left_out.tsv"))}
 
 
@@ -62,6 +64,18 @@ class Names(ClientTest):
                 self.assertFalse(iconvd.supports(label.name), label)
         self.assertTrue(iconvd.supports("ISO-IR-9-1"))
         self.assertFalse(iconvd.supports("ISO-IR-91"))
+
+    def test_reasons_of_charmaps(self) -> None:
+        """What is left out for want of a charmap has none, and the service refuses those that it is said to refuse."""
+        files = {name: file for file, own in generate.read_charmaps(generate.CHARMAPS).items() for name in own}
+        for name, reason in generate.read_table(os.path.join(SOURCES, "left_out.tsv")):
+            file = files.get(generate.normal(name))
+            if "no charmap" in reason:
+                self.assertIsNone(file, name)
+            elif reason.startswith("the service refuses"):
+                assert file is not None, name
+                with self.assertRaises(iconvd.CharmapRefused, msg=name):
+                    self.client.upload(file)
 
     def test_all_of_this_cpython(self) -> None:
         """Each codec and alias of this Python, with underscores and with hyphens, is in the table of labels."""
@@ -95,6 +109,11 @@ class Names(ClientTest):
         with tempfile.TemporaryDirectory() as folder, mock.patch.dict(os.environ, {"ICONVD_CHARMAPS": folder}):
             self.assertFalse(self.client.supports("KOI8-R"))
             self.assertTrue(self.client.supports("UTF-8"))
+            shutil.copy(os.path.join(generate.CHARMAPS, "EUC-JISX0213.gz"), folder)
+            # It also has codes of EUC-JP's charmap.
+            self.assertFalse(self.client.supports("euc_jis_2004"))
+            shutil.copy(os.path.join(generate.CHARMAPS, "EUC-JP.gz"), folder)
+            self.assertTrue(self.client.supports("euc_jis_2004"))
         self.assertTrue(self.client.supports("koi8_r"))
 
     def test_charmaps_of_the_program(self) -> None:

@@ -32,15 +32,6 @@ bool composing_has_letter(const struct composing *by, uint32_t character);
 enum { COMPOSING_PARTS = 3 };
 const uint16_t *composing_split(const struct composing *by, uint32_t character);
 
-/* The character at the front of a text in UTF-16BE, and how many bytes it has. */
-uint32_t units_read(const char *units, size_t *width);
-
-/* Appends a character. There is room. */
-void units_append(struct buffer *units, uint32_t character);
-
-/* How many characters a text has. */
-size_t units_count(const char *units, size_t length);
-
 /* composed_read.c */
 
 /* A place of the source. */

@@ -2,9 +2,10 @@
 #include "composed.h"
 
 /* A server reads 65,536 bytes at a time: a request of one read is answered at once. From WORTH_CUTTING on a text goes in PARTS, so that
-   the service converts one while the next is under way; more of them gain nothing. AFTER_STOP is how much is sent at first where a text
-   has stopped at something that is in the way, since there may be more of it. */
-enum { ONE_READ = 65536 - ICONVD_CONV_HEAD, CHUNK = 262144, WORTH_CUTTING = 32768, PARTS = 2, AFTER_STOP = 64 };
+   the service converts one while the next is under way; more of them gain nothing. What is computed here (computed.c) goes in chunks whose
+   output has room in one request. AFTER_STOP is how much is sent at first where a text has stopped at something that is in the way, since
+   there may be more of it. */
+enum { ONE_READ = 65536 - ICONVD_CONV_HEAD, CHUNK = 262144, COMPUTED_CHUNK = 131072, WORTH_CUTTING = 32768, PARTS = 2, AFTER_STOP = 64 };
 
 iconvd_status convert_piece(struct iconvd_cd *cd, struct work *work) {
     return cd->own ? own_convert(cd, work) : pool_convert(cd->pool, &cd->pair, work);
@@ -70,7 +71,8 @@ size_t room_for(const struct iconvd_cd *cd, size_t length, size_t room) {
 
 /* Converts the next piece and moves on by it. Returns whether there is more to do. */
 static bool convert_next(struct iconvd_cd *cd, struct progress *progress, iconvd_status *status) {
-    size_t most = progress->in_left <= 2 * ONE_READ ? ONE_READ : CHUNK;
+    bool is_computed = cd->pair.from->is_computed || cd->pair.to->is_computed;
+    size_t most = progress->in_left <= 2 * ONE_READ ? ONE_READ : is_computed ? COMPUTED_CHUNK : CHUNK;
     most = cd->ahead < most ? cd->ahead : most;
     size_t length = input_for_room(progress->in_left < most ? progress->in_left : most, progress->out_left);
     struct work work = {

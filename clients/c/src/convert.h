@@ -173,4 +173,21 @@ size_t utf8_length(unsigned char first);
 /* The character at the front of a text in UTF-8 that the service wrote, and its length. */
 size_t utf8_read(const char *text, uint32_t *character);
 
+/* units.c: forms of Unicode that are written here, and texts in UTF-16BE, in which a text is between the two sides of a conversion. */
+
+/* Whether an encoding is UTF-8, or UTF-16 or UTF-32 with an order. */
+bool is_unicode(enum builtin form);
+
+/* Writes a character in such a form. Returns how many bytes it has, four at most. */
+size_t character_write(enum builtin form, uint32_t character, char *out);
+
+/* The character at the front of a text in UTF-16BE, and how many bytes it has. */
+uint32_t units_read(const char *units, size_t *width);
+
+/* Appends a character. There is room. */
+void units_append(struct buffer *units, uint32_t character);
+
+/* How many characters a text in UTF-16BE has. */
+size_t units_count(const char *units, size_t length);
+
 #endif

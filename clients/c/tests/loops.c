@@ -41,9 +41,8 @@ static void meter_loop(struct loop *loop) {
     iconvd_cd *cd = NULL;
     struct step step = FIRST;
     uint64_t most = (strcmp(loop->to, "UTF-8") == 0 ? 8 : 16) * ((SMALL + 65535) / 65536);
-    /* Each window is converted twice with shifts, its sets and all of it to the target, and from GB18030 with codes above U+FFFF, which
-       damage makes. */
-    most *= is_shifted(loop->from) || strcmp(loop->from, "GB18030") == 0 ? 2 : 1;
+    /* Each window is converted twice with shifts: its sets, and all of it to the target. */
+    most *= is_shifted(loop->from) ? 2 : 1;
     loop->count = 0;
     check(iconvd_open(pool, loop->to, loop->from, loop->policy, &cd) == ICONVD_OK, "%s to %s", loop->from, loop->to);
     uint64_t bytes = text_bytes_sent, requests = texts_sent;

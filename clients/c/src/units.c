@@ -44,6 +44,22 @@ uint32_t units_read(const char *units, size_t *width) {
     return character;
 }
 
+iconvd_status units_copy(struct work *work) {
+    static const struct fronts FRONTS = {.kind = UTF_16BE};
+    enum front front = WELL_FORMED;
+    size_t at = 0, length;
+    work->used = work->produced = work->replaced = 0;
+    while (at < work->in_length && (front = front_at(&FRONTS, work->in + at, work->in_length - at, &length)) == WELL_FORMED &&
+           length <= work->room - at)
+        at += length;
+    if (at > 0)
+        memcpy(work->out, work->in, at);
+    work->used = work->produced = at;
+    if (at == work->in_length)
+        return ICONVD_OK;
+    return front == WELL_FORMED ? ICONVD_E2BIG : front == FAULTY ? ICONVD_EILSEQ : ICONVD_EINVAL;
+}
+
 void units_append(struct buffer *units, uint32_t character) {
     units->length += character_write(UTF_16BE, character, units->bytes + units->length);
 }

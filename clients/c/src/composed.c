@@ -26,28 +26,18 @@ static void begin_reading(struct piece *piece) {
     piece->reading.characters = 0;
 }
 
-/* Has the service convert the codes of a piece. */
+/* Takes a piece of the source. */
 static iconvd_status take(struct iconvd_cd *cd, struct piece *piece) {
-    struct pair pair = {.to = encoding_builtin(UTF_16BE), .from = cd->from, .strict = true};
     struct composed_reading *reading = &piece->reading;
     reading->by = cd->composed->by;
     reading->ignores = (cd->policy & ICONVD_IGNORE) != 0;
     reading->end = piece->begin.in + piece->length;
     begin_reading(piece);
     iconvd_status status = fronts_of(cd->from, &reading->fronts);
-    if (status != ICONVD_OK || !composed_gather(reading, &piece->codes))
-        return ICONVD_ENOMEM;
+    if (status == ICONVD_OK)
+        status = composed_decode(cd, reading, &piece->codes, &piece->units);
     /* A code may be two characters, and one is held from before. */
-    size_t room = 4 * piece->codes.length;
-    if (!buffer_reserve(&piece->units, room + 1) || !buffer_reserve(&piece->text, room + 8))
-        return ICONVD_ENOMEM;
-    struct work work = {.in = piece->codes.bytes, .in_length = piece->codes.length, .out = piece->units.bytes, .room = room};
-    if (work.in_length > 0)
-        status = pool_convert(cd->pool, &pair, &work);
-    reading->units = piece->units.bytes;
-    if (status == ICONVD_OK || status == ICONVD_ENOMEM)
-        return status;
-    return ICONVD_LOST;
+    return status == ICONVD_OK && !buffer_reserve(&piece->text, 4 * piece->codes.length + 8) ? ICONVD_ENOMEM : status;
 }
 
 /* How many characters are read at most: where there is no step between, the C library looks for room before it looks at a code. */
@@ -63,8 +53,7 @@ static iconvd_status put(struct iconvd_cd *cd, const struct piece *piece, struct
         return ICONVD_OK;
     inner.in = piece->text.bytes;
     inner.in_left = piece->text.length;
-    cd->composed->target->ahead = SIZE_MAX;
-    iconvd_status status = convert_any(cd->composed->target, &inner);
+    iconvd_status status = composed_convert_units(cd->composed->target, &inner);
     *used = piece->text.length - inner.in_left;
     inner.in = progress->in;
     inner.in_left = progress->in_left;
@@ -110,11 +99,21 @@ static iconvd_status convert_one(struct iconvd_cd *cd, struct progress *progress
     return status == ICONVD_OK ? stop : status;
 }
 
-iconvd_status composed_convert(struct iconvd_cd *cd, struct progress *progress) {
+/* Whether a call of a conversion to this target goes on by what is known of the text: the target has no state that a fault may change, and
+   none of WCHAR_T's rules. */
+static bool looks_ahead(const struct iconvd_cd *cd) {
+    const struct composed *composed = cd->composed;
+    return !composed->to_wide && !composed->target->own && (cd->policy == ICONVD_STRICT || cd->policy == ICONVD_TRANSLIT);
+}
+
+/* A call where the source composes. */
+static iconvd_status convert_pieces(struct iconvd_cd *cd, struct progress *progress) {
     struct composed *composed = cd->composed;
     size_t most = composed->stopped ? COMPOSED_AFTER_STOP : input_for_room(COMPOSED_PIECE, progress->out_left);
     iconvd_status status = ICONVD_OK;
     composed->last = (struct composed_place){.in = progress->in, .held = composed->held};
+    if (progress->in_left > 0 && looks_ahead(cd))
+        status = composed_read_ahead(cd, progress);
     while (status == ICONVD_OK && progress->in_left > 0) {
         size_t left = progress->in_left;
         struct piece piece = {.begin = {.in = progress->in, .held = composed->held}, .length = left < most ? left : most};
@@ -125,7 +124,13 @@ iconvd_status composed_convert(struct iconvd_cd *cd, struct progress *progress) 
             status = ICONVD_OK;
         most = COMPOSED_PIECE;
     }
-    composed->stopped = status == ICONVD_ENOCHAR || status == ICONVD_EILSEQ;
+    return status;
+}
+
+iconvd_status composed_convert(struct iconvd_cd *cd, struct progress *progress) {
+    iconvd_status status = cd->composed->source ? composed_write(cd, progress) : convert_pieces(cd, progress);
+    cd->composed->stopped = status == ICONVD_ENOCHAR || status == ICONVD_EILSEQ;
+    cd->composed->faulty = status == ICONVD_EILSEQ;
     return status;
 }
 

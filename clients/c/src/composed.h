@@ -8,8 +8,8 @@
 
 #include "convert.h"
 
-/* COMPOSES_ONCE: a character that was composed takes no other mark; COMPOSES_MORE: it may. COMPOSES_PAIRS: the charmap has codes of a letter and a mark, for which
-   characters stand that no text has. */
+/* COMPOSES_ONCE: a character that was composed takes no other mark; COMPOSES_MORE: it may. COMPOSES_PAIRS: the charmap has codes of a letter
+   and a mark, for which characters stand that no text has. */
 enum composing_kind { COMPOSES_ONCE, COMPOSES_MORE, COMPOSES_PAIRS };
 
 struct composing {
@@ -32,15 +32,6 @@ bool composing_has_letter(const struct composing *by, uint32_t character);
 enum { COMPOSING_PARTS = 3 };
 const uint16_t *composing_split(const struct composing *by, uint32_t character);
 
-/* The character at the front of a text in UTF-16BE, and how many bytes it has. */
-uint32_t units_read(const char *units, size_t *width);
-
-/* Appends a character. There is room. */
-void units_append(struct buffer *units, uint32_t character);
-
-/* How many characters a text has. */
-size_t units_count(const char *units, size_t length);
-
 /* composed_read.c */
 
 /* A place of the source. */
@@ -55,6 +46,7 @@ struct composed_reading {
     const struct composing *by;
     struct fronts fronts;
     bool ignores;               /* goes on after faults */
+    bool marks_faults;          /* the same, and gives COMPOSED_FAULT for each */
     const char *end;
     const char *units;          /* the characters of the well-formed codes, in UTF-16BE */
     size_t characters;          /* that were given out */
@@ -62,12 +54,46 @@ struct composed_reading {
     struct composed_place last; /* after the last one that was given out */
 };
 
-/* Copies the well-formed codes up to what ends the text. False: out of memory. */
-bool composed_gather(const struct composed_reading *reading, struct buffer *codes);
+/* A surrogate alone, which stands for a fault in a text of UTF-16BE. */
+enum { COMPOSED_FAULT = 0xdc00 };
+
+/* What is at the front of the source. The C library waits for the second byte of a code whatever the first one is. */
+enum front composed_front(const struct composed_reading *reading, const char *at, size_t *length);
+
+/* Has the service convert the well-formed codes up to what ends the text, and lets the reading have them. Both buffers are empty. ENOMEM,
+   LOST. */
+iconvd_status composed_decode(struct iconvd_cd *cd, struct composed_reading *reading, struct buffer *codes, struct buffer *units);
 
 /* Reads until `most` characters were given out. OK: that, or all is used. EILSEQ, EINVAL. Without `text` they are dropped; else there is
    room for all. */
 iconvd_status composed_read(struct composed_reading *reading, size_t most, struct buffer *text);
+
+/* composed_prepare.c: characters in UTF-16BE on their way to a target that composes. */
+
+struct preparing {
+    const struct composing *by;
+    const char *units;
+    size_t length;
+    size_t at;     /* how much of these was prepared */
+    size_t given;  /* bytes of what the target is given */
+    uint32_t held; /* a letter that was prepared, and not given */
+};
+
+/* Prepares characters until the target is given `most` bytes, and none that would be more. Without `text` they are dropped; else there is
+   room for all. */
+void composed_prepare(struct preparing *preparing, size_t most, struct buffer *text);
+
+/* What the target is given for all of them. */
+struct prepared {
+    const char *text;
+    size_t length;
+    size_t beyond;        /* how much is known of the text after them, which begins with a fault; 0: nothing */
+    struct preparing end; /* after all of them */
+};
+
+/* Brings this to the target, and moves `preparing`, which is at its beginning, on by what was written or is held. OK: all is. */
+iconvd_status composed_put(struct iconvd_cd *cd, const struct prepared *prepared, struct progress *progress,
+                           struct preparing *preparing);
 
 /* The conversions. */
 
@@ -76,19 +102,33 @@ struct composed {
     uint32_t held;                /* see composed_place; of a target: the letter that was not written yet */
     bool to_wide;                 /* the target is WCHAR_T, which the C library converts to without a step between */
     bool stopped;                 /* the last call stopped at what is in the way: there may be more of it */
+    bool faulty;                  /* that was a fault of the source */
     struct iconvd_cd *source;     /* to UTF-16BE, where the target composes; else NULL */
     struct iconvd_cd *target;     /* from UTF-16BE */
+    struct composed_read_ahead *read_ahead;   /* what follows a fault; NULL: none was met */
+    struct composed_write_ahead *write_ahead; /* the same, where the target composes */
     struct composed_place last;   /* where this call was after the last character that was given out */
     uint32_t lacking;             /* the character that has stopped the last call */
     size_t replaced;              /* characters for which the last reset has written others */
 };
 
-/* composed.c: where the source composes. */
+/* composed.c: a call. */
 iconvd_status composed_convert(struct iconvd_cd *cd, struct progress *progress);
 void composed_describe(struct iconvd_cd *cd, const struct progress *progress, iconvd_stop *stop);
 
-/* composed_write.c: where the target does. */
-iconvd_status decomposed_convert(struct iconvd_cd *cd, struct progress *progress);
+/* A call where the target composes (composed_write.c). */
+iconvd_status composed_write(struct iconvd_cd *cd, struct progress *progress);
+
+/* Has the target convert a text in UTF-16BE. Whether it lacks characters is looked at here if the policy says what to do then, so that
+   nothing is sent twice. */
+iconvd_status composed_convert_units(struct iconvd_cd *target, struct progress *progress);
+
+/* composed_read_ahead.c and composed_write_ahead.c: a call after one that has stopped at a fault. OK: nothing is known of the text, and it
+   goes on by pieces. */
+iconvd_status composed_read_ahead(struct iconvd_cd *cd, struct progress *progress);
+iconvd_status composed_write_ahead(struct iconvd_cd *cd, struct progress *progress);
+void composed_read_ahead_end(struct composed *composed);
+void composed_write_ahead_end(struct composed *composed);
 
 /* composed_open.c */
 
@@ -100,5 +140,8 @@ void composed_end(struct iconvd_cd *cd);
 
 /* How much of the source is taken at once. AFTER_STOP is how much is taken first where a text has just stopped. */
 enum { COMPOSED_PIECE = 65536 - ICONVD_CONV_HEAD, COMPOSED_AFTER_STOP = 256 };
+
+/* How far a call looks after a fault at first and at most, and how many bytes may decide what is at a place. */
+enum { COMPOSED_LEAST_AHEAD = 1024, COMPOSED_MOST_AHEAD = 65536, COMPOSED_CODE = 8 };
 
 #endif

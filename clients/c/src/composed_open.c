@@ -42,6 +42,7 @@ static iconvd_status open_writing(struct iconvd_cd *cd) {
     if (status == ICONVD_OK) {
         cd->composed->source->policy = cd->policy & ICONVD_IGNORE;
         cd->composed->source->from_wide = cd->from_wide;
+        cd->composed->source->is_copy = cd->from->kind == UTF_16BE;
     }
     return status;
 }
@@ -80,13 +81,17 @@ iconvd_status composed_reset(struct iconvd_cd *cd, char **out, size_t *out_left)
     if (status != ICONVD_OK)
         return status;
     composed->held = 0;
-    composed->stopped = false;
+    composed->stopped = composed->faulty = false;
+    composed_read_ahead_end(composed);
+    composed_write_ahead_end(composed);
     return iconvd_reset(composed->target, out, out_left);
 }
 
 void composed_end(struct iconvd_cd *cd) {
     if (!cd->composed)
         return;
+    composed_read_ahead_end(cd->composed);
+    composed_write_ahead_end(cd->composed);
     iconvd_close(cd->composed->source);
     iconvd_close(cd->composed->target);
     free(cd->composed);

@@ -1,28 +1,40 @@
 /* Reads texts in an encoding that composes, step by step as the C library does. */
 #include "composed.h"
 
-/* What is at the front of the source. The C library waits for the second byte of a code whatever the first one is. */
-static enum front front_of(const struct composed_reading *reading, const char *at, size_t *length) {
+enum front composed_front(const struct composed_reading *reading, const char *at, size_t *length) {
     size_t left = (size_t)(reading->end - at);
     unsigned char first = (unsigned char)*at;
     bool waits = reading->by->kind == COMPOSES_PAIRS && left == 1 && first > 0x80 && first < 0xff;
     return waits ? CUT_OFF : front_at(&reading->fronts, at, left, length);
 }
 
-bool composed_gather(const struct composed_reading *reading, struct buffer *codes) {
+/* Copies the well-formed codes up to what ends the text. False: out of memory. */
+static bool gather(const struct composed_reading *reading, struct buffer *codes) {
     size_t length;
     if (!buffer_reserve(codes, (size_t)(reading->end - reading->now.in) + 1))
         return false;
     for (const char *at = reading->now.in; at < reading->end; at += length) {
-        enum front front = front_of(reading, at, &length);
+        enum front front = composed_front(reading, at, &length);
         if (front == WELL_FORMED)
             buffer_append(codes, at, length);
-        else if (front == CUT_OFF || !reading->ignores)
+        else if (front == CUT_OFF || !(reading->ignores || reading->marks_faults))
             return true;
         else
             length = 1;
     }
     return true;
+}
+
+iconvd_status composed_decode(struct iconvd_cd *cd, struct composed_reading *reading, struct buffer *codes, struct buffer *units) {
+    struct pair pair = {.to = encoding_builtin(UTF_16BE), .from = cd->from, .strict = true};
+    /* A code may be two characters. */
+    if (!gather(reading, codes) || !buffer_reserve(units, 4 * codes->length + 1))
+        return ICONVD_ENOMEM;
+    struct work work = {.in = codes->bytes, .in_length = codes->length, .out = units->bytes, .room = 4 * codes->length};
+    iconvd_status status = work.in_length > 0 ? pool_convert(cd->pool, &pair, &work) : ICONVD_OK;
+    units->length = work.produced;
+    reading->units = units->bytes;
+    return status == ICONVD_OK || status == ICONVD_ENOMEM ? status : ICONVD_LOST;
 }
 
 static void give(struct composed_reading *reading, uint32_t character, struct buffer *text) {
@@ -88,10 +100,12 @@ static iconvd_status read_one(struct composed_reading *reading, size_t most, str
         reading->now.held = 0;
         return ICONVD_OK;
     }
-    enum front front = front_of(reading, reading->now.in, &length);
+    enum front front = composed_front(reading, reading->now.in, &length);
     if (front == CUT_OFF)
         return ICONVD_EINVAL;
-    if (front == FAULTY && !reading->ignores)
+    if (front == FAULTY && reading->marks_faults && text)
+        units_append(text, COMPOSED_FAULT);
+    else if (front == FAULTY && !reading->ignores)
         return ICONVD_EILSEQ;
     if (front == FAULTY) {
         reading->now.in++;

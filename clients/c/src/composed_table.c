@@ -1,4 +1,4 @@
-/* The table of encodings that compose, and characters of UTF-16BE. */
+/* The table of encodings that compose. */
 #include "composed.h"
 
 struct composition {
@@ -65,30 +65,4 @@ const uint16_t *composing_split(const struct composing *by, uint32_t character) 
             high = middle;
     }
     return low < by->writes && rows[low].character == character ? rows[low].parts : NULL;
-}
-
-uint32_t units_read(const char *units, size_t *width) {
-    static const struct fronts FRONTS = {.kind = UTF_16BE};
-    uint32_t character;
-    *width = ((unsigned char)*units & 0xfc) == 0xd8 ? 4 : 2;
-    front_character(&FRONTS, units, *width, &character);
-    return character;
-}
-
-static void append_unit(struct buffer *units, uint32_t unit) {
-    units->bytes[units->length++] = (char)(unit >> 8);
-    units->bytes[units->length++] = (char)unit;
-}
-
-void units_append(struct buffer *units, uint32_t character) {
-    if (character > 0xffff)
-        append_unit(units, 0xd7c0 + (character >> 10));
-    append_unit(units, character > 0xffff ? 0xdc00 | (character & 0x3ff) : character);
-}
-
-size_t units_count(const char *units, size_t length) {
-    size_t count = 0;
-    for (size_t at = 0; at < length; at += 2)
-        count += ((unsigned char)units[at] & 0xfc) != 0xdc;
-    return count;
 }

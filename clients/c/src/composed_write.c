@@ -14,19 +14,6 @@ struct piece {
     struct buffer text;       /* what the target is given */
 };
 
-/* How far the characters of a piece were prepared for the target. */
-struct preparing {
-    const struct composing *by;
-    const char *units;
-    size_t length;
-    size_t at;
-    size_t given;  /* bytes of what the target is given */
-    uint32_t held;
-};
-
-/* A character that no encoding has: what a text has of those that stand for pairs. */
-enum { NONE = 0xfdef };
-
 /* Takes the source's part of a piece. */
 static iconvd_status take(struct iconvd_cd *cd, const struct progress *progress, struct piece *piece) {
     struct iconvd_cd *source = cd->composed->source;
@@ -41,100 +28,6 @@ static iconvd_status take(struct iconvd_cd *cd, const struct progress *progress,
     /* A character may become three, and one is held from before. */
     bool has_memory = buffer_reserve(&piece->text, COMPOSING_PARTS * piece->units.length + 8);
     return has_memory && piece->status != ICONVD_ENOMEM ? ICONVD_OK : ICONVD_ENOMEM;
-}
-
-static void give(struct preparing *preparing, uint32_t character, struct buffer *text) {
-    preparing->given += character > 0xffff ? 4 : 2;
-    if (text)
-        units_append(text, character);
-}
-
-/* The next character, of an encoding whose codes are pairs. */
-static void prepare_pair(struct preparing *preparing, uint32_t character, size_t width, struct buffer *text) {
-    uint32_t held = preparing->held, joined = held ? composing_join(preparing->by, held, character) : 0;
-    preparing->held = 0;
-    if (held && !joined) {
-        give(preparing, held, text);
-        return;
-    }
-    preparing->at += width;
-    if (joined)
-        give(preparing, joined, text);
-    else if (composing_has_letter(preparing->by, character))
-        preparing->held = character;
-    else
-        give(preparing, composing_split(preparing->by, character) ? NONE : character, text);
-}
-
-/* Prepares characters until the target is given `most` bytes, and none that would be more. */
-static void prepare(struct preparing *preparing, size_t most, struct buffer *text) {
-    while (preparing->at < preparing->length && preparing->given < most) {
-        size_t width;
-        uint32_t character = units_read(preparing->units + preparing->at, &width);
-        if (preparing->by->kind == COMPOSES_PAIRS) {
-            prepare_pair(preparing, character, width, text);
-            continue;
-        }
-        const uint16_t *parts = composing_split(preparing->by, character);
-        size_t length;
-        for (length = parts ? 0 : width; parts && parts[length / 2]; length += 2)
-            ;
-        if (preparing->given + length > most)
-            return;
-        for (size_t i = 0; parts && parts[i]; i++)
-            give(preparing, parts[i], text);
-        if (!parts)
-            give(preparing, character, text);
-        preparing->at += width;
-    }
-}
-
-/* Brings the text to the target. Returns how far the piece is used, and what is held then. */
-static iconvd_status put(struct iconvd_cd *cd, struct piece *piece, struct progress *progress, struct preparing *preparing) {
-    struct composed *composed = cd->composed;
-    struct progress inner = *progress;
-    const struct preparing begin = *preparing;
-    prepare(preparing, SIZE_MAX, &piece->text);
-    inner.in = piece->text.bytes;
-    inner.in_left = piece->text.length;
-    composed->target->ahead = SIZE_MAX;
-    iconvd_status status = piece->text.length > 0 ? convert_any(composed->target, &inner) : ICONVD_OK;
-    size_t used = piece->text.length - inner.in_left, width;
-    if (status == ICONVD_ENOCHAR)
-        composed->lacking = units_read(piece->text.bytes + used, &width);
-    inner.in = progress->in;
-    inner.in_left = progress->in_left;
-    *progress = inner;
-    if (used == piece->text.length && status == ICONVD_OK)
-        return ICONVD_OK;
-    *preparing = begin;
-    prepare(preparing, used, NULL);
-    /* A part of a character is not written: each part is a byte. */
-    size_t over = (used - preparing->given) / 2;
-    progress->out -= over;
-    progress->out_left += over;
-    return status;
-}
-
-/* A letter is held where there is any room at all. */
-static iconvd_status hold(const struct progress *progress, struct preparing *preparing, iconvd_status status) {
-    bool has_room = progress->out_left > 0;
-    if (preparing->by->kind != COMPOSES_PAIRS)
-        return status;
-    if (status == ICONVD_OK && preparing->held && preparing->at > 0 && !has_room) {
-        preparing->held = 0;
-        preparing->at -= 2;
-        return ICONVD_E2BIG;
-    }
-    if (status == ICONVD_E2BIG && has_room && !preparing->held && preparing->at < preparing->length) {
-        size_t width;
-        uint32_t character = units_read(preparing->units + preparing->at, &width);
-        if (composing_has_letter(preparing->by, character)) {
-            preparing->held = character;
-            preparing->at += width;
-        }
-    }
-    return status;
 }
 
 /* Goes back to where the source was after the characters that the target has used. */
@@ -162,6 +55,15 @@ static void move_on(struct iconvd_cd *cd, struct progress *progress, const struc
     move_to(progress, &now);
 }
 
+/* Brings a piece that was taken to the target. */
+static iconvd_status put(struct iconvd_cd *cd, struct piece *piece, struct progress *progress, struct preparing *preparing) {
+    struct prepared prepared = {.end = *preparing};
+    composed_prepare(&prepared.end, SIZE_MAX, &piece->text);
+    prepared.text = piece->text.bytes;
+    prepared.length = piece->text.length;
+    return composed_put(cd, &prepared, progress, preparing);
+}
+
 /* Converts one piece. OK: there may be more. */
 static iconvd_status convert_one(struct iconvd_cd *cd, struct progress *progress, struct piece *piece) {
     struct composed *composed = cd->composed;
@@ -172,7 +74,6 @@ static iconvd_status convert_one(struct iconvd_cd *cd, struct progress *progress
     struct preparing preparing = {
         .by = composed->by, .units = piece->units.bytes, .length = piece->units.length, .held = composed->held};
     status = put(cd, piece, progress, &preparing);
-    status = hold(progress, &preparing, status);
     if (status != ICONVD_OK && preparing.at == 0) {
         composed->held = preparing.held;
         *composed->source = piece->source;
@@ -203,12 +104,14 @@ static iconvd_status settle_wide(struct iconvd_cd *cd, struct progress *progress
     return held == ICONVD_OK ? status : held;
 }
 
-iconvd_status decomposed_convert(struct iconvd_cd *cd, struct progress *progress) {
+iconvd_status composed_write(struct iconvd_cd *cd, struct progress *progress) {
     struct composed *composed = cd->composed;
     size_t most = composed->stopped ? COMPOSED_AFTER_STOP : input_for_room(COMPOSED_PIECE, progress->out_left);
     iconvd_status status = mark_read(composed->source, progress);
     const struct progress before = *progress;
     composed->last = (struct composed_place){.in = progress->in};
+    if (status == ICONVD_OK && progress->in_left > 0 && (cd->policy == ICONVD_STRICT || cd->policy == ICONVD_TRANSLIT))
+        status = composed_write_ahead(cd, progress);
     while (status == ICONVD_OK && progress->in_left > 0) {
         size_t left = progress->in_left;
         struct piece piece = {.length = left < most ? left : most};
@@ -220,8 +123,5 @@ iconvd_status decomposed_convert(struct iconvd_cd *cd, struct progress *progress
             status = ICONVD_OK;
         most = COMPOSED_PIECE;
     }
-    if (cd->from_wide && before.in_left > 0)
-        status = settle_wide(cd, progress, status);
-    composed->stopped = status == ICONVD_ENOCHAR || status == ICONVD_EILSEQ;
-    return status;
+    return cd->from_wide && before.in_left > 0 ? settle_wide(cd, progress, status) : status;
 }

@@ -2,11 +2,13 @@
 #include "composed.h"
 
 /* A server reads 65,536 bytes at a time: a request of one read is answered at once. From WORTH_CUTTING on a text goes in PARTS, so that
-   the service converts one while the next is under way; more of them gain nothing. AFTER_STOP is how much is sent at first where a text
-   has stopped at something that is in the way, since there may be more of it. */
-enum { ONE_READ = 65536 - ICONVD_CONV_HEAD, CHUNK = 262144, WORTH_CUTTING = 32768, PARTS = 2, AFTER_STOP = 64 };
+   the service converts one while the next is under way; more of them gain nothing. What is computed here (computed.c) goes in chunks whose
+   output has room in one request. */
+enum { ONE_READ = 65536 - ICONVD_CONV_HEAD, CHUNK = 262144, COMPUTED_CHUNK = 131072, WORTH_CUTTING = 32768, PARTS = 2 };
 
 iconvd_status convert_piece(struct iconvd_cd *cd, struct work *work) {
+    if (cd->is_copy)
+        return units_copy(work);
     return cd->own ? own_convert(cd, work) : pool_convert(cd->pool, &cd->pair, work);
 }
 
@@ -29,7 +31,7 @@ static size_t cut_into_batch(const struct iconvd_cd *cd, const struct progress *
     const char *in = progress->in;
     batch->number = 0;
     /* A piece to GB18030 may need more than its own request. */
-    bool alone = cd->own || cd->pair.to->is_computed;
+    bool alone = cd->own || cd->is_copy || cd->pair.to->is_computed;
     while (!alone && in_left > 0 && batch->number < most) {
         size_t length = in_left > piece ? cut_length(cd->pair.from, in, piece) : in_left;
         size_t room = most_output(&cd->pair, length);
@@ -70,7 +72,8 @@ size_t room_for(const struct iconvd_cd *cd, size_t length, size_t room) {
 
 /* Converts the next piece and moves on by it. Returns whether there is more to do. */
 static bool convert_next(struct iconvd_cd *cd, struct progress *progress, iconvd_status *status) {
-    size_t most = progress->in_left <= 2 * ONE_READ ? ONE_READ : CHUNK;
+    bool is_computed = cd->pair.from->is_computed || cd->pair.to->is_computed;
+    size_t most = progress->in_left <= 2 * ONE_READ ? ONE_READ : is_computed ? COMPUTED_CHUNK : CHUNK;
     most = cd->ahead < most ? cd->ahead : most;
     size_t length = input_for_room(progress->in_left < most ? progress->in_left : most, progress->out_left);
     struct work work = {
@@ -105,10 +108,10 @@ static bool stops_at_faults(const struct iconvd_cd *cd) {
 
 /* The same, with the C library's reasons. */
 static iconvd_status convert_direct(struct iconvd_cd *cd, struct progress *progress) {
-    bool foreseen = cd->ahead == AFTER_STOP && stops_at_faults(cd) && foresight_answer(cd, progress);
+    bool foreseen = cd->ahead == AHEAD_AFTER_STOP && stops_at_faults(cd) && foresight_answer(cd, progress);
     iconvd_status status = foreseen ? ICONVD_EILSEQ : convert_until_stop(cd, progress);
     if (status == ICONVD_ENOCHAR || status == ICONVD_EILSEQ)
-        cd->ahead = AFTER_STOP;
+        cd->ahead = AHEAD_AFTER_STOP;
     /* It looks for room before it looks at the character. */
     if (status == ICONVD_ENOCHAR && progress->out_left == 0)
         return ICONVD_E2BIG;
@@ -189,7 +192,7 @@ iconvd_status convert_any(struct iconvd_cd *cd, struct progress *progress) {
     if (cd->is_replacement)
         return replacement_convert(cd, progress);
     if (cd->composed)
-        return cd->composed->source ? decomposed_convert(cd, progress) : composed_convert(cd, progress);
+        return composed_convert(cd, progress);
     return cd->shifted ? shifted_convert(cd, progress) : convert_part(cd, progress);
 }
 

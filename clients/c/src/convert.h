@@ -16,6 +16,7 @@ struct iconvd_cd {
     bool from_wide;      /* the source is WCHAR_T, which the C library converts without a step between */
     bool is_replacement; /* the source is WHATWG's `replacement` (replacement.c) */
     bool fault_told;     /* the fault of such a text has been reported */
+    bool is_copy;        /* from UTF-16BE to itself, behind another conversion: it is done here */
     struct own *own;     /* with UTF-7 on either side: a descriptor of its own; otherwise NULL */
     struct shifted *shifted; /* with shifts on either side; otherwise NULL */
     struct composed *composed;   /* with an encoding that composes on one side: composed.h; else NULL */
@@ -62,6 +63,9 @@ static inline void progress_back(struct progress *progress) {
     progress->skipped -= progress->loose_faults;
     progress->loose = progress->loose_faults = 0;
 }
+
+/* The `ahead` of a conversion whose text has stopped at something that is in the way, since there may be more of it. */
+enum { AHEAD_AFTER_STOP = 64 };
 
 /* What iconvd_convert() does, on a progress. */
 iconvd_status convert_text(struct iconvd_cd *cd, struct progress *progress);
@@ -164,6 +168,9 @@ bool front_character(const struct fronts *fronts, const char *text, size_t lengt
 
 /* characters.c */
 
+/* How many bytes the units have that UTF-16 and UTF-32 are made of; 1 for all others. */
+size_t unit_length(enum builtin kind);
+
 /* How many bytes to skip where the source has bytes that are no character. */
 size_t faulty_length(enum builtin from, const char *in, size_t length);
 
@@ -180,5 +187,25 @@ size_t utf8_length(unsigned char first);
 
 /* The character at the front of a text in UTF-8 that the service wrote, and its length. */
 size_t utf8_read(const char *text, uint32_t *character);
+
+/* units.c: forms of Unicode that are written here, and texts in UTF-16BE, in which a text is between the two sides of a conversion. */
+
+/* Whether an encoding is UTF-8, or UTF-16 or UTF-32 with an order. */
+bool is_unicode(enum builtin form);
+
+/* Writes a character in such a form. Returns how many bytes it has, four at most. */
+size_t character_write(enum builtin form, uint32_t character, char *out);
+
+/* The character at the front of a text in UTF-16BE, and how many bytes it has. */
+uint32_t units_read(const char *units, size_t *width);
+
+/* Copies the characters at the front of a text in UTF-16BE, as a conversion does. */
+iconvd_status units_copy(struct work *work);
+
+/* Appends a character. There is room. */
+void units_append(struct buffer *units, uint32_t character);
+
+/* How many characters a text in UTF-16BE has. */
+size_t units_count(const char *units, size_t length);
 
 #endif

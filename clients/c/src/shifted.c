@@ -59,20 +59,12 @@ static iconvd_status take_plain(struct iconvd_cd *cd, const struct progress *pro
     return piece->status == ICONVD_ENOMEM ? ICONVD_ENOMEM : ICONVD_OK;
 }
 
-/* How many characters a text has. */
-static size_t count_characters(const char *units, size_t length) {
-    size_t count = 0;
-    for (size_t at = 0; at < length; at += 2)
-        count += ((unsigned char)units[at] & 0xfc) != 0xdc;
-    return count;
-}
-
 /* Goes back to where the source was after the characters that the target has used. */
 static iconvd_status go_back(struct iconvd_cd *cd, const struct progress *progress, struct piece *piece, size_t used) {
     struct iconvd_cd *inner = &cd->shifted->inner;
     if (cd->shifted->from) {
         piece->reading = begin_reading(cd, progress, piece->length);
-        return shift_read(&piece->reading, count_characters(piece->units.bytes, used), NULL);
+        return shift_read(&piece->reading, units_count(piece->units.bytes, used), NULL);
     }
     *inner = piece->inner;
     inner->ahead = SIZE_MAX;
@@ -140,23 +132,16 @@ static iconvd_status put_plain(struct iconvd_cd *cd, const struct piece *piece, 
     return status;
 }
 
-/* Notes the character that the target lacks. */
-static void note_lacking(struct shifted *shifted, const struct piece *piece, size_t used) {
-    const struct fronts fronts = {.kind = UTF_16BE};
-    const char *at = piece->units.bytes + used;
-    front_character(&fronts, at, ((unsigned char)*at & 0xfc) == 0xd8 ? 4 : 2, &shifted->lacking);
-}
-
 /* Brings a piece that was taken to the target, and moves on by what was done of it. */
 static iconvd_status put_piece(struct iconvd_cd *cd, struct progress *progress, struct piece *piece) {
     struct progress before = *progress;
     struct shift_state writing = cd->shifted->writing;
-    size_t used = 0;
+    size_t used = 0, width;
     iconvd_status status = ICONVD_OK;
     if (piece->units.length > 0)
         status = cd->shifted->to ? put_shifted(cd, piece, progress, &used) : put_plain(cd, piece, progress, &used);
     if (status == ICONVD_ENOCHAR)
-        note_lacking(cd->shifted, piece, used);
+        cd->shifted->lacking = units_read(piece->units.bytes + used, &width);
     if (used == 0 && status != ICONVD_OK) {
         move_back(cd, progress, piece);
         return status;

@@ -15,16 +15,6 @@ struct shift_ahead {
     size_t window;
 };
 
-static void write_utf8(struct buffer *text, uint32_t character) {
-    unsigned char *out = (unsigned char *)text->bytes + text->length;
-    size_t length = character < 0x80 ? 1 : character < 0x800 ? 2 : character < 0x10000 ? 3 : 4;
-    static const unsigned char FIRST[] = {0, 0, 0xc0, 0xe0, 0xf0};
-    for (size_t i = length; i > 1; i--, character >>= 6)
-        out[i - 1] = (unsigned char)(0x80 | (character & 0x3f));
-    out[0] = (unsigned char)(FIRST[length] | character);
-    text->length += length;
-}
-
 /* The text from UTF-16BE, where a surrogate alone is a fault. */
 static bool write_text(struct buffer *text, const struct buffer *units) {
     static const struct fronts FRONTS = {.kind = UTF_16BE};
@@ -38,7 +28,7 @@ static bool write_text(struct buffer *text, const struct buffer *units) {
             continue;
         }
         front_character(&FRONTS, units->bytes + at, width, &character);
-        write_utf8(text, character);
+        text->length += character_write(UTF_8, character, text->bytes + text->length);
     }
     return true;
 }

@@ -70,15 +70,9 @@ static void add(struct planning *planning, enum planned_kind kind, unsigned char
     shift_written(planning->shifter, &planning->state, set, character);
     if (planning->shifter->group_of[set] == DIRECT)
         return;
-    unsigned char units[4];
-    uint32_t high = 0xd800 + ((character - 0x10000) >> 10), low = 0xdc00 | (character & 0x3ff);
-    bool wide = character >= 0x10000;
-    uint32_t first = wide ? high : character;
-    units[0] = (unsigned char)(first >> 8);
-    units[1] = (unsigned char)first;
-    units[2] = (unsigned char)(low >> 8);
-    units[3] = (unsigned char)low;
-    planning->memory &= buffer_append(&plan->units[planning->shifter->group_of[set]], (const char *)units, wide ? 4 : 2);
+    char units[4];
+    size_t length = character_write(UTF_16BE, character, units);
+    planning->memory &= buffer_append(&plan->units[planning->shifter->group_of[set]], units, length);
 }
 
 /* Whether each character of a candidate can be written. */
@@ -155,12 +149,9 @@ iconvd_status shift_plan(struct iconvd_cd *cd, struct shift_plan *plan, const st
     const struct shifter *shifter = cd->shifted->to;
     struct planning planning = {
         .cd = cd, .shifter = shifter, .state = cd->shifted->writing, .plan = plan, .memory = true};
-    const struct fronts fronts = {.kind = UTF_16BE};
     bool more = true;
     for (size_t at = 0, width; more && planning.memory && at < text->length; at += width) {
-        uint32_t character;
-        width = ((unsigned char)text->bytes[at] & 0xfc) == 0xd8 ? 4 : 2;
-        front_character(&fronts, text->bytes + at, width, &character);
+        uint32_t character = units_read(text->bytes + at, &width);
         more = plan_next(&planning, character, width);
     }
     iconvd_status status = planning.memory ? ICONVD_OK : ICONVD_ENOMEM;

@@ -38,7 +38,8 @@ static size_t make_text(const char *name, uint64_t *state, char *text) {
     iconv_t cd = theirs.open(name, "UTF-32LE");
     char *out = text;
     size_t out_left = TEXT;
-    unsigned wanted_length = 1 + next_random(state) % 24;
+    bool is_long = next_random(state) % 16 == 0;
+    unsigned wanted_length = 1 + next_random(state) % (is_long ? 300 : 24);
     for (unsigned i = 0; i < 8 * wanted_length && (size_t)(out - text) < wanted_length; i++) {
         uint32_t character = random_character(state);
         char *in = (char *)&character;
@@ -50,7 +51,7 @@ static size_t make_text(const char *name, uint64_t *state, char *text) {
     theirs.convert(cd, NULL, NULL, &out, &out_left);
     theirs.close(cd);
     bool is_damaged = next_random(state) % 3 == 0;
-    for (unsigned times = 1 + next_random(state) % 3; is_damaged && times > 0 && out > text; times--) {
+    for (unsigned times = 1 + next_random(state) % (is_long ? 60 : 3); is_damaged && times > 0 && out > text; times--) {
         size_t at = next_random(state) % (size_t)(out - text);
         /* Values that Unicode has not are a difference of every conversion. */
         bool is_wide = strcmp(name, "WCHAR_T") == 0 || strcmp(name, "UTF-32BE") == 0;
@@ -86,36 +87,37 @@ static bool is_equal(const struct result *one, const struct result *other) {
 }
 
 /* One call of both. */
-static bool compare_call(const iconv_t cds[2], const char *names, const char *in, size_t length, size_t room, size_t *used) {
-    static struct result mine, other;
-    call(&ours, cds[0], in, length, room, &mine);
+static bool compare_call(const iconv_t cds[2], const char *names, const char *in, size_t length, size_t room, struct result *mine) {
+    static struct result other;
+    call(&ours, cds[0], in, length, room, mine);
     call(&theirs, cds[1], in, length, room, &other);
     calls++;
-    *used = mine.used;
-    return check(is_equal(&mine, &other),
+    return check(is_equal(mine, &other),
                  "%s, %s%zu bytes at %02x %02x %02x, room %zu: value %zd errno %d used %zu wrote %zu, glibc %zd %d %zu %zu",
                  names, in ? "" : "reset, ", length, in ? in[0] & 255 : 0, in && length > 1 ? in[1] & 255 : 0,
-                 in && length > 2 ? in[2] & 255 : 0, room, (ssize_t)mine.value, mine.error, mine.used, mine.produced,
+                 in && length > 2 ? in[2] & 255 : 0, room, (ssize_t)mine->value, mine->error, mine->used, mine->produced,
                  (ssize_t)other.value, other.error, other.used, other.produced);
 }
 
-/* A whole text through both, in pieces. */
+/* A whole text through both, in pieces. The caller goes on a unit after each fault, or sometimes. */
 static void compare_text(const iconv_t cds[2], const char *names, const char *text, size_t length, uint64_t *state) {
-    size_t done = 0, used;
+    static struct result mine;
+    size_t done = 0;
+    bool is_loop = next_random(state) % 2;
     size_t unit = strncmp(names, "WCHAR_T", 7) == 0 || strncmp(names, "UTF-32", 6) == 0 ? 4 : 1;
-    for (unsigned steps = 0; done < length && steps < 60; steps++) {
+    for (unsigned steps = 0; done < length && steps < 120; steps++) {
         bool is_small = next_random(state) % 3 > 0;
         size_t room = next_random(state) % (is_small ? 9 : 200);
         size_t part = next_random(state) % 2 ? length - done : 1 + next_random(state) % (length - done);
         bool resets = next_random(state) % 8 == 0;
-        if (!compare_call(cds, names, resets ? NULL : text + done, resets ? 0 : part, room, &used))
+        if (!compare_call(cds, names, resets ? NULL : text + done, resets ? 0 : part, room, &mine))
             return;
-        done += used;
-        bool steps_over = !resets && used == 0 && next_random(state) % 3 == 0;
-        done += steps_over ? unit : 0;
+        done += mine.used;
+        bool steps_over = is_loop ? mine.error == EILSEQ : mine.used == 0 && next_random(state) % 3 == 0;
+        done += !resets && steps_over ? unit : 0;
     }
-    compare_call(cds, names, NULL, 0, next_random(state) % 6, &used);
-    compare_call(cds, names, NULL, 0, 20, &used);
+    compare_call(cds, names, NULL, 0, next_random(state) % 6, &mine);
+    compare_call(cds, names, NULL, 0, 20, &mine);
 }
 
 static void compare_pair(uint64_t *state) {

@@ -165,8 +165,11 @@ static enum kind classify_room(const struct step *step, const struct result *min
     call_alone(&theirs, step, step->in + other->used, mine->used - other->used, OUT, &more);
     if (more.produced != 0 || more.used != mine->used - other->used)
         return UNKNOWN;
-    call_alone(&theirs, step, step->in + mine->used, step->length - mine->used, OUT, &more);
-    bool same = mine->error == E2BIG ? more.produced > room : more.error == mine->error && more.used == 0;
+    /* If that is all, it says what was left out; else what follows says why it stops. */
+    if (mine->used < step->length)
+        call_alone(&theirs, step, step->in + mine->used, step->length - mine->used, OUT, &more);
+    bool stays = mine->used == step->length || more.used == 0;
+    bool same = mine->error == E2BIG ? more.produced > room : more.error == mine->error && stays;
     bool is_wide = strcmp(step->to, "WCHAR_T") == 0 || (strcmp(step->from, "WCHAR_T") == 0 && strcmp(step->to, "UCS-4") == 0);
     if (same && is_wide && room < 4)
         return NO_ROOM;

@@ -91,6 +91,29 @@ static void test_text(const struct text *text, int to, size_t piece, unsigned mo
     iconvd_disconnect(pool);
 }
 
+/* A long text that has few characters above U+FFFF: by each policy, from GB18030 and to it. */
+static void test_long(iconvd_pool *pool) {
+    static const char *const ROWS[][3] = {{"UTF-8", "GB18030", "\x90\x30\x81\x30"}, {"UTF-16LE", "GB18030", "\x90\x30\x81\x30"},
+                                          {"KOI8-R", "GB18030", "\x90\x30\x81\x30"}, {"GB18030", "UTF-8", "\xf0\x90\x80\x80"},
+                                          {"GB18030", "KOI8-R", "abcd"}};
+    static char text[600000], out_bytes[ROOM];
+    for (size_t i = 0; i < 2 * sizeof ROWS / sizeof *ROWS; i++) {
+        iconvd_cd *cd = NULL;
+        const char *const *row = ROWS[i / 2], *in = text;
+        char *out = out_bytes;
+        size_t left = sizeof text, room = ROOM;
+        bool stops = i % 2 == 0 && strcmp(row[0], "KOI8-R") == 0;
+        memset(text, 'a', sizeof text);
+        memcpy(text + 262000, row[2], 4);
+        iconvd_status status = iconvd_open(pool, row[0], row[1], i % 2 ? ICONVD_SUBSTITUTE : ICONVD_STRICT, &cd);
+        if (status == ICONVD_OK)
+            status = iconvd_convert(cd, &in, &left, &out, &room, NULL);
+        check(stops ? status == ICONVD_ENOCHAR && left == sizeof text - 262000 : status == ICONVD_OK && left == 0,
+              "%s to %s, %s: status %d, %zu bytes left", row[1], row[0], i % 2 ? "by substitutes" : "strict", (int)status, left);
+        iconvd_close(cd);
+    }
+}
+
 /* A fault is where it is, and a character that is cut is cut. */
 static void test_faults(void) {
     static const struct {
@@ -128,5 +151,8 @@ int main(void) {
         test_text(&planes, to, ROOM, to ? 2 : 1);
     }
     test_faults();
+    iconvd_pool *pool = connect_pool();
+    test_long(pool);
+    iconvd_disconnect(pool);
     return checks_end("large");
 }

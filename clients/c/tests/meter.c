@@ -125,7 +125,7 @@ static void test_encoding(const char *name) {
     }
 }
 
-/* Texts to an encoding with shifts, from others and from such ones. */
+/* Texts to an encoding with shifts, or that composes, from others and from one with shifts. */
 static void test_writing(const char *name) {
     static const char *const FROM[] = {"UTF-8", "EUC-JP", "WCHAR_T", "ISO-2022-JP-2"};
     static const enum text KINDS[] = {RANDOM, DAMAGED, SHIFTS, LACKING};
@@ -154,6 +154,18 @@ static void test_shifted(void) {
             test_large_text(encoding->name, "UTF-8", kind, ICONVD_IGNORE);
             test_large_text(encoding->name, "KOI8-R", kind, ICONVD_IGNORE | ICONVD_TRANSLIT);
         }
+    }
+}
+
+/* Texts to encodings that compose. */
+static void test_composing(void) {
+    static const char *const TO[] = {"CP1255", "CP1258", "TCVN", "BIG5-HKSCS"};
+    for (size_t i = 0; i < sizeof TO / sizeof *TO; i++) {
+        connect_anew("meter");
+        test_writing(TO[i]);
+        test_large_text("UTF-8", TO[i], LACKING, ICONVD_IGNORE | ICONVD_TRANSLIT);
+        test_large_text(TO[i], "KOI8-R", DAMAGED, ICONVD_IGNORE);
+        test_large_text(TO[i], TO[(i + 1) % 4], RANDOM, ICONVD_IGNORE);
     }
 }
 
@@ -187,11 +199,12 @@ int main(void) {
     test_rooms();
     double rooms = seconds();
     test_shifted();
+    test_composing();
     double shifted = seconds();
     for (int number = 0; number < BUILTIN_COUNT + (int)charmap_count() || encoding_shifted((size_t)number - BUILTIN_COUNT - charmap_count());
          number++)
         test_number(number);
-    printf("meter: %.1f s large texts, %.1f s rooms, %.1f s shifts, %.1f s the %lu names\n", large - begin, rooms - large, shifted - rooms,
+    printf("meter: %.1f s large texts, %.1f s rooms, %.1f s shifts and compositions, %.1f s the %lu names\n", large - begin, rooms - large, shifted - rooms,
            seconds() - shifted, names);
     iconvd_disconnect(pool);
     unlink(where + 5);

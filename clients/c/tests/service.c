@@ -272,20 +272,25 @@ static void test_names(void) {
     check(falls_back() == (cd != (iconv_t)-1), "a name that the C library alone has");
     if (cd != (iconv_t)-1)
         ours.close(cd);
-    /* Two charmaps that no caller number has room for together. */
-    errno = 0;
     cd = ours.open("EUC-TW", "GB18030");
-    check(falls_back() ? cd != (iconv_t)-1 : errno == EMFILE, "EUC-TW from GB18030: %s", strerror(errno));
-    if (cd != (iconv_t)-1)
-        ours.close(cd);
+    check(cd != (iconv_t)-1 && ours.close(cd) == 0, "the two largest charmaps");
     cd = ours.open("L1", "L1");
     check(cd != (iconv_t)-1 && ours.close(cd) == 0, "what iconv -l opens");
     test_whatwg_name();
 }
 
+/* Two charmaps that no caller number has room for together. Their folder is in ICONVD_CHARMAPS. */
+static void test_quota(void) {
+    errno = 0;
+    iconv_t cd = ours.open("KOI8-U", "KOI8-R");
+    check(falls_back() ? cd != (iconv_t)-1 : errno == EMFILE, "two charmaps of 140,000 mappings: %s", strerror(errno));
+    if (cd != (iconv_t)-1)
+        ours.close(cd);
+}
+
 static const struct test TESTS[] = {
     {"many", test_many}, {"million", test_million}, {"restart", test_restart}, {"stopped", test_stopped}, {"names", test_names},
-    {"forking", test_forking}, {"back", test_back},
+    {"forking", test_forking}, {"back", test_back}, {"quota", test_quota},
 };
 
 int main(int count, char **words) {

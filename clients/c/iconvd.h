@@ -229,8 +229,9 @@ enum {
 
 /* Opens a conversion. Names are those of iconv_open(), and those of WHATWG's Encoding standard, CPython and IANA: case does not matter,
    the empty name is the locale's encoding, and //TRANSLIT and //IGNORE after `to` are added to the policy. UNSUPPORTED: a name is
-   unknown, or its charmap cannot be read, which is logged. BADPOLICY: the policy has other bits, or SUBSTITUTE with others; nothing was
-   sent. Also LOST, ENOMEM and QUOTA. */
+   unknown, or its charmap cannot be read, which is logged; or the source is UTF-7, and the policy IGNORE or TRANSLIT, or the target has
+   shifts or composes; or the source has shifts, and the target composes. BADPOLICY: the policy has other bits, or SUBSTITUTE with others;
+   nothing was sent. Also LOST, ENOMEM and QUOTA. */
 ICONVD_API iconvd_status iconvd_open(iconvd_pool *pool, const char *to, const char *from, int policy, iconvd_cd **cd);
 
 /* Why a conversion stopped, and what it has changed. */
@@ -261,8 +262,8 @@ ICONVD_API void iconvd_close(iconvd_cd *cd);
    service has not seen yet may still be refused, or be more than fits. */
 ICONVD_API int iconvd_supports(iconvd_pool *pool, const char *name);
 
-/* The names that iconvd_open() knows, one for each number from 0 on, sorted; NULL after the last. A name of other letters and digits is
-   none; what separates them does not matter, except between two digits. */
+/* The names that iconvd_open() knows, one for each number from 0 on, sorted; NULL after the last. A name that has the letters and digits
+   of one of them, and where two digits are apart, is known too: koi8_r is KOI8-R. */
 ICONVD_API const char *iconvd_name(size_t number);
 
 #ifdef __cplusplus

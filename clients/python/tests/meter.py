@@ -67,7 +67,7 @@ def every_form() -> List[str]:
 
 
 def every_encoding() -> List[str]:
-    """Returns a name of each encoding that the client knows."""
+    """Returns a name of each encoding that the client knows, but those of which nothing is read."""
     named = {encoding: name for name, encoding in reversed(list(names.table().exact.items()))}
     named.update((Encoding(False, name), name) for name in names.BUILTIN)
-    return sorted(named.values())
+    return sorted(name for encoding, name in named.items() if not names.is_replaced(encoding))

@@ -238,9 +238,10 @@ ICONVD_API iconvd_status iconvd_open(iconvd_pool *pool, const char *to, const ch
 typedef struct iconvd_stop {
     iconvd_status status;
     uint32_t character; /* ENOCHAR: the character that the target lacks */
-    size_t length;      /* ENOCHAR, EILSEQ: how many bytes of the input to skip in order to go on */
+    size_t length;      /* ENOCHAR, EILSEQ: how many bytes of the input to skip in order to go on. From WHATWG's `replacement`, of
+                           which nothing is read, it is all of them, once for a text */
     size_t replaced;    /* characters for which others were written */
-    size_t skipped;     /* characters and ill-formed bytes that IGNORE left out */
+    size_t skipped;     /* what IGNORE left out: characters and ill-formed sequences, each counted once */
 } iconvd_stop;
 
 /* Converts from `*in`, `*in_left` bytes, to `*out`, `*out_left` bytes of room, and moves all four on, as iconv() does. Returns OK

@@ -67,6 +67,9 @@ PAIRS = (
     ("GB18030", "UTF-16"),
     ("ISO-2022-JP-2", "EUC-KR"),
     ("EUC-JP", "CP50221"),
+    ("EUC-JIS-2004", "BIG5-HKSCS"),
+    ("UTF-8", "SHIFT_JISX0213"),
+    ("SHIFT_JIS-2004", "UTF-16"),
 )
 
 
@@ -122,6 +125,8 @@ class Cost(unittest.TestCase):
         for source, target in PAIRS:
             for end in (source, target):
                 use_each_set(self.client, end)
+            # The charmaps of encodings with codes of two characters are needed from and to UTF-8.
+            self.client.encode(self.client.decode(b"a\0", source, "replace"), target, "replace")
             for kind, data in texts(self.client, source):
                 self.client.convert(b"", to=target, source=source)
                 label = (source, target, kind)

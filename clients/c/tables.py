@@ -15,7 +15,7 @@ import sys
 
 REPAIRS = os.path.join(os.path.dirname(os.path.abspath(__file__)), '..', 'names', 'repairs.tsv')
 # The order of enum builtin in names.h.
-BUILTINS = ['US-ASCII', 'ISO-8859-1', 'UTF-8', 'UTF-16', 'UTF-16BE', 'UTF-16LE', 'UTF-32', 'UTF-32BE', 'UTF-32LE', 'UTF-7']
+BUILTINS = ['US-ASCII', 'ISO-8859-1', 'UTF-8', 'UTF-16', 'UTF-16BE', 'UTF-16LE', 'UTF-32', 'UTF-32BE', 'UTF-32LE', 'UTF-7', 'REPLACEMENT']
 
 
 def rows(path: str) -> list[list[str]]:
@@ -65,11 +65,11 @@ def names_header(table: list[list[str]]) -> str:
     charmaps = sorted({target for _, kind, target in table if kind == 'charmap'})
     shifted = sorted({target for _, kind, target in table if kind == 'shifted'})
     targets = BUILTINS + charmaps + shifted
-    begins = {'builtin': 0, 'charmap': len(BUILTINS), 'shifted': len(BUILTINS + charmaps)}
+    begins = {'builtin': 0, 'whatwg': 0, 'charmap': len(BUILTINS), 'shifted': len(BUILTINS + charmaps)}
     names = []
     for name, kind, target in sorted(table, key=lambda row: row[0].encode()):
         number = targets.index(target, begins[kind])
-        names.append('    {%d, %d},' % (strings.place(name.encode()), number))
+        names.append('    {%d, %d, %d},' % (strings.place(name.encode()), number, kind == 'whatwg'))
     # An encoding that repairs.tsv makes from the charmap of another one has its own name after the file's.
     files = ['    {%d, %d},' % (strings.place(target.split('/')[0].encode()), strings.place(target.split('/')[-1].encode())) for target in charmaps]
     ordered = sorted((row[0] for row in table), key=str.encode)

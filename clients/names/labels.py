@@ -17,8 +17,14 @@ PYTHON_OWN = {
     'SHIFT_JISX0213': ('charmap', 'SHIFT_JISX0213/shift_jisx0213'),
     'SHIFT_JIS-2004': ('charmap', 'SHIFT_JISX0213/shift_jis_2004'),
 }
+#: WHATWG's encoding of which nothing is read.
+REPLACEMENT = 'REPLACEMENT'
+#: Names that the C library has for encodings that the service lacks, and what WHATWG's standard reads them as.
+WHATWG = {'ISO-2022-CN-EXT': REPLACEMENT, 'UCS-2': 'UTF-16LE', 'UNICODE': 'UTF-16'}
+#: Encodings that the Python package has not: it reads them as WHATWG's standard does, and does not write them.
+PYTHON_REPLACED = ('ISO-2022-CN', 'ISO-2022-CN-EXT')
 #: Encodings that only the C library has, as glibc: CPython has none of the kind.
-C_ALONE = {'ISO-2022-CN', 'TCVN5712-1'}
+C_ALONE = {'TCVN5712-1'}
 
 Table = dict[str, tuple[str, str]]
 
@@ -43,8 +49,13 @@ def read(path: str = LABELS) -> Iterator[Label]:
 def add(table: Table, normal: Callable[[str], str], is_python: bool) -> None:
     """Adds the labels of the encodings that a table has. A name that the table has keeps its meaning, unless the Python package reads it
     as CPython does."""
+    table[REPLACEMENT] = ('builtin', REPLACEMENT)
+    table.update((name, ('whatwg', target)) for name, target in WHATWG.items())
     if is_python:
         table.update(PYTHON_OWN)
+        replaced = {name: target for name, (_, target) in table.items() if target in PYTHON_REPLACED}
+        table.update((name, ('whatwg', target)) for name, target in replaced.items())
+        table.update((name, ('whatwg', name)) for name in PYTHON_REPLACED)
     known = dict(table)
     for label in read():
         target = known.get(normal(label.encoding))
@@ -65,7 +76,6 @@ def left_out(table: Table, normal: Callable[[str], str], reasons: set[str]) -> l
         label
         for label in read()
         if label.source != 'python'
-        and label.encoding not in C_ALONE
         and normal(label.name) not in table
         and normal(label.encoding) not in reasons
     ]

@@ -162,17 +162,15 @@ iconvd_status next_character(struct iconvd_cd *cd, const struct progress *progre
 /* Says why the conversion stopped. The lacking character is asked for; where the service has gone meanwhile it stays unknown. */
 static void describe(struct iconvd_cd *cd, const struct progress *progress, iconvd_status status, iconvd_stop *stop) {
     *stop = (iconvd_stop){.status = status, .replaced = progress->replaced, .skipped = progress->skipped};
-    if (cd->composed) {
+    if (cd->is_replacement)
+        stop->length = status == ICONVD_EILSEQ ? progress->in_left : 0;
+    else if (cd->composed)
         composed_describe(cd, progress, stop);
-        return;
-    }
-    if (cd->shifted) {
+    else if (cd->shifted)
         shifted_describe(cd, progress, stop);
-        return;
-    }
-    if (status == ICONVD_EILSEQ)
+    else if (status == ICONVD_EILSEQ)
         stop->length = faulty_length(cd->pair.from->kind, progress->in, progress->in_left);
-    if (status == ICONVD_ENOCHAR && next_character(cd, progress, &stop->character, &stop->length) != ICONVD_OK)
+    else if (status == ICONVD_ENOCHAR && next_character(cd, progress, &stop->character, &stop->length) != ICONVD_OK)
         stop->character = 0;
 }
 
@@ -188,6 +186,8 @@ iconvd_status convert_part(struct iconvd_cd *cd, struct progress *progress) {
 }
 
 iconvd_status convert_any(struct iconvd_cd *cd, struct progress *progress) {
+    if (cd->is_replacement)
+        return replacement_convert(cd, progress);
     if (cd->composed)
         return cd->composed->source ? decomposed_convert(cd, progress) : composed_convert(cd, progress);
     return cd->shifted ? shifted_convert(cd, progress) : convert_part(cd, progress);
@@ -227,7 +227,7 @@ static iconvd_status find_encodings(struct iconvd_cd *cd, const char *to, const 
     iconvd_status status = pool_find(cd->pool, target.name, &cd->to);
     if (status == ICONVD_OK)
         status = pool_find(cd->pool, source.name, &cd->from);
-    return status;
+    return status == ICONVD_OK ? replacement_begin(cd, target.name) : status;
 }
 
 iconvd_status open_pair(struct iconvd_cd *cd) {
@@ -270,6 +270,7 @@ iconvd_status iconvd_open(iconvd_pool *pool, const char *to, const char *from, i
 }
 
 iconvd_status iconvd_reset(iconvd_cd *cd, char **out, size_t *out_left) {
+    cd->fault_told = false;
     if (cd->composed)
         return composed_reset(cd, out, out_left);
     if (cd->shifted)

@@ -14,6 +14,8 @@ struct iconvd_cd {
     bool mark_written;   /* to UTF-16 and UTF-32 */
     bool order_known;    /* from UTF-16 and UTF-32 */
     bool from_wide;      /* the source is WCHAR_T, which the C library converts without a step between */
+    bool is_replacement; /* the source is WHATWG's `replacement` (replacement.c) */
+    bool fault_told;     /* the fault of such a text has been reported */
     struct own *own;     /* with UTF-7 on either side: a descriptor of its own; otherwise NULL */
     struct shifted *shifted; /* with shifts on either side; otherwise NULL */
     struct composed *composed;   /* with an encoding that composes on one side: composed.h; else NULL */
@@ -118,6 +120,12 @@ iconvd_status shifted_convert(struct iconvd_cd *cd, struct progress *progress);
 iconvd_status shifted_reset(struct iconvd_cd *cd, char **out, size_t *out_left);
 void shifted_describe(struct iconvd_cd *cd, const struct progress *progress, iconvd_stop *stop);
 void shifted_end(struct iconvd_cd *cd);
+
+/* replacement.c: WHATWG's `replacement`. A text in it is one fault, and what is written to it is UTF-8. */
+
+/* Puts UTF-8 in its place. UNSUPPORTED: `target` is the name of an encoding that is only read so. */
+iconvd_status replacement_begin(struct iconvd_cd *cd, const char *target);
+iconvd_status replacement_convert(struct iconvd_cd *cd, struct progress *progress);
 
 /* own.c: conversions that have a state in the service. */
 struct own;

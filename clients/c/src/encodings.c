@@ -7,7 +7,7 @@ static struct encoding BUILTINS[BUILTIN_COUNT] = {
     {.kind = US_ASCII, .name = "US-ASCII"}, {.kind = ISO_8859_1, .name = "ISO-8859-1"}, {.kind = UTF_8, .name = "UTF-8"},
     {.kind = UTF_16, .name = "UTF-16"},     {.kind = UTF_16BE, .name = "UTF-16BE"},     {.kind = UTF_16LE, .name = "UTF-16LE"},
     {.kind = UTF_32, .name = "UTF-32"},     {.kind = UTF_32BE, .name = "UTF-32BE"},     {.kind = UTF_32LE, .name = "UTF-32LE"},
-    {.kind = UTF_7, .name = "UTF-7"},
+    {.kind = UTF_7, .name = "UTF-7"},       {.kind = REPLACEMENT, .name = "REPLACEMENT"},
 };
 
 struct encoding *encoding_builtin(enum builtin builtin) {

@@ -10,7 +10,8 @@
 
 struct name_row {
     uint16_t string; /* its place in NAME_STRINGS */
-    uint16_t number;
+    uint16_t number : 15;
+    uint16_t is_whatwg : 1; /* name_is_whatwg() */
 };
 
 /* The places of a charmap's file and of its name. */
@@ -26,6 +27,7 @@ enum { NAME_COUNT = sizeof NAME_ROWS / sizeof *NAME_ROWS, LOOSE_COUNT = sizeof L
 const char *builtin_name(enum builtin builtin) {
     static const char NAMES[BUILTIN_COUNT][12] = {
         "US-ASCII", "ISO-8859-1", "UTF-8", "UTF-16", "UTF-16BE", "UTF-16LE", "UTF-32", "UTF-32BE", "UTF-32LE", "UTF-7",
+        "REPLACEMENT",
     };
     return NAMES[builtin];
 }
@@ -95,14 +97,20 @@ static size_t search(const char *name, size_t count, comparing *compare) {
     return count;
 }
 
-int name_find(const char *name) {
+/* The row of a name; NULL for none. */
+static const struct name_row *find_row(const char *name) {
     char loose[NAME_ROOM];
     size_t row = search(name, NAME_COUNT, compare_exactly);
     if (row < NAME_COUNT)
-        return NAME_ROWS[row].number;
+        return &NAME_ROWS[row];
     loosen(loose, name);
     row = search(loose, LOOSE_COUNT, compare_loosely);
-    return row < LOOSE_COUNT ? NAME_ROWS[LOOSE_ROWS[row]].number : -1;
+    return row < LOOSE_COUNT ? &NAME_ROWS[LOOSE_ROWS[row]] : NULL;
+}
+
+int name_find(const char *name) {
+    const struct name_row *row = find_row(name);
+    return row ? row->number : -1;
 }
 
 /* Letters and digits of ASCII whatever the locale is. */
@@ -159,6 +167,12 @@ static bool normalize(char name[NAME_ROOM], const char *text) {
     name[length] = 0;
     trim(name);
     return true;
+}
+
+bool name_is_whatwg(const char *written) {
+    struct parsed_name parsed;
+    const struct name_row *row = name_parse(&parsed, written) ? find_row(parsed.name) : NULL;
+    return row && row->is_whatwg;
 }
 
 bool name_parse(struct parsed_name *parsed, const char *written) {

@@ -44,6 +44,8 @@ static iconvd_status handle_open(struct handle *handle, const char *to, const ch
     iconvd_status status = ICONVD_LOST;
     if (is_listing(to, from))
         handle->real = set->libc.open(to, from);
+    else if (set->falls_back && (name_is_whatwg(to) || name_is_whatwg(from)))
+        status = ICONVD_UNSUPPORTED;
     else if (set->pool)
         status = iconvd_open(set->pool, to, from, ICONVD_STRICT, &handle->cd);
     if (handle->cd || handle->real != (iconv_t)-1)

@@ -120,7 +120,7 @@ static const struct name NAMES[] = {
     {"KS_C_5601_1987", 1}, {"koi8_r", 1},      {"iso-ir-9-1", 1},  {"csISOLatin9", 1},   {"unicodefffe", 1},     {"L9", 1},
     {"iso2022_jp", 1},   {"HZ", 1},            {"hz-gb-2312", 1},  {"csJISEncoding", 1},  {"iso_2022_kr", 1},    {"windows-50221", 1},
     {"iso-ir-91", 0},    {"NOPE", 0},          {"-", 0},           {"8", 0},             {"utf", 1},             {"UTF-8-SIG", 0},
-    {"x-user-defined", 1}, {"replacement", 0}, {"rot13", 0},       {"cp720", 0},         {"../../etc/passwd", 0}, {"UCS-2", 0},
+    {"x-user-defined", 1}, {"replacement", 1}, {"rot13", 0},       {"cp720", 1},         {"../../etc/passwd", 0}, {"UCS-2BE", 0},
 };
 
 static void test_name(iconvd_pool *pool, const struct name *name) {

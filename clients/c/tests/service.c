@@ -250,6 +250,17 @@ static void test_forking(void) {
     stop_relay(relay);
 }
 
+/* What the standard of WHATWG reads otherwise than the C library is left to that: UCS-2 has no surrogates there. */
+static void test_whatwg_name(void) {
+    char text[] = "\x3d\xd8\x00\xde", room[8], *in = text, *out = room;
+    size_t in_left = 4, out_left = sizeof room;
+    iconv_t cd = ours.open("UTF-8", "UCS-2");
+    check(cd != (iconv_t)-1, "UCS-2 is not opened");
+    size_t result = ours.convert(cd, &in, &in_left, &out, &out_left);
+    check(falls_back() ? result == (size_t)-1 : result == 0 && out_left == sizeof room - 4, "a surrogate of UCS-2: %zu", result);
+    ours.close(cd);
+}
+
 static void test_names(void) {
     errno = 0;
     check(ours.open("NOPE", "UTF-8") == (iconv_t)-1 && errno == EINVAL, "a name that nobody has");
@@ -269,6 +280,7 @@ static void test_names(void) {
         ours.close(cd);
     cd = ours.open("L1", "L1");
     check(cd != (iconv_t)-1 && ours.close(cd) == 0, "what iconv -l opens");
+    test_whatwg_name();
 }
 
 static const struct test TESTS[] = {

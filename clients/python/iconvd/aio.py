@@ -15,10 +15,10 @@ from .conversion import WholeConversion
 from .errors import ServerLost, TimedOut
 from .frames import Reply, ReplyReader, Request, Status
 from .library import Library
-from .names import is_shifted
+from .names import is_direct
 from .order import ends
 from .session import UTF_8, Pair, Session, Steps
-from .set_text import codec_of
+from .set_text import codec_of, decoder_of
 from .tries import Tries, again, concerns_all
 
 T = TypeVar("T")
@@ -199,15 +199,15 @@ class AsyncClient:
     async def decode(self, data: bytes, source: str, errors: str = "strict") -> str:
         """Decodes bytes as `bytes.decode` does."""
         origin, begin = marks.without_mark(self.library.find(source), data)
-        codec = codec_of(source, origin, self.library)
-        pair = None if is_shifted(origin) else Pair(UTF_8, origin)
+        codec = decoder_of(source, origin, self.library)
+        pair = Pair(UTF_8, origin) if is_direct(origin) else None
         return (await self._run(pair, lambda session: codec.decode(session, data, errors, True, begin))).text
 
     async def encode(self, characters: str, target: str, errors: str = "strict") -> bytes:
         """Encodes a text as `str.encode` does."""
         ordered, mark = marks.mark_of(self.library.find(target))
         codec = codec_of(target, ordered, self.library)
-        pair = None if is_shifted(ordered) else Pair(ordered, UTF_8)
+        pair = Pair(ordered, UTF_8) if is_direct(ordered) else None
         return mark + await self._run(pair, lambda session: codec.encode(session, characters, errors)) + codec.finish()
 
     async def upload(self, charmap: Union[bytes, str]) -> Charmap:

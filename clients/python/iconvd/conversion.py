@@ -9,10 +9,10 @@ from .frames import Status
 from .joined import pairs_of
 from .library import Library
 from .marks import mark_of, without_mark
-from .names import is_shifted
+from .names import is_direct
 from .order import Ends
 from .session import UTF_8, Pair, Session, Steps
-from .set_text import codec_of
+from .set_text import codec_of, decoder_of
 from .text import TextCodec
 
 
@@ -31,13 +31,13 @@ class WholeConversion:
     @property
     def _is_by_text(self) -> bool:
         """Whether the service can't convert from the one encoding to the other, but only from and to UTF-8."""
-        return any(is_shifted(end) or pairs_of(end) for end in self._pair)
+        return any(not is_direct(end) or pairs_of(end) for end in self._pair)
 
     @property
     def first_pair(self) -> Optional[Pair]:
         """The pair whose descriptor is needed first. The sets of encodings with escapes or shifts have pairs of their own."""
-        if is_shifted(self._origin):
-            return None if is_shifted(self._target) else Pair(self._target, UTF_8)
+        if not is_direct(self._origin):
+            return Pair(self._target, UTF_8) if is_direct(self._target) else None
         return Pair(UTF_8, self._origin) if self._is_by_text else self._pair
 
     def run(self, session: Session) -> Steps[bytes]:
@@ -53,7 +53,7 @@ class WholeConversion:
 
     def _by_text(self, session: Session) -> Steps[bytes]:
         """Converts by decoding and encoding."""
-        decoder = codec_of(self._ends.source, self._origin, self._library)
+        decoder = decoder_of(self._ends.source, self._origin, self._library)
         encoder = codec_of(self._ends.to, self._target, self._library)
         decoded = yield from decoder.decode(session, self._data, self._ends.errors, True, self._begin)
         encoded = yield from encoder.encode(session, decoded.text, self._ends.errors)

@@ -6,7 +6,8 @@ import codecs
 import sys
 from typing import Dict, NamedTuple, Tuple
 
-from .names import UTF_8_SIG, Encoding
+from .errors import UnknownEncoding
+from .names import REPLACEMENT, UTF_8_SIG, Encoding, is_replaced
 
 _ENDS = ("LE", "BE") if sys.byteorder == "little" else ("BE", "LE")
 
@@ -45,7 +46,12 @@ def without_mark(encoding: Encoding, data: bytes) -> Tuple[Encoding, int]:
 
 
 def mark_of(encoding: Encoding) -> Tuple[Encoding, bytes]:
-    """Returns the encoding of what follows the mark, and the mark that is written."""
+    """Returns the encoding of what follows the mark, and the mark that is written. Raises UnknownEncoding for an encoding that is only
+    read."""
+    if is_replaced(encoding):
+        if encoding.name != REPLACEMENT:
+            raise UnknownEncoding(encoding.name)
+        return Encoding(False, "UTF-8"), b""
     marked = _MARKED.get(encoding)
     return (encoding, b"") if marked is None else (marked.encodings[0], marked.marks[0])
 

@@ -35,6 +35,11 @@ _BETWEEN_DIGITS = re.compile(r"(?<=[0-9])[^A-Z0-9]+(?=[0-9])")
 _SEPARATOR = re.compile(r"[^A-Z0-9-]|-(?![0-9])|(?<![0-9])-")
 
 
+#: WHATWG's encoding of which nothing is read, and those that are read as it; see replacement.py.
+REPLACEMENT = "REPLACEMENT"
+_REPLACED = frozenset((REPLACEMENT, "ISO-2022-CN", "ISO-2022-CN-EXT"))
+
+
 class Encoding(NamedTuple):
     """An encoding: a built-in one, one with escapes or shifts, or a charmap. Its name is that of the charmap's file, and after a slash
     that of its repairs (see repairs.py)."""
@@ -81,7 +86,17 @@ def _shifted() -> FrozenSet[str]:
 
 def is_shifted(encoding: Encoding) -> bool:
     """Whether an encoding has escapes or shifts, and is made of sets that the service converts."""
-    return not encoding.is_charmap and encoding.name in _shifted()
+    return not encoding.is_charmap and encoding.name in _shifted() and not is_replaced(encoding)
+
+
+def is_replaced(encoding: Encoding) -> bool:
+    """Whether nothing is read of an encoding, as of WHATWG's `replacement`."""
+    return not encoding.is_charmap and encoding.name in _REPLACED
+
+
+def is_direct(encoding: Encoding) -> bool:
+    """Whether the service converts texts in an encoding as they are, by a descriptor of that encoding."""
+    return not is_shifted(encoding) and not is_replaced(encoding)
 
 
 @functools.lru_cache(maxsize=1024)

@@ -9,8 +9,9 @@ from . import marks, text
 from .errors import INCOMPLETE, ConversionError
 from .joined import held_of, number_of
 from .known import Known
-from .names import Encoding
-from .set_text import SetCodec, codec_of
+from .names import Encoding, is_replaced
+from .replacement import ReplacementCodec
+from .set_text import SetCodec, codec_of, decoder_of
 
 if TYPE_CHECKING:
     from .client import Client
@@ -29,7 +30,7 @@ class Decoder:
         self._name = name
         self._declared = encoding
         self._is_stream = is_stream
-        self._codec: Optional[Union[text.TextCodec, SetCodec]] = None
+        self._codec: Optional[Union[text.TextCodec, SetCodec, ReplacementCodec]] = None
         # The state of an encoding without one. A number that is set is kept, as by CPython's codecs, and means nothing.
         self._number = 0
 
@@ -43,8 +44,9 @@ class Decoder:
             ordered, skipped = marks.without_mark(self._declared, data)
             if self._is_stream and is_needed and data and not skipped:
                 raise UnicodeError(f"{self._declared.name} stream does not start with BOM")
-            self._codec = codec_of(self._name, ordered, self._client.library)
-            self._codec.stops_at_end = self._is_stream
+            self._codec = decoder_of(self._name, ordered, self._client.library)
+            if isinstance(self._codec, text.TextCodec):
+                self._codec.stops_at_end = self._is_stream
         codec = self._codec
         if skipped and not marks.is_needed(self._declared):
             # As in CPython's utf-8-sig, positions of faults count from after the mark.
@@ -61,14 +63,21 @@ class Decoder:
         return not isinstance(error, UnicodeDecodeError) or error.reason != INCOMPLETE
 
     def state(self) -> int:
-        """Returns what the mark of the text said, as a number; 0 before the text begins."""
+        """Returns what the mark of the text said, as a number; 0 before the text begins. Of a text of which nothing is read 1 says that the
+        fault was reported."""
         if self._declared.is_charmap:
             return self._number
+        if isinstance(self._codec, ReplacementCodec):
+            return int(self._codec.is_told)
         return marks.state_of(self._declared, self._codec.encoding) if self._codec else 0
 
     def set_state(self, state: int) -> None:
-        """Goes on after a mark that another decoder read."""
+        """Goes on after a mark, or a fault, that another decoder read."""
         self._number = state
+        if is_replaced(self._declared):
+            self._codec = ReplacementCodec(self._name, self._declared)
+            self._codec.is_told = bool(state)
+            return
         found = marks.encoding_of(self._declared, state)
         self._codec = text.TextCodec(self._name, found, self._client.library) if found != self._declared else None
 

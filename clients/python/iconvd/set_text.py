@@ -16,7 +16,8 @@ from .errors import ILLEGAL, INCOMPLETE, RequestRefused
 from .frames import Status
 from .framing import WINDOW, ByteParts, Framing, State, Stop, TextParts
 from .library import Library
-from .names import Encoding, is_shifted
+from .names import Encoding, is_replaced, is_shifted
+from .replacement import ReplacementCodec
 from .session import UTF_8, Pair, Session, Steps
 from .text import Decoded, TextCodec
 
@@ -189,10 +190,15 @@ class SetCodec:
 
 
 def codec_of(error_name: str, encoding: Encoding, library: Library, has_faults: bool = False) -> Union[TextCodec, SetCodec]:
-    """Returns the codec of a text in any encoding."""
+    """Returns the codec of a text in any encoding but those of which nothing is read."""
     if is_shifted(encoding):
         return SetCodec(error_name, encoding, library)
     return TextCodec(error_name, encoding, library, has_faults)
+
+
+def decoder_of(error_name: str, encoding: Encoding, library: Library) -> Union[TextCodec, SetCodec, ReplacementCodec]:
+    """Returns what decodes a text in any encoding."""
+    return ReplacementCodec(error_name, encoding) if is_replaced(encoding) else codec_of(error_name, encoding, library)
 
 
 def _check(is_as_long: bool) -> None:

@@ -9,9 +9,9 @@ from . import frames, marks
 from .errors import CharmapRefused, UnknownEncoding
 from .frames import Request
 from .library import Library
-from .names import Encoding, is_shifted
+from .names import Encoding, is_direct
 from .session import UTF_7, UTF_8, Pair, Session, Steps
-from .set_text import codec_of
+from .set_text import decoder_of
 
 T = TypeVar("T")
 US_ASCII = Encoding(False, "US-ASCII")
@@ -42,13 +42,13 @@ class Decoding(NamedTuple):
     def is_plain(self, charset: str) -> bool:
         """Whether an encoding has neither a mark nor shifts."""
         encoding = self.encoding(charset)
-        return marks.mark_of(encoding)[0] == encoding and encoding != UTF_7 and not is_shifted(encoding)
+        return is_direct(encoding) and marks.mark_of(encoding)[0] == encoding and encoding != UTF_7
 
     def steps(self, session: Session, text: Encoded, encoding: Encoding) -> Steps[str]:
         """Decodes one text, as US-ASCII if a charmap is missing or refused."""
         ordered, begin = marks.without_mark(encoding, text.data)
         try:
-            codec = codec_of(text.charset, ordered, self.library)
+            codec = decoder_of(text.charset, ordered, self.library)
             return (yield from codec.decode(session, text.data, self.errors, True, begin)).text
         except CharmapRefused:
             return (yield from self.steps(session, text, US_ASCII))
@@ -84,7 +84,7 @@ def decode_all(session: Session, texts: Sequence[Encoded], decoding: Decoding) -
     encodings: Dict[str, Encoding] = {}
     for charset in {text.charset for text in texts}:
         encodings[charset] = decoding.encoding(charset)
-        if not is_shifted(encodings[charset]):
+        if is_direct(encodings[charset]):
             # Opened once, so that the texts do not wait for each other.
             try:
                 yield from session.descriptor(Pair(UTF_8, marks.without_mark(encodings[charset], b"")[0]))

@@ -67,6 +67,7 @@ def every_form() -> List[str]:
 
 
 def every_encoding() -> List[str]:
-    """Returns a name of each encoding that the client knows."""
+    """Returns a name of each encoding that the client knows, and of which something is sent."""
     every = [*reversed(list(names.table().exact)), *aliases.aliases.values(), *names.BUILTIN]
-    return sorted({repairs.variant(names.find(name), name): name for name in every if supports(name)}.values())
+    named = {repairs.variant(names.find(name), name): name for name in every if supports(name)}
+    return sorted(name for encoding, name in named.items() if not names.is_replaced(encoding))

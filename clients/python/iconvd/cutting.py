@@ -92,8 +92,9 @@ class DecodingHandling(_Handling):
         """Cuts the faults out of the bytes from `at` to `end`. `is_end` says that the text ends there."""
         found: Optional[DecodingCut] = None
         if self.is_local:
-            scanner = self._form.scanner()
-            found = self._scanned(scanner, data[at:end], end, is_end) if scanner else self._cut_at_once(data, at, end, is_end)
+            window = data[at:end]
+            scanner = self._form.scanner(window)
+            found = self._scanned(scanner, window, end, is_end) if scanner else self._cut_at_once(data, at, end, is_end)
         return found or self._cut_one_by_one(data, at, end, is_end)
 
     def _texts(self, items: Iterable[bytes]) -> Optional[Dict[bytes, str]]:

@@ -3,6 +3,7 @@
 from __future__ import annotations
 
 import codecs
+import io
 import os
 import random
 import unittest
@@ -76,6 +77,20 @@ class Pieces(unittest.TestCase):
                 text = "".join(self.numbers.choice(_WRITTEN) for _ in range(self.numbers.randrange(1, 8)))
                 errors = self.numbers.choice((*_ERRORS, "xmlcharrefreplace", "namereplace"))
                 self._same(text, lambda codec, errors: codecs.getincrementalencoder(codec)(errors), name, errors)
+
+    def test_files(self) -> None:
+        """Files are read by bytes, by lines, and up to the end."""
+        calls = [("read", -1), ("read", 0), ("read", 1), ("read", 3), ("readline", 2), ("readline", -1), ("readlines", -1), ("reset",)]
+        for name in _NAMES:
+            codes = [code for code in (each.encode(name, "ignore") for each in _CHARACTERS) if code]
+            for _ in range(_ROUNDS // 2):
+                data, errors = self._data(codes), self.numbers.choice(_ERRORS)
+                some = [self.numbers.choice(calls) for _ in range(self.numbers.randrange(1, 6))]
+                found = []
+                for codec in (name, "iconvd-" + name):
+                    reader = codecs.getreader(codec)(io.BytesIO(data), errors)
+                    found.append([_told(lambda: getattr(reader, call[0])(*call[1:])) for call in some])
+                self.assertEqual(found[0], found[1], (name, errors, data, some))
 
 
 if __name__ == "__main__":

@@ -149,7 +149,7 @@ class Cost(unittest.TestCase):
         before = iconvd.default()
         iconvd.use(self.client)
         self.addCleanup(iconvd.use, before)
-        for name in ("EUC-KR", "UTF-8", "GB18030", "UTF-16LE", "CP1253", "ISO-2022-JP-2", "HZ"):
+        for name in ("EUC-KR", "UTF-8", "GB18030", "UTF-16LE", "CP1253", "ISO-2022-JP-2", "HZ", "EUC-JIS-2004"):
             use_each_set(self.client, name)
             whole = dict(texts(self.client, name))
             for kind, data in (("damaged", whole["damaged"]), ("random", whole["random"][:8000])):
@@ -168,7 +168,7 @@ class Cost(unittest.TestCase):
 
     def test_a_handler_that_skips_a_byte(self) -> None:
         codecs.register_error("test.byte", lambda error: ("?", getattr(error, "start") + 1))
-        for name in ("EUC-KR", "UTF-8", "GB18030", "UTF-16LE", "CP1253", "ISO-2022-KR"):
+        for name in ("EUC-KR", "UTF-8", "GB18030", "UTF-16LE", "CP1253", "ISO-2022-KR", "SHIFT_JISX0213"):
             use_each_set(self.client, name)
             for kind, data in texts(self.client, name):
                 self.measured(len(data), (name, kind), lambda: self.client.decode(data, name, "test.byte"))

@@ -11,10 +11,10 @@ names.tsv has one line for each name that a client accepts, sorted:
     NAME <tab> shifted <tab> an encoding with shifts   HZ      shifted  HZ
     NAME <tab> whatwg  <tab> the service's name        UCS-2   whatwg   UTF-16LE
 
-The second charmap is of an encoding without a file of its own: repairs.tsv makes it from another one's. The last one
-is a name that the C library has for an encoding that the service lacks: it means what WHATWG's standard reads it as. NAME is in upper case and has
-only the characters that the C library keeps of a name. translit.tsv has one line for each
-character that may be transliterated: its code point in hexadecimal, then the candidates in order, in UTF-8.
+The second charmap is of an encoding without a file of its own: repairs.tsv makes it from another one's. The last one is a name that the C
+library has for an encoding that the service lacks: it means what WHATWG's standard reads it as. NAME is in upper case and has only the
+characters that the C library keeps of a name. translit.tsv has one line for each character that may be transliterated: its code point in
+hexadecimal, then the candidates in order, in UTF-8.
 
     20AC <tab> EUR
 

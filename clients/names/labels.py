@@ -7,7 +7,7 @@ from collections.abc import Callable, Iterator
 from typing import NamedTuple
 
 LABELS = os.path.join(os.path.dirname(os.path.abspath(__file__)), 'labels.tsv')
-#: Encodings that only the Python package has, as CPython, with their kind and target.
+#: Encodings that only the Python package has, or has as CPython, with their kind and target.
 PYTHON_OWN = {
     'UTF-8-SIG': ('builtin', 'UTF-8-SIG'),
     'ISO-2022-JP-3': ('shifted', 'ISO-2022-JP-3'),
@@ -52,7 +52,10 @@ def add(table: Table, normal: Callable[[str], str], is_python: bool) -> None:
     table[REPLACEMENT] = ('builtin', REPLACEMENT)
     table.update((name, ('whatwg', target)) for name, target in WHATWG.items())
     if is_python:
-        table.update(PYTHON_OWN)
+        for own, target in PYTHON_OWN.items():
+            of_c = table.get(own)
+            table.update({name: target for name, other in table.items() if other == of_c})
+            table[own] = target
         replaced = {name: target for name, (_, target) in table.items() if target in PYTHON_REPLACED}
         table.update((name, ('whatwg', target)) for name, target in replaced.items())
         table.update((name, ('whatwg', name)) for name in PYTHON_REPLACED)

@@ -16,7 +16,7 @@ from itertools import repeat
 from operator import sub
 from typing import Dict, List, NamedTuple, Optional, Tuple
 
-from . import mappings
+from . import hangul, mappings
 from .errors import CharmapRefused
 from .repairs import Mapping, Repairs
 
@@ -205,8 +205,9 @@ def _kept(lines: List[Tuple[bytes, bytes]], escape: bytes, repairs: Repairs) -> 
 def _repaired_text(name: bytes, escape: bytes, lines: List[bytes]) -> Charmap:
     lengths = {line.count(escape) for line in lines}
     head = [b"<code_set_name> " + name, b"<escape_char> " + escape, b"<comment_char> %", b"<mb_cur_min> %d" % min(lengths)]
-    text = b"\n".join([*head, b"<mb_cur_max> %d" % max(lengths), b"CHARMAP", *lines, b"END CHARMAP", b""])
-    return Charmap(name, text, len(lines), min(lengths), max(lengths), escape)
+    body = b"\n".join(lines)
+    text = b"\n".join([*head, b"<mb_cur_max> %d" % max(lengths), b"CHARMAP", body, b"END CHARMAP", b""])
+    return Charmap(name, text, len(lines) + _spans(body), min(lengths), max(lengths), escape)
 
 
 class Repaired(NamedTuple):
@@ -248,6 +249,8 @@ def repaired(encoding: str, text: bytes, repairs: Repairs) -> Repaired:
         for some in (repairs.both, _added(text, repairs), repairs.read, repairs.written)
     )
     usual += more
+    if repairs.has_syllables:
+        usual += [b"<U%04X>..<U%04X> %s" % (first, last, _spelled(code, escape)) for first, last, code in hangul.runs()]
     name = b"map-" + encoding.replace("/", "-").encode("ascii", "replace")
     reading = _repaired_text(name, escape, both + usual + read_only + read)
     if not repairs.has_two_texts:

@@ -89,7 +89,7 @@ def info(name: str, encoding: Encoding, client: Optional[Client] = None) -> code
 
         def __init__(self, errors: str = "strict") -> None:
             super().__init__(errors)
-            self._decoder = Decoder(_client(client), name, encoding, is_stream=True)
+            self.reset()
 
         def decode(self, input: Any, final: bool = False) -> str:
             try:
@@ -161,7 +161,7 @@ def info(name: str, encoding: Encoding, client: Optional[Client] = None) -> code
         """Reads text from a file of bytes, in an encoding that CPython has a codec of several bytes for."""
 
         def make_pieces(self) -> Pieces:
-            return _DecoderPieces(lambda: Decoder(_client(client), name, encoding))
+            return _DecoderPieces(lambda: Decoder(_client(client), name, encoding, is_stream=True))
 
     return codecs.CodecInfo(
         encode=encode,

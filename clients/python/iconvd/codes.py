@@ -8,7 +8,7 @@ from __future__ import annotations
 
 import functools
 import re
-from typing import Callable, Dict, FrozenSet, Iterator, List, NamedTuple, Optional, Set, Tuple
+from typing import Callable, Dict, FrozenSet, List, NamedTuple, Optional, Pattern, Set, Tuple
 
 from . import mappings
 from .charmaps import Charmap
@@ -20,6 +20,8 @@ from .scan import Box, Scanner, Strings, union
 
 _ALL = (1 << 256) - 1
 _UNDEFINED = "character maps to <undefined>"
+#: The most bytes of a string that a scanner finds.
+_MOST_SCANNED = 4
 
 
 class Computed(NamedTuple):
@@ -55,26 +57,30 @@ class _Strings:
         self._computed, self._waiting, self._faults = beside
 
     def scanner(self, separator: bytes) -> Optional[Scanner]:
-        """Returns the scanner that finds the faults of a text, or None if there is none for these strings."""
-        if self._faults:
-            return None
+        """Returns the scanner that finds the faults of a text, or None if there is none for these strings. See unscanned()."""
+        leaves = {prefix: last for prefix, last in self._leaves.items() if len(prefix) < _MOST_SCANNED}
         by_size: Dict[int, List[bytes]] = {}
-        for prefix in self._leaves:
+        for prefix in leaves:
             by_size.setdefault(len(prefix), []).append(prefix)
         pairs: Dict[int, int] = {}
         for prefix in by_size.get(1, ()):
-            last = self._leaves[prefix]
+            last = leaves[prefix]
             pairs[last] = pairs.get(last, 0) | 1 << prefix[0]
         boxes: List[Box] = [(leads, last) for last, leads in pairs.items()]
         boxes.extend(self._box(size, prefixes) for size, prefixes in by_size.items() if size > 1)
-        shorter = {prefix[:size] for size in range(max(by_size)) for prefix in self._leaves if len(prefix) > size}
-        leaves = self._leaves
+        shorter = {prefix[:size] for size in range(max(by_size)) for prefix in leaves if len(prefix) > size}
         if self._computed:
             boxes.append(self._computed.box)
             shorter |= self._computed.beginnings
             leaves = self._computed.last_bytes(leaves)
         waiting = re.compile(b"(?s)" + self._waiting) if self._waiting else None
         return Scanner.of(leaves.get(b"", 0), boxes, separator, Strings(leaves, shorter, waiting))
+
+    def unscanned(self) -> Optional[Pattern[bytes]]:
+        """Returns the pattern of what a scanner does not find: bytes that are one fault together, and the beginnings of long strings."""
+        beginnings = {prefix[:2] for prefix in self._leaves if len(prefix) >= _MOST_SCANNED}
+        found = sorted({*self._faults, *beginnings})
+        return re.compile(b"|".join(map(re.escape, found))) if found else None
 
     def _box(self, size: int, prefixes: List[bytes]) -> Box:
         """Returns the bytes that strings have at each place."""
@@ -209,8 +215,12 @@ class CharmapForm(PatternForm):
     def _scanner(self) -> Optional[Scanner]:
         return self._strings.scanner(self.separator)
 
-    def scanner(self) -> Optional[Scanner]:
-        return self._scanner
+    @functools.cached_property
+    def _unscanned(self) -> Optional[Pattern[bytes]]:
+        return self._strings.unscanned()
+
+    def scanner(self, window: bytes) -> Optional[Scanner]:
+        return None if self._unscanned and self._unscanned.search(window) else self._scanner
 
     def patterns(self) -> Patterns:
         return self._strings.patterns(self.separator)

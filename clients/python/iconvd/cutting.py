@@ -34,6 +34,8 @@ class DecodingCut(NamedTuple):
     has_faults: bool
     #: The text that replaces all of them, if that is the same; then `between` is empty.
     same: Optional[str] = None
+    #: Whether the text ends there, though bytes are left.
+    is_last: bool = False
 
 
 class EncodingCut(NamedTuple):
@@ -82,12 +84,17 @@ class _Handling:
 class DecodingHandling(_Handling):
     """An error handler, for decoding."""
 
+    #: Whether bytes are left that the handler does not take of a character that the end of the text cuts, as by CPython's decoders of
+    #: pieces.
+    stops_at_end = False
+
     def cut(self, data: bytes, at: int, end: int, is_end: bool) -> DecodingCut:
         """Cuts the faults out of the bytes from `at` to `end`. `is_end` says that the text ends there."""
         found: Optional[DecodingCut] = None
         if self.is_local:
-            scanner = self._form.scanner()
-            found = self._scanned(scanner, data[at:end], end, is_end) if scanner else self._cut_at_once(data, at, end, is_end)
+            window = data[at:end]
+            scanner = self._form.scanner(window)
+            found = self._scanned(scanner, window, end, is_end) if scanner else self._cut_at_once(data, at, end, is_end)
         return found or self._cut_one_by_one(data, at, end, is_end)
 
     def _texts(self, items: Iterable[bytes]) -> Optional[Dict[bytes, str]]:
@@ -185,6 +192,8 @@ class DecodingHandling(_Handling):
                 handled, at = text_of(self._handle(error), len(data))
                 text += handled
             between.append(text)
+            if found.is_cut and self.stops_at_end:
+                return self._cut([*good, b""], between, at, has_faults)._replace(is_last=True)
             if at > end:
                 good.append(b"")
                 return self._cut(good, between, at, has_faults)

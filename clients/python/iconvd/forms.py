@@ -69,8 +69,8 @@ class Form:
         """Returns all good bytes between `at` and `end`, and the items between them, one less; or None if `find` is needed."""
         raise NotImplementedError
 
-    def scanner(self) -> Optional[Scanner]:
-        """Returns the scanner that finds all faults at once, if the encoding has one."""
+    def scanner(self, window: bytes) -> Optional[Scanner]:
+        """Returns the scanner that finds all faults of a window at once, if there is one."""
         return None
 
     def split(self, data: bytes, count: int) -> List[bytes]:
@@ -188,7 +188,7 @@ class UnicodeForm(PatternForm):
             return None
         return Scanner.of(bits(0, min(0xFF, self._last)) if not self._boxes else bits(0, 0x7F), self._boxes, self.separator)
 
-    def scanner(self) -> Optional[Scanner]:
+    def scanner(self, window: bytes) -> Optional[Scanner]:
         return self._scanner
 
     def has(self) -> Sequence[Span]:

@@ -22,8 +22,9 @@ MAX_HELD = 8
 class Joined(NamedTuple):
     """The pairs of one encoding."""
 
-    #: The pair for each character that stands for one, as for `str.translate`.
-    read: Dict[int, str]
+    #: The pair for each character that stands for one, and the pattern of these.
+    read: Dict[str, str]
+    standing: Pattern[str]
     #: The bytes of each pair.
     written: Dict[str, bytes]
     #: Any pair.
@@ -35,6 +36,10 @@ class Joined(NamedTuple):
         """Returns how many characters at the end of a text may have a code together with the next one: none or the last one, unless
         it has one together with that before it."""
         return held(text, self.letters, self.written)
+
+    def restored(self, text: str) -> str:
+        """Returns a text with the pairs in the places of what stands for them."""
+        return self.standing.sub(lambda found: self.read[found[0]], text)
 
     def parts(self, text: str) -> Iterator[str]:
         """Yields the pairs of a text, and what is between them."""
@@ -71,13 +76,13 @@ def held_of(number: int) -> str:
 
 
 @functools.lru_cache(maxsize=None)
-def _tables() -> Dict[str, Dict[int, str]]:
+def _tables() -> Dict[str, Dict[str, str]]:
     """Returns the pairs by the charmap's file."""
     rows = read_rows("composing.tsv")
-    found: Dict[str, Dict[int, str]] = {row[0]: {} for row in rows if row[4] == _KIND}
+    found: Dict[str, Dict[str, str]] = {row[0]: {} for row in rows if row[4] == _KIND}
     for charmap, point, letter, mark, kind in rows:
         if charmap in found and kind != _KIND:
-            found[charmap][int(point, 16)] = chr(int(letter, 16)) + chr(int(mark, 16))
+            found[charmap][chr(int(point, 16))] = chr(int(letter, 16)) + chr(int(mark, 16))
     return found
 
 
@@ -88,6 +93,6 @@ def pairs_of(encoding: Encoding) -> Optional[Joined]:
     read = _tables().get(file) if encoding.is_charmap else None
     if not read or repaired is None:
         return None
-    written = {read[each.point]: each.code for each in [*repaired.both, *repaired.read] if each.point in read}
-    letters = frozenset(pair[0] for pair in written)
-    return Joined(read, written, re.compile("|".join(map(re.escape, written))), letters)
+    written = {read[chr(each.point)]: each.code for each in [*repaired.both, *repaired.read] if chr(each.point) in read}
+    standing = re.compile(f"[{''.join(read)}]")
+    return Joined(read, standing, written, re.compile("|".join(map(re.escape, written))), frozenset(pair[0] for pair in written))

@@ -24,8 +24,8 @@ class Decoder:
     """Decodes one text, which may be in pieces."""
 
     def __init__(self, client: Client, name: str, encoding: Encoding, is_stream: bool = False) -> None:
-        """With `is_stream` marks are read as by CPython's streams: a text in UTF-16 or UTF-32 without a mark is refused, and the
-        beginning of the mark of UTF-8-SIG is no text."""
+        """With `is_stream` marks and the end are read as by CPython's streams: a text in UTF-16 or UTF-32 without a mark is refused, and
+        the beginning of the mark of UTF-8-SIG is no text."""
         self._client = client
         self._name = name
         self._declared = encoding
@@ -45,6 +45,8 @@ class Decoder:
             if self._is_stream and is_needed and data and not skipped:
                 raise UnicodeError(f"{self._declared.name} stream does not start with BOM")
             self._codec = decoder_of(self._name, ordered, self._client.library)
+            if isinstance(self._codec, text.TextCodec):
+                self._codec.stops_at_end = self._is_stream
         codec = self._codec
         if skipped and not marks.is_needed(self._declared):
             # As in CPython's utf-8-sig, positions of faults count from after the mark.

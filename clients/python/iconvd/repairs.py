@@ -51,6 +51,8 @@ class Repairs(NamedTuple):
     meant: Dict[bytes, bytes]
     #: Whether the client computes the characters above U+FFFF; see planes.py.
     is_computed: bool
+    #: Whether it has codes of eight bytes; see hangul.py.
+    has_syllables: bool
     more: List[More]
 
     @property
@@ -83,11 +85,12 @@ def _points(text: str, count: int) -> List[int]:
 
 
 def _repairs(rows: List[List[str]]) -> Repairs:
-    found = Repairs(frozenset(), frozenset(), [], [], [], {}, any(row[2] == "computed" for row in rows), [])
+    kinds = {row[2] for row in rows}
+    found = Repairs(frozenset(), frozenset(), [], [], [], {}, "computed" in kinds, "syllables" in kinds, [])
     dropped: Set[bytes] = set()
     faults: Set[bytes] = set()
     for _, _, kind, code, character, placeholder, _ in rows:
-        if kind == "computed":
+        if kind in ("computed", "syllables"):
             continue
         if kind == "more":
             found.more.append(More(bytes.fromhex(code), character))

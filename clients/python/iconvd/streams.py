@@ -34,7 +34,7 @@ class PieceReader(codecs.StreamReader):
 
     def _read(self, read: Callable[..., bytes], size: Optional[int]) -> str:
         size = -1 if size is None else size
-        while True:
+        while size != 0:
             piece = read() if size < 0 else read(size)
             is_empty = not piece and not self._pieces.held
             decoded = self._pieces.decode(piece, self.errors, not piece or size < 0)
@@ -42,6 +42,7 @@ class PieceReader(codecs.StreamReader):
                 return decoded
             # One more byte may complete a character.
             size = 1
+        return ""
 
     def read(self, size: Optional[int] = None, chars: int = -1, firstline: bool = False) -> str:
         return self._read(self.stream.read, size)

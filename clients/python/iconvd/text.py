@@ -54,6 +54,8 @@ class TextCodec:
         self.has_state = encoding == Encoding(False, "UTF-7")
         # After a piece with faults the next one of the text is not sent as it is.
         self._has_faults = has_faults
+        #: See DecodingHandling. It is so in encodings of several bytes.
+        self.stops_at_end = False
         #: The codes that are two characters each, if the encoding has such.
         self.pairs = joined_codes.pairs_of(encoding)
         #: A letter at the end of the last piece that is not written yet, since a mark may follow.
@@ -76,21 +78,24 @@ class TextCodec:
                 # The fault may be within a shifted sequence, of which only the beginning is known.
                 at = begin
                 pieces.clear()
-        handling = DecodingHandling(self._library.form(self.encoding), self._error_name, errors)
+        form = self._library.form(self.encoding)
+        handling = DecodingHandling(form, self._error_name, errors)
+        handling.stops_at_end = self.stops_at_end and form.is_multibyte
         while at < end:
             stop = end if self.has_state else min(end, at + WINDOW)
             cut = handling.cut(data, at, stop, stop == end and final)
             self._has_faults = cut.has_faults
             pieces.append((yield from self._decode_cut(session, cut)))
-            if cut.at == at and not cut.marks:
-                break
+            is_stuck = cut.at == at and not cut.marks
             at = cut.at
+            if is_stuck or cut.is_last:
+                break
         return Decoded(self._text(pieces), at)
 
     def _text(self, pieces: List[str]) -> str:
         """Joins the pieces of a text, with both characters of codes that are two."""
         text = "".join(pieces)
-        return text.translate(self.pairs.read) if self.pairs else text
+        return self.pairs.restored(text) if self.pairs else text
 
     def _end_of_whole(self, data: bytes) -> int:
         """Returns the end of the bytes that need not wait for others. An open shifted sequence has to wait. So has the beginning

@@ -23,7 +23,7 @@ _PATTERNS: Dict[str, bytes] = {
     "CP949": _ANY,
     "EUC-JISX0213": _EUC_JP,
     "EUC-JP": _EUC_JP,
-    "EUC-KR": _ANY,
+    "EUC-KR": rb"\xa4\xd4.{0,5}|" + _ANY,
     "GB18030": _ANY + rb"(?:[0-9].?)?",
     "GB2312": _ANY,
     "GBK": _ANY,

@@ -39,10 +39,6 @@ EXPECTED: List[Tuple[str, str]] = [
     (r"iconvd-utf-7\.test_ascii", "the optional direct characters of RFC 2152 are written shifted"),
     (r"iconvd-utf-7\.test_(incremental_surrogatepass|nonbmp)", "CPython writes lone surrogates; RFC 2152 has none"),
     (r"multibyte\.test_subinterp", "another interpreter, where the codecs are not registered"),
-    (
-        r"iconvd-euc-kr\.test_(chunkcoding|errorhandle|incremental(de|en)coder|stream(read|writ)er)",
-        "CPython writes Hangul that KS X 1001 lacks as eight bytes",
-    ),
 ]
 
 

@@ -2,15 +2,15 @@
 
 from __future__ import annotations
 
-from typing import Iterator, List, Sequence
 from contextlib import contextmanager
+from encodings import aliases
+from typing import Iterator, List, Sequence
 from unittest import mock
 
 import support  # noqa: F401
 
-from iconvd import Client, names, transport
+from iconvd import Client, names, repairs, supports, transport
 from iconvd.frames import Reply, Request
-from iconvd.names import Encoding
 
 #: The bounds: bytes sent at most 4 times the input and 64 KiB, and at most 8 round trips for each 64 KiB that are begun.
 TIMES, PLUS, TRIPS, PIECE = 4, 65_536, 8, 65_536
@@ -67,7 +67,7 @@ def every_form() -> List[str]:
 
 
 def every_encoding() -> List[str]:
-    """Returns a name of each encoding that the client knows, but those of which nothing is read."""
-    named = {encoding: name for name, encoding in reversed(list(names.table().exact.items()))}
-    named.update((Encoding(False, name), name) for name in names.BUILTIN)
+    """Returns a name of each encoding that the client knows, and of which something is sent."""
+    every = [*reversed(list(names.table().exact)), *aliases.aliases.values(), *names.BUILTIN]
+    named = {repairs.variant(names.find(name), name): name for name in every if supports(name)}
     return sorted(name for encoding, name in named.items() if not names.is_replaced(encoding))

@@ -67,6 +67,9 @@ PAIRS = (
     ("GB18030", "UTF-16"),
     ("ISO-2022-JP-2", "EUC-KR"),
     ("EUC-JP", "CP50221"),
+    ("EUC-JIS-2004", "BIG5-HKSCS"),
+    ("UTF-8", "SHIFT_JISX0213"),
+    ("SHIFT_JIS-2004", "UTF-16"),
 )
 
 
@@ -122,6 +125,8 @@ class Cost(unittest.TestCase):
         for source, target in PAIRS:
             for end in (source, target):
                 use_each_set(self.client, end)
+            # The charmaps of encodings with codes of two characters are needed from and to UTF-8.
+            self.client.encode(self.client.decode(b"a\0", source, "replace"), target, "replace")
             for kind, data in texts(self.client, source):
                 self.client.convert(b"", to=target, source=source)
                 label = (source, target, kind)
@@ -144,7 +149,7 @@ class Cost(unittest.TestCase):
         before = iconvd.default()
         iconvd.use(self.client)
         self.addCleanup(iconvd.use, before)
-        for name in ("EUC-KR", "UTF-8", "GB18030", "UTF-16LE", "CP1253", "ISO-2022-JP-2", "HZ"):
+        for name in ("EUC-KR", "UTF-8", "GB18030", "UTF-16LE", "CP1253", "ISO-2022-JP-2", "HZ", "EUC-JIS-2004"):
             use_each_set(self.client, name)
             whole = dict(texts(self.client, name))
             for kind, data in (("damaged", whole["damaged"]), ("random", whole["random"][:8000])):
@@ -163,7 +168,7 @@ class Cost(unittest.TestCase):
 
     def test_a_handler_that_skips_a_byte(self) -> None:
         codecs.register_error("test.byte", lambda error: ("?", getattr(error, "start") + 1))
-        for name in ("EUC-KR", "UTF-8", "GB18030", "UTF-16LE", "CP1253", "ISO-2022-KR"):
+        for name in ("EUC-KR", "UTF-8", "GB18030", "UTF-16LE", "CP1253", "ISO-2022-KR", "SHIFT_JISX0213"):
             use_each_set(self.client, name)
             for kind, data in texts(self.client, name):
                 self.measured(len(data), (name, kind), lambda: self.client.decode(data, name, "test.byte"))

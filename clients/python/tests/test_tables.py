@@ -19,7 +19,6 @@ _NEAR = "most of its codes above 7F differ from each charmap of Debian"
 LEFT_OUT: Dict[str, str] = {"cp1006": _NEAR, "mac_arabic": _NEAR, "mac_farsi": _NEAR, "mac_greek": _NEAR}
 #: Codecs that differ, with the reason.
 EXCEPTIONS: Dict[str, str] = {
-    "euc_kr": "CPython reads and writes the Hangul that KS X 1001 lacks as eight bytes",
     "utf_7": "CPython has lone surrogates, and writes some characters as themselves that are optional",
 }
 #: CPython's codecs of text that are no encodings.
@@ -32,7 +31,7 @@ _SOME = _CHARACTERS[:0x3200] + _CHARACTERS[0x3200::61]
 #: Encodings of Unicode, which need no charmap.
 _WHOLE = ("utf", "gb18030")
 #: The first bytes of codes of three and four bytes.
-_LONG = {"euc_jp": b"\x8e\x8f", "euc_jisx0213": b"\x8e\x8f", "euc_jis_2004": b"\x8e\x8f", "gb18030": b"\x80\x81\x84\x8f\x90\xe3\xe4\xfe\xff"}
+_LONG = {"euc_kr": b"\xa4", "euc_jp": b"\x8e\x8f", "euc_jisx0213": b"\x8e\x8f", "euc_jis_2004": b"\x8e\x8f", "gb18030": b"\x80\x81\x84\x8f\x90\xe3\xe4\xfe\xff"}
 _Faults = List[Tuple[int, int, str]]
 
 

@@ -37,11 +37,11 @@ struct charmap_set {
  * whole one.
  *
  * UNSUPPORTED: there is no such file, or no mapping in it. */
-/* Whether the client composes what has a code of several bytes in a file's charmap (composed.h): those lines are left out. */
-bool charmap_is_composed(const char *file);
-
 iconvd_status charmap_read(struct charmap_set *set, const char *directory, const char *file, const char *name);
 void charmap_set_free(struct charmap_set *set);
+
+/* Whether the client composes what has a code of several bytes in a file's charmap (composed.h): those lines are left out. */
+bool charmap_is_composed(const char *file);
 
 /* The characters of a charmap: a bit for each code point, or NULL where memory lacks. `symbols` is set where the text has names
    other than <Uxxxx>, which are not among the bits. */

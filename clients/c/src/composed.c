@@ -99,8 +99,7 @@ static iconvd_status convert_one(struct iconvd_cd *cd, struct progress *progress
     return status == ICONVD_OK ? stop : status;
 }
 
-/* Whether a call of a conversion to this target goes on by what is known of the text: the target has no state that a fault may change, and
-   none of WCHAR_T's rules. */
+/* Whether a call goes on by what is known of the text: not to UTF-7, whose descriptor has a state, nor by WCHAR_T's rules. */
 static bool looks_ahead(const struct iconvd_cd *cd) {
     const struct composed *composed = cd->composed;
     return !composed->to_wide && !composed->target->own && (cd->policy == ICONVD_STRICT || cd->policy == ICONVD_TRANSLIT);

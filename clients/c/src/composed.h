@@ -141,7 +141,4 @@ void composed_end(struct iconvd_cd *cd);
 /* How much of the source is taken at once. AFTER_STOP is how much is taken first where a text has just stopped. */
 enum { COMPOSED_PIECE = 65536 - ICONVD_CONV_HEAD, COMPOSED_AFTER_STOP = 256 };
 
-/* How far a call looks after a fault at first and at most, and how many bytes may decide what is at a place. */
-enum { COMPOSED_LEAST_AHEAD = 1024, COMPOSED_MOST_AHEAD = 65536, COMPOSED_CODE = 8 };
-
 #endif

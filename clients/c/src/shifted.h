@@ -101,6 +101,10 @@ bool set_from_service(const struct shifted_set *set, const unsigned char *bytes,
 /* shifted_sets.c: opens one side. UNSUPPORTED: a charmap is missing or refused. ENOMEM, LOST. */
 iconvd_status shifter_open(struct iconvd_pool *pool, struct shifter *shifter, const struct encoding *encoding, bool writes);
 
+/* Converts all that a group has of a text, by one round trip. `room` is enough, and what `out` has is replaced. LOST where the service
+   does not convert all of it. */
+iconvd_status group_convert(struct iconvd_pool *pool, const struct pair *pair, const struct buffer *in, size_t room, struct buffer *out);
+
 /* Whether a set has a character, and a writer has a code of that set for it. */
 bool set_has(const struct shifter *shifter, unsigned char set, uint32_t character);
 

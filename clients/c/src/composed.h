@@ -124,7 +124,8 @@ iconvd_status composed_write(struct iconvd_cd *cd, struct progress *progress);
 iconvd_status composed_convert_units(struct iconvd_cd *target, struct progress *progress);
 
 /* composed_read_ahead.c and composed_write_ahead.c: a call after one that has stopped at a fault. OK: nothing is known of the text, and it
-   goes on by pieces. */
+   goes on by pieces. It is not made to UTF-7, whose descriptor has a state, nor to WCHAR_T. */
+bool composed_looks_ahead(const struct iconvd_cd *cd);
 iconvd_status composed_read_ahead(struct iconvd_cd *cd, struct progress *progress);
 iconvd_status composed_write_ahead(struct iconvd_cd *cd, struct progress *progress);
 void composed_read_ahead_end(struct composed *composed);

@@ -36,11 +36,14 @@ static iconvd_status open_writing(struct iconvd_cd *cd) {
     return status == ICONVD_OK ? open_pair(source) : status;
 }
 
+/* From GB18030 to UTF-7 a text goes by way of UTF-16BE, too, and nothing is composed. */
+static const struct composing NOTHING = {.kind = COMPOSES_ONCE};
+
 iconvd_status composed_open(struct iconvd_cd *cd, bool to_wide) {
     struct composed *composed = cd->composed = calloc(1, sizeof *composed);
     if (!composed)
         return ICONVD_ENOMEM;
-    composed->by = cd->from->composing ? cd->from->composing : cd->to->composing;
+    composed->by = cd->from->composing ? cd->from->composing : cd->to->composing ? cd->to->composing : &NOTHING;
     composed->to_wide = to_wide;
     return cd->from->composing ? open_reading(cd, to_wide) : open_writing(cd);
 }

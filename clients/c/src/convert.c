@@ -248,7 +248,9 @@ iconvd_status open_pair(struct iconvd_cd *cd) {
 }
 
 iconvd_status convert_open(struct iconvd_cd *cd, bool to_wide) {
-    if (cd->to->composing || cd->from->composing)
+    /* The descriptor of UTF-7 reads no characters that are computed here. */
+    bool computes = cd->to->kind == UTF_7 && cd->from->is_computed;
+    if (cd->to->composing || cd->from->composing || computes)
         return composed_open(cd, to_wide);
     return cd->to->kind == SHIFTED || cd->from->kind == SHIFTED ? shifted_open(cd, to_wide) : open_pair(cd);
 }

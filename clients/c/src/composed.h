@@ -41,7 +41,7 @@ struct composed_place {
     uint32_t held; /* a character that was read, and not given out; 0: none */
 };
 
-/* A text that is read. */
+/* A text that is read. The caller owns the bytes and the units. */
 struct composed_reading {
     const struct composing *by;
     struct fronts fronts;
@@ -83,7 +83,7 @@ struct preparing {
    room for all. */
 void composed_prepare(struct preparing *preparing, size_t most, struct buffer *text);
 
-/* What the target is given for all of them. */
+/* What the target is given for all of them. The caller owns the text. */
 struct prepared {
     const char *text;
     size_t length;
@@ -97,6 +97,7 @@ iconvd_status composed_put(struct iconvd_cd *cd, const struct prepared *prepared
 
 /* The conversions. */
 
+/* It owns what it points to, but `by`; composed_end() frees all of it. */
 struct composed {
     const struct composing *by;
     uint32_t held;                /* see composed_place; of a target: the letter that was not written yet */

@@ -44,7 +44,7 @@ struct shifted_encoding {
 /* How many groups of sets there may be; no set; the group of those that are converted by arithmetic alone; and that of faults. */
 enum { GROUPS = 6, NO_SET = 255, DIRECT = 254, FAULT_MARK = 253 };
 
-/* What is known of a set: shifted_sets.c. */
+/* What is known of a set: shifted_sets.c. The pool's encodings own it, and the bits. */
 struct set_map {
     struct encoding *by;
     const struct codes *codes; /* of a charmap */
@@ -189,7 +189,8 @@ struct shift_ahead;
 iconvd_status shift_ahead_convert(struct iconvd_cd *cd, struct progress *progress);
 void shift_ahead_end(struct shifted *shifted);
 
-/* shifted.c and shifted_open.c: the conversions. */
+/* shifted.c and shifted_open.c: the conversions. Each owns its sides, what `inner` has, and what it knows of the text after a fault;
+   shifted_end() frees them. */
 
 struct shifted {
     struct shifter *from, *to; /* NULL: that side has no shifts */

@@ -31,6 +31,7 @@ static iconvd_status open_writing(struct iconvd_cd *cd) {
     source->policy = cd->policy & ICONVD_IGNORE;
     source->from_wide = cd->from_wide;
     source->is_copy = cd->from->kind == UTF_16BE;
+    source->is_single = cd->from->kind == BUILTIN_COUNT && encoding_most_bytes(cd->from) == 1;
     /* By single codes: what is composed is prepared before. */
     iconvd_status status = open_pair(target);
     return status == ICONVD_OK ? open_pair(source) : status;

@@ -7,8 +7,8 @@
 enum { ONE_READ = 65536 - ICONVD_CONV_HEAD, CHUNK = 262144, COMPUTED_CHUNK = 131072, WORTH_CUTTING = 32768, PARTS = 2 };
 
 iconvd_status convert_piece(struct iconvd_cd *cd, struct work *work) {
-    if (cd->is_copy)
-        return units_copy(work);
+    if (cd->is_copy || cd->is_single)
+        return cd->is_copy ? units_copy(work) : single_convert(cd->pool, cd->pair.from, work);
     return cd->own ? own_convert(cd, work) : pool_convert(cd->pool, &cd->pair, work);
 }
 
@@ -31,7 +31,7 @@ static size_t cut_into_batch(const struct iconvd_cd *cd, const struct progress *
     const char *in = progress->in;
     batch->number = 0;
     /* A piece to GB18030 may need more than its own request. */
-    bool alone = cd->own || cd->is_copy || cd->pair.to->is_computed;
+    bool alone = cd->own || cd->is_copy || cd->is_single || cd->pair.to->is_computed;
     while (!alone && in_left > 0 && batch->number < most) {
         size_t length = in_left > piece ? cut_length(cd->pair.from, in, piece) : in_left;
         size_t room = most_output(&cd->pair, length);

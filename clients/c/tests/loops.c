@@ -62,9 +62,7 @@ static void meter_loop(struct loop *loop) {
     }
     bytes = text_bytes_sent - bytes;
     requests = texts_sent - requests;
-    /* A byte of TCVN may be a letter and a mark of CP1258, which are four bytes of UTF-16BE. */
-    uint64_t times = strcmp(loop->from, "TCVN") == 0 && strcmp(loop->to, "CP1258") == 0 ? 5 : 4;
-    check(step.left < 8 && bytes <= times * SMALL + 65536 && requests <= most,
+    check(step.left < 8 && bytes <= 4 * SMALL + 65536 && requests <= most,
           "%s to %s, %s, policy %d, a loop: %zu bytes left, %llu requests, %llu bytes", loop->from, loop->to, TEXT_NAMES[loop->kind],
           loop->policy, step.left, (unsigned long long)requests, (unsigned long long)bytes);
     iconvd_close(cd);
@@ -90,7 +88,7 @@ static void compare_loop(const struct loop *loop) {
 /* To a target that has all characters, to one that lacks many, and to one of several bytes; what these lack is replaced. */
 static void test_loops(void) {
     static const char *const FROM[] = {"EUC-KR",      "UTF-8", "UTF-16LE", "GB18030", "SHIFT_JIS", "BIG5",      "EUC-JP", "US-ASCII", "ISO-2022-JP",
-                                       "ISO-2022-KR", "HZ",    "CP1255",   "CP1258",  "TCVN",      "BIG5-HKSCS"};
+                                       "ISO-2022-KR", "HZ",    "CP1255",   "CP1258",  "TCVN",      "BIG5-HKSCS", "VISCII"};
     static const enum text KINDS[] = {RANDOM, GERMAN, FRENCH, EACH_SECOND, FAULTS, LEADS, DAMAGED, SHIFTS};
     static const struct {
         const char *to;

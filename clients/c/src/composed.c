@@ -99,9 +99,7 @@ static iconvd_status convert_one(struct iconvd_cd *cd, struct progress *progress
     return status == ICONVD_OK ? stop : status;
 }
 
-/* Whether a call of a conversion to this target goes on by what is known of the text: the target has no state that a fault may change, and
-   none of WCHAR_T's rules. */
-static bool looks_ahead(const struct iconvd_cd *cd) {
+bool composed_looks_ahead(const struct iconvd_cd *cd) {
     const struct composed *composed = cd->composed;
     return !composed->to_wide && !composed->target->own && (cd->policy == ICONVD_STRICT || cd->policy == ICONVD_TRANSLIT);
 }
@@ -112,7 +110,7 @@ static iconvd_status convert_pieces(struct iconvd_cd *cd, struct progress *progr
     size_t most = composed->stopped ? COMPOSED_AFTER_STOP : input_for_room(COMPOSED_PIECE, progress->out_left);
     iconvd_status status = ICONVD_OK;
     composed->last = (struct composed_place){.in = progress->in, .held = composed->held};
-    if (progress->in_left > 0 && looks_ahead(cd))
+    if (progress->in_left > 0 && composed_looks_ahead(cd))
         status = composed_read_ahead(cd, progress);
     while (status == ICONVD_OK && progress->in_left > 0) {
         size_t left = progress->in_left;

@@ -41,7 +41,7 @@ struct composed_place {
     uint32_t held; /* a character that was read, and not given out; 0: none */
 };
 
-/* A text that is read. */
+/* A text that is read. The caller owns the bytes and the units. */
 struct composed_reading {
     const struct composing *by;
     struct fronts fronts;
@@ -83,7 +83,7 @@ struct preparing {
    room for all. */
 void composed_prepare(struct preparing *preparing, size_t most, struct buffer *text);
 
-/* What the target is given for all of them. */
+/* What the target is given for all of them. The caller owns the text. */
 struct prepared {
     const char *text;
     size_t length;
@@ -97,6 +97,7 @@ iconvd_status composed_put(struct iconvd_cd *cd, const struct prepared *prepared
 
 /* The conversions. */
 
+/* It owns what it points to, but `by`; composed_end() frees all of it. */
 struct composed {
     const struct composing *by;
     uint32_t held;                /* see composed_place; of a target: the letter that was not written yet */
@@ -124,7 +125,8 @@ iconvd_status composed_write(struct iconvd_cd *cd, struct progress *progress);
 iconvd_status composed_convert_units(struct iconvd_cd *target, struct progress *progress);
 
 /* composed_read_ahead.c and composed_write_ahead.c: a call after one that has stopped at a fault. OK: nothing is known of the text, and it
-   goes on by pieces. */
+   goes on by pieces. It is not made to UTF-7, whose descriptor has a state, nor to WCHAR_T. */
+bool composed_looks_ahead(const struct iconvd_cd *cd);
 iconvd_status composed_read_ahead(struct iconvd_cd *cd, struct progress *progress);
 iconvd_status composed_write_ahead(struct iconvd_cd *cd, struct progress *progress);
 void composed_read_ahead_end(struct composed *composed);
@@ -140,8 +142,5 @@ void composed_end(struct iconvd_cd *cd);
 
 /* How much of the source is taken at once. AFTER_STOP is how much is taken first where a text has just stopped. */
 enum { COMPOSED_PIECE = 65536 - ICONVD_CONV_HEAD, COMPOSED_AFTER_STOP = 256 };
-
-/* How far a call looks after a fault at first and at most, and how many bytes may decide what is at a place. */
-enum { COMPOSED_LEAST_AHEAD = 1024, COMPOSED_MOST_AHEAD = 65536, COMPOSED_CODE = 8 };
 
 #endif

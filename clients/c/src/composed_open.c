@@ -1,57 +1,50 @@
 /* Opens, resets and closes conversions from and to encodings that compose. */
 #include "composed.h"
 
-/* A conversion from or to UTF-16BE, which stands behind another one. */
-static iconvd_status open_part(const struct iconvd_cd *cd, struct encoding *to, struct encoding *from, bool to_wide,
-                               struct iconvd_cd **part) {
-    struct iconvd_cd *made = *part = calloc(1, sizeof *made);
-    if (!made)
-        return ICONVD_ENOMEM;
-    made->pool = cd->pool;
-    made->to = to;
-    made->from = from;
-    made->policy = cd->policy;
-    made->ahead = SIZE_MAX;
-    return convert_open(made, to_wide);
-}
-
-/* The encoding of single codes. */
-static iconvd_status open_codes(struct iconvd_cd *cd, struct iconvd_cd **part) {
-    struct iconvd_cd *made = *part = calloc(1, sizeof *made);
-    if (!made)
-        return ICONVD_ENOMEM;
-    *made = (struct iconvd_cd){
-        .pool = cd->pool, .to = cd->to, .from = encoding_builtin(UTF_16BE), .policy = cd->policy, .ahead = SIZE_MAX};
-    return open_pair(made);
+/* A conversion from or to UTF-16BE, which stands behind another one. NULL: out of memory. */
+static struct iconvd_cd *make_part(const struct iconvd_cd *cd, struct encoding *to, struct encoding *from) {
+    struct iconvd_cd *made = malloc(sizeof *made);
+    if (made)
+        *made = (struct iconvd_cd){.pool = cd->pool, .to = to, .from = from, .policy = cd->policy, .ahead = SIZE_MAX};
+    return made;
 }
 
 static iconvd_status open_reading(struct iconvd_cd *cd, bool to_wide) {
     struct encoding *middle = encoding_builtin(UTF_16BE);
     struct pair pair = {.to = middle, .from = cd->from, .strict = true};
     iconvd_status status = pool_open(cd->pool, &pair);
-    return status == ICONVD_OK ? open_part(cd, cd->to, middle, to_wide, &cd->composed->target) : status;
+    if (status != ICONVD_OK)
+        return status;
+    cd->composed->target = make_part(cd, cd->to, middle);
+    return cd->composed->target ? convert_open(cd->composed->target, to_wide) : ICONVD_ENOMEM;
 }
 
 static iconvd_status open_writing(struct iconvd_cd *cd) {
     /* What is left of these at a stop means something to their descriptor alone: they cannot be read again. */
     if (cd->from->kind == UTF_7 || cd->from->kind == SHIFTED)
         return ICONVD_UNSUPPORTED;
-    iconvd_status status = open_codes(cd, &cd->composed->target);
-    if (status == ICONVD_OK)
-        status = open_part(cd, encoding_builtin(UTF_16BE), cd->from, false, &cd->composed->source);
-    if (status == ICONVD_OK) {
-        cd->composed->source->policy = cd->policy & ICONVD_IGNORE;
-        cd->composed->source->from_wide = cd->from_wide;
-        cd->composed->source->is_copy = cd->from->kind == UTF_16BE;
-    }
-    return status;
+    struct encoding *middle = encoding_builtin(UTF_16BE);
+    struct iconvd_cd *target = cd->composed->target = make_part(cd, cd->to, middle);
+    struct iconvd_cd *source = cd->composed->source = make_part(cd, middle, cd->from);
+    if (!target || !source)
+        return ICONVD_ENOMEM;
+    source->policy = cd->policy & ICONVD_IGNORE;
+    source->from_wide = cd->from_wide;
+    source->is_copy = cd->from->kind == UTF_16BE;
+    source->is_single = cd->from->kind == BUILTIN_COUNT && encoding_most_bytes(cd->from) == 1;
+    /* By single codes: what is composed is prepared before. */
+    iconvd_status status = open_pair(target);
+    return status == ICONVD_OK ? open_pair(source) : status;
 }
+
+/* From GB18030 to UTF-7 a text goes by way of UTF-16BE, too, and nothing is composed. */
+static const struct composing NOTHING = {.kind = COMPOSES_ONCE};
 
 iconvd_status composed_open(struct iconvd_cd *cd, bool to_wide) {
     struct composed *composed = cd->composed = calloc(1, sizeof *composed);
     if (!composed)
         return ICONVD_ENOMEM;
-    composed->by = cd->from->composing ? cd->from->composing : cd->to->composing;
+    composed->by = cd->from->composing ? cd->from->composing : cd->to->composing ? cd->to->composing : &NOTHING;
     composed->to_wide = to_wide;
     return cd->from->composing ? open_reading(cd, to_wide) : open_writing(cd);
 }

@@ -31,7 +31,9 @@ iconvd_status composed_decode(struct iconvd_cd *cd, struct composed_reading *rea
     if (!gather(reading, codes) || !buffer_reserve(units, 4 * codes->length + 1))
         return ICONVD_ENOMEM;
     struct work work = {.in = codes->bytes, .in_length = codes->length, .out = units->bytes, .room = 4 * codes->length};
-    iconvd_status status = work.in_length > 0 ? pool_convert(cd->pool, &pair, &work) : ICONVD_OK;
+    iconvd_status status = ICONVD_OK;
+    if (work.in_length > 0)
+        status = reading->by->kind == COMPOSES_PAIRS ? pool_convert(cd->pool, &pair, &work) : single_convert(cd->pool, cd->from, &work);
     units->length = work.produced;
     reading->units = units->bytes;
     return status == ICONVD_OK || status == ICONVD_ENOMEM ? status : ICONVD_LOST;

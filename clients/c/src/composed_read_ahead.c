@@ -4,8 +4,9 @@
  * source to UTF-16BE, with a surrogate alone for each fault. Calls then convert from that text, and foresight.c answers them by few round
  * trips, as long as the bytes are those that were looked at. */
 #include "composed.h"
+#include "stretches.h"
 
-enum { GROWTH = 16 };
+enum { LEAST = 1024, GROWTH = 16, MOST = 65536 };
 
 struct composed_read_ahead {
     struct buffer in;    /* the window up to its last fault, and the bytes that decide that it is one */
@@ -26,7 +27,7 @@ static size_t find_faults(const struct composed_reading *reading, size_t window,
     const char *at = reading->now.in, *begin = at;
     size_t found = 0, length;
     *faults = 0;
-    while (at < reading->end && (size_t)(at - begin) < COMPOSED_MOST_AHEAD && ((size_t)(at - begin) < window || found == 0)) {
+    while (at < reading->end && (size_t)(at - begin) < MOST && ((size_t)(at - begin) < window || found == 0)) {
         enum front front = composed_front(reading, at, &length);
         if (front == CUT_OFF)
             break;
@@ -70,8 +71,8 @@ static iconvd_status fill(struct iconvd_cd *cd, struct composed_read_ahead *ahea
 /* Looks at the bytes before the caller. It looks further than before if calls have had all of that. False: there is no fault. */
 static bool look(struct iconvd_cd *cd, struct composed_read_ahead *ahead, const struct progress *progress) {
     bool all = ahead->text.length > 0 && ahead->read == ahead->text.length;
-    size_t window = all ? GROWTH * ahead->window : COMPOSED_LEAST_AHEAD;
-    ahead->window = window < COMPOSED_MOST_AHEAD ? window : COMPOSED_MOST_AHEAD;
+    size_t window = all ? GROWTH * ahead->window : LEAST;
+    ahead->window = window < MOST ? window : MOST;
     forget(ahead);
     struct composed_reading *reading = &ahead->reading;
     *reading = (struct composed_reading){.by = cd->composed->by, .marks_faults = true};
@@ -79,7 +80,7 @@ static bool look(struct iconvd_cd *cd, struct composed_read_ahead *ahead, const 
         return false;
     reading->now = (struct composed_place){.in = progress->in, .held = cd->composed->held};
     reading->end = progress->in + progress->in_left;
-    size_t faults, length = find_faults(reading, ahead->window, &faults), looked = length + COMPOSED_CODE;
+    size_t faults, length = find_faults(reading, ahead->window, &faults), looked = length + CODE;
     if (length == 0 || !buffer_append(&ahead->in, progress->in, looked < progress->in_left ? looked : progress->in_left))
         return false;
     reading->now.in = ahead->in.bytes;
@@ -100,13 +101,14 @@ static bool is_next(const struct iconvd_cd *cd, const struct composed_read_ahead
     size_t length, left = (size_t)(reading->end - at);
     while (composed_front(reading, at, &length) == WELL_FORMED)
         at += length;
-    size_t needed = (size_t)(at - reading->now.in) + COMPOSED_CODE;
+    size_t needed = (size_t)(at - reading->now.in) + CODE;
     needed = needed < left ? needed : left;
     return needed <= progress->in_left && memcmp(reading->now.in, progress->in, needed) == 0;
 }
 
 /* Moves on by what was converted of the text, up to the fault if that has stopped it. */
-static void move_on(struct iconvd_cd *cd, struct composed_read_ahead *ahead, struct progress *progress, size_t used, iconvd_status status) {
+static void move_on(struct iconvd_cd *cd, struct composed_read_ahead *ahead, struct progress *progress, size_t used,
+                    iconvd_status status) {
     struct composed_reading *reading = &ahead->reading;
     const char *before = reading->now.in;
     reading->characters = 0;

@@ -110,7 +110,7 @@ iconvd_status composed_write(struct iconvd_cd *cd, struct progress *progress) {
     iconvd_status status = mark_read(composed->source, progress);
     const struct progress before = *progress;
     composed->last = (struct composed_place){.in = progress->in};
-    if (status == ICONVD_OK && progress->in_left > 0 && (cd->policy == ICONVD_STRICT || cd->policy == ICONVD_TRANSLIT))
+    if (status == ICONVD_OK && progress->in_left > 0 && composed_looks_ahead(cd))
         status = composed_write_ahead(cd, progress);
     while (status == ICONVD_OK && progress->in_left > 0) {
         size_t left = progress->in_left;

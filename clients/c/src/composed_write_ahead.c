@@ -11,11 +11,12 @@ enum { LEAST = 256, GROWTH = 8 };
 struct composed_write_ahead {
     struct stretches stretches; /* of the source, in UTF-16BE */
     struct buffer text;         /* what the target is given, with the faults */
-    size_t next, used, at, read; /* which stretch calls are in, and where in its source's bytes, in the units and in the text */
-    size_t begun;                /* how much of that stretch calls have had */
-    size_t end;                  /* where its units end */
-    uint32_t held;               /* there */
-    size_t window;               /* how far the next look goes */
+    size_t next;                /* which stretch calls are in */
+    size_t used, at, read;      /* where they are in the source's bytes, in the units and in the text */
+    size_t begun;               /* how many bytes of the stretch they have had */
+    size_t end;                 /* where its units end */
+    uint32_t held;              /* the letter that is held there */
+    size_t window;              /* how far the next look goes */
 };
 
 /* Prepares all stretches. False: out of memory. */
@@ -76,8 +77,8 @@ static size_t measure(struct iconvd_cd *cd, const struct composed_write_ahead *a
 }
 
 /* Moves on by what the target has used of a stretch, and to the next one if that is all of it. */
-static void move_on(struct iconvd_cd *cd, struct composed_write_ahead *ahead, struct progress *progress, const struct preparing *preparing,
-                    bool whole) {
+static void move_on(struct iconvd_cd *cd, struct composed_write_ahead *ahead, struct progress *progress,
+                    const struct preparing *preparing, bool whole) {
     size_t used = measure(cd, ahead, units_count(preparing->units, preparing->at));
     progress->in += used;
     progress->in_left -= used;

@@ -14,10 +14,10 @@ struct computing {
     struct iconvd_pool *pool;
     struct encoding *from;
     const struct repairs *repairs; /* of GB18030 */
-    struct fronts fronts; /* of the source */
-    struct buffer kept;   /* the characters that the service converts, in the source's encoding or in UTF-8 */
-    struct buffer output; /* what it wrote for them */
-    struct buffer text;   /* all characters in a form of Unicode */
+    struct fronts fronts;          /* of the source */
+    struct buffer kept;            /* the characters that the service converts, in the source's encoding or in UTF-8 */
+    struct buffer output;          /* what it wrote for them */
+    struct buffer text;            /* all characters in a form of Unicode */
 };
 
 /* computed.c */

@@ -72,7 +72,9 @@ static iconvd_status read_by_unicode(struct computing *computing, const struct p
     struct work mapped = {.used = 0};
     iconvd_status stop;
     size_t length = keep_mapped(computing, work, &stop);
-    iconvd_status status = stop == ICONVD_ENOMEM ? stop : computing_convert_kept(computing, decoding, 4 * computing->kept.length, &mapped);
+    iconvd_status status = stop;
+    if (stop != ICONVD_ENOMEM)
+        status = computing_convert_kept(computing, decoding, 4 * computing->kept.length, &mapped);
     if (status != ICONVD_OK)
         return status == ICONVD_ENOMEM ? status : ICONVD_LOST;
     if (!join_text(computing, &form, work->in, length))
@@ -100,7 +102,7 @@ static size_t mapped_run(const struct fronts *fronts, const struct work *work, u
     return at;
 }
 
-/* From GB18030. Where nothing is computed, or the first character that is computed is one that the target lacks, the service is asked once. */
+/* From GB18030. Where nothing is computed, or the target lacks the first character that is, the service is asked once. */
 iconvd_status computed_read(struct computing *computing, const struct pair *pair, struct work *work) {
     uint32_t computed;
     struct work front = *work;

@@ -7,8 +7,8 @@
 enum { ONE_READ = 65536 - ICONVD_CONV_HEAD, CHUNK = 262144, COMPUTED_CHUNK = 131072, WORTH_CUTTING = 32768, PARTS = 2 };
 
 iconvd_status convert_piece(struct iconvd_cd *cd, struct work *work) {
-    if (cd->is_copy)
-        return units_copy(work);
+    if (cd->is_copy || cd->is_single)
+        return cd->is_copy ? units_copy(work) : single_convert(cd->pool, cd->pair.from, work);
     return cd->own ? own_convert(cd, work) : pool_convert(cd->pool, &cd->pair, work);
 }
 
@@ -31,7 +31,7 @@ static size_t cut_into_batch(const struct iconvd_cd *cd, const struct progress *
     const char *in = progress->in;
     batch->number = 0;
     /* A piece to GB18030 may need more than its own request. */
-    bool alone = cd->own || cd->is_copy || cd->pair.to->is_computed;
+    bool alone = cd->own || cd->is_copy || cd->is_single || cd->pair.to->is_computed;
     while (!alone && in_left > 0 && batch->number < most) {
         size_t length = in_left > piece ? cut_length(cd->pair.from, in, piece) : in_left;
         size_t room = most_output(&cd->pair, length);
@@ -213,10 +213,6 @@ iconvd_status iconvd_convert(iconvd_cd *cd, const char **in, size_t *in_left, ch
     return status;
 }
 
-static bool is_policy(int policy) {
-    return policy == ICONVD_SUBSTITUTE || (policy & ~(ICONVD_IGNORE | ICONVD_TRANSLIT)) == 0;
-}
-
 /* The two encodings of a conversion, with what stands behind the target's name. */
 static iconvd_status find_encodings(struct iconvd_cd *cd, const char *to, const char *from, bool *to_wide) {
     struct parsed_name target, source;
@@ -225,7 +221,7 @@ static iconvd_status find_encodings(struct iconvd_cd *cd, const char *to, const 
     cd->from_wide = strcmp(source.name, "WCHAR_T") == 0;
     *to_wide = strcmp(target.name, "WCHAR_T") == 0;
     cd->policy |= (target.translit ? ICONVD_TRANSLIT : 0) | (target.ignore ? ICONVD_IGNORE : 0);
-    if (!is_policy(cd->policy))
+    if (cd->policy != ICONVD_SUBSTITUTE && (cd->policy & ~(ICONVD_IGNORE | ICONVD_TRANSLIT)) != 0)
         return ICONVD_BADPOLICY;
     iconvd_status status = pool_find(cd->pool, target.name, &cd->to);
     if (status == ICONVD_OK)
@@ -248,7 +244,9 @@ iconvd_status open_pair(struct iconvd_cd *cd) {
 }
 
 iconvd_status convert_open(struct iconvd_cd *cd, bool to_wide) {
-    if (cd->to->composing || cd->from->composing)
+    /* The descriptor of UTF-7 reads no characters that are computed here. */
+    bool computes = cd->to->kind == UTF_7 && cd->from->is_computed;
+    if (cd->to->composing || cd->from->composing || computes)
         return composed_open(cd, to_wide);
     return cd->to->kind == SHIFTED || cd->from->kind == SHIFTED ? shifted_open(cd, to_wide) : open_pair(cd);
 }

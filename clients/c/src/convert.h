@@ -17,6 +17,7 @@ struct iconvd_cd {
     bool is_replacement; /* the source is WHATWG's `replacement` (replacement.c) */
     bool fault_told;     /* the fault of such a text has been reported */
     bool is_copy;        /* from UTF-16BE to itself, behind another conversion: it is done here */
+    bool is_single;      /* to UTF-16BE from a charmap of one byte a character, behind another conversion: single.c */
     struct own *own;     /* with UTF-7 on either side: a descriptor of its own; otherwise NULL */
     struct shifted *shifted; /* with shifts on either side; otherwise NULL */
     struct composed *composed;   /* with an encoding that composes on one side: composed.h; else NULL */
@@ -165,6 +166,9 @@ size_t front_run(const struct fronts *fronts, const char *text, size_t left);
 
 /* The character whose bytes these are. False: it cannot be told without converting. */
 bool front_character(const struct fronts *fronts, const char *text, size_t length, uint32_t *character);
+
+/* single.c: converts a piece to UTF-16BE from a charmap of one byte a character. */
+iconvd_status single_convert(struct iconvd_pool *pool, struct encoding *encoding, struct work *work);
 
 /* characters.c */
 

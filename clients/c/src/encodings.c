@@ -31,6 +31,7 @@ void encoding_free(struct encoding *encoding) {
     encoding_free(encoding->light);
     encoding_free(encoding->written);
     buffer_free(&encoding->map.text);
+    free(atomic_load(&encoding->characters));
     free(atomic_load(&encoding->repertoire));
     codes_free(atomic_load(&encoding->codes));
     free(encoding);

@@ -28,6 +28,7 @@ struct encoding {
     struct encoding *written; /* what is written with where the charmap needs placeholders for that; NULL: itself */
     bool has_placeholders;       /* it is such a one */
     bool is_computed;         /* the client computes its characters above U+FFFF, as GB18030's (planes.h) */
+    uint32_t *_Atomic characters;      /* of one byte a character: that of each byte, made when a conversion first needs it (single.c) */
     unsigned char *_Atomic repertoire; /* made when a conversion first asks what the encoding has */
     struct codes *_Atomic codes; /* of a charmap; made when a conversion first meets bytes that are no character */
     struct encoding *next; /* of those that the host has added */

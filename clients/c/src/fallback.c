@@ -42,7 +42,35 @@ static size_t spell_held(const struct handle *handle, char *bytes, size_t room) 
     return there ? before - room : 0;
 }
 
-/* Brings a conversion from or to UTF-7, or from an encoding with shifts, to the state that ours had. What it writes the host has had. */
+/* The conversion from UTF-16BE to UTF-7 that stands behind another one; NULL: there is none. */
+static const struct iconvd_cd *utf7_behind(const struct iconvd_cd *cd) {
+    const struct iconvd_cd *target = cd->composed ? cd->composed->target : cd;
+    if (target->shifted && target->shifted->from)
+        target = &target->shifted->inner;
+    return target != cd && target->own ? target : NULL;
+}
+
+/* Whether it is known which state that one had. */
+static bool knows_utf7(const struct iconvd_cd *cd) {
+    const struct iconvd_cd *behind = utf7_behind(cd);
+    const char *bytes;
+    size_t length;
+    return !behind || own_history(behind, &bytes, &length);
+}
+
+/* Feeds bytes to a conversion of the C library. What it writes the host has had. */
+static bool feed(iconv_t cd, const char *bytes, size_t left) {
+    char dropped[4096], *in = (char *)(uintptr_t)bytes;
+    while (left > 0) {
+        char *out = dropped;
+        size_t room = sizeof dropped;
+        if (settings()->libc.convert(cd, &in, &left, &out, &room) == (size_t)-1 && errno != E2BIG)
+            return errno == EINVAL;
+    }
+    return true;
+}
+
+/* Brings a conversion from or to UTF-7, or from an encoding with shifts, to the state that ours had. */
 static bool feed_history(const struct handle *handle) {
     char sequences[SHIFT_SEQUENCES];
     const char *bytes = sequences;
@@ -56,22 +84,14 @@ static bool feed_history(const struct handle *handle) {
     } else if (handle->cd->own && !own_history(handle->cd, &bytes, &left)) {
         return false;
     }
-    char dropped[4096];
-    char *in = (char *)(uintptr_t)bytes;
-    while (left > 0) {
-        char *out = dropped;
-        size_t room = sizeof dropped;
-        if (settings()->libc.convert(handle->real, &in, &left, &out, &room) == (size_t)-1 && errno != E2BIG)
-            return errno == EINVAL;
-    }
-    return true;
+    return feed(handle->real, bytes, left);
 }
 
 bool handle_fall_back(struct handle *handle, iconvd_status why) {
     if (!settings()->falls_back)
         return false;
     handle->real = open_now(handle);
-    bool there = handle->real != (iconv_t)-1 && feed_history(handle);
+    bool there = handle->real != (iconv_t)-1 && knows_utf7(handle->cd) && feed_history(handle);
     settings_log("%s to %s: %s; the C library %s", handle->from, handle->to, iconvd_status_text(why),
                  there ? "goes on" : "cannot go on");
     if (!there && handle->real != (iconv_t)-1) {
@@ -82,8 +102,24 @@ bool handle_fall_back(struct handle *handle, iconvd_status why) {
     return there;
 }
 
+/* Writes what ends a text in UTF-7, as the C library does after what ours was given. False: there is no room. */
+static bool end_utf7(const struct iconvd_cd *behind, char **out, size_t *out_left) {
+    const char *bytes;
+    size_t left;
+    iconv_t cd = settings()->libc.open("UTF-7", "UTF-16BE");
+    if (cd == (iconv_t)-1)
+        return true;
+    bool there = own_history(behind, &bytes, &left) && feed(cd, bytes, left);
+    bool full = there && settings()->libc.convert(cd, NULL, NULL, out, out_left) == (size_t)-1;
+    settings()->libc.close(cd);
+    return !full;
+}
+
 bool handle_shift_back(struct handle *handle, char **out, size_t *out_left) {
     struct shifted *shifted = handle->cd->shifted;
+    const struct iconvd_cd *behind = utf7_behind(handle->cd);
+    if (settings()->falls_back && behind && out && *out)
+        return end_utf7(behind, out, out_left);
     /* Where the header is due nothing was written yet, and the C library writes it. */
     if (!settings()->falls_back || !shifted || !shifted->to || shifted->writing.header_due || !out || !*out)
         return true;

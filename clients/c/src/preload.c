@@ -107,6 +107,8 @@ static size_t reset(struct handle *handle, char **out, size_t *out_left) {
         iconvd_status status = iconvd_reset(handle->cd, out, out_left);
         if (status == ICONVD_OK)
             return handle->cd->composed ? handle->cd->composed->replaced : 0;
+        if (status == ICONVD_LOST && !handle_shift_back(handle, out, out_left))
+            return failed(ICONVD_E2BIG);
         if (status != ICONVD_LOST || !handle_fall_back(handle, status))
             return failed(status);
     }

@@ -44,7 +44,7 @@ struct shifted_encoding {
 /* How many groups of sets there may be; no set; the group of those that are converted by arithmetic alone; and that of faults. */
 enum { GROUPS = 6, NO_SET = 255, DIRECT = 254, FAULT_MARK = 253 };
 
-/* What is known of a set: shifted_sets.c. */
+/* What is known of a set: shifted_sets.c. The pool's encodings own it, and the bits. */
 struct set_map {
     struct encoding *by;
     const struct codes *codes; /* of a charmap */
@@ -100,6 +100,10 @@ bool set_from_service(const struct shifted_set *set, const unsigned char *bytes,
 
 /* shifted_sets.c: opens one side. UNSUPPORTED: a charmap is missing or refused. ENOMEM, LOST. */
 iconvd_status shifter_open(struct iconvd_pool *pool, struct shifter *shifter, const struct encoding *encoding, bool writes);
+
+/* Converts all that a group has of a text, by one round trip. `room` is enough, and what `out` has is replaced. LOST where the service
+   does not convert all of it. */
+iconvd_status group_convert(struct iconvd_pool *pool, const struct pair *pair, const struct buffer *in, size_t room, struct buffer *out);
 
 /* Whether a set has a character, and a writer has a code of that set for it. */
 bool set_has(const struct shifter *shifter, unsigned char set, uint32_t character);
@@ -185,7 +189,8 @@ struct shift_ahead;
 iconvd_status shift_ahead_convert(struct iconvd_cd *cd, struct progress *progress);
 void shift_ahead_end(struct shifted *shifted);
 
-/* shifted.c and shifted_open.c: the conversions. */
+/* shifted.c and shifted_open.c: the conversions. Each owns its sides, what `inner` has, and what it knows of the text after a fault;
+   shifted_end() frees them. */
 
 struct shifted {
     struct shifter *from, *to; /* NULL: that side has no shifts */

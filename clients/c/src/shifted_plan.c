@@ -128,23 +128,6 @@ static bool plan_next(struct planning *planning, uint32_t character, size_t widt
     return set != NO_SET || policy != ICONVD_STRICT;
 }
 
-/* Asks the service for the codes of a group. */
-static iconvd_status convert_group(struct iconvd_pool *pool, struct encoding *to, const struct buffer *units, struct buffer *codes) {
-    struct pair pair = {.to = to, .from = encoding_builtin(UTF_16BE), .strict = true};
-    size_t room = units->length / 2 * encoding_most_bytes(to);
-    room = room < ICONVD_MAX_ROOM ? room : ICONVD_MAX_ROOM;
-    if (units->length == 0)
-        return ICONVD_OK;
-    if (!buffer_reserve(codes, room))
-        return ICONVD_ENOMEM;
-    struct work work = {.in = units->bytes, .in_length = units->length, .out = codes->bytes, .room = room};
-    iconvd_status status = pool_convert(pool, &pair, &work);
-    codes->length = work.produced;
-    if (status == ICONVD_ENOMEM)
-        return status;
-    return status == ICONVD_OK && work.used == units->length ? ICONVD_OK : ICONVD_LOST;
-}
-
 iconvd_status shift_plan(struct iconvd_cd *cd, struct shift_plan *plan, const struct buffer *text) {
     const struct shifter *shifter = cd->shifted->to;
     struct planning planning = {
@@ -155,7 +138,10 @@ iconvd_status shift_plan(struct iconvd_cd *cd, struct shift_plan *plan, const st
         more = plan_next(&planning, character, width);
     }
     iconvd_status status = planning.memory ? ICONVD_OK : ICONVD_ENOMEM;
-    for (size_t i = 0; status == ICONVD_OK && i < shifter->group_count; i++)
-        status = convert_group(cd->pool, shifter->groups[i], &plan->units[i], &plan->codes[i]);
+    for (size_t i = 0; status == ICONVD_OK && i < shifter->group_count; i++) {
+        struct pair pair = {.to = shifter->groups[i], .from = encoding_builtin(UTF_16BE), .strict = true};
+        size_t room = plan->units[i].length / 2 * encoding_most_bytes(pair.to);
+        status = group_convert(cd->pool, &pair, &plan->units[i], room, &plan->codes[i]);
+    }
     return status;
 }

@@ -177,23 +177,6 @@ void shift_text_free(struct shift_text *text) {
         buffer_free(&text->codes[i]);
 }
 
-/* Converts the codes of a group to UTF-16BE. */
-static iconvd_status convert_group(struct iconvd_pool *pool, struct encoding *from, const struct buffer *codes, struct buffer *out) {
-    struct pair pair = {.to = encoding_builtin(UTF_16BE), .from = from, .strict = true};
-    size_t room = (codes->length / encoding_least_bytes(from) + 1) * 4;
-    room = room < ICONVD_MAX_ROOM ? room : ICONVD_MAX_ROOM;
-    if (codes->length == 0)
-        return ICONVD_OK;
-    if (!buffer_reserve(out, room))
-        return ICONVD_ENOMEM;
-    struct work work = {.in = codes->bytes, .in_length = codes->length, .out = out->bytes, .room = room};
-    iconvd_status status = pool_convert(pool, &pair, &work);
-    out->length = work.produced;
-    if (status == ICONVD_ENOMEM)
-        return status;
-    return status == ICONVD_OK && work.used == codes->length ? ICONVD_OK : ICONVD_LOST;
-}
-
 /* Puts the characters of all groups in their order again. */
 static iconvd_status merge(const struct shift_text *text, const struct buffer *outs, struct buffer *units) {
     size_t direct = 0, at[GROUPS] = {0};
@@ -223,8 +206,11 @@ static iconvd_status merge(const struct shift_text *text, const struct buffer *o
 iconvd_status shift_text_convert(struct iconvd_pool *pool, const struct shifter *shifter, struct shift_text *text, struct buffer *units) {
     struct buffer outs[GROUPS] = {{.bytes = NULL}};
     iconvd_status status = ICONVD_OK;
-    for (size_t i = 0; status == ICONVD_OK && i < shifter->group_count; i++)
-        status = convert_group(pool, shifter->groups[i], &text->codes[i], &outs[i]);
+    for (size_t i = 0; status == ICONVD_OK && i < shifter->group_count; i++) {
+        struct pair pair = {.to = encoding_builtin(UTF_16BE), .from = shifter->groups[i], .strict = true};
+        size_t room = (text->codes[i].length / encoding_least_bytes(pair.from) + 1) * 4;
+        status = group_convert(pool, &pair, &text->codes[i], room, &outs[i]);
+    }
     if (status == ICONVD_OK)
         status = merge(text, outs, units);
     for (size_t i = 0; i < GROUPS; i++)

@@ -104,6 +104,20 @@ iconvd_status shifter_open(struct iconvd_pool *pool, struct shifter *shifter, co
     return status;
 }
 
+iconvd_status group_convert(struct iconvd_pool *pool, const struct pair *pair, const struct buffer *in, size_t room, struct buffer *out) {
+    room = room < ICONVD_MAX_ROOM ? room : ICONVD_MAX_ROOM;
+    if (in->length == 0)
+        return ICONVD_OK;
+    if (!buffer_reserve(out, room))
+        return ICONVD_ENOMEM;
+    struct work work = {.in = in->bytes, .in_length = in->length, .out = out->bytes, .room = room};
+    iconvd_status status = pool_convert(pool, pair, &work);
+    out->length = work.produced;
+    if (status == ICONVD_ENOMEM)
+        return status;
+    return status == ICONVD_OK && work.used == in->length ? ICONVD_OK : ICONVD_LOST;
+}
+
 bool set_has(const struct shifter *shifter, unsigned char set, uint32_t character) {
     const struct set_map *map = shifter->maps[set];
     if (map->by->kind != BUILTIN_COUNT)

@@ -14,7 +14,7 @@
 enum { TEXT = 400, ROOM = 1600 };
 
 static const char *const COMPOSING[] = {"CP1255", "CP1258", "TCVN", "BIG5-HKSCS"};
-static const char *const OTHERS[] = {"UTF-8", "UTF-16LE", "UTF-32BE", "WCHAR_T", "ASCII", "LATIN1", "CP1255", "CP1258", "TCVN", 
+static const char *const OTHERS[] = {"UTF-8", "UTF-16LE", "UTF-32BE", "WCHAR_T", "ASCII", "LATIN1", "CP1255", "CP1258", "TCVN",
                                      "BIG5-HKSCS", "KOI8-R"};
 static const char *const POLICIES[] = {"", "", "//IGNORE", "//TRANSLIT"};
 enum { COMPOSING_COUNT = 4, OTHER_COUNT = 11 };
@@ -55,7 +55,9 @@ static size_t make_text(const char *name, uint64_t *state, char *text) {
         size_t at = next_random(state) % (size_t)(out - text);
         /* Values that Unicode has not are a difference of every conversion. */
         bool is_wide = strcmp(name, "WCHAR_T") == 0 || strcmp(name, "UTF-32BE") == 0;
-        text[is_wide && at > 0 ? at - at % 4 + 1 : at] = (char)(next_random(state) % (is_wide ? 0xd8 : 0xf0));
+        unsigned byte = next_random(state) % (is_wide ? 0xd8 : 0xf0);
+        /* And so are the tags of the plane 14. */
+        text[is_wide && at > 0 ? at - at % 4 + 1 : at] = (char)(is_wide && byte == 0x0e ? 0x0f : byte);
     }
     return (size_t)(out - text);
 }

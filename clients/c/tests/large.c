@@ -114,6 +114,31 @@ static void test_long(iconvd_pool *pool) {
     }
 }
 
+/* From GB18030 to UTF-7, with any room, and back by the C library. */
+static void test_utf7(iconvd_pool *pool, const struct text *text, size_t piece) {
+    static char utf7[ROOM], back[ROOM];
+    iconvd_cd *cd = NULL;
+    const char *in = text->bytes[0];
+    char *out = utf7;
+    size_t left = text->lengths[0], room = 0;
+    iconvd_status status = iconvd_open(pool, "UTF-7", "GB18030", ICONVD_STRICT, &cd);
+    while (left > 0 && (status == ICONVD_OK || status == ICONVD_E2BIG) && out + piece < utf7 + ROOM) {
+        room += piece;
+        status = iconvd_convert(cd, &in, &left, &out, &room, NULL);
+    }
+    room = 10;
+    if (status == ICONVD_OK)
+        status = iconvd_reset(cd, &out, &room);
+    iconvd_close(cd);
+    iconv_t reading = iconv_open("UTF-8", "UTF-7");
+    char *utf7_at = utf7, *back_at = back;
+    size_t utf7_left = (size_t)(out - utf7), back_left = ROOM;
+    iconv(reading, &utf7_at, &utf7_left, &back_at, &back_left);
+    iconv_close(reading);
+    check(status == ICONVD_OK && ROOM - back_left == text->lengths[1] && memcmp(back, text->bytes[1], ROOM - back_left) == 0,
+          "%s to UTF-7, %zu bytes of room: status %d, %zu bytes left", text->name, piece, (int)status, left);
+}
+
 /* A fault is where it is, and a character that is cut is cut. */
 static void test_faults(void) {
     static const struct {
@@ -153,6 +178,9 @@ int main(void) {
     test_faults();
     iconvd_pool *pool = connect_pool();
     test_long(pool);
+    test_utf7(pool, &planes, ROOM / 2);
+    test_utf7(pool, &planes, 997);
+    test_utf7(pool, &longs, 9973);
     iconvd_disconnect(pool);
     return checks_end("large");
 }

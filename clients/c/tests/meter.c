@@ -1,6 +1,9 @@
 /* Hostile text costs its length: what a conversion sends is at most four times its input and 64 KiB, in at most eight requests for each
  * 64 KiB, whatever the text, the encodings, the policy and the room are. A relay counts it.
  *
+ *   meter texts    texts of every kind
+ *   meter names    each name that the library knows
+ *
  * METER_TIMES=1 also says how long each of the large texts takes. */
 #include <time.h>
 
@@ -43,8 +46,8 @@ static void meter(const struct call *call, iconvd_cd *cd, const char *text, size
 static void test(const struct call *call, const char *text, size_t length) {
     iconvd_cd *cd = NULL;
     iconvd_status status = iconvd_open(pool, call->to, call->from, call->policy, &cd);
-    /* Nothing is left out of UTF-7. GB18030 and EUC-TW together are too large for a service's caller. */
-    if (status == ICONVD_UNSUPPORTED || status == ICONVD_QUOTA)
+    /* Nothing is left out of UTF-7, and there is no way from it, or from shifts, to encodings that compose. */
+    if (status == ICONVD_UNSUPPORTED)
         return;
     check(status == ICONVD_OK, "%s to %s: %s", call->from, call->to, iconvd_status_text(status));
     if (status == ICONVD_OK)
@@ -189,9 +192,7 @@ static void test_number(int number) {
     }
 }
 
-int main(void) {
-    where = start_counting("meter");
-    connect_anew("meter");
+static void test_texts(void) {
     double begin = seconds();
     test_large();
     test_planes();
@@ -200,12 +201,24 @@ int main(void) {
     double rooms = seconds();
     test_shifted();
     test_composing();
-    double shifted = seconds();
-    for (int number = 0; number < BUILTIN_COUNT + (int)charmap_count() || encoding_shifted((size_t)number - BUILTIN_COUNT - charmap_count());
-         number++)
+    printf("meter: %.1f s large texts, %.1f s rooms, %.1f s shifts and compositions\n", large - begin, rooms - large, seconds() - rooms);
+}
+
+static void test_names(void) {
+    double begin = seconds();
+    int number = 0, charmaps_end = BUILTIN_COUNT + (int)charmap_count();
+    for (; number < charmaps_end || encoding_shifted((size_t)(number - charmaps_end)); number++)
         test_number(number);
-    printf("meter: %.1f s large texts, %.1f s rooms, %.1f s shifts and compositions, %.1f s the %lu names\n", large - begin, rooms - large, shifted - rooms,
-           seconds() - shifted, names);
+    printf("meter: %.1f s the %lu names\n", seconds() - begin, names);
+}
+
+int main(int count, char **words) {
+    where = start_counting("meter");
+    connect_anew("meter");
+    if (count > 1 && strcmp(words[1], "names") == 0)
+        test_names();
+    else
+        test_texts();
     iconvd_disconnect(pool);
     unlink(where + 5);
     printf("meter: %llu requests, %llu bytes of text\n", (unsigned long long)texts_sent, (unsigned long long)text_bytes_sent);

@@ -105,6 +105,8 @@ static const struct halves_row {
 #define MARKED "\xff\xfe\x1f\x04\x40\x04\x38\x04\x32\x04\x35\x04\x42\x04"
     {"UTF-16", "UTF-8", "\u041f\u0440\u0438", "\u0432\u0435\u0442", MARKED, MARKED, 14, 14},
     {"UTF-8", "ISO-2022-JP", "\x1b$BF|", "K\\\x1b(Ba", "\u65e5\u672c" "a", "\u65e5\u672c" "a", 7, 7},
+    {"UTF-7", "ISO-2022-JP", "\x1b$BF|", "K\\\x1b(Ba", "+ZeVnLA-a", "+ZeU-+Zyw-a", 9, 11},
+    {"UTF-7", "GB18030", "\x90\x30\x81\x30", "\x90\x30\x81\x30" "a", "+2ADcANgA3AA-a", "+2ADcAA-+2ADcAA-a", 14, 17},
     {"ISO-2022-JP", "UTF-8", "\u65e5", "\u672c" "a", "\x1b$BF|K\\\x1b(Ba", "\x1b$BF|\x1b(B\x1b$BK\\\x1b(Ba", 11, 17},
 };
 enum { HALVES_COUNT = sizeof HALVES / sizeof *HALVES };

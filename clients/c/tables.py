@@ -163,11 +163,12 @@ def spread(row: list[str]) -> list[tuple[str, str]]:
 
 
 def repairs_header(table: list[list[str]]) -> str:
-    """The C library's lines, those of an encoding one after another."""
+    """The C library's lines, those of an encoding one after another; composing.tsv has those of the kind `as`."""
     lines: list[str] = []
     encodings: list[str] = []
     # An encoding that is made from the charmap of another one has its own name, in upper case, in the column FOR.
-    mine = [(row[0] if row[1] == 'glibc' else row[1], row) for row in table if row[1] == 'glibc' or row[1] != row[1].lower()]
+    mine = [(row[0] if row[1] == 'glibc' else row[1], row) for row in table
+            if row[2] != 'as' and (row[1] == 'glibc' or row[1] != row[1].lower())]
     for encoding in sorted({name for name, _ in mine}):
         first = len(lines)
         for row in (row for name, row in mine if name == encoding):

@@ -102,6 +102,29 @@ def _rows(directory: str, encoding: Composing) -> Iterator[str]:
         yield _row(encoding.charmap, point, text, 'write')
 
 
+def _repairs() -> Iterator[tuple[str, str, str, int, int]]:
+    """The repairs of one byte and one character: the charmap, the encoding, the kind, the byte and the character."""
+    with open(os.path.join(os.path.dirname(os.path.abspath(__file__)), 'repairs.tsv'), encoding='utf-8') as lines:
+        for line in lines:
+            row = line.rstrip('\n').split('\t')
+            if not line.startswith('#') and len(row[3]) == 2 and re.fullmatch('U\\+[0-9A-F]+', row[4]):
+                yield row[0], row[0] if row[1] == 'glibc' else row[1], row[2], int(row[3], 16), int(row[4][2:], 16)
+
+
+def _other_rows(directory: str) -> Iterator[str]:
+    """The characters that are written as others: those that have the same byte."""
+    repairs = list(_repairs())
+    for charmap, encoding in sorted({(row[0], row[1]) for row in repairs if row[2] == 'as'}):
+        found = (re.match(r'<U([0-9A-F]{4})>\s+/x(..)\s', line) for line in _lines(directory, charmap))
+        by_byte = {int(each[2], 16): int(each[1], 16) for each in found if each}
+        mine = [row[2:] for row in repairs if row[1] == encoding]
+        by_byte.update((byte, point) for kind, byte, point in mine if kind == 'both')
+        yield '\t'.join([encoding, '0000', '0000', '-', 'once'])
+        for kind, byte, point in mine:
+            if kind == 'as':
+                yield _row(encoding, point, chr(by_byte[byte]), 'write')
+
+
 def rows(directory: str) -> Iterator[str]:
     """The lines of composing.tsv: the charmap, the character, its letter and mark, and whether it is read so, written so, or both."""
     for encoding in ENCODINGS:
@@ -112,3 +135,4 @@ def rows(directory: str) -> Iterator[str]:
         found = [re.match(r'%<U([0-9A-F]+)><U([0-9A-F]+)>\s', line) for line in _lines(directory, charmap)]
         for number, each in enumerate(each for each in found if each):
             yield '\t'.join([charmap, '%04X' % (FIRST_PAIR + number), each[1].zfill(4), each[2].zfill(4), 'both'])
+    yield from _other_rows(directory)

@@ -1,6 +1,8 @@
 /* Encodings whose converters compose: CP1255, CP1258 and TCVN hold a letter back, since a mark may follow that is one character with it,
  * and BIG5-HKSCS has codes that are a letter and a mark each.
  *
+ * Some encodings only write a character as another one.
+ *
  * The service converts the single codes. Between the two sides of a conversion a text is in UTF-16BE, and there it is composed or
  * decomposed. names/composing.py says which pairs there are. */
 #ifndef ICONVD_COMPOSED_H
@@ -19,6 +21,11 @@ struct composing {
     uint16_t first_read, reads;  /* its rows of each table */
     uint16_t first_write, writes;
 };
+
+/* Whether a text in the encoding is composed when it is read, too. NULL: no. */
+static inline bool composing_reads(const struct composing *by) {
+    return by && by->reads > 0;
+}
 
 /* composed_table.c */
 

@@ -44,9 +44,10 @@ iconvd_status composed_open(struct iconvd_cd *cd, bool to_wide) {
     struct composed *composed = cd->composed = calloc(1, sizeof *composed);
     if (!composed)
         return ICONVD_ENOMEM;
-    composed->by = cd->from->composing ? cd->from->composing : cd->to->composing ? cd->to->composing : &NOTHING;
+    bool reads = composing_reads(cd->from->composing);
+    composed->by = reads ? cd->from->composing : cd->to->composing ? cd->to->composing : &NOTHING;
     composed->to_wide = to_wide;
-    return cd->from->composing ? open_reading(cd, to_wide) : open_writing(cd);
+    return reads ? open_reading(cd, to_wide) : open_writing(cd);
 }
 
 iconvd_status composed_write_held(struct composed *composed, char **out, size_t *out_left) {

@@ -21,7 +21,7 @@ const struct composing *composing_of(const char *file) {
 
 bool charmap_is_composed(const char *file) {
     const struct composing *by = composing_of(file);
-    return by && by->kind != COMPOSES_PAIRS;
+    return composing_reads(by) && by->kind != COMPOSES_PAIRS;
 }
 
 static uint32_t key_of(uint32_t letter, uint32_t mark) {

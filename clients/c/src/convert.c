@@ -246,7 +246,7 @@ iconvd_status open_pair(struct iconvd_cd *cd) {
 iconvd_status convert_open(struct iconvd_cd *cd, bool to_wide) {
     /* The descriptor of UTF-7 reads no characters that are computed here. */
     bool computes = cd->to->kind == UTF_7 && cd->from->is_computed;
-    if (cd->to->composing || cd->from->composing || computes)
+    if (cd->to->composing || composing_reads(cd->from->composing) || computes)
         return composed_open(cd, to_wide);
     return cd->to->kind == SHIFTED || cd->from->kind == SHIFTED ? shifted_open(cd, to_wide) : open_pair(cd);
 }

@@ -13,11 +13,11 @@
 
 enum { TEXT = 400, ROOM = 1600 };
 
-static const char *const COMPOSING[] = {"CP1255", "CP1258", "TCVN", "BIG5-HKSCS"};
+static const char *const COMPOSING[] = {"CP1255", "CP1258", "TCVN", "BIG5-HKSCS", "IBM1140", "IBM922"};
 static const char *const OTHERS[] = {"UTF-8", "UTF-16LE", "UTF-32BE", "WCHAR_T", "ASCII", "LATIN1", "CP1255", "CP1258", "TCVN",
-                                     "BIG5-HKSCS", "KOI8-R"};
+                                     "BIG5-HKSCS", "KOI8-R", "IBM922"};
 static const char *const POLICIES[] = {"", "", "//IGNORE", "//TRANSLIT"};
-enum { COMPOSING_COUNT = 4, OTHER_COUNT = 11 };
+enum { COMPOSING_COUNT = 6, OTHER_COUNT = 12 };
 
 static struct library ours, theirs;
 static unsigned long calls;
@@ -28,6 +28,7 @@ static uint32_t random_character(uint64_t *state) {
         {0x5d0, 0x1b},   {0x5b0, 0x13}, {0x5e9, 1},     {0x5bc, 1},     {0x5c1, 2},    {0xfb1d, 0x33}, {0x41, 0x3a},   {0x300, 0xd},
         {0x323, 1},      {0xc0, 0x40},  {0x102, 2},     {0x1a0, 0x11},  {0x1ea0, 0x5a}, {0xca, 1},     {0xea, 1},      {0x304, 1},
         {0x30c, 1},      {0x4e00, 0x50}, {0x1e4c, 4},   {0xfdd0, 4},    {0x340, 2},    {0x20, 0x10},
+        {0x203e, 1},     {0x2500, 0x40}, {0xaf, 1},
     };
     const uint32_t *range = RANGES[next_random(state) % (sizeof RANGES / sizeof *RANGES)];
     return range[0] + next_random(state) % range[1];

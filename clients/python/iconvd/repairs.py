@@ -90,7 +90,7 @@ def _repairs(rows: List[List[str]]) -> Repairs:
     dropped: Set[bytes] = set()
     faults: Set[bytes] = set()
     for _, _, kind, code, character, placeholder, _ in rows:
-        if kind in ("computed", "syllables"):
+        if kind in ("computed", "syllables", "as"):
             continue
         if kind == "more":
             found.more.append(More(bytes.fromhex(code), character))

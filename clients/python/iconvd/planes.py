@@ -12,8 +12,10 @@ from typing import List, Match, NamedTuple, Optional
 #: U+FFFF, by its code and in UTF-8.
 _MARK = b"\x84\x31\xa4\x39"
 _MARK_UTF_8 = "\uffff".encode("utf-8")
-#: A code of four bytes, or what a decoder reads before it goes on, also after a fault.
-_ITEM = re.compile(rb"(?s)([\x81-\xfe][0-9][\x81-\xfe][0-9])|[\x81-\xfe].?|[^\x81-\xfe]+")
+#: A code of four bytes, or what a decoder reads up to the next one, also after faults. A pattern keeps what it needs to go back for each
+#: item of a repetition, so that has a limit.
+_FOUR = rb"[\x81-\xfe][0-9][\x81-\xfe][0-9]"
+_ITEMS = re.compile(rb"(?s)(%s)|(?:(?!%s)[\x81-\xfe].?|[^\x81-\xfe]+){1,4096}" % (_FOUR, _FOUR))
 #: Bytes that look like a computed code, wherever characters begin.
 _CODE = re.compile(rb"[\x90-\xe3][0-9][\x81-\xfe][0-9]")
 #: The beginning of a computed code.
@@ -66,7 +68,7 @@ def marked_codes(data: bytes) -> Marked:
         meant.append(character.encode("utf-8"))
         return _MARK
 
-    return Marked(_ITEM.sub(marked, data), meant)
+    return Marked(_ITEMS.sub(marked, data), meant)
 
 
 def characters_put_back(output: bytes, meant: List[bytes]) -> bytes:
@@ -108,4 +110,4 @@ def codes_put_back(output: bytes, meant: List[bytes]) -> PutBack:
         used.append(next(codes))
         return used[-1]
 
-    return PutBack(_ITEM.sub(put_back, output), sum(code != _MARK for code in used))
+    return PutBack(_ITEMS.sub(put_back, output), sum(code != _MARK for code in used))

@@ -3,11 +3,11 @@
 
 mod added;
 mod byte_trie;
+mod comparing;
 mod entering;
 mod entry;
 mod found;
 mod growing;
-mod meeting;
 mod node;
 mod running;
 mod setting_edges;

@@ -4,10 +4,10 @@ use Rattle.cv_byte_trie.specs.Tables.{node_at}
 use Rattle.cv_byte_trie.specs.declared.node.Node.TheVariants.{One, Few}
 use Rattle.cv_byte_trie.specs.declared.steps.Steps.{Steps}
 use Rattle.cv_byte_trie.proofs.Edges.{node_read, edge_none}
-use Rattle.cv_byte_trie.proofs.Doubling.{new_one, not_root}
+use Rattle.cv_byte_trie.proofs.GrownBlocks.{new_one, not_root}
 use Rattle.cv_byte_trie.proofs.Keeping.{node_keeps}
-use Rattle.cv_byte_trie.proofs.Setting.{place_sets}
-use Rattle.cv_byte_trie.proofs.steps.Steps.turn.Goals as goal
+use Rattle.cv_byte_trie.proofs.Setting.{slot_sets}
+use Rattle.cv_byte_trie.proofs.steps.Steps.redirect.Goals as goal
 
 pub returns-in-One-clause-sound : goal.returns-in-One-clause-sound
 returns-in-One-clause-sound c =
@@ -28,7 +28,7 @@ returns-in-Some-clause-sets c =
     let few : node_at t c.args.node ≡ Few size start = node_read t c.args.node c.index.result.now (Few size start) c.requires.low c.index.ensures c.in-Few.is in
     let byte : c.args.byte < 256 = omega arith in
     let u : Steps = record { nodes = t.nodes; edges = with_item t.edges (start + c.in-Some.at) (record { byte = c.args.byte; code = c.args.code }); tables = t.tables } in
-    place_sets t u s c.args.node c.args.byte c.args.code size start c.in-Some.at c.requires.low byte few f.0
+    slot_sets t u s c.args.node c.args.byte c.args.code size start c.in-Some.at c.requires.low byte few f.0
     (λ j l e. s.once c.args.node size start j c.in-Some.at c.requires.low few l f.0 (e ∙ sym f.1) (rw f.1 byte)) (λ d l h e. h (sym e ∙ f.1)) refl refl refl
 
 pub returns-in_default-clause-sets : goal.returns-in_default-clause-sets

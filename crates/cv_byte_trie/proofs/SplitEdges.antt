@@ -11,7 +11,7 @@ use Rattle.cv_byte_trie.specs.Private.Growth.{end_code, code_behind}
 use Rattle.cv_byte_trie.specs.Private.Reading.{IsAt}
 use Rattle.cv_byte_trie.proofs.Ways.{longer_by_one}
 use Rattle.cv_byte_trie.proofs.Followed.{front}
-use Rattle.cv_byte_trie.proofs.Leading.{behind_some}
+use Rattle.cv_byte_trie.proofs.Chains.{behind_some}
 use Rattle.cv_byte_trie.proofs.OneMore.{cases_same, end_low, end_whole, end_tail}
 
 -- A byte `b` leads from node `i` to the entry at `p`, which has bytes after it. `m` new nodes lead over its bytes up to
@@ -53,8 +53,8 @@ module _ (entries : List Entry) (a : AreEntries entries) (S : StepsBy) (count p 
     | inr z ↦ (let f : node_code (count + j - 1) ≡ node_code x = sym (behind_some last count j (omega arith)) ∙ e in (omega arith, omega arith))
   ]
 
-  code_place : (j q : ℕ) → code_behind last count j ≡ q → q < tails → (j ≡ 0) × (q ≡ p) × (length v ≡ l + 1)
-  code_place j q e low = elim (cases_eq j 0) [
+  code_entry : (j q : ℕ) → code_behind last count j ≡ q → q < tails → (j ≡ 0) × (q ≡ p) × (length v ≡ l + 1)
+  code_entry j q e low = elim (cases_eq j 0) [
     | inl z ↦ (let h = end_whole (length v) l p q (sym (code_last j z) ∙ e) low in (z, h.1, h.0))
     | inr z ↦ absurd (let f : node_code (count + j - 1) ≡ q = sym (behind_some last count j (omega arith)) ∙ e in omega arith)
   ]
@@ -135,13 +135,13 @@ module _ (entries : List Entry) (a : AreEntries entries) (S : StepsBy) (count p 
     leaf_T : (n c q : ℕ) → n < count + m → c < 256 → T n c ≡ q → q < tails → (q < length entries) × (bytes_at entries q ≡ way_with n ++ c ∷ [])
     leaf_T n c q low cb e lq = elim (cases_node n low) [
       | inl lo ↦ elim (cases_same i b n c) [
-        | inl h ↦ absurd (let z = code_place m q (sym (at_set n c h) ∙ e) lq in omega (arith, z.0))
+        | inl h ↦ absurd (let z = code_entry m q (sym (at_set n c h) ∙ e) lq in omega (arith, z.0))
         | inr h ↦ (let z = r.trie.leaf n c q lo cb (sym (same n c lo cb h) ∙ e) lq in (z.0, z.1 ∙ ap (λ (y : List ℕ). y ++ c ∷ []) (sym (way_old n lo))))
       ]
       | inr h ↦ elim (cases_eq c (get_or v (l - h.0) 0)) [
         | inl f ↦ (
             let j = h.0 in
-            let z = code_place j q (sym (at_new j n c h.1 h.2 cb f) ∙ e) lq in
+            let z = code_entry j q (sym (at_new j n c h.1 h.2 cb f) ∙ e) lq in
             (rw z.1 lp, ap (bytes_at entries) z.1 ∙ sym (take_all (l - j + 1) v (omega (arith, z.0, z.2))) ∙ sym (way_from j n c h.2 f)))
         | inr f ↦ absurd (let z : none ≡ q = sym (at_off h.0 n c h.1 h.2 cb f) ∙ e in omega arith)
       ]
@@ -277,8 +277,8 @@ module _ (entries : List Entry) (a : AreEntries entries) (S : StepsBy) (count p 
     }
 
     -- a text with the same bytes up to the last new node leads there
-    pub at_fork : (x : List ℕ) → take l v ≡ take l x → IsAt T (count + m) entries x l count
-    at_fork x e =
+    pub at_split : (x : List ℕ) → take l v ≡ take l x → IsAt T (count + m) entries x l count
+    at_split x e =
         let zero_on : count ≡ count + 0 = omega arith in
         let none_less : l - 0 ≡ l = omega arith in
         let way : way_with count ≡ take l v = ap way_with zero_on ∙ way_new 0 ∙ ap (λ (y : ℕ). take y v) none_less in

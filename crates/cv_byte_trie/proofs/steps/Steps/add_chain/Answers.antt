@@ -1,8 +1,8 @@
 use Rattle.std.proofs.Common.{◌≡◌, ◌+◌, ℕ, List, ◌-◌, length, take, get_or, ap, ◌∙◌, arith, refl}
 use Rattle.std.proofs.lemmas.List.{length-take-le, get_or-take, take-take}
 use Rattle.cv_byte_trie.specs.declared.steps.Steps.{Steps}
-use Rattle.cv_byte_trie.proofs.Leading.{leads_more, one_more_sound}
-use Rattle.cv_byte_trie.proofs.steps.Steps.lead.Goals as goal
+use Rattle.cv_byte_trie.proofs.Chains.{leads_more, one_more_sound}
+use Rattle.cv_byte_trie.proofs.steps.Steps.add_chain.Goals as goal
 
 pub loop-rest-preserved : goal.loop-rest-preserved
 loop-rest-preserved c =

@@ -117,12 +117,12 @@ module _ (t u : Steps) (s : IsSound t) (n : ℕ) (low : n < length t.nodes.items
       ]) ∙ sym (ap (edge_at t n c) one ∙ ap (λ (y : Bool). cond y led none) (ne_eqb c own e))
     ]
 
-    pub pair_sets : SetsEdge t u n b code
-    pair_sets = block_sets t u s n low (Few 2 start) nodes tables more edges b code 2 start k refl here (byte_there k refl) (ap (λ (y : Edge). y.code) at_there)
+    pub to_block_sets : SetsEdge t u n b code
+    to_block_sets = block_sets t u s n low (Few 2 start) nodes tables more edges b code 2 start k refl here (byte_there k refl) (ap (λ (y : Edge). y.code) at_there)
         (λ j l f. once_two j k l here (f ∙ sym (byte_there k refl))) rest_two
 
-    pub pair_sound : IsSound u
-    pair_sound = node_keeps t u s n low (Few 2 start) nodes (not_root t s n (One own led) one (λ k e. absurd (cc))) more edges [] no_rows (rw tables s.full) (new_few t u (Few 2 start) 2 start refl at block_two)
+    pub to_block_sound : IsSound u
+    to_block_sound = node_keeps t u s n low (Few 2 start) nodes (not_root t s n (One own led) one (λ k e. absurd (cc))) more edges [] no_rows (rw tables s.full) (new_few t u (Few 2 start) 2 start refl at block_two)
 
   -- ---- a block of twice the size
 
@@ -180,11 +180,11 @@ module _ (t u : Steps) (s : IsSound t) (n : ℕ) (low : n < length t.nodes.items
           | inr p ↦ (let r = at_room j l m p in omega arith)
         ]) ∙ coded_same t.edges.items u.edges.items from start size c at_old ∙ sym (ap (edge_at t n c) few)
 
-    pub double_sets : SetsEdge t u n b code
-    double_sets = block_sets t u s n low (Few (2 * size) start) nodes tables more edges b code (2 * size) start k refl here (byte_new k refl) (ap (λ (y : Edge). y.code) at_new) the_only rest_twice
+    pub grow_block_sets : SetsEdge t u n b code
+    grow_block_sets = block_sets t u s n low (Few (2 * size) start) nodes tables more edges b code (2 * size) start k refl here (byte_new k refl) (ap (λ (y : Edge). y.code) at_new) the_only rest_twice
 
-    pub double_sound : IsSound u
-    double_sound = node_keeps t u s n low (Few (2 * size) start) nodes (not_root t s n (Few size from) few (λ k e. absurd (cc))) more edges [] no_rows (rw tables s.full) (new_few t u (Few (2 * size) start) (2 * size) start refl at block_twice)
+    pub grow_block_sound : IsSound u
+    grow_block_sound = node_keeps t u s n low (Few (2 * size) start) nodes (not_root t s n (Few size from) few (λ k e. absurd (cc))) more edges [] no_rows (rw tables s.full) (new_few t u (Few (2 * size) start) (2 * size) start refl at block_twice)
 
 -- the edges of a block, as many free ones after them, and the new edge among these
 module _ (edges : List Edge) (start size x : ℕ) (e : Edge) (within : start + size ≤ length edges) (small : size ≤ 16) (low : x < size) where

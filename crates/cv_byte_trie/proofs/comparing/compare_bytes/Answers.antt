@@ -1,6 +1,6 @@
 use Rattle.std.proofs.Common.{arith}
 use Rattle.cv_byte_trie.proofs.Agreeing.{agree_begins, agree_flip}
-use Rattle.cv_byte_trie.proofs.meeting.compare.Goals as goal
+use Rattle.cv_byte_trie.proofs.comparing.compare_bytes.Goals as goal
 
 pub returns-then-common-held : goal.returns-then-common-held
 returns-then-common-held c = agree_begins c.args.held.now c.args.text.now c.common-common.result c.common-common.ensures c.if-common-held.true

@@ -1,8 +1,8 @@
 use Rattle.std.proofs.Common.{◌≡◌, ◌≢◌, ◌≤◌, length, take}
 use Rattle.cv_byte_trie.specs.Tries.{none}
 use Rattle.cv_byte_trie.specs.Private.Sound.{IsSound}
-use Rattle.cv_byte_trie.proofs.Leading.{IsLeading}
-use Rattle.cv_byte_trie.proofs.steps.Steps.lead.Given as goal
+use Rattle.cv_byte_trie.proofs.Chains.{IsLeading}
+use Rattle.cv_byte_trie.proofs.steps.Steps.add_chain.Given as goal
 
 abbrev pub invariant-loop-rest : goal.invariant-loop-rest
 invariant-loop-rest l = record {

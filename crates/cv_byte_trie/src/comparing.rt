@@ -1,13 +1,13 @@
 //! Comparing a text with an entry.
 ghost use Rattle.std.specs.Prelude.{◌<◌, length};
 ghost use Rattle.cv_byte_trie.specs.Entries.{bytes_at};
-ghost use Rattle.cv_byte_trie.specs.Private.Meetings.{AgreeFor, Meets};
+ghost use Rattle.cv_byte_trie.specs.Private.Comparisons.{AgreeFor, Compares};
 
 use crate::entry::Entry;
 
 /// How a text compares with an entry's bytes.
 #[derive(Clone, Copy, Debug)]
-pub(crate) enum Meeting {
+pub(crate) enum Comparison {
     /// The text begins with the entry's bytes.
     Held,
     /// The text is a proper prefix of the entry's bytes.
@@ -29,23 +29,23 @@ fn common(left: &[u8], right: &[u8]) -> usize
 }
 
 /// Compares a text with a byte string.
-fn compare(held: &[u8], text: &[u8]) -> Meeting
-    ensures { Meets held.now text.now result }
+fn compare_bytes(held: &[u8], text: &[u8]) -> Comparison
+    ensures { Compares held.now text.now result }
 {
     let common = common(held, text);
     if common == held.len() {
-        Meeting::Held
+        Comparison::Held
     } else if common == text.len() {
-        Meeting::Inside
+        Comparison::Inside
     } else {
-        Meeting::Parts(common)
+        Comparison::Parts(common)
     }
 }
 
 /// Compares a text with the entry at an index.
-pub(crate) fn meet(entries: &[Entry], place: usize, text: &[u8]) -> Meeting
-    requires { place < length entries.now }
-    ensures { Meets (bytes_at entries.now place) text.now result }
+pub(crate) fn compare(entries: &[Entry], index: usize, text: &[u8]) -> Comparison
+    requires { index < length entries.now }
+    ensures { Compares (bytes_at entries.now index) text.now result }
 {
-    compare(entries[place].bytes(), text)
+    compare_bytes(entries[index].bytes(), text)
 }

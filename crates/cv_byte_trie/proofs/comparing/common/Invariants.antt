@@ -1,5 +1,5 @@
 use Rattle.std.proofs.Common.{◌≡◌, ◌≤◌, ◌-◌, take}
-use Rattle.cv_byte_trie.proofs.meeting.common.Given as goal
+use Rattle.cv_byte_trie.proofs.comparing.common.Given as goal
 
 abbrev pub invariant-loop-count : goal.invariant-loop-count
 invariant-loop-count l = record {

@@ -80,8 +80,8 @@ module _ (t u : Steps) (s : IsSound t) (n : ℕ) (low : n < length t.nodes.items
         | inr p ↦ (let r = at_room j l m p in omega arith)
       ]) ∙ coded_same t.edges.items u.edges.items start start size c at_old ∙ sym (ap (edge_at t n c) few)
 
-  pub grow_in_place_sets : SetsEdge t u n b code
-  grow_in_place_sets = block_sets t u s n low (Few (2 * size) start) nodes tables more edges b code (2 * size) start (size + x) refl (omega arith) (byte_new (size + x) refl) (ap (λ (y : Edge). y.code) at_new) the_only rest
+  pub grown_sets : SetsEdge t u n b code
+  grown_sets = block_sets t u s n low (Few (2 * size) start) nodes tables more edges b code (2 * size) start (size + x) refl (omega arith) (byte_new (size + x) refl) (ap (λ (y : Edge). y.code) at_new) the_only rest
 
   -- ---- all nodes
 
@@ -123,8 +123,8 @@ module _ (t u : Steps) (s : IsSound t) (n : ℕ) (low : n < length t.nodes.items
   met : (m width from k : ℕ) → (m < length t.nodes.items) × (node_at t m ≡ Few width from) → from ≤ k → k < from + width → start ≤ k → m ≡ n
   met m width from k h a c d = let w = s.within m width from h.0 h.1 in s.own m n width from size start k h.0 low h.1 few a c d (omega (arith, last))
 
-  pub grow_in_place_sound : IsSound u
-  grow_in_place_sound = record {
+  pub grown_sound : IsSound u
+  grown_sound = record {
     some = (let h = s.some in omega (arith, count));
     root = (
         let other : 0 ≢ n = λ e. absurd (let bad : Table 0 ≡ Few size start = sym s.root ∙ ap (node_at t) e ∙ few in cc) in

@@ -10,7 +10,7 @@ use Rattle.cv_byte_trie.specs.Results.{MeetsNone}
 use Rattle.cv_byte_trie.specs.Tries.{StepsBy, tails, none, IsAlone, HasTrie}
 use Rattle.cv_byte_trie.specs.Tables.{edge_in, node_at, edge_at, edge_of}
 use Rattle.cv_byte_trie.specs.Private.Sound.{IsSound}
-use Rattle.cv_byte_trie.specs.Private.Growth.{IsUnchanged, SetsEdge, SplitsEdge, end_code, code_behind}
+use Rattle.cv_byte_trie.specs.Private.Growth.{IsUnchanged, SetsEdge, Splits, end_code, code_behind}
 use Rattle.cv_byte_trie.specs.Private.Reading.{IsAt, IsVacant, IsTail}
 use Rattle.cv_byte_trie.specs.Private.Comparisons.{AgreeFor}
 use Rattle.cv_byte_trie.specs.Private.Indexed.{IsIndexed}
@@ -179,7 +179,7 @@ module _ (entries : List Entry) (a : AreEntries entries) (old new : Steps) (w : 
   pub beside_meets_none : MeetsNone entries w
   beside_meets_none = tail_meets_none entries a (edge_of old) (length old.nodes.items) w tail t (agree_not v w l agree parts_held) (agree_not w v l (agree_flip v w l agree) parts)
 
-  beside_trie : (character : ℕ) → length entries < tails → get_or w l 0 < 256 → SplitsEdge old new tail.node (get_or w d 0) between (end_code (length v) l tail.index) (get_or w l 0) (end_code (length w) l (length entries)) → HasTrie (edge_of new) (length new.nodes.items) (entries ++ (w, character) ∷ [])
+  beside_trie : (character : ℕ) → length entries < tails → get_or w l 0 < 256 → Splits old new tail.node (get_or w d 0) between (end_code (length v) l tail.index) (get_or w l 0) (end_code (length w) l (length entries)) → HasTrie (edge_of new) (length new.nodes.items) (entries ++ (w, character) ∷ [])
   beside_trie character small byte g =
       let count = length old.nodes.items in
       let m = l - d in
@@ -207,7 +207,7 @@ module _ (entries : List Entry) (a : AreEntries entries) (old new : Steps) (w : 
 
   -- the invariant holds with one more entry beside another
   pub indexed_beside : (character : ℕ) → IsIndexed entries old → length w ≤ 8 → IsScalar character → length entries < 16777216 → get_or w l 0 < 256 → IsSound new
-      → SplitsEdge old new tail.node (get_or w d 0) between (end_code (length v) l tail.index) (get_or w l 0) (end_code (length w) l (length entries))
+      → Splits old new tail.node (get_or w d 0) between (end_code (length v) l tail.index) (get_or w l 0) (end_code (length w) l (length entries))
       → length new.edges.items ≤ length old.edges.items + 32 → length new.tables.items ≤ length old.tables.items + 256 → IsIndexed (entries ++ (w, character) ∷ []) new
   indexed_beside character i short scalar room byte sound g edges tables =
       let e : Entry = (w, character) in

@@ -10,6 +10,7 @@ ghost use Rattle.cv_byte_trie.specs.Private.Comparisons.{AgreeFor};
 ghost use Rattle.cv_byte_trie.specs.Results.{MeetsNone};
 
 use crate::entry::Entry;
+use crate::fork::Fork;
 use crate::steps::{Steps, TAIL};
 use crate::walking::Tail;
 use cv_base::{Memory, Scalar};
@@ -94,18 +95,16 @@ pub(crate) fn enter_beside(
     let _scalar = character.value();
     let end = entries.len();
     let held = *entries[tail.index].padded();
-    let first = code_of(entries[tail.index].len(), common, tail.index);
-    let second = code_of(bytes.len(), common, end);
+    let code = code_of(entries[tail.index].len(), common, tail.index);
+    let other_code = code_of(bytes.len(), common, end);
     entries.push(Entry::new(bytes, character))?;
-    let between = &held[tail.depth + 1..common + 1];
-    match steps.split_edge(
-        tail.node,
-        bytes[tail.depth],
-        between,
-        first,
-        bytes[common],
-        second,
-    ) {
+    let fork = Fork {
+        bytes: &held[tail.depth + 1..common + 1],
+        code,
+        other_byte: bytes[common],
+        other_code,
+    };
+    match steps.split_edge(tail.node, bytes[tail.depth], &fork) {
         Ok(()) => Ok(()),
         Err(_) => {
             entries.truncate(end);

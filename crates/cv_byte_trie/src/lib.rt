@@ -6,6 +6,7 @@ mod byte_trie;
 mod comparing;
 mod entering;
 mod entry;
+mod fork;
 mod found;
 mod growing;
 mod node;

@@ -2,7 +2,7 @@ use Rattle.std.proofs.Common.{◌≡◌, ◌∷◌, [], ◌++◌, ◌+◌, List,
 use Rattle.std.proofs.Math.Seq.{take-append_seam}
 use Rattle.cv_byte_trie.specs.Entries.{Entry, bytes_at}
 use Rattle.cv_byte_trie.specs.Tables.{edge_of}
-use Rattle.cv_byte_trie.specs.Private.Growth.{SplitsEdge, end_code}
+use Rattle.cv_byte_trie.specs.Private.Growth.{Splits, end_code}
 use Rattle.cv_byte_trie.specs.Private.Indexed.{IsIndexed}
 use Rattle.cv_byte_trie.proofs.Agreeing.{part_is}
 use Rattle.cv_byte_trie.proofs.ReadEntries.{entry_bytes}
@@ -49,9 +49,9 @@ returns-in-Ok-clause-indexed c =
     let part = part_is c.padded.result.now v (length v) tail.depth l held c.requires.held c.requires.deep in
     let place : c.len-end.result ≡ length entries = c.len-end.ensures ∙ c.args.entries.now.ok.0 in
     let size : c.len.result ≡ length v = c.len.ensures ∙ ap length (sym mine_again) in
-    let first : c.code_of-first.result ≡ end_code (length v) l tail.index = c.code_of-first.ensures.value ∙ ap (λ (n : ℕ). end_code n l tail.index) size in
-    let second : c.code_of-second.result ≡ end_code (length w) l (length entries) = c.code_of-second.ensures.value ∙ ap (end_code (length w) l) place in
-    let forks : SplitsEdge old new tail.node (get_or w tail.depth 0) (drop (tail.depth + 1) (take (l + 1) v)) (end_code (length v) l tail.index) (get_or w l 0) (end_code (length w) l (length entries)) = rw (part, first, second) at g.splits in
+    let first : c.code_of-code.result ≡ end_code (length v) l tail.index = c.code_of-code.ensures.value ∙ ap (λ (n : ℕ). end_code n l tail.index) size in
+    let second : c.code_of-other_code.result ≡ end_code (length w) l (length entries) = c.code_of-other_code.ensures.value ∙ ap (end_code (length w) l) place in
+    let forks : Splits old new tail.node (get_or w tail.depth 0) (drop (tail.depth + 1) (take (l + 1) v)) (end_code (length v) l tail.index) (get_or w l 0) (end_code (length w) l (length entries)) = rw (part, first, second) at g.splits in
     subst (λ (x : List Entry). IsIndexed x new) (sym (c.in_ok-push.ensures.items ∙ ap (λ (x : Entry). entries ++ x ∷ []) c.new.ensures))
     (indexed_beside entries c.requires.indexed.apart old new w tail c.requires.tail l c.requires.agree c.requires.held c.requires.more c.args.character c.requires.indexed c.requires.short c.value-scalar.ensures.scalar c.requires.room
     (let h = c.type_inv.bytes l in omega arith) g.sound forks g.edges g.tables)

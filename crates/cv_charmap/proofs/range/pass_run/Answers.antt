@@ -12,7 +12,7 @@ returns-clause-run c = λ more count within.
     let few = e.few in
     let limit = c.run_limit-most.ensures in
     let most = limit.few in
-    at_once c.args.draft.now c.enter_run.new.self c.args.hex c.args.first c.args.bytes.now (take (length c.args.bytes.now) c.in-Ok.entry.0) c.args.i c.in-Ok.entry.1 c.enter_run.result
+    at_once c.args.pairs.now c.enter_run.new.self c.args.hex c.args.first c.args.bytes.now (take (length c.args.bytes.now) c.in-Ok.entry.0) c.args.i c.in-Ok.entry.1 c.enter_run.result
     (limit.hex (omega arith)) c.requires.some (sym c.in-Ok.ensures.value)
     (omega (arith, last_of c.in-Ok.entry.0 (length c.args.bytes.now) c.in-Ok.ensures.size c.requires.some c.requires.few, limit.bytes))
     (λ k less. limit.scalars k (omega arith)) e.run e.apart e.full count (omega arith) more)

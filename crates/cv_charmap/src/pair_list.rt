@@ -5,10 +5,10 @@ ghost use Rattle.cv_base.specs.Scalars.{IsScalar};
 ghost use Rattle.cv_byte_trie.specs.Entries.{bytes_at, AreApart};
 ghost use Rattle.cv_byte_trie.specs.Runs.{run_of};
 ghost use Rattle.cv_charmap.specs.Lists.{most_pairs};
-ghost use Rattle.cv_charmap.specs.Private.Covers.{HasEntries, AreStops};
+ghost use Rattle.cv_charmap.specs.Private.Covers.{HasEntries, AreLookedUp};
 ghost use Rattle.cv_charmap.specs.Private.Seen.{Enters};
 
-use crate::reach::{NO_REACH, Reach, Stop, mark};
+use crate::covered::{Covered, LookedUp, NOT_COVERED, mark};
 use cv_base::{Memory, Scalar};
 use cv_byte_trie::{Added, ByteTrie, Found};
 use cv_lex::Cause;
@@ -33,14 +33,14 @@ pub(crate) enum EntryFault {
 
 /// The pairs that were entered, in this order. Contracts see the list of them.
 #[derive(Drop)]
-pub(crate) struct Draft {
+pub(crate) struct PairList {
     alloc: Global,
     trie: ByteTrie,
     /// For each of the first pairs, how many entries of a range are known to be in the list from it on.
-    reach: Vec<Reach>,
+    covered: Vec<Covered>,
 }
 
-impl Model for Draft {
+impl Model for PairList {
     ghost use Rattle.std.specs.Prelude.{List};
     ghost use Rattle.cv_charmap.specs.Entries.{Pair};
 
@@ -48,21 +48,21 @@ impl Model for Draft {
 
     ghost view = { λ d. d.trie.entries };
 
-    ghost use Rattle.cv_charmap.specs.Private.Covers.{IsDraft};
+    ghost use Rattle.cv_charmap.specs.Private.Covers.{IsPairList};
 
-    ghost invariant = { λ d. IsDraft d.trie.entries d.reach.items };
+    ghost invariant = { λ d. IsPairList d.trie.entries d.covered.items };
 }
 
 /// Returns the index of an entry with the same bytes, if it has this character, or else the fault.
-fn held(trie: &ByteTrie, bytes: &[u8], place: usize, character: Scalar) -> Result<usize, EntryFault>
+fn held(trie: &ByteTrie, bytes: &[u8], index: usize, character: Scalar) -> Result<usize, EntryFault>
     requires apart { AreApart trie.now.entries }
-    requires low { place < length trie.now.entries }
-    requires same { bytes_at trie.now.entries place ≡ bytes.now }
+    requires low { index < length trie.now.entries }
+    requires same { bytes_at trie.now.entries index ≡ bytes.now }
     ensures { Enters trie.now.entries (bytes.now, character) result trie.now.entries }
 {
-    let entry = &trie.entries()[place];
+    let entry = &trie.entries()[index];
     if entry.character().value() == character.value() {
-        Ok(place)
+        Ok(index)
     } else {
         Err(EntryFault::Faulty(Cause::Clash))
     }
@@ -76,9 +76,9 @@ fn held_by_all(trie: &ByteTrie, bytes: &[u8], character: Scalar) -> Result<usize
     ensures { Enters trie.now.entries (bytes.now, character) result trie.now.entries }
 {
     match trie.find(bytes) {
-        Found::Entry(place) => {
-            if trie.entries()[place].bytes().len() == bytes.len() {
-                held(trie, bytes, place, character)
+        Found::Entry(index) => {
+            if trie.entries()[index].bytes().len() == bytes.len() {
+                held(trie, bytes, index, character)
             } else {
                 Err(EntryFault::Faulty(Cause::Prefix))
             }
@@ -99,13 +99,13 @@ fn enter_into(trie: &mut ByteTrie, bytes: &[u8], character: Scalar) -> Result<us
     ensures stay { take (length trie.old.entries) trie.new.entries ≡ trie.old.entries }
     ensures apart { AreApart trie.new.entries }
 {
-    let place = trie.len();
+    let index = trie.len();
     let Ok(added) = trie.add(bytes, character) else {
         return Err(EntryFault::Memory);
     };
     match added {
-        Added::Entered => Ok(place),
-        Added::Held(place) => held(trie, bytes, place, character),
+        Added::Entered => Ok(index),
+        Added::Held(index) => held(trie, bytes, index, character),
         Added::Continues(_) => Err(EntryFault::Faulty(Cause::Prefix)),
         Added::Begins => Err(EntryFault::Faulty(Cause::Prefix)),
     }
@@ -123,17 +123,17 @@ fn room_for(bytes: usize) -> usize
     if pairs == 0 { 0 } else { 1 << pairs.ilog2() }
 }
 
-impl Draft {
+impl PairList {
     /// Makes an empty list, with room for some of the pairs that a text of `bytes` bytes may have, if there is memory
     /// for it.
-    pub(crate) fn new(alloc: Global, bytes: usize) -> Result<Draft, Memory>
+    pub(crate) fn new(alloc: Global, bytes: usize) -> Result<PairList, Memory>
         ensures { IfOk result (λ d. d ≡ []) }
     {
         let trie = ByteTrie::with_room(alloc, room_for(bytes))?;
-        Ok(Draft {
+        Ok(PairList {
             alloc,
             trie,
-            reach: Vec::new(alloc),
+            covered: Vec::new(alloc),
         })
     }
 
@@ -156,7 +156,7 @@ impl Draft {
     }
 
     /// Enters pairs whose last byte and character count up from the given ones, and returns how many: at most `most`.
-    /// It ends early at a pair that [`enter`](Draft::enter) has to handle, or if an allocation fails.
+    /// It ends early at a pair that [`enter`](PairList::enter) has to handle, or if an allocation fails.
     pub(crate) fn enter_run(&mut self, bytes: &[u8], character: Scalar, most: usize) -> usize
         requires some { 0 < length bytes.now }
         requires short { length bytes.now ≤ 8 }
@@ -178,37 +178,37 @@ impl Draft {
         self.trie.len()
     }
 
-    /// Returns how many entries of a range are known to be in the list, from the one on whose pair is at `place`.
-    pub(crate) fn reach(&self, place: usize, hex: bool, number: u64) -> u64
-        ensures has { HasEntries self.now hex number (bytes_at self.now place) result }
+    /// Returns how many entries of a range are known to be in the list, from the one on whose pair is at `index`.
+    pub(crate) fn covered_from(&self, index: usize, hex: bool, number: u64) -> u64
+        ensures has { HasEntries self.now hex number (bytes_at self.now index) result }
         ensures small { result < 2 ^ 32 }
         ensures apart { AreApart self.now }
     {
-        match self.reach.get(place) {
-            Some(reach) if reach.hex == hex && u64::from(reach.number) == number => u64::from(
-                reach.count,
+        match self.covered.get(index) {
+            Some(covered) if covered.hex == hex && u64::from(covered.number) == number => u64::from(
+                covered.count,
             ),
             _ => 0,
         }
     }
 
-    /// Notes that the first `end` entries of a range are in the list. The stops say at which indices those are that
-    /// were entered or found.
+    /// Notes that the first `end` entries of a range are in the list. `found` says at which indices those are that were
+    /// entered or found.
     pub(crate) fn cover(
         &mut self,
         hex: bool,
         first: u32,
         bytes: &[u8],
-        stops: &[Stop],
+        found: &[LookedUp],
         end: u64,
     ) -> Result<(), AllocError>
         requires near { end < 2 ^ 40 }
         requires has { HasEntries self.old hex first bytes.now end }
-        requires stops { AreStops self.old hex first bytes.now end stops.now }
+        requires found { AreLookedUp self.old hex first bytes.now end found.now }
         ensures { self.new ≡ self.old }
     {
-        self.reach.resize(self.trie.len(), NO_REACH)?;
-        mark(&self.trie, &mut self.reach, hex, first, bytes, stops, end);
+        self.covered.resize(self.trie.len(), NOT_COVERED)?;
+        mark(&self.trie, &mut self.covered, hex, first, bytes, found, end);
         Ok(())
     }
 

@@ -51,7 +51,7 @@ pub entry_read : (all read : List Pair) (k : ℕ) (r : Pair) → read ≡ all �
 entry_read all read k r same low is = get_or_read all k r low (is ∙ ap (λ (x : List Pair). get_or x k r) same) ([], 0)
 
 -- a new pair, at the index after the others
-pub enters_at : (all new : List Pair) (p : Pair) (place : ℕ) → MeetsNone all p.0 × (new ≡ all ++ p ∷ []) → length all < most_pairs → place ≡ length all
-    → (pair_cause all p ≡ None) × (new ≡ entered all p) × (place < length new) × (pair_at new place ≡ p)
-enters_at all new p place a room is = (let h = enters_new all p a.0 room in
-    (h.0, a.1 ∙ sym h.1, subst (λ (x : List Pair). place < length x) (sym a.1) (rw is h.2), ap (λ (x : List Pair). pair_at x place) a.1 ∙ ap (pair_at (all ++ p ∷ [])) is ∙ h.3))
+pub enters_at : (all new : List Pair) (p : Pair) (index : ℕ) → MeetsNone all p.0 × (new ≡ all ++ p ∷ []) → length all < most_pairs → index ≡ length all
+    → (pair_cause all p ≡ None) × (new ≡ entered all p) × (index < length new) × (pair_at new index ≡ p)
+enters_at all new p index a room is = (let h = enters_new all p a.0 room in
+    (h.0, a.1 ∙ sym h.1, subst (λ (x : List Pair). index < length x) (sym a.1) (rw is h.2), ap (λ (x : List Pair). pair_at x index) a.1 ∙ ap (pair_at (all ++ p ∷ [])) is ∙ h.3))

@@ -3,7 +3,7 @@ use Rattle.std.proofs.Math.Seq.{take-append_seam}
 use Rattle.cv_byte_trie.specs.Runs.{run_of}
 use Rattle.cv_charmap.proofs.Covering.{no_shorter, covered_stays}
 use Rattle.cv_charmap.proofs.Running.{run_room}
-use Rattle.cv_charmap.proofs.draft.Draft.enter_run.Goals as goal
+use Rattle.cv_charmap.proofs.pair_list.PairList.enter_run.Goals as goal
 
 pub invariant_of-self : goal.invariant_of-self
 invariant_of-self c =
@@ -16,7 +16,7 @@ invariant_of-self c =
       few = run_room all new c.args.bytes.now c.args.character c.add_run.result run (omega (arith, c.add_run.ensures.few, c.min.ensures, c.len-room.ensures.value, i.few));
       apart = c.add_run.ensures.entries.apart;
       within = (let l = no_shorter all new stay in let w = i.within in omega arith);
-      covered = covered_stays all new stay c.self.inside.reach.items i.within i.covered;
+      covered = covered_stays all new stay c.self.inside.covered.items i.within i.covered;
     }
 
 pub returns-clause-full : goal.returns-clause-full

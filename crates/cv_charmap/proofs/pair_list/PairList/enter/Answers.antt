@@ -1,6 +1,6 @@
 use Rattle.std.proofs.Common.{arith}
 use Rattle.cv_charmap.proofs.Covering.{no_shorter, covered_stays}
-use Rattle.cv_charmap.proofs.draft.Draft.enter.Goals as goal
+use Rattle.cv_charmap.proofs.pair_list.PairList.enter.Goals as goal
 
 pub invariant_of-self : goal.invariant_of-self
 invariant_of-self c =
@@ -12,5 +12,5 @@ invariant_of-self c =
       few = c.enter_into.ensures.few;
       apart = c.enter_into.ensures.apart;
       within = (let l = no_shorter all new stay in let w = i.within in omega arith);
-      covered = covered_stays all new stay c.self.inside.reach.items i.within i.covered;
+      covered = covered_stays all new stay c.self.inside.covered.items i.within i.covered;
     }

@@ -9,7 +9,7 @@ use Rattle.std.proofs.Math.Seq.{get_or-append_right}
 use Rattle.cv_byte_trie.specs.Entries.{bytes_at, AreApart}
 use Rattle.cv_charmap.specs.Entries.{Pair, entry_at}
 use Rattle.cv_charmap.specs.Lists.{entered, pair_cause}
-use Rattle.cv_charmap.specs.Private.Covers.{pair_at, HasEntry, HasEntries, covered_at, AreCovered, no_entries, IsLookedUp, AreLookedUp, IsPairList}
+use Rattle.cv_charmap.specs.Private.Covers.{pair_at, HasEntry, HasEntries, covered_at, AreCovered, no_run, IsFound, AreFound, IsPairList}
 use Rattle.cv_charmap.specs.Private.Runs.{run_entries, entries_from}
 use Rattle.cv_charmap.specs.declared.covered.Covered.{Covered}
 use Rattle.cv_charmap.specs.declared.covered.LookedUp.{LookedUp}
@@ -42,7 +42,7 @@ module _ (all new : List Pair) (stay : take (length all) new ≡ all) where
       let bytes : bytes_at new index ≡ bytes_at all index = ap (λ (x : Pair). x.0) (pair_stays index (omega arith)) in
       subst (λ (b : List ℕ). HasEntry new r.hex r.number b i) (sym bytes) (entry_stays r.hex r.number (bytes_at all index) i (c index low i less))
 
-  run_stays : (hex : Bool) (first : ℕ) (bytes : List ℕ) (end last : ℕ) (run : LookedUp) → end ≤ last → IsLookedUp all hex first bytes end run → IsLookedUp new hex first bytes last run
+  run_stays : (hex : Bool) (first : ℕ) (bytes : List ℕ) (end last : ℕ) (run : LookedUp) → end ≤ last → IsFound all hex first bytes end run → IsFound new hex first bytes last run
   run_stays hex first bytes end last run more s = (
     (let a = s.0 in omega arith),
     λ j less. (let h = s.1 j less in
@@ -52,8 +52,8 @@ module _ (all new : List Pair) (stay : take (length all) new ≡ all) where
   )
 
   -- entries that were entered or found stay at their indices
-  pub found_stay : (hex : Bool) (first : ℕ) (bytes : List ℕ) (end last : ℕ) (found : List LookedUp) → end ≤ last → AreLookedUp all hex first bytes end found → AreLookedUp new hex first bytes last found
-  found_stay hex first bytes end last found more s k low = run_stays hex first bytes end last (get_or found k no_entries) more (s k low)
+  pub found_stay : (hex : Bool) (first : ℕ) (bytes : List ℕ) (end last : ℕ) (found : List LookedUp) → end ≤ last → AreFound all hex first bytes end found → AreFound new hex first bytes last found
+  found_stay hex first bytes end last found more s k low = run_stays hex first bytes end last (get_or found k no_run) more (s k low)
 
 -- ---- entries that are in the list
 
@@ -85,12 +85,12 @@ skips all apart hex first bytes count n (suc m) i has =
 -- ---- runs of entries
 
 -- one more run
-pub found_more : (all : List Pair) (hex : Bool) (first : ℕ) (bytes : List ℕ) (last : ℕ) (run : LookedUp) (found more : List LookedUp) → more ≡ found ++ run ∷ [] → AreLookedUp all hex first bytes last found
-    → IsLookedUp all hex first bytes last run → AreLookedUp all hex first bytes last more
+pub found_more : (all : List Pair) (hex : Bool) (first : ℕ) (bytes : List ℕ) (last : ℕ) (run : LookedUp) (found more : List LookedUp) → more ≡ found ++ run ∷ [] → AreFound all hex first bytes last found
+    → IsFound all hex first bytes last run → AreFound all hex first bytes last more
 found_more all hex first bytes last run found more is s new =
-    subst (AreLookedUp all hex first bytes last) (sym is) (λ k lk. elim (cases_lt k (length found)) [
-      | inl l ↦ subst (IsLookedUp all hex first bytes last) (sym (get_or_append_left found (run ∷ []) no_entries k l)) (s k l)
-      | inr l ↦ subst (IsLookedUp all hex first bytes last) (sym (get_or_push found run no_entries k (omega (arith, length-append found (run ∷ []))))) new
+    subst (AreFound all hex first bytes last) (sym is) (λ k lk. elim (cases_lt k (length found)) [
+      | inl l ↦ subst (IsFound all hex first bytes last) (sym (get_or_append_left found (run ∷ []) no_run k l)) (s k l)
+      | inr l ↦ subst (IsFound all hex first bytes last) (sym (get_or_push found run no_run k (omega (arith, length-append found (run ∷ []))))) new
     ])
 
 -- a single entry, as a pass over it and some after it
@@ -110,11 +110,6 @@ passed_alone all new hex first bytes i count index next h = (
   ),
   h.5,
 )
-
--- a single entry that was refused
-pub refused_alone : (all new : List Pair) (hex : Bool) (first : ℕ) (bytes : List ℕ) (i count : ℕ) (why : EntryFault) → Passes all hex first bytes i count (Err why) new → PassesOn all hex first bytes i count (Err why) new
-refused_alone all new hex first bytes i count (Faulty cause) h = h
-refused_alone all new hex first bytes i count Memory h = tt
 
 -- something is noted for one more pair
 pub covered_set : (all : List Pair) (notes : List Covered) (hex : Bool) (first : ℕ) (bytes : List ℕ) (end at index number count : ℕ) → AreCovered all notes → HasEntries all hex first bytes end

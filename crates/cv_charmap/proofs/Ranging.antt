@@ -4,7 +4,7 @@ use Rattle.std.specs.Prelude.{Ok, Err}
 use Rattle.std.specs.List.{range_with_len}
 use Rattle.std.proofs.lemmas.Bool.{cases_lt}
 use Rattle.cv_charmap.specs.Entries.{Pair, entry_at}
-use Rattle.cv_charmap.specs.Private.Covers.{HasEntries, AreLookedUp}
+use Rattle.cv_charmap.specs.Private.Covers.{HasEntries, AreFound}
 use Rattle.cv_charmap.specs.Private.Runs.{run_entries, entries_from}
 use Rattle.cv_charmap.specs.Private.Seen.{RunsTo, PassesOn}
 use Rattle.cv_charmap.specs.declared.pair_list.EntryFault.{EntryFault}
@@ -17,7 +17,7 @@ use Rattle.cv_charmap.proofs.EntryLemmas.{from_whole}
 pub record IsEntering (all now : List Pair) (hex : Bool) (first : ℕ) (bytes : List ℕ) (count i : ℕ) (found : List LookedUp) : Type 0 where
   pub run : (n : ℕ) → run_entries all n (entries_from hex first bytes 0 count) ≡ run_entries now n (entries_from hex first bytes i count)
   pub has : HasEntries now hex first bytes i
-  pub looked_up : AreLookedUp now hex first bytes i found
+  pub looked_up : AreFound now hex first bytes i found
 
 module _ (all now new : List Pair) (hex : Bool) (first : ℕ) (bytes : List ℕ) (count i : ℕ) (found : List LookedUp) (so_far : IsEntering all now hex first bytes count i found) where
   -- an entry that is refused ends the range

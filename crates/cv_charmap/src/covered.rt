@@ -1,8 +1,9 @@
 //! The entries that ranges have entered, so that a range that repeats them is skipped quickly.
 ghost use Rattle.std.specs.Prelude.{◌≡◌, ◌<◌, ◌^◌, length, Ok};
 ghost use Rattle.cv_charmap.specs.Entries.{entry_at};
-ghost use Rattle.cv_charmap.specs.Private.Covers.{pair_at, HasEntries, AreCovered, IsLookedUp, AreLookedUp};
+ghost use Rattle.cv_charmap.specs.Private.Covers.{pair_at, HasEntries, AreCovered, IsFound, AreFound};
 
+use crate::range_start::RangeStart;
 use cv_byte_trie::ByteTrie;
 
 /// From a pair on, this many entries of a range are in the list. The range begins with the number in the pair's name
@@ -28,31 +29,24 @@ pub(crate) struct LookedUp {
 
 /// Notes for the pair of one entry how many entries of the range are in the list from it on. If its number does not fit
 /// 32 bits, nothing is noted. A count that does not fit is noted as the greatest that does.
-fn note(
-    trie: &ByteTrie,
-    covered: &mut [Covered],
-    hex: bool,
-    first: u32,
-    _bytes: &[u8],
-    run: LookedUp,
-    end: u64,
-)
+fn note(trie: &ByteTrie, covered: &mut [Covered], start: &RangeStart<'_>, run: LookedUp, end: u64)
     requires covered { AreCovered trie.now.entries covered.old }
     requires long { length covered.old ≡ length trie.now.entries }
     requires near { end < 2 ^ 40 }
-    requires has { HasEntries trie.now.entries hex first _bytes.now end }
+    requires has { HasEntries trie.now.entries start.now.hex start.now.first start.now.bytes.now end }
     requires below { run.at < end }
     requires low { run.index < length trie.now.entries }
-    requires is { entry_at hex first _bytes.now run.at ≡ Ok (pair_at trie.now.entries run.index) }
+    requires is { entry_at start.now.hex start.now.first start.now.bytes.now run.at
+        ≡ Ok (pair_at trie.now.entries run.index) }
     ensures covered { AreCovered trie.now.entries covered.new }
     ensures long { length covered.new ≡ length trie.now.entries }
 {
-    let number = u64::from(first) + run.at;
+    let number = u64::from(start.first) + run.at;
     if number > u64::from(u32::MAX) {
         return;
     }
     covered[run.index] = Covered {
-        hex,
+        hex: start.hex,
         number: number as u32,
         count: (end - run.at).min(u64::from(u32::MAX)) as u32,
     };
@@ -62,17 +56,15 @@ fn note(
 fn note_all(
     trie: &ByteTrie,
     covered: &mut [Covered],
-    hex: bool,
-    first: u32,
-    bytes: &[u8],
+    start: &RangeStart<'_>,
     run: LookedUp,
     end: u64,
 )
     requires covered { AreCovered trie.now.entries covered.old }
     requires long { length covered.old ≡ length trie.now.entries }
     requires near { end < 2 ^ 40 }
-    requires has { HasEntries trie.now.entries hex first bytes.now end }
-    requires run { IsLookedUp trie.now.entries hex first bytes.now end run }
+    requires has { HasEntries trie.now.entries start.now.hex start.now.first start.now.bytes.now end }
+    requires run { IsFound trie.now.entries start.now.hex start.now.first start.now.bytes.now end run }
     ensures covered { AreCovered trie.now.entries covered.new }
     ensures long { length covered.new ≡ length trie.now.entries }
 {
@@ -82,7 +74,7 @@ fn note_all(
             index: run.index + k as usize,
             size: 1,
         };
-        note(trie, covered, hex, first, bytes, one, end);
+        note(trie, covered, start, one, end);
     }
 }
 
@@ -90,22 +82,21 @@ fn note_all(
 pub(crate) fn mark(
     trie: &ByteTrie,
     covered: &mut [Covered],
-    hex: bool,
-    first: u32,
-    bytes: &[u8],
+    start: &RangeStart<'_>,
     found: &[LookedUp],
     end: u64,
 )
     requires covered { AreCovered trie.now.entries covered.old }
     requires long { length covered.old ≡ length trie.now.entries }
     requires near { end < 2 ^ 40 }
-    requires has { HasEntries trie.now.entries hex first bytes.now end }
-    requires found { AreLookedUp trie.now.entries hex first bytes.now end found.now }
+    requires has { HasEntries trie.now.entries start.now.hex start.now.first start.now.bytes.now end }
+    requires found { AreFound trie.now.entries start.now.hex start.now.first start.now.bytes.now
+        end found.now }
     ensures covered { AreCovered trie.now.entries covered.new }
     ensures long { length covered.new ≡ length trie.now.entries }
 {
     for run in found {
-        note_all(trie, covered, hex, first, bytes, *run, end);
+        note_all(trie, covered, start, *run, end);
     }
 }
 

@@ -10,6 +10,7 @@ mod pair_list;
 mod pairs;
 mod phase;
 mod range;
+mod range_start;
 mod reader;
 mod reading;
 

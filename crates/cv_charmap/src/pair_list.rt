@@ -5,10 +5,11 @@ ghost use Rattle.cv_base.specs.Scalars.{IsScalar};
 ghost use Rattle.cv_byte_trie.specs.Entries.{bytes_at, AreApart};
 ghost use Rattle.cv_byte_trie.specs.Runs.{run_of};
 ghost use Rattle.cv_charmap.specs.Lists.{most_pairs};
-ghost use Rattle.cv_charmap.specs.Private.Covers.{HasEntries, AreLookedUp};
+ghost use Rattle.cv_charmap.specs.Private.Covers.{HasEntries, AreFound};
 ghost use Rattle.cv_charmap.specs.Private.Seen.{Enters};
 
 use crate::covered::{Covered, LookedUp, NOT_COVERED, mark};
+use crate::range_start::RangeStart;
 use cv_base::{Memory, Scalar};
 use cv_byte_trie::{Added, ByteTrie, Found};
 use cv_lex::Cause;
@@ -196,19 +197,18 @@ impl PairList {
     /// entered or found.
     pub(crate) fn cover(
         &mut self,
-        hex: bool,
-        first: u32,
-        bytes: &[u8],
+        start: &RangeStart<'_>,
         found: &[LookedUp],
         end: u64,
     ) -> Result<(), AllocError>
         requires near { end < 2 ^ 40 }
-        requires has { HasEntries self.old hex first bytes.now end }
-        requires found { AreLookedUp self.old hex first bytes.now end found.now }
+        requires has { HasEntries self.old start.now.hex start.now.first start.now.bytes.now end }
+        requires found { AreFound self.old start.now.hex start.now.first start.now.bytes.now end
+            found.now }
         ensures { self.new ≡ self.old }
     {
         self.covered.resize(self.trie.len(), NOT_COVERED)?;
-        mark(&self.trie, &mut self.covered, hex, first, bytes, found, end);
+        mark(&self.trie, &mut self.covered, start, found, end);
         Ok(())
     }
 

@@ -11,6 +11,7 @@ use crate::covered::LookedUp;
 use crate::entry::entry_at;
 use crate::header::Header;
 use crate::pair_list::{EntryFault, PairList};
+use crate::range_start::RangeStart;
 use cv_base::Scalar;
 use cv_lex::Cause;
 
@@ -52,11 +53,12 @@ fn run_limit(hex: bool, character: Scalar, last: u8, left: u64) -> usize
 }
 
 /// Enters at most `left` entries of a range at once, from the `i`th on, and returns how many.
-fn pass_run(pairs: &mut PairList, hex: bool, first: u32, bytes: &[u8], i: u64, left: u64) -> usize
-    requires some { 0 < length bytes.now }
-    requires few { length bytes.now ≤ 8 }
+fn pass_run(pairs: &mut PairList, start: &RangeStart<'_>, i: u64, left: u64) -> usize
+    requires some { 0 < length start.now.bytes.now }
+    requires few { length start.now.bytes.now ≤ 8 }
     requires near { i < 2 ^ 32 }
-    ensures run { 0 < result → (count : ℕ) → i + left ≤ count → PassesOn pairs.old hex first bytes.now i count
+    ensures run { 0 < result → (count : ℕ) → i + left ≤ count
+        → PassesOn pairs.old start.now.hex start.now.first start.now.bytes.now i count
         (Ok (record { at = i; index = length pairs.old; size = result }, i + result)) pairs.new }
     ensures none { result ≡ 0 → pairs.new ≡ pairs.old }
     ensures near { result ≤ 256 }
@@ -64,38 +66,37 @@ fn pass_run(pairs: &mut PairList, hex: bool, first: u32, bytes: &[u8], i: u64, l
     if left < 2 {
         return 0;
     }
-    let Ok(entry) = entry_at(hex, first, bytes, i) else {
+    let Ok(entry) = entry_at(start, i) else {
         return 0;
     };
-    let most = run_limit(hex, entry.1, entry.0[bytes.len() - 1], left);
-    pairs.enter_run(&entry.0[..bytes.len()], entry.1, most)
+    let most = run_limit(start.hex, entry.1, entry.0[start.bytes.len() - 1], left);
+    pairs.enter_run(&entry.0[..start.bytes.len()], entry.1, most)
 }
 
 /// Enters the `i`th entry of a range. Returns the index of its pair, and the number of the next entry that is not known
 /// to be in the list.
 fn pass_one(
     pairs: &mut PairList,
-    hex: bool,
-    first: u32,
-    bytes: &[u8],
+    start: &RangeStart<'_>,
     i: u64,
 ) -> Result<(usize, u64), EntryFault>
-    requires some { 0 < length bytes.now }
-    requires few { length bytes.now ≤ 8 }
+    requires some { 0 < length start.now.bytes.now }
+    requires few { length start.now.bytes.now ≤ 8 }
     requires near { i < 2 ^ 32 }
     ensures passes { (count : ℕ) → i < count
-        → Passes pairs.old hex first bytes.now i count result pairs.new }
+        → Passes pairs.old start.now.hex start.now.first start.now.bytes.now i count
+        result pairs.new }
     ensures near { IfOk result (λ p. p.1 ≤ 2 ^ 33) }
 {
-    let (word, c) = match entry_at(hex, first, bytes, i) {
+    let (word, c) = match entry_at(start, i) {
         Ok(entry) => entry,
         Err(cause) => return Err(EntryFault::Faulty(cause)),
     };
-    let index = match pairs.enter(&word[..bytes.len()], c) {
+    let index = match pairs.enter(&word[..start.bytes.len()], c) {
         Ok(index) => index,
         Err(fault) => return Err(fault),
     };
-    let known = pairs.covered_from(index, hex, u64::from(first) + i);
+    let known = pairs.covered_from(index, start.hex, u64::from(start.first) + i);
     Ok((index, i + known.max(1)))
 }
 
@@ -103,25 +104,24 @@ fn pass_one(
 /// pairs are, and the number of the next entry that is not known to be in the list.
 fn pass(
     pairs: &mut PairList,
-    hex: bool,
-    first: u32,
-    bytes: &[u8],
+    start: &RangeStart<'_>,
     i: u64,
     left: u64,
 ) -> Result<(LookedUp, u64), EntryFault>
-    requires some { 0 < length bytes.now }
-    requires few { length bytes.now ≤ 8 }
+    requires some { 0 < length start.now.bytes.now }
+    requires few { length start.now.bytes.now ≤ 8 }
     requires near { i < 2 ^ 32 }
     ensures passes { (count : ℕ) → i < count → i + left ≤ count
-        → PassesOn pairs.old hex first bytes.now i count result pairs.new }
+        → PassesOn pairs.old start.now.hex start.now.first start.now.bytes.now i count
+        result pairs.new }
     ensures near { IfOk result (λ p. p.1 ≤ 2 ^ 33) }
 {
     let index = pairs.len();
-    let size = pass_run(pairs, hex, first, bytes, i, left) as u64;
+    let size = pass_run(pairs, start, i, left) as u64;
     if size > 0 {
         return Ok((LookedUp { at: i, index, size }, i + size));
     }
-    match pass_one(pairs, hex, first, bytes, i) {
+    match pass_one(pairs, start, i) {
         Ok(passed) => {
             let alone = LookedUp {
                 at: i,
@@ -146,25 +146,22 @@ fn left_of(grew: bool, i: u64, count: u64) -> u64
 /// Enters the entries of a range.
 pub(crate) fn enter_range(
     pairs: &mut PairList,
-    first: u32,
+    start: &RangeStart<'_>,
     last: u32,
-    hex: bool,
-    bytes: &[u8],
 ) -> Result<(), EntryFault>
-    requires some { 0 < length bytes.now }
-    requires few { length bytes.now ≤ 8 }
-    ensures { (n : ℕ)
-        → RunsTo (run_entries pairs.old n (entries_of (Range first last hex bytes.now))) n result
-        pairs.new }
+    requires some { 0 < length start.now.bytes.now }
+    requires few { length start.now.bytes.now ≤ 8 }
+    ensures { (n : ℕ) → RunsTo (run_entries pairs.old n (entries_of
+        (Range start.now.first last start.now.hex start.now.bytes.now))) n result pairs.new }
 {
-    let count = count_of(first, last);
+    let count = count_of(start.first, last);
     let mut found = Vec::new(pairs.alloc());
     let mut i: u64 = 0;
     let mut grew = false;
     while i < count {
         let before = pairs.len();
         let left = left_of(grew, i, count);
-        let (run, next) = match pass(pairs, hex, first, bytes, i, left) {
+        let (run, next) = match pass(pairs, start, i, left) {
             Ok(passed) => passed,
             Err(fault) => return Err(fault),
         };
@@ -174,7 +171,7 @@ pub(crate) fn enter_range(
         grew = pairs.len() > before;
         i = next;
     }
-    match pairs.cover(hex, first, bytes, &found, i) {
+    match pairs.cover(start, &found, i) {
         Ok(()) => Ok(()),
         Err(_) => Err(EntryFault::Memory),
     }
@@ -215,19 +212,17 @@ pub(crate) fn enter_sized_one(
 pub(crate) fn enter_sized_range(
     pairs: &mut PairList,
     header: &Header<'_>,
-    first: u32,
+    start: &RangeStart<'_>,
     last: u32,
-    hex: bool,
-    bytes: &[u8],
 ) -> Result<(), EntryFault>
-    requires some { 0 < length bytes.now }
-    requires few { length bytes.now ≤ 8 }
+    requires some { 0 < length start.now.bytes.now }
+    requires few { length start.now.bytes.now ≤ 8 }
     ensures { (n : ℕ) → RunsTo (run_entries pairs.old n
-        (sized_entries header.now.least header.now.most (Range first last hex bytes.now))) n result
-        pairs.new }
+        (sized_entries header.now.least header.now.most
+        (Range start.now.first last start.now.hex start.now.bytes.now))) n result pairs.new }
 {
-    if is_unfit(header, bytes) {
+    if is_unfit(header, start.bytes) {
         return Err(EntryFault::Faulty(Cause::Length));
     }
-    enter_range(pairs, first, last, hex, bytes)
+    enter_range(pairs, start, last)
 }

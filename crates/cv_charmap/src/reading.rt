@@ -10,6 +10,7 @@ use crate::header::Header;
 use crate::pair_list::{EntryFault, PairList};
 use crate::phase::{Phase, ReaderState};
 use crate::range::{enter_sized_one, enter_sized_range};
+use crate::range_start::RangeStart;
 use cv_lex::{Line, read_line, read_plain};
 
 /// Reads a line above `CHARMAP`. Returns the header's values after it, and the part in which the next line is.
@@ -68,7 +69,12 @@ fn take_inside(
             hex,
             bytes,
         } => {
-            let entered = enter_sized_range(pairs, header, first, last, hex, bytes.as_slice());
+            let start = RangeStart {
+                hex,
+                first,
+                bytes: bytes.as_slice(),
+            };
+            let entered = enter_sized_range(pairs, header, &start, last);
             after(entered, number)
         }
         Line::Skip | Line::Begin | Line::Setting(_) => Ok(Phase::Inside),

@@ -28,19 +28,19 @@ AreCovered all notes =
     (index : ℕ) → index < length notes → let r : Covered = covered_at notes index in HasEntries all r.hex r.number (bytes_at all index) r.count
 
 -- no entries
-abbrev pub no_entries : LookedUp
-no_entries = record { at = 0; index = 0; size = 0 }
+abbrev pub no_run : LookedUp
+no_run = record { at = 0; index = 0; size = 0 }
 
 -- Consecutive entries of a range are the pairs from an index on.
-abbrev pub IsLookedUp : List Pair → Bool → ℕ → List ℕ → ℕ → LookedUp → Type 0
-IsLookedUp all hex first bytes end run =
+abbrev pub IsFound : List Pair → Bool → ℕ → List ℕ → ℕ → LookedUp → Type 0
+IsFound all hex first bytes end run =
     (run.at + run.size ≤ end)
     × ((j : ℕ) → j < run.size → (run.index + j < length all) × (entry_at hex first bytes (run.at + j) ≡ Ok (pair_at all (run.index + j))))
 
 -- Entries of a range that were entered or found are the pairs at their indices.
-abbrev pub AreLookedUp : List Pair → Bool → ℕ → List ℕ → ℕ → List LookedUp → Type 0
-AreLookedUp all hex first bytes end found =
-    (k : ℕ) → k < length found → IsLookedUp all hex first bytes end (slice_index_or found k no_entries)
+abbrev pub AreFound : List Pair → Bool → ℕ → List ℕ → ℕ → List LookedUp → Type 0
+AreFound all hex first bytes end found =
+    (k : ℕ) → k < length found → IsFound all hex first bytes end (slice_index_or found k no_run)
 
 -- The invariant of the list while it is read: its pairs are not too many, none begins with another, and what is known
 -- from the first of them on is so.

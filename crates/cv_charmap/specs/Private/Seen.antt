@@ -7,7 +7,7 @@ use Rattle.cv_charmap.specs.Headers as spec
 use Rattle.cv_charmap.specs.Headers.{marks_by}
 use Rattle.cv_charmap.specs.Lists.{entered, pair_cause}
 use Rattle.cv_charmap.specs.Meaning.{Charmap}
-use Rattle.cv_charmap.specs.Private.Covers.{pair_at, HasEntry, IsLookedUp}
+use Rattle.cv_charmap.specs.Private.Covers.{pair_at, HasEntry, IsFound}
 use Rattle.cv_charmap.specs.Private.Runs.{fault, run_entries, entries_from, State, state, above_by, inside_by, finish_by, line_run, next_number}
 use Rattle.cv_charmap.specs.declared.pair_list.EntryFault.{EntryFault}
 use Rattle.cv_charmap.specs.declared.pair_list.EntryFault.TheVariants as entry
@@ -59,7 +59,7 @@ abbrev pub PassesOn : List Pair → Bool → ℕ → List ℕ → ℕ → ℕ �
 PassesOn all hex first bytes i count (Ok passed) after =
     (i < passed.1) × (take (length all) after ≡ all)
     × ((n : ℕ) → run_entries all n (entries_from hex first bytes i count) ≡ run_entries after n (entries_from hex first bytes passed.1 count))
-    × IsLookedUp after hex first bytes passed.1 passed.0
+    × IsFound after hex first bytes passed.1 passed.0
     × ((k : ℕ) → i ≤ k → k < passed.1 → HasEntry after hex first bytes k)
 PassesOn all hex first bytes i count (Err (entry.Faulty cause)) after =
     (n : ℕ) → run_entries all n (entries_from hex first bytes i count) ≡ Err (fault n cause)

@@ -23,4 +23,4 @@ invariant_of-self-2 c =
     subst (IsPairList all) (sym (put_back resized.len c.mark.new.covered resized.items (c.mark.ensures.long ∙ sym size) resized.ok.0)) (list_marked all c.self.inside.covered.items c.mark.new.covered c.self.invariant c.mark.ensures.covered c.mark.ensures.long)
 
 pub mark-requires-clause-has : goal.mark-requires-clause-has
-mark-requires-clause-has c = subst (λ (x : List Pair). HasEntries x c.args.hex c.args.first c.args.bytes.now c.args.end) (sym c.self.view_is) c.requires.has
+mark-requires-clause-has c = subst (λ (x : List Pair). HasEntries x c.args.start.now.hex c.args.start.now.first c.args.start.now.bytes.now c.args.end) (sym c.self.view_is) c.requires.has

@@ -14,7 +14,7 @@ use Rattle.cv_base.proofs.Front.{Begins-join}
 use Rattle.cv_block.specs.Spelled.{IsSpelledAt, IsReadSpelled}
 use Rattle.cv_block.proofs.SpelledRuns.{spelled, AreScalars-append}
 use Rattle.cv_utf8.specs.Utf8.{utf8_bytes}
-use Rattle.cv_pack.specs.Packed.{kept}
+use Rattle.cv_simd.specs.Compressed.{kept}
 use Rattle.cv_utf8.specs.Private.Utf8Windows.{IsLane, AreBegun}
 
 -- The bytes of some characters, `used` together, are at an offset of a text.

@@ -2,13 +2,13 @@
 ghost use Rattle.std.specs.Prelude.{◌≡◌, ◌+◌, ◌++◌, ◌≤◌, ◌<◌, ℕ, List, length, take, get_or};
 ghost use Rattle.cv_base.specs.Scalars.{IsScalar};
 ghost use Rattle.cv_block.specs.Spelled.{IsReadSpelled};
-ghost use Rattle.cv_pack.specs.Packed.{kept};
+ghost use Rattle.cv_simd.specs.Compressed.{kept};
 ghost use Rattle.cv_utf8.specs.Utf8.{utf8_bytes};
 ghost use Rattle.cv_utf8.specs.Private.Utf8Windows.{AreBegun};
 
 use cv_base::Scalar;
 use cv_block::{MANY, Spelled};
-use cv_pack::packed_numbers;
+use cv_simd::compress_u16;
 use std::simd::prelude::*;
 
 /// How many numbers are written at once.
@@ -39,7 +39,7 @@ fn put_kept(numbers: u16x8, begun: u64, buffer: &mut [Scalar], n: usize) -> usiz
     ensures stand { take (n + result) buffer.new ≡ take n buffer.old ++ kept begun numbers }
     ensures size { length buffer.new ≡ length buffer.old }
 {
-    put_eight(&packed_numbers(numbers, begun).to_array(), buffer, n);
+    put_eight(&compress_u16(numbers, begun).to_array(), buffer, n);
     begun.count_ones() as usize
 }
 

@@ -9,7 +9,7 @@ ghost use Rattle.cv_utf8.specs.Private.Utf8Fours.{has_three, four_of};
 
 use cv_base::Scalar;
 use cv_block::{MANY, Spelled};
-use cv_pack::packed_fours;
+use cv_simd::compress_triples;
 use std::simd::prelude::*;
 
 /// How many characters are packed at once.
@@ -72,7 +72,7 @@ fn write_four(characters: &[Scalar], n: usize, out: &mut [u8], at: usize) -> usi
 {
     let numbers = u32x4::from_array(numbers_of(characters, n));
     let sizes = sizes(numbers);
-    let bytes = packed_fours(fours(numbers), sizes).to_array();
+    let bytes = compress_triples(fours(numbers), sizes).to_array();
     out[at..at + 16].copy_from_slice(&bytes);
     FOUR + sizes.count_ones() as usize
 }

@@ -8,7 +8,7 @@ ghost use Rattle.cv_utf8.specs.Private.Utf8Pairs.{has_two, pair_of};
 
 use cv_base::Scalar;
 use cv_block::{MANY, Spelled};
-use cv_pack::packed_pairs;
+use cv_simd::compress_pairs;
 use std::simd::prelude::*;
 
 /// How many characters are packed at once.
@@ -65,7 +65,7 @@ fn write_eight(characters: &[Scalar], n: usize, out: &mut [u8], at: usize) -> us
 {
     let numbers = u16x8::from_array(numbers_of(characters, n));
     let twos = twos(numbers);
-    let bytes = packed_pairs(pairs(numbers), twos).to_array();
+    let bytes = compress_pairs(pairs(numbers), twos).to_array();
     out[at..at + 16].copy_from_slice(&bytes);
     EIGHT + twos.count_ones() as usize
 }

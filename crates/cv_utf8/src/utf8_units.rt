@@ -9,7 +9,7 @@ use crate::utf8_short::are_short;
 use crate::utf8_threes::{may_be_several, three_units};
 use crate::utf8_windows::{may_be_high, short_values, whole_values};
 use cv_block::MANY;
-use cv_pack::packed_numbers;
+use cv_simd::compress_u16;
 use std::simd::prelude::*;
 
 /// How many lanes a part has.
@@ -42,9 +42,9 @@ fn begun_units(numbers: &[u16; MANY], begun: u64, used: usize) -> Units
     let lows = begun % 256;
     let highs = begun / 256;
     Units {
-        first: packed_numbers(low, lows),
+        first: compress_u16(low, lows),
         firsts: lows.count_ones() as usize,
-        second: packed_numbers(high, highs),
+        second: compress_u16(high, highs),
         seconds: highs.count_ones() as usize,
         used,
     }

@@ -227,19 +227,21 @@ enum {
     ICONVD_SUBSTITUTE = 4 /* the service writes `?`; not together with the others */
 };
 
-/* Opens a conversion. Names are those of iconv_open(): case does not matter, aliases are known, the empty name is the locale's
-   encoding, and //TRANSLIT and //IGNORE after `to` are added to the policy. UNSUPPORTED: a name is unknown, or its charmap cannot be
-   read, which is logged. BADPOLICY: the policy has other bits, or SUBSTITUTE with others; nothing was sent. Also LOST, ENOMEM and
-   QUOTA. */
+/* Opens a conversion. Names are those of iconv_open(), and those of WHATWG's Encoding standard, CPython and IANA: case does not matter,
+   the empty name is the locale's encoding, and //TRANSLIT and //IGNORE after `to` are added to the policy. UNSUPPORTED: a name is
+   unknown, or its charmap cannot be read, which is logged; or the source is UTF-7, and the policy IGNORE or TRANSLIT, or the target has
+   shifts or composes; or the source has shifts, and the target composes. BADPOLICY: the policy has other bits, or SUBSTITUTE with others;
+   nothing was sent. Also LOST, ENOMEM and QUOTA. */
 ICONVD_API iconvd_status iconvd_open(iconvd_pool *pool, const char *to, const char *from, int policy, iconvd_cd **cd);
 
 /* Why a conversion stopped, and what it has changed. */
 typedef struct iconvd_stop {
     iconvd_status status;
     uint32_t character; /* ENOCHAR: the character that the target lacks */
-    size_t length;      /* ENOCHAR, EILSEQ: how many bytes of the input to skip in order to go on */
+    size_t length;      /* ENOCHAR, EILSEQ: how many bytes of the input to skip in order to go on. From WHATWG's `replacement`, of
+                           which nothing is read, it is all of them, once for a text */
     size_t replaced;    /* characters for which others were written */
-    size_t skipped;     /* characters and ill-formed bytes that IGNORE left out */
+    size_t skipped;     /* what IGNORE left out: characters and ill-formed sequences, each counted once */
 } iconvd_stop;
 
 /* Converts from `*in`, `*in_left` bytes, to `*out`, `*out_left` bytes of room, and moves all four on, as iconv() does. Returns OK
@@ -249,13 +251,20 @@ ICONVD_API iconvd_status iconvd_convert(iconvd_cd *cd, const char **in, size_t *
                                         iconvd_stop *stop);
 
 /* Goes back to the start, as iconv() without input. It first writes the bytes that close the text to `out`: E2BIG if they do not fit,
-   and nothing has changed. With `out` NULL it writes nothing. Only UTF-7 has such bytes, two at most. */
+   and nothing has changed; ENOCHAR if the target lacks a letter that was held. With `out` NULL it writes nothing. UTF-7, encodings with
+   shifts and those that hold a letter back, since a mark may follow, have such bytes, four at most. */
 ICONVD_API iconvd_status iconvd_reset(iconvd_cd *cd, char **out, size_t *out_left);
 
 /* Frees the conversion. NULL does nothing. */
 ICONVD_API void iconvd_close(iconvd_cd *cd);
 
-/* The names that iconvd_open() knows, one for each number from 0 on, sorted; NULL after the last. */
+/* Whether iconvd_open() knows a name: 1, or 0 if it would be UNSUPPORTED, since no encoding has the name, its charmap's file cannot be
+   read, or the service has refused the charmap. Nothing is sent, read or logged, and the pool's own charmaps count. A charmap that the
+   service has not seen yet may still be refused, or be more than fits. */
+ICONVD_API int iconvd_supports(iconvd_pool *pool, const char *name);
+
+/* The names that iconvd_open() knows, one for each number from 0 on, sorted; NULL after the last. A name that has the letters and digits
+   of one of them, and where two digits are apart, is known too: koi8_r is KOI8-R. */
 ICONVD_API const char *iconvd_name(size_t number);
 
 #ifdef __cplusplus

@@ -1,20 +1,27 @@
 #!/usr/bin/env python3
-"""Writes the tables that the clients share: names.tsv and translit.tsv.
+"""Writes the tables that the clients share: names.tsv, translit.tsv, composing.tsv, shifted_encodings.tsv and shifted_sets.tsv.
 
-    generate.py [--gconv DIR] [--charmaps DIR] [--locales DIR] OUTPUT_DIRECTORY
+    generate.py [--gconv DIR] [--charmaps DIR] [--locales DIR] [--python] OUTPUT_DIRECTORY
 
 names.tsv has one line for each name that a client accepts, sorted:
 
     NAME <tab> builtin <tab> the service's name        LATIN1  builtin  ISO-8859-1
     NAME <tab> charmap <tab> the charmap file's name   EUCKR   charmap  EUC-KR
+    NAME <tab> charmap <tab> the file/the encoding     CP1140  charmap  IBM037/IBM1140
+    NAME <tab> shifted <tab> an encoding with shifts   HZ      shifted  HZ
+    NAME <tab> whatwg  <tab> the service's name        UCS-2   whatwg   UTF-16LE
 
-NAME is in upper case and has only the characters that the C library keeps of a name. translit.tsv has one line for each
-character that may be transliterated: its code point in hexadecimal, then the candidates in order, in UTF-8.
+The second charmap is of an encoding without a file of its own: repairs.tsv makes it from another one's. The last one is a name that the C
+library has for an encoding that the service lacks: it means what WHATWG's standard reads it as. NAME is in upper case and has only the
+characters that the C library keeps of a name. translit.tsv has one line for each character that may be transliterated: its code point in
+hexadecimal, then the candidates in order, in UTF-8.
 
     20AC <tab> EUR
 
-The sources are files of the system, and two lists beside this program: builtin.tsv (names that the C library has in its code and
-in no file) and left_out.tsv (names that no charmap can serve, each with the reason).
+The sources are files of the system, and lists beside this program: builtin.tsv (names that the C library has in its code and in no
+file), labels.tsv (names that WHATWG, CPython and IANA have), left_out.tsv (names that no charmap can serve, each with the reason), and
+shifted_encodings.tsv and shifted_sets.tsv (encodings with shifts and escapes), which are written again without comments. With --python
+the names are those of the Python package: labels.tsv says which differ. composing.py makes composing.tsv.
 """
 
 from __future__ import annotations
@@ -26,6 +33,9 @@ import os
 import re
 import sys
 from collections.abc import Iterable
+
+import composing
+import labels
 
 HERE = os.path.dirname(os.path.abspath(__file__))
 GCONV = '/usr/lib/*/gconv'
@@ -100,6 +110,14 @@ def read_charmaps(directory: str) -> dict[str, list[str]]:
     return {os.path.basename(path)[:-len('.gz')]: charmap_names(path) for path in files}
 
 
+def read_shifted(groups: Groups) -> list[str]:
+    """The encodings with shifts and escapes; their other names join their groups."""
+    rows = read_table(os.path.join(HERE, 'shifted_encodings.tsv'))
+    for encoding, sequence, meaning in (row[:3] for row in rows):
+        groups.join(normal(sequence) if meaning == 'name' else encoding, encoding)
+    return sorted({row[0] for row in rows})
+
+
 def charmap_of(names: list[str], charmaps: dict[str, list[str]]) -> str | None:
     """The charmap file of a group of names: by the file's own name, else by what stands in it."""
     for wanted in range(2):
@@ -109,17 +127,30 @@ def charmap_of(names: list[str], charmaps: dict[str, list[str]]) -> str | None:
     return None
 
 
+def read_made(groups: Groups) -> dict[str, str]:
+    """The encodings that repairs.tsv makes from the charmap of another one, each with its target. Each is a group of names at least."""
+    made = {row[1]: row[0] + '/' + row[1] for row in read_table(os.path.join(HERE, 'repairs.tsv')) if row[1] != row[1].lower()}
+    for name in made:
+        groups.root(name)
+    return made
+
+
 def names_table(groups: Groups, charmaps: dict[str, list[str]]) -> dict[str, tuple[str, str]]:
     """Each name with its kind and target."""
+    shifted = read_shifted(groups)
+    made = read_made(groups)
     table: dict[str, tuple[str, str]] = {}
     builtins = {normal(name): target for name, target in read_table(os.path.join(HERE, 'builtin.tsv'))}
     left_out = {normal(row[0]) for row in read_table(os.path.join(HERE, 'left_out.tsv'))}
     dropped: set[str] = set()
     for names in groups.all():
         target = next((builtins[name] for name in names if name in builtins), None)
-        file = charmap_of(names, charmaps)
+        file = next((made[name] for name in names if name in made), None) or charmap_of(names, charmaps)
+        shifts = next((name for name in names if name in shifted), None)
         if left_out & set(names):
             dropped.update(names)
+        elif shifts:
+            table.update((name, ('shifted', shifts)) for name in names)
         elif target:
             table.update((name, ('builtin', target)) for name in names)
         elif file:
@@ -130,7 +161,7 @@ def names_table(groups: Groups, charmaps: dict[str, list[str]]) -> dict[str, tup
     taken = set(table) | dropped | left_out
     for file, own in charmaps.items():
         if own[0] not in left_out:
-            table.update((name, ('charmap', file)) for name in own if name not in taken)
+            table.update((name, ('charmap', made.get(own[0], file))) for name in own if name not in taken)
     return table
 
 
@@ -185,6 +216,7 @@ def main() -> None:
     arguments.add_argument('--gconv', default=GCONV, help='folder of gconv-modules; may be a pattern')
     arguments.add_argument('--charmaps', default=CHARMAPS)
     arguments.add_argument('--locales', default=LOCALES)
+    arguments.add_argument('--python', action='store_true', help='the names of the Python package')
     arguments.add_argument('output')
     options = arguments.parse_args()
     groups = Groups()
@@ -197,9 +229,13 @@ def main() -> None:
         sys.exit('generate.py: no gconv-modules (package libc6) or no charmaps (package locales)')
     order = 'LE' if sys.byteorder == 'little' else 'BE'
     table = names_table(groups, charmaps)
+    labels.add(table, normal, options.python)
     os.makedirs(options.output, exist_ok=True)
     write(os.path.join(options.output, 'names.tsv'),
           (with_order('\t'.join((name,) + table[name]), order) for name in sorted(table)))
+    for shifts in ('shifted_encodings.tsv', 'shifted_sets.tsv'):
+        write(os.path.join(options.output, shifts), ('\t'.join(row) for row in read_table(os.path.join(HERE, shifts))))
+    write(os.path.join(options.output, 'composing.tsv'), composing.rows(options.charmaps))
     transliterations: dict[int, list[str]] = {}
     read_transliterations(options.locales, 'C', transliterations, set())
     write(os.path.join(options.output, 'translit.tsv'),

@@ -124,13 +124,12 @@ static const char *add_charmap(struct script *opening, const char *written) {
         give_up(2, "no encoding: %s", written);
     if (number < BUILTIN_COUNT)
         return builtin_name((enum builtin)number);
-    struct charmap charmap, light;
-    const char *name = charmap_file((size_t)number - BUILTIN_COUNT);
-    if (charmap_read(&charmap, &light, "/usr/share/i18n/charmaps", name, name) != ICONVD_OK)
-        give_up(2, "no charmap in /usr/share/i18n/charmaps: %s", name);
-    add_put(opening, &charmap.text);
-    buffer_free(&charmap.text);
-    buffer_free(&light.text);
+    struct charmap_set set;
+    const char *file = charmap_file((size_t)number - BUILTIN_COUNT), *name = charmap_name((size_t)number - BUILTIN_COUNT);
+    if (charmap_read(&set, "/usr/share/i18n/charmaps", file, name, name) != ICONVD_OK)
+        give_up(2, "no charmap in /usr/share/i18n/charmaps: %s", file);
+    add_put(opening, &set.whole.text);
+    charmap_set_free(&set);
     return name;
 }
 

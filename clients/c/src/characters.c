@@ -27,15 +27,14 @@ static size_t faulty_utf8(const char *in, size_t length) {
     return faulty;
 }
 
-/* The unit that UTF-16 and UTF-32 are made of; 1 for all others. */
-static size_t unit_of(enum builtin kind) {
+size_t unit_length(enum builtin kind) {
     if (kind == UTF_16BE || kind == UTF_16LE)
         return 2;
     return kind == UTF_32BE || kind == UTF_32LE ? 4 : 1;
 }
 
 size_t faulty_length(enum builtin from, const char *in, size_t length) {
-    size_t unit = unit_of(from);
+    size_t unit = unit_length(from);
     if (from == UTF_8)
         return faulty_utf8(in, length);
     return unit < length ? unit : length;
@@ -47,7 +46,7 @@ static bool is_high_surrogate(const char *in, bool big) {
 }
 
 bool may_be_completed(enum builtin from, const char *in, size_t length) {
-    if (length == 0 || length < unit_of(from))
+    if (length == 0 || length < unit_length(from))
         return true;
     if (from == UTF_16BE || from == UTF_16LE)
         return length < 4 && is_high_surrogate(in, from == UTF_16BE);

@@ -38,16 +38,15 @@ static bool read_points(const char *line, size_t length, char escape, struct cod
     return charmap_points(plain, points);
 }
 
-/* False: the line is no mapping. */
-static bool read_mapping(const struct charmap_lines *lines, const char *line, struct mapping *mapping) {
+bool charmap_mapping(const char *line, char escape, struct mapping *mapping) {
     line += strspn(line, " \t");
     if (*line != '<')
         return false;
     size_t name = strcspn(line, " \t\n");
-    mapping->is_named = !read_points(line, name, lines->escape, &mapping->points);
+    mapping->is_named = !read_points(line, name, escape, &mapping->points);
     mapping->count = mapping->is_named ? 1 : (uint64_t)mapping->points.last - mapping->points.first + 1;
     line += name;
-    mapping->bytes = read_encoding(line + strspn(line, " \t"), lines->escape, &mapping->code);
+    mapping->bytes = read_encoding(line + strspn(line, " \t"), escape, &mapping->code);
     return mapping->bytes > 0;
 }
 
@@ -64,7 +63,7 @@ bool charmap_next(struct charmap_lines *lines, struct mapping *mapping) {
             lines->at = lines->end;
             return false;
         }
-        if (lines->inside && read_mapping(lines, line, mapping))
+        if (lines->inside && charmap_mapping(line, lines->escape, mapping))
             return true;
         if (!lines->inside && strncmp(line, "<escape_char>", 13) == 0)
             lines->escape = line[13 + strspn(line + 13, " \t")];

@@ -4,11 +4,14 @@
 #include <stdio.h>
 
 #include "gz_lines.h"
+#include "repairs.h"
 
 /* A file that is being read. */
 struct reading {
     struct charmap *charmap;
     struct charmap *light;
+    struct repairs repairs;
+    bool is_composed;   /* the codes of several bytes are left out */
     struct buffer last; /* the mappings that are read and never written */
     struct buffer light_last;
     char escape;
@@ -80,24 +83,6 @@ bool charmap_points(const char *line, struct code_points *points) {
     return read_digits(&at, base, &points->last) && points->last >= points->first;
 }
 
-/* The code point of a number of a range: a decimal one is the name whose digits are read as hexadecimal. */
-static uint32_t point_of(const struct code_points *points, uint32_t number) {
-    uint32_t point = 0;
-    for (unsigned shift = 0; points->decimal && number > 0; shift += 4, number /= 10)
-        point |= number % 10 << shift;
-    return points->decimal ? point : number;
-}
-
-/* Sets the bits of a name or range. Values past 10FFFF are passed over: the service refuses such a text. */
-static void add_points(unsigned char *bits, const struct code_points *points) {
-    for (uint32_t number = points->first; number <= points->last; number++) {
-        uint32_t point = point_of(points, number);
-        if (point >= 0x110000)
-            return;
-        bits[point / 8] |= (unsigned char)(1u << point % 8);
-    }
-}
-
 /* <escape_char> and <comment_char> hold from their line on. */
 static void read_declaration(struct reading *reading, const char *line) {
     size_t length = word_length(line);
@@ -153,26 +138,55 @@ static bool keep_mapping(struct reading *reading, const char *line, struct buffe
     return buffer_append(light, out, name + length + 2);
 }
 
+/* Begins with the mappings of repairs: of two codes of a character the first is written. False: out of memory. */
+static bool begin_mappings(struct reading *reading) {
+    char line[80];
+    reading->inside = true;
+    for (size_t i = 0; i < reading->repairs.count; i++) {
+        const struct repair *repair = &reading->repairs.first[i];
+        if (repair->kind != REPAIR_BOTH && repair->kind != REPAIR_READ)
+            continue;
+        bool first = repair->kind == REPAIR_BOTH;
+        repair_spell(line, repair->character, repair->code, repair->bytes, reading->escape);
+        if (!keep_mapping(reading, line, first ? &reading->charmap->text : &reading->last,
+                          first ? &reading->light->text : &reading->light_last))
+            return false;
+    }
+    return true;
+}
+
+static bool is_dropped(const struct reading *reading, const char *line) {
+    struct mapping mapping;
+    if (reading->is_composed && charmap_mapping(line, reading->escape, &mapping) && mapping.bytes > 1)
+        return true;
+    return repairs_drop(&reading->repairs, line, reading->escape);
+}
+
+/* False: out of memory. */
+static bool read_mapping(struct reading *reading, const char *line) {
+    static const char ONE_WAY[] = "%IRREVERSIBLE%";
+    bool is_one_way = strncmp(line, ONE_WAY, sizeof ONE_WAY - 1) == 0;
+    const char *mapping = is_one_way ? line + sizeof ONE_WAY - 1 : line;
+    if (*mapping != '<' || (!is_one_way && *line == reading->comment) || is_dropped(reading, mapping))
+        return true;
+    if (is_one_way)
+        return keep_mapping(reading, mapping, &reading->last, &reading->light_last);
+    return keep_mapping(reading, mapping, &reading->charmap->text, &reading->light->text);
+}
+
 /* False: out of memory. */
 static bool read_line(struct reading *reading, const char *line) {
-    static const char ONE_WAY[] = "%IRREVERSIBLE%";
-    if (!reading->inside && strncmp(line, "CHARMAP", 7) == 0) {
-        reading->inside = true;
-        return true;
-    }
+    if (!reading->inside && strncmp(line, "CHARMAP", 7) == 0)
+        return begin_mappings(reading);
     /* A mapping where the header should be: the file has no line CHARMAP. */
     struct code_points points;
     if (!reading->inside && !charmap_points(line, &points)) {
         read_declaration(reading, line);
         return true;
     }
-    reading->inside = true;
-    line = skip_blanks(line);
-    if (*line == '%' && strncmp(line, ONE_WAY, sizeof ONE_WAY - 1) == 0)
-        return keep_mapping(reading, line + sizeof ONE_WAY - 1, &reading->last, &reading->light_last);
-    if (*line != '<' || *line == reading->comment)
-        return true;
-    return keep_mapping(reading, line, &reading->charmap->text, &reading->light->text);
+    if (!reading->inside && !begin_mappings(reading))
+        return false;
+    return read_mapping(reading, skip_blanks(line));
 }
 
 /* Reads lines up to END CHARMAP. False: out of memory. */
@@ -206,57 +220,60 @@ static iconvd_status open_file(struct gz_lines *lines, const char *directory, co
     return there ? ICONVD_ENOMEM : ICONVD_UNSUPPORTED;
 }
 
-/* Both charmaps from what was read. False: out of memory. */
-static bool compose_both(struct reading *reading, const char *name) {
-    char light_name[100];
-    snprintf(light_name, sizeof light_name, "%s-light", name);
-    if (!compose(reading, reading->charmap, &reading->last, name))
+/* The charmap with placeholders, if the file has some. False: out of memory. */
+static bool begin_written(struct reading *reading, struct charmap *written) {
+    if (!repairs_have_placeholders(&reading->repairs))
+        return true;
+    struct buffer text = {.bytes = NULL};
+    *written = *reading->charmap;
+    written->text = text;
+    const struct buffer *mappings = &reading->charmap->text;
+    return buffer_append(&written->text, mappings->bytes, mappings->length) &&
+           repairs_append_placeholders(&reading->repairs, reading->escape, written);
+}
+
+/* All charmaps from what was read. False: out of memory. */
+static bool compose_all(struct reading *reading, struct charmap_set *set, const char *name) {
+    char other_name[100];
+    if (!begin_written(reading, &set->written) || !compose(reading, &set->whole, &reading->last, name))
         return false;
-    if (reading->charmap->mappings >= LARGE_CHARMAP && reading->light->mappings > 0)
-        return compose(reading, reading->light, &reading->light_last, light_name);
-    buffer_free(&reading->light->text);
+    snprintf(other_name, sizeof other_name, "%.80s-written", name);
+    if (set->written.text.bytes && !compose(reading, &set->written, &reading->last, other_name))
+        return false;
+    snprintf(other_name, sizeof other_name, "%.80s-light", name);
+    if (set->whole.mappings >= LARGE_CHARMAP && set->light.mappings > 0)
+        return compose(reading, &set->light, &reading->light_last, other_name);
+    buffer_free(&set->light.text);
     return true;
 }
 
-iconvd_status charmap_read(struct charmap *charmap, struct charmap *light, const char *directory, const char *file, const char *name) {
-    *charmap = *light = (struct charmap){.least_bytes = 8, .most_bytes = 1};
-    struct reading reading = {.charmap = charmap, .light = light, .escape = '\\', .comment = '#'};
+void charmap_set_free(struct charmap_set *set) {
+    buffer_free(&set->whole.text);
+    buffer_free(&set->light.text);
+    buffer_free(&set->written.text);
+}
+
+iconvd_status charmap_read(struct charmap_set *set, const char *directory, const char *file, const char *charmap, const char *name) {
+    static const struct charmap EMPTY = {.least_bytes = 8, .most_bytes = 1};
+    *set = (struct charmap_set){.whole = EMPTY, .light = EMPTY, .written = EMPTY};
+    struct reading reading = {.charmap = &set->whole,
+                              .light = &set->light,
+                              .repairs = repairs_of(charmap),
+                              .is_composed = charmap_is_composed(charmap),
+                              .escape = '\\',
+                              .comment = '#'};
     struct gz_lines lines;
     iconvd_status status = open_file(&lines, directory, file);
     if (status != ICONVD_OK)
         return status;
     bool memory = read_lines(&reading, &lines);
     gz_lines_end(&lines);
-    bool empty = charmap->mappings == 0;
-    memory = memory && compose_both(&reading, name);
+    bool empty = set->whole.mappings == 0;
+    memory = memory && compose_all(&reading, set, name);
     buffer_free(&reading.last);
     buffer_free(&reading.light_last);
     if (memory && !empty)
         return ICONVD_OK;
-    buffer_free(&charmap->text);
-    buffer_free(&light->text);
+    charmap_set_free(set);
     return memory ? ICONVD_UNSUPPORTED : ICONVD_ENOMEM;
-}
-
-unsigned char *charmap_repertoire(const char *text, size_t length, bool *symbols) {
-    unsigned char *bits = calloc(0x110000 / 8, 1);
-    const char *end = text + length;
-    bool inside = false;
-    while (bits && text < end) {
-        struct code_points points;
-        const char *next = memchr(text, '\n', (size_t)(end - text));
-        const char *line = text;
-        text = next ? next + 1 : end;
-        if (inside && strncmp(line, "END", 3) == 0)
-            break;
-        if (!next || (!inside && strncmp(line, "CHARMAP", 7) != 0))
-            continue;
-        inside = true;
-        line = skip_blanks(line);
-        if (charmap_points(line, &points))
-            add_points(bits, &points);
-        else
-            *symbols |= *line == '<';
-    }
-    return bits;
 }

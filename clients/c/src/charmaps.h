@@ -15,21 +15,34 @@ struct charmap {
 };
 
 /* Of a charmap with so many mappings or more there is also a light one. */
-enum { LARGE_CHARMAP = 100000, LIGHT_BYTES = 2 };
+enum { LARGE_CHARMAP = 50000, LIGHT_BYTES = 2 };
 
-/* Reads `directory`/`file`.gz and mends it, so that the service reads it as the C library does:
+/* The charmaps that one file gives. Those that it does not give have no text. */
+struct charmap_set {
+    struct charmap whole;
+    struct charmap light;   /* the mappings of at most LIGHT_BYTES bytes of a large one, which are compiled sooner */
+    struct charmap written; /* the whole with placeholders, for conversions to the encoding (repairs.h) */
+};
+
+/* Whether the client composes what has a code of several bytes in a charmap (composed.h): those lines are left out. */
+bool charmap_is_composed(const char *charmap);
+
+/* Reads `directory`/`file`.gz for an encoding and mends it, so that the service reads it as the C library does. `charmap` is the encoding:
+ * that of the file, or one that repairs make from it (charmap_name()).
  *
  *   - it gets the name `name`, since two files of Debian have one name;
  *   - <mb_cur_min> and <mb_cur_max> are counted, since some files lack them and others are wrong;
  *   - lines marked %IRREVERSIBLE% go behind all others: both mappings are read, and the first is written;
  *   - combining sequences, which are no mappings of one character, are left out, and so is everything but mappings;
- *   - a line CHARMAP is added where there is none.
+ *   - a line CHARMAP is added where there is none;
+ *   - the repairs of `charmap` are made.
  *
- * `light` gets the mappings of at most LIGHT_BYTES bytes of a large charmap, with the name `name`-light; else it has no text. A text
- * that it converts without a stop is converted so by the whole charmap.
+ * The other charmaps are named `name`-light and `name`-written. A text that the light one converts without a stop is converted so by the
+ * whole one.
  *
  * UNSUPPORTED: there is no such file, or no mapping in it. */
-iconvd_status charmap_read(struct charmap *charmap, struct charmap *light, const char *directory, const char *file, const char *name);
+iconvd_status charmap_read(struct charmap_set *set, const char *directory, const char *file, const char *charmap, const char *name);
+void charmap_set_free(struct charmap_set *set);
 
 /* The characters of a charmap: a bit for each code point, or NULL where memory lacks. `symbols` is set where the text has names
    other than <Uxxxx>, which are not among the bits. */
@@ -62,6 +75,9 @@ struct charmap_lines {
     bool inside; /* after the line CHARMAP */
 };
 struct charmap_lines charmap_lines(const char *text, size_t length);
+
+/* Reads the mapping, or the range of them, of one line. False: it is none. */
+bool charmap_mapping(const char *line, char escape, struct mapping *mapping);
 bool charmap_next(struct charmap_lines *lines, struct mapping *mapping);
 
 #endif

@@ -1,12 +1,14 @@
 /* iconvd_open(), iconvd_convert() and their companions. */
-#include "convert.h"
+#include "composed.h"
 
 /* A server reads 65,536 bytes at a time: a request of one read is answered at once. From WORTH_CUTTING on a text goes in PARTS, so that
-   the service converts one while the next is under way; more of them gain nothing. AFTER_STOP is how much is sent at first where a text
-   has stopped at something that is in the way, since there may be more of it. */
-enum { ONE_READ = 65536 - ICONVD_CONV_HEAD, CHUNK = 262144, WORTH_CUTTING = 32768, PARTS = 2, AFTER_STOP = 64 };
+   the service converts one while the next is under way; more of them gain nothing. What is computed here (computed.c) goes in chunks whose
+   output has room in one request. */
+enum { ONE_READ = 65536 - ICONVD_CONV_HEAD, CHUNK = 262144, COMPUTED_CHUNK = 131072, WORTH_CUTTING = 32768, PARTS = 2 };
 
 iconvd_status convert_piece(struct iconvd_cd *cd, struct work *work) {
+    if (cd->is_copy || cd->is_single)
+        return cd->is_copy ? units_copy(work) : single_convert(cd->pool, cd->pair.from, work);
     return cd->own ? own_convert(cd, work) : pool_convert(cd->pool, &cd->pair, work);
 }
 
@@ -28,7 +30,9 @@ static size_t cut_into_batch(const struct iconvd_cd *cd, const struct progress *
     size_t most = cd->ahead / piece < BATCH_PIECES ? cd->ahead / piece : BATCH_PIECES;
     const char *in = progress->in;
     batch->number = 0;
-    while (!cd->own && in_left > 0 && batch->number < most) {
+    /* A piece to GB18030 may need more than its own request. */
+    bool alone = cd->own || cd->is_copy || cd->is_single || cd->pair.to->is_computed;
+    while (!alone && in_left > 0 && batch->number < most) {
         size_t length = in_left > piece ? cut_length(cd->pair.from, in, piece) : in_left;
         size_t room = most_output(&cd->pair, length);
         if (length == 0 || room > out_left || room > ICONVD_MAX_ROOM)
@@ -68,7 +72,8 @@ size_t room_for(const struct iconvd_cd *cd, size_t length, size_t room) {
 
 /* Converts the next piece and moves on by it. Returns whether there is more to do. */
 static bool convert_next(struct iconvd_cd *cd, struct progress *progress, iconvd_status *status) {
-    size_t most = progress->in_left <= 2 * ONE_READ ? ONE_READ : CHUNK;
+    bool is_computed = cd->pair.from->is_computed || cd->pair.to->is_computed;
+    size_t most = progress->in_left <= 2 * ONE_READ ? ONE_READ : is_computed ? COMPUTED_CHUNK : CHUNK;
     most = cd->ahead < most ? cd->ahead : most;
     size_t length = input_for_room(progress->in_left < most ? progress->in_left : most, progress->out_left);
     struct work work = {
@@ -103,10 +108,10 @@ static bool stops_at_faults(const struct iconvd_cd *cd) {
 
 /* The same, with the C library's reasons. */
 static iconvd_status convert_direct(struct iconvd_cd *cd, struct progress *progress) {
-    bool foreseen = cd->ahead == AFTER_STOP && stops_at_faults(cd) && foresight_answer(cd, progress);
+    bool foreseen = cd->ahead == AHEAD_AFTER_STOP && stops_at_faults(cd) && foresight_answer(cd, progress);
     iconvd_status status = foreseen ? ICONVD_EILSEQ : convert_until_stop(cd, progress);
     if (status == ICONVD_ENOCHAR || status == ICONVD_EILSEQ)
-        cd->ahead = AFTER_STOP;
+        cd->ahead = AHEAD_AFTER_STOP;
     /* It looks for room before it looks at the character. */
     if (status == ICONVD_ENOCHAR && progress->out_left == 0)
         return ICONVD_E2BIG;
@@ -160,15 +165,20 @@ iconvd_status next_character(struct iconvd_cd *cd, const struct progress *progre
 /* Says why the conversion stopped. The lacking character is asked for; where the service has gone meanwhile it stays unknown. */
 static void describe(struct iconvd_cd *cd, const struct progress *progress, iconvd_status status, iconvd_stop *stop) {
     *stop = (iconvd_stop){.status = status, .replaced = progress->replaced, .skipped = progress->skipped};
-    if (status == ICONVD_EILSEQ)
+    if (cd->is_replacement)
+        stop->length = status == ICONVD_EILSEQ ? progress->in_left : 0;
+    else if (cd->composed)
+        composed_describe(cd, progress, stop);
+    else if (cd->shifted)
+        shifted_describe(cd, progress, stop);
+    else if (status == ICONVD_EILSEQ)
         stop->length = faulty_length(cd->pair.from->kind, progress->in, progress->in_left);
-    if (status == ICONVD_ENOCHAR && next_character(cd, progress, &stop->character, &stop->length) != ICONVD_OK)
+    else if (status == ICONVD_ENOCHAR && next_character(cd, progress, &stop->character, &stop->length) != ICONVD_OK)
         stop->character = 0;
 }
 
-iconvd_status convert_text(struct iconvd_cd *cd, struct progress *progress) {
+iconvd_status convert_part(struct iconvd_cd *cd, struct progress *progress) {
     struct progress before = *progress;
-    atomic_fetch_add_explicit(&cd->pool->conversions, 1, memory_order_relaxed);
     iconvd_status status = mark_read(cd, progress);
     if (status != ICONVD_OK)
         return status;
@@ -176,6 +186,19 @@ iconvd_status convert_text(struct iconvd_cd *cd, struct progress *progress) {
     status = convert_all(cd, progress);
     mark_settle(cd, progress, &before, status);
     return status;
+}
+
+iconvd_status convert_any(struct iconvd_cd *cd, struct progress *progress) {
+    if (cd->is_replacement)
+        return replacement_convert(cd, progress);
+    if (cd->composed)
+        return composed_convert(cd, progress);
+    return cd->shifted ? shifted_convert(cd, progress) : convert_part(cd, progress);
+}
+
+iconvd_status convert_text(struct iconvd_cd *cd, struct progress *progress) {
+    atomic_fetch_add_explicit(&cd->pool->conversions, 1, memory_order_relaxed);
+    return convert_any(cd, progress);
 }
 
 iconvd_status iconvd_convert(iconvd_cd *cd, const char **in, size_t *in_left, char **out, size_t *out_left, iconvd_stop *stop) {
@@ -190,29 +213,27 @@ iconvd_status iconvd_convert(iconvd_cd *cd, const char **in, size_t *in_left, ch
     return status;
 }
 
-static bool is_policy(int policy) {
-    return policy == ICONVD_SUBSTITUTE || (policy & ~(ICONVD_IGNORE | ICONVD_TRANSLIT)) == 0;
-}
-
 /* The two encodings of a conversion, with what stands behind the target's name. */
-static iconvd_status find_encodings(struct iconvd_cd *cd, const char *to, const char *from) {
+static iconvd_status find_encodings(struct iconvd_cd *cd, const char *to, const char *from, bool *to_wide) {
     struct parsed_name target, source;
     if (!name_parse(&target, to) || !name_parse(&source, from))
         return ICONVD_UNSUPPORTED;
     cd->from_wide = strcmp(source.name, "WCHAR_T") == 0;
+    *to_wide = strcmp(target.name, "WCHAR_T") == 0;
     cd->policy |= (target.translit ? ICONVD_TRANSLIT : 0) | (target.ignore ? ICONVD_IGNORE : 0);
-    if (!is_policy(cd->policy))
+    if (cd->policy != ICONVD_SUBSTITUTE && (cd->policy & ~(ICONVD_IGNORE | ICONVD_TRANSLIT)) != 0)
         return ICONVD_BADPOLICY;
     iconvd_status status = pool_find(cd->pool, target.name, &cd->to);
     if (status == ICONVD_OK)
         status = pool_find(cd->pool, source.name, &cd->from);
-    return status;
+    return status == ICONVD_OK ? replacement_begin(cd, target.name) : status;
 }
 
-static iconvd_status open_pair(struct iconvd_cd *cd) {
+iconvd_status open_pair(struct iconvd_cd *cd) {
     bool little = machine_is_little();
-    cd->pair = (struct pair){
-        .to = mark_free(cd->to, little), .from = mark_free(cd->from, little), .strict = !(cd->policy & ICONVD_SUBSTITUTE)};
+    cd->pair = (struct pair){.to = encoding_written(mark_free(cd->to, little)),
+                             .from = mark_free(cd->from, little),
+                             .strict = !(cd->policy & ICONVD_SUBSTITUTE)};
     if (cd->to->kind != UTF_7 && cd->from->kind != UTF_7)
         return pool_open(cd->pool, &cd->pair);
     /* What is left of UTF-7 at a stop means something to its descriptor alone, and so nothing can be left out of it. */
@@ -220,6 +241,14 @@ static iconvd_status open_pair(struct iconvd_cd *cd) {
         return ICONVD_UNSUPPORTED;
     cd->own = own_begin(cd->pool);
     return cd->own ? own_open(cd) : ICONVD_ENOMEM;
+}
+
+iconvd_status convert_open(struct iconvd_cd *cd, bool to_wide) {
+    /* The descriptor of UTF-7 reads no characters that are computed here. */
+    bool computes = cd->to->kind == UTF_7 && cd->from->is_computed;
+    if (cd->to->composing || composing_reads(cd->from->composing) || computes)
+        return composed_open(cd, to_wide);
+    return cd->to->kind == SHIFTED || cd->from->kind == SHIFTED ? shifted_open(cd, to_wide) : open_pair(cd);
 }
 
 iconvd_status iconvd_open(iconvd_pool *pool, const char *to, const char *from, int policy, iconvd_cd **cd) {
@@ -230,9 +259,10 @@ iconvd_status iconvd_open(iconvd_pool *pool, const char *to, const char *from, i
     made->pool = pool;
     made->policy = policy;
     made->ahead = SIZE_MAX;
-    iconvd_status status = find_encodings(made, to, from);
+    bool to_wide;
+    iconvd_status status = find_encodings(made, to, from, &to_wide);
     if (status == ICONVD_OK)
-        status = open_pair(made);
+        status = convert_open(made, to_wide);
     if (status == ICONVD_OK)
         *cd = made;
     else
@@ -241,6 +271,11 @@ iconvd_status iconvd_open(iconvd_pool *pool, const char *to, const char *from, i
 }
 
 iconvd_status iconvd_reset(iconvd_cd *cd, char **out, size_t *out_left) {
+    cd->fault_told = false;
+    if (cd->composed)
+        return composed_reset(cd, out, out_left);
+    if (cd->shifted)
+        return shifted_reset(cd, out, out_left);
     iconvd_status status = cd->own ? own_reset(cd, out, out_left) : ICONVD_OK;
     if (status != ICONVD_OK)
         return status;
@@ -256,5 +291,7 @@ void iconvd_close(iconvd_cd *cd) {
         return;
     own_end(cd);
     foresight_end(cd);
+    shifted_end(cd);
+    composed_end(cd);
     free(cd);
 }

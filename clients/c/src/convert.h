@@ -14,7 +14,13 @@ struct iconvd_cd {
     bool mark_written;   /* to UTF-16 and UTF-32 */
     bool order_known;    /* from UTF-16 and UTF-32 */
     bool from_wide;      /* the source is WCHAR_T, which the C library converts without a step between */
+    bool is_replacement; /* the source is WHATWG's `replacement` (replacement.c) */
+    bool fault_told;     /* the fault of such a text has been reported */
+    bool is_copy;        /* from UTF-16BE to itself, behind another conversion: it is done here */
+    bool is_single;      /* to UTF-16BE from a charmap of one byte a character, behind another conversion: single.c */
     struct own *own;     /* with UTF-7 on either side: a descriptor of its own; otherwise NULL */
+    struct shifted *shifted; /* with shifts on either side; otherwise NULL */
+    struct composed *composed;   /* with an encoding that composes on one side: composed.h; else NULL */
     struct foresight *foresight; /* what follows a fault, where the caller goes on after it; else NULL */
 };
 
@@ -59,8 +65,23 @@ static inline void progress_back(struct progress *progress) {
     progress->loose = progress->loose_faults = 0;
 }
 
+/* The `ahead` of a conversion whose text has stopped at something that is in the way, since there may be more of it. */
+enum { AHEAD_AFTER_STOP = 64 };
+
 /* What iconvd_convert() does, on a progress. */
 iconvd_status convert_text(struct iconvd_cd *cd, struct progress *progress);
+
+/* The same for a conversion that is a part of another one, and is not counted. */
+iconvd_status convert_part(struct iconvd_cd *cd, struct progress *progress);
+
+/* A call of a conversion of any kind, also of one that stands behind another one. */
+iconvd_status convert_any(struct iconvd_cd *cd, struct progress *progress);
+
+/* Opens a conversion whose encodings and policy are there. `to_wide` says that the target is WCHAR_T. */
+iconvd_status convert_open(struct iconvd_cd *cd, bool to_wide);
+
+/* Opens what the service converts by. */
+iconvd_status open_pair(struct iconvd_cd *cd);
 
 /* One piece, by the shared descriptor or by the conversion's own. */
 iconvd_status convert_piece(struct iconvd_cd *cd, struct work *work);
@@ -97,6 +118,20 @@ iconvd_status next_character(struct iconvd_cd *cd, const struct progress *progre
 bool foresight_answer(struct iconvd_cd *cd, struct progress *progress);
 void foresight_end(struct iconvd_cd *cd);
 
+/* shifted.c: conversions from and to encodings with shifts. */
+struct shifted;
+iconvd_status shifted_open(struct iconvd_cd *cd, bool to_wide);
+iconvd_status shifted_convert(struct iconvd_cd *cd, struct progress *progress);
+iconvd_status shifted_reset(struct iconvd_cd *cd, char **out, size_t *out_left);
+void shifted_describe(struct iconvd_cd *cd, const struct progress *progress, iconvd_stop *stop);
+void shifted_end(struct iconvd_cd *cd);
+
+/* replacement.c: WHATWG's `replacement`. A text in it is one fault, and what is written to it is UTF-8. */
+
+/* Puts UTF-8 in its place. UNSUPPORTED: `target` is the name of an encoding that is only read so. */
+iconvd_status replacement_begin(struct iconvd_cd *cd, const char *target);
+iconvd_status replacement_convert(struct iconvd_cd *cd, struct progress *progress);
+
 /* own.c: conversions that have a state in the service. */
 struct own;
 struct own *own_begin(struct iconvd_pool *pool);
@@ -117,6 +152,7 @@ bool own_history(const struct iconvd_cd *cd, const char **bytes, size_t *length)
 struct fronts {
     enum builtin kind;
     const struct codes *codes; /* of a charmap */
+    bool is_computed;          /* and the codes of planes.h */
 };
 
 /* ENOMEM. The encoding is not UTF-7. */
@@ -131,7 +167,13 @@ size_t front_run(const struct fronts *fronts, const char *text, size_t left);
 /* The character whose bytes these are. False: it cannot be told without converting. */
 bool front_character(const struct fronts *fronts, const char *text, size_t length, uint32_t *character);
 
+/* single.c: converts a piece to UTF-16BE from a charmap of one byte a character. */
+iconvd_status single_convert(struct iconvd_pool *pool, struct encoding *encoding, struct work *work);
+
 /* characters.c */
+
+/* How many bytes the units have that UTF-16 and UTF-32 are made of; 1 for all others. */
+size_t unit_length(enum builtin kind);
 
 /* How many bytes to skip where the source has bytes that are no character. */
 size_t faulty_length(enum builtin from, const char *in, size_t length);
@@ -149,5 +191,25 @@ size_t utf8_length(unsigned char first);
 
 /* The character at the front of a text in UTF-8 that the service wrote, and its length. */
 size_t utf8_read(const char *text, uint32_t *character);
+
+/* units.c: forms of Unicode that are written here, and texts in UTF-16BE, in which a text is between the two sides of a conversion. */
+
+/* Whether an encoding is UTF-8, or UTF-16 or UTF-32 with an order. */
+bool is_unicode(enum builtin form);
+
+/* Writes a character in such a form. Returns how many bytes it has, four at most. */
+size_t character_write(enum builtin form, uint32_t character, char *out);
+
+/* The character at the front of a text in UTF-16BE, and how many bytes it has. */
+uint32_t units_read(const char *units, size_t *width);
+
+/* Copies the characters at the front of a text in UTF-16BE, as a conversion does. */
+iconvd_status units_copy(struct work *work);
+
+/* Appends a character. There is room. */
+void units_append(struct buffer *units, uint32_t character);
+
+/* How many characters a text in UTF-16BE has. */
+size_t units_count(const char *units, size_t length);
 
 #endif

@@ -7,7 +7,7 @@ static struct encoding BUILTINS[BUILTIN_COUNT] = {
     {.kind = US_ASCII, .name = "US-ASCII"}, {.kind = ISO_8859_1, .name = "ISO-8859-1"}, {.kind = UTF_8, .name = "UTF-8"},
     {.kind = UTF_16, .name = "UTF-16"},     {.kind = UTF_16BE, .name = "UTF-16BE"},     {.kind = UTF_16LE, .name = "UTF-16LE"},
     {.kind = UTF_32, .name = "UTF-32"},     {.kind = UTF_32BE, .name = "UTF-32BE"},     {.kind = UTF_32LE, .name = "UTF-32LE"},
-    {.kind = UTF_7, .name = "UTF-7"},
+    {.kind = UTF_7, .name = "UTF-7"},       {.kind = REPLACEMENT, .name = "REPLACEMENT"},
 };
 
 struct encoding *encoding_builtin(enum builtin builtin) {
@@ -29,7 +29,9 @@ void encoding_free(struct encoding *encoding) {
     if (!encoding)
         return;
     encoding_free(encoding->light);
+    encoding_free(encoding->written);
     buffer_free(&encoding->map.text);
+    free(atomic_load(&encoding->characters));
     free(atomic_load(&encoding->repertoire));
     codes_free(atomic_load(&encoding->codes));
     free(encoding);
@@ -42,6 +44,8 @@ void encodings_end(struct encodings *encodings) {
         next = encodings->added->next;
         encoding_free(encodings->added);
     }
+    for (size_t i = 0; i < SETS; i++)
+        set_map_free(atomic_load(&encodings->set_maps[i]));
     free(encodings->files);
     free(encodings->directory);
     pthread_mutex_destroy(&encodings->mutex);
@@ -64,19 +68,35 @@ static struct encoding *find_read(struct encodings *encodings, size_t number) {
     return found;
 }
 
-/* Gives an encoding its light one, if it has a text. False: out of memory. */
-static bool add_light(struct encoding *encoding, struct charmap *light) {
-    if (!light->text.bytes)
+/* Makes an encoding of another charmap of an encoding's file, if that has a text, which it takes. False: out of memory. */
+static bool add_other(struct encoding **other, const struct encoding *encoding, struct charmap *map, const char *what) {
+    if (!map->text.bytes)
         return true;
-    encoding->light = calloc(1, sizeof *encoding->light);
-    if (!encoding->light) {
-        buffer_free(&light->text);
+    *other = calloc(1, sizeof **other);
+    if (!*other)
         return false;
-    }
-    encoding->light->kind = BUILTIN_COUNT;
-    encoding->light->map = *light;
-    snprintf(encoding->light->name, sizeof encoding->light->name, "%.70s-light", encoding->name);
+    (*other)->kind = BUILTIN_COUNT;
+    (*other)->map = *map;
+    (*other)->repairs = encoding->repairs;
+    map->text = (struct buffer){.bytes = NULL};
+    snprintf((*other)->name, sizeof (*other)->name, "%.60s-%s", encoding->name, what);
     return true;
+}
+
+/* Takes the charmaps of a file. False: out of memory. */
+static bool take_charmaps(struct encoding *encoding, struct charmap_set *set) {
+    encoding->map = set->whole;
+    set->whole.text = (struct buffer){.bytes = NULL};
+    if (!add_other(&encoding->light, encoding, &set->light, "light") ||
+        !add_other(&encoding->written, encoding, &set->written, "written"))
+        return false;
+    if (encoding->written)
+        encoding->written->has_placeholders = true;
+    return true;
+}
+
+struct encoding *encoding_written(struct encoding *encoding) {
+    return encoding->written ? encoding->written : encoding;
 }
 
 struct encoding *encoding_first(struct encoding *encoding) {
@@ -86,15 +106,19 @@ struct encoding *encoding_first(struct encoding *encoding) {
 /* Reads a charmap file. `reading` is held, and not the mutex: fork() waits for that. */
 static iconvd_status read_file(struct encodings *encodings, size_t number, struct encoding **found) {
     struct encoding *encoding = calloc(1, sizeof *encoding);
-    struct charmap light;
+    struct charmap_set set;
     if (!encoding)
         return ICONVD_ENOMEM;
     encoding->kind = BUILTIN_COUNT;
-    snprintf(encoding->name, sizeof encoding->name, "map-%s", charmap_file(number));
-    iconvd_status status = charmap_read(&encoding->map, &light, encodings->directory, charmap_file(number), encoding->name);
-    if (status == ICONVD_OK && !add_light(encoding, &light))
+    encoding->repairs = repairs_of(charmap_name(number));
+    encoding->is_computed = repairs_are_computed(&encoding->repairs);
+    encoding->composing = composing_of(charmap_name(number));
+    snprintf(encoding->name, sizeof encoding->name, "map-%s", charmap_name(number));
+    iconvd_status status = charmap_read(&set, encodings->directory, charmap_file(number), charmap_name(number), encoding->name);
+    if (status == ICONVD_OK && !take_charmaps(encoding, &set))
         status = ICONVD_ENOMEM;
     if (status != ICONVD_OK) {
+        charmap_set_free(&set);
         encoding_free(encoding);
         return status;
     }
@@ -121,13 +145,27 @@ static iconvd_status find_file(struct encodings *encodings, size_t number, struc
     return status;
 }
 
+struct encoding *encodings_known(struct encodings *encodings, const char *name) {
+    pthread_mutex_lock(&encodings->mutex);
+    struct encoding *added = find_added(encodings, name);
+    pthread_mutex_unlock(&encodings->mutex);
+    int number = added ? 0 : name_find(name);
+    if (added || number < 0)
+        return added;
+    if (number >= BUILTIN_COUNT + (int)charmap_count())
+        return encoding_shifted((size_t)number - BUILTIN_COUNT - charmap_count());
+    return number < BUILTIN_COUNT ? &BUILTINS[number] : find_read(encodings, (size_t)number - BUILTIN_COUNT);
+}
+
 iconvd_status encodings_find(struct encodings *encodings, const char *name, struct encoding **found) {
     pthread_mutex_lock(&encodings->mutex);
     *found = find_added(encodings, name);
     pthread_mutex_unlock(&encodings->mutex);
     int number = *found ? 0 : name_find(name);
     iconvd_status status = number < 0 ? ICONVD_UNSUPPORTED : ICONVD_OK;
-    if (!*found && number >= BUILTIN_COUNT)
+    if (!*found && number >= BUILTIN_COUNT + (int)charmap_count())
+        *found = encoding_shifted((size_t)number - BUILTIN_COUNT - charmap_count());
+    else if (!*found && number >= BUILTIN_COUNT)
         status = find_file(encodings, (size_t)number - BUILTIN_COUNT, found);
     else if (!*found && number >= 0)
         *found = &BUILTINS[number];

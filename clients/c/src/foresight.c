@@ -1,11 +1,12 @@
 /* What a conversion that stops at faults will meet after one.
  *
- * A caller that goes on a byte after each fault makes a call for each, and a call is a round trip. So after a fault a call looks further.
+ * A caller that goes on a byte (a unit of UTF-16 or UTF-32) after each fault makes a call for each, and a call is a round trip. So after a
+ * fault a call looks further.
  * Which of the bytes there are characters is told here, and these are converted at once (stretches.h). The next calls are answered from
  * that, as long as the caller goes on so and its bytes are those that were looked at. How far a call looks grows while this is so. */
 #include "stretches.h"
 
-enum { LEAST = 256 };
+enum { LEAST = 256, GROWTH = 8 };
 
 struct foresight {
     struct stretches stretches;
@@ -25,15 +26,15 @@ static bool is_next(const struct foresight *foresight, const struct progress *pr
 }
 
 /* Moves on by a stretch. False: it has no room. */
-static bool take(struct foresight *foresight, struct progress *progress) {
+static bool take(struct foresight *foresight, struct progress *progress, size_t unit) {
     const struct stretch *stretch = stretch_at(&foresight->stretches, foresight->next);
-    if (progress->out_left == 0 || stretch->written > progress->out_left)
+    if (progress->out_left == 0 || stretch->written + stretch->ends_empty > progress->out_left)
         return false;
     if (stretch->written > 0)
         memcpy(progress->out, foresight->stretches.out.bytes + foresight->written, stretch->written);
     progress_add(progress, &(struct work){
                                .used = stretch->length, .produced = stretch->written, .replaced = (uint32_t)stretch->replaced});
-    foresight->used += stretch->length + 1;
+    foresight->used += stretch->length + unit;
     foresight->written += stretch->written;
     foresight->next++;
     return true;
@@ -46,8 +47,9 @@ static bool look_again(struct iconvd_cd *cd, struct foresight *foresight, const 
         return false;
     }
     bool all = foresight->next > 0 && foresight->next == stretch_count(&foresight->stretches);
-    foresight->window = all ? 4 * foresight->window : LEAST;
-    foresight->window = foresight->window < MOST_WINDOW ? foresight->window : MOST_WINDOW;
+    size_t unit = unit_length(cd->pair.from->kind);
+    foresight->window = all ? GROWTH * foresight->window : LEAST * unit;
+    foresight->window = foresight->window < MOST_WINDOW * unit ? foresight->window : MOST_WINDOW * unit;
     foresight->used = foresight->written = foresight->next = 0;
     bool seen = stretches_find(&foresight->stretches, cd, progress, foresight->window);
     foresight->failed = seen ? 0 : foresight->failed < 32 ? 2 * foresight->failed + 1 : foresight->failed;
@@ -61,7 +63,8 @@ bool foresight_answer(struct iconvd_cd *cd, struct progress *progress) {
     struct foresight *foresight = cd->foresight;
     if (!foresight)
         return false;
-    return (is_next(foresight, progress) || look_again(cd, foresight, progress)) && take(foresight, progress);
+    return (is_next(foresight, progress) || look_again(cd, foresight, progress)) &&
+           take(foresight, progress, unit_length(cd->pair.from->kind));
 }
 
 void foresight_end(struct iconvd_cd *cd) {

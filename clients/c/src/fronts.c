@@ -2,6 +2,7 @@
  *
  * It is told without converting, and as the service tells it, so that hostile text costs no round trips. */
 #include "convert.h"
+#include "planes.h"
 
 static enum front front_of_utf8(const unsigned char *in, size_t left, size_t *length) {
     *length = utf8_length(in[0]);
@@ -52,10 +53,18 @@ static enum front front_of_utf32(const unsigned char *in, size_t left, bool big,
 }
 
 iconvd_status fronts_of(struct encoding *encoding, struct fronts *fronts) {
-    *fronts = (struct fronts){.kind = encoding->kind, .codes = NULL};
+    *fronts = (struct fronts){.kind = encoding->kind, .is_computed = encoding->is_computed};
     if (encoding->kind == BUILTIN_COUNT)
         fronts->codes = encoding_codes(encoding);
     return encoding->kind == BUILTIN_COUNT && !fronts->codes ? ICONVD_ENOMEM : ICONVD_OK;
+}
+
+static enum front front_of_charmap(const struct fronts *fronts, const unsigned char *in, size_t left, size_t *length) {
+    enum front front;
+    *length = PLANE_CODE;
+    if (fronts->is_computed && plane_front(in, left, &front))
+        return front;
+    return codes_front(fronts->codes, in, left, length);
 }
 
 enum front front_at(const struct fronts *fronts, const char *text, size_t left, size_t *length) {
@@ -69,7 +78,7 @@ enum front front_at(const struct fronts *fronts, const char *text, size_t left, 
     case UTF_16LE: return front_of_utf16(in, left, fronts->kind == UTF_16BE, length);
     case UTF_32BE:
     case UTF_32LE: return front_of_utf32(in, left, fronts->kind == UTF_32BE, length);
-    default: return codes_front(fronts->codes, in, left, length);
+    default: return front_of_charmap(fronts, in, left, length);
     }
 }
 

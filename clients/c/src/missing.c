@@ -22,7 +22,7 @@ iconvd_status pool_find(struct iconvd_pool *pool, const char *name, struct encod
     iconvd_status status = encodings_find(&pool->encodings, name, found);
     /* One that the service has refused was found, and was told of when it was refused. */
     int number = status == ICONVD_UNSUPPORTED && !*found ? name_find(name) : -1;
-    if (number >= BUILTIN_COUNT)
+    if (number >= BUILTIN_COUNT && number < BUILTIN_COUNT + (int)charmap_count())
         note_missing(pool, charmap_file((size_t)number - BUILTIN_COUNT));
     return status;
 }

@@ -1,4 +1,4 @@
-/* Looks names up as the C library does. */
+/* Looks names up as the C library does, and then by their letters and digits. */
 #include "names.h"
 
 #include <langinfo.h>
@@ -10,16 +10,24 @@
 
 struct name_row {
     uint16_t string; /* its place in NAME_STRINGS */
-    uint16_t number;
+    uint16_t number : 15;
+    uint16_t is_whatwg : 1; /* name_is_whatwg() */
+};
+
+/* The places of a charmap's file and of its name. */
+struct charmap_row {
+    uint16_t file;
+    uint16_t name;
 };
 
 #include "names_table.h"
 
-enum { NAME_COUNT = sizeof NAME_ROWS / sizeof *NAME_ROWS };
+enum { NAME_COUNT = sizeof NAME_ROWS / sizeof *NAME_ROWS, LOOSE_COUNT = sizeof LOOSE_ROWS / sizeof *LOOSE_ROWS };
 
 const char *builtin_name(enum builtin builtin) {
     static const char NAMES[BUILTIN_COUNT][12] = {
         "US-ASCII", "ISO-8859-1", "UTF-8", "UTF-16", "UTF-16BE", "UTF-16LE", "UTF-32", "UTF-32BE", "UTF-32LE", "UTF-7",
+        "REPLACEMENT",
     };
     return NAMES[builtin];
 }
@@ -29,26 +37,80 @@ size_t charmap_count(void) {
 }
 
 const char *charmap_file(size_t number) {
-    return NAME_STRINGS + CHARMAP_FILES[number];
+    return NAME_STRINGS + CHARMAP_ROWS[number].file;
+}
+
+const char *charmap_name(size_t number) {
+    return NAME_STRINGS + CHARMAP_ROWS[number].name;
 }
 
 const char *iconvd_name(size_t number) {
     return number < NAME_COUNT ? NAME_STRINGS + NAME_ROWS[number].string : NULL;
 }
 
-int name_find(const char *name) {
-    size_t low = 0, high = NAME_COUNT;
+static bool is_digit(char c) {
+    return c >= '0' && c <= '9';
+}
+
+/* What decides of a name that no row has exactly: its letters and digits, with `-` where two digits are apart. ISO-IR-9-1 is not
+   ISO-IR-91. tables.py has the same. */
+static void loosen(char loose[NAME_ROOM], const char *name) {
+    size_t length = 0;
+    bool apart = false;
+    for (; *name; name++) {
+        bool counts = is_digit(*name) || (*name >= 'A' && *name <= 'Z');
+        if (counts && apart && length > 0 && is_digit(loose[length - 1]) && is_digit(*name))
+            loose[length++] = '-';
+        if (counts)
+            loose[length++] = *name;
+        apart = !counts;
+    }
+    loose[length] = 0;
+}
+
+/* How a name compares to that of a row. */
+typedef int comparing(const char *name, size_t row);
+
+static int compare_exactly(const char *name, size_t row) {
+    return strcmp(name, NAME_STRINGS + NAME_ROWS[row].string);
+}
+
+static int compare_loosely(const char *loose, size_t row) {
+    char other[NAME_ROOM];
+    loosen(other, NAME_STRINGS + NAME_ROWS[LOOSE_ROWS[row]].string);
+    return strcmp(loose, other);
+}
+
+/* The place of a name among `count` rows; `count` if it is none of them. */
+static size_t search(const char *name, size_t count, comparing *compare) {
+    size_t low = 0, high = count;
     while (low < high) {
         size_t middle = (low + high) / 2;
-        int order = strcmp(NAME_STRINGS + NAME_ROWS[middle].string, name);
+        int order = compare(name, middle);
         if (order == 0)
-            return NAME_ROWS[middle].number;
-        if (order < 0)
+            return middle;
+        if (order > 0)
             low = middle + 1;
         else
             high = middle;
     }
-    return -1;
+    return count;
+}
+
+/* The row of a name; NULL for none. */
+static const struct name_row *find_row(const char *name) {
+    char loose[NAME_ROOM];
+    size_t row = search(name, NAME_COUNT, compare_exactly);
+    if (row < NAME_COUNT)
+        return &NAME_ROWS[row];
+    loosen(loose, name);
+    row = search(loose, LOOSE_COUNT, compare_loosely);
+    return row < LOOSE_COUNT ? &NAME_ROWS[LOOSE_ROWS[row]] : NULL;
+}
+
+int name_find(const char *name) {
+    const struct name_row *row = find_row(name);
+    return row ? row->number : -1;
 }
 
 /* Letters and digits of ASCII whatever the locale is. */
@@ -105,6 +167,12 @@ static bool normalize(char name[NAME_ROOM], const char *text) {
     name[length] = 0;
     trim(name);
     return true;
+}
+
+bool name_is_whatwg(const char *written) {
+    struct parsed_name parsed;
+    const struct name_row *row = name_parse(&parsed, written) ? find_row(parsed.name) : NULL;
+    return row && row->is_whatwg;
 }
 
 bool name_parse(struct parsed_name *parsed, const char *written) {

@@ -5,8 +5,23 @@
 #include <stdbool.h>
 #include <stddef.h>
 
-/* The service's own encodings; the order is that of tables.py. */
-enum builtin { US_ASCII, ISO_8859_1, UTF_8, UTF_16, UTF_16BE, UTF_16LE, UTF_32, UTF_32BE, UTF_32LE, UTF_7, BUILTIN_COUNT };
+/* The service's own encodings, and WHATWG's REPLACEMENT (replacement.c), in the order of tables.py. BUILTIN_COUNT is a charmap, and
+   SHIFTED an encoding with shifts. */
+enum builtin {
+    US_ASCII,
+    ISO_8859_1,
+    UTF_8,
+    UTF_16,
+    UTF_16BE,
+    UTF_16LE,
+    UTF_32,
+    UTF_32BE,
+    UTF_32LE,
+    UTF_7,
+    REPLACEMENT,
+    BUILTIN_COUNT,
+    SHIFTED
+};
 
 /* The service's name of one of them. */
 const char *builtin_name(enum builtin builtin);
@@ -24,11 +39,21 @@ struct parsed_name {
 /* False: it is too long for a name. */
 bool name_parse(struct parsed_name *parsed, const char *written);
 
-/* The number of a name: an enum builtin, or BUILTIN_COUNT plus the number of a charmap file; -1 for none. */
+/* The number of a name: an enum builtin, or BUILTIN_COUNT plus the number of a charmap, or that number plus charmap_count() for an
+   encoding with shifts; -1 for none. */
 int name_find(const char *name);
 
-/* How many charmap files there are, and their names without folder and ending. */
+/* Whether a name, as a caller wrote it, is the C library's of an encoding that the service lacks: it means what WHATWG's standard reads
+   the name as. The preload library leaves it to the C library. */
+bool name_is_whatwg(const char *written);
+
+/* How many charmaps there are. */
 size_t charmap_count(void);
+
+/* The file of one, without folder and ending. */
 const char *charmap_file(size_t number);
+
+/* Its own name: that of its file, or another one if repairs make it from the file of another encoding. */
+const char *charmap_name(size_t number);
 
 #endif

@@ -140,6 +140,8 @@ iconvd_status own_convert(struct iconvd_cd *cd, struct work *work) {
     work->used = work->produced = work->replaced = 0;
     iconvd_status status = with_own(cd, convert, work);
     atomic_fetch_add_explicit(&cd->pool->round_trips, 1, memory_order_relaxed);
+    if (cd->pair.to->has_placeholders)
+        repairs_settle(&cd->pair.to->repairs, work->out, work->produced);
     if (status != ICONVD_LOST)
         remember(cd->own, work->in, work->used);
     return status;

@@ -127,7 +127,13 @@ static iconvd_status convert_one(struct iconvd_pool *pool, struct slot *slot, co
     return remote_convert(&slot->stream, place, context);
 }
 
-iconvd_status pool_convert(struct iconvd_pool *pool, const struct pair *pair, struct work *work) {
+/* Puts the bytes that are meant in the place of placeholders. */
+static void settle(const struct pair *pair, const struct work *work) {
+    if (pair->to->has_placeholders)
+        repairs_settle(&pair->to->repairs, work->out, work->produced);
+}
+
+iconvd_status pool_convert_mapped(struct iconvd_pool *pool, const struct pair *pair, struct work *work) {
     iconvd_status status;
     struct pair first;
     do {
@@ -135,6 +141,7 @@ iconvd_status pool_convert(struct iconvd_pool *pool, const struct pair *pair, st
         work->used = work->produced = work->replaced = 0;
         status = with_pair(pool, &first, work->in_length < LONG ? SHORT_TEXT : LONG_TEXT, convert_one, work);
     } while (needs_more(pair, &first, status));
+    settle(pair, work);
     /* The whole charmap is refused, in the middle of a text. */
     return status == ICONVD_UNSUPPORTED ? ICONVD_LOST : status;
 }
@@ -157,6 +164,8 @@ iconvd_status pool_convert_batch(struct iconvd_pool *pool, const struct pair *pa
         first = first_pair(pair);
         status = with_pair(pool, &first, LONG_TEXT, convert_many, batch);
     }
+    for (size_t i = 0; i < batch->done; i++)
+        settle(pair, &batch->works[i]);
     return status == ICONVD_UNSUPPORTED ? ICONVD_LOST : status;
 }
 

@@ -85,6 +85,9 @@ iconvd_status pool_open(struct iconvd_pool *pool, const struct pair *pair);
    full, is waited for. */
 iconvd_status pool_convert(struct iconvd_pool *pool, const struct pair *pair, struct work *work);
 
+/* The same, but by the charmaps alone: what a client computes (computed.c) is no character to it. */
+iconvd_status pool_convert_mapped(struct iconvd_pool *pool, const struct pair *pair, struct work *work);
+
 /* The same for several pieces, one behind the other, until one stops. */
 iconvd_status pool_convert_batch(struct iconvd_pool *pool, const struct pair *pair, struct batch *batch);
 

@@ -1,6 +1,7 @@
 /* iconv_open(), iconv() and iconv_close() by the service. */
 #include <errno.h>
 
+#include "composed.h"
 #include "preload.h"
 
 const char HANDLE_MARK[] = "iconvd";
@@ -43,6 +44,8 @@ static iconvd_status handle_open(struct handle *handle, const char *to, const ch
     iconvd_status status = ICONVD_LOST;
     if (is_listing(to, from))
         handle->real = set->libc.open(to, from);
+    else if (set->falls_back && (name_is_whatwg(to) || name_is_whatwg(from)))
+        status = ICONVD_UNSUPPORTED;
     else if (set->pool)
         status = iconvd_open(set->pool, to, from, ICONVD_STRICT, &handle->cd);
     if (handle->cd || handle->real != (iconv_t)-1)
@@ -103,7 +106,9 @@ static size_t reset(struct handle *handle, char **out, size_t *out_left) {
     if (handle->real == (iconv_t)-1) {
         iconvd_status status = iconvd_reset(handle->cd, out, out_left);
         if (status == ICONVD_OK)
-            return 0;
+            return handle->cd->composed ? handle->cd->composed->replaced : 0;
+        if (status == ICONVD_LOST && !handle_shift_back(handle, out, out_left))
+            return failed(ICONVD_E2BIG);
         if (status != ICONVD_LOST || !handle_fall_back(handle, status))
             return failed(status);
     }
@@ -136,6 +141,8 @@ static size_t convert(struct handle *handle, char **in, size_t *in_left, char **
         *out = progress.out;
         *out_left = progress.out_left;
     }
+    if (status == ICONVD_LOST && !handle_shift_back(handle, out, out_left))
+        return failed(ICONVD_E2BIG);
     if (status == ICONVD_LOST && handle_fall_back(handle, status)) {
         size_t more = go_on(handle, in, in_left, out, out_left);
         return more == (size_t)-1 ? more : more + progress.replaced;

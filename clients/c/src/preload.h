@@ -41,6 +41,10 @@ extern const char HANDLE_MARK[];
 /* Lets the C library go on where the service left off. False: it cannot. */
 bool handle_fall_back(struct handle *handle, iconvd_status why);
 
+/* Brings what was written in an encoding with shifts, or in UTF-7 by way of UTF-16BE, back to ASCII, at which the C library goes on. False:
+   there is no room. */
+bool handle_shift_back(struct handle *handle, char **out, size_t *out_left);
+
 /* After a reset `real` has to begin as the host asked for it. False: it cannot, and errno says why. */
 bool handle_start_again(struct handle *handle);
 

@@ -50,6 +50,8 @@ iconvd_status repertoire_prepare(struct iconvd_pool *pool, struct encoding *enco
     unsigned char *bits = charmap_repertoire(encoding->map.text.bytes, encoding->map.text.length, &symbols);
     if (!bits)
         return ICONVD_ENOMEM;
+    if (encoding->is_computed)
+        memset(bits + 0x10000 / 8, 0xff, (0x110000 - 0x10000) / 8);
     iconvd_status status = symbols ? ask_named(pool, encoding, bits) : ICONVD_OK;
     unsigned char *none = NULL;
     /* Another thread may have been faster. */

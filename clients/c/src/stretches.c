@@ -26,19 +26,20 @@ void stretches_free(struct stretches *stretches) {
 /* Finds stretches at the front of a text, and keeps their characters. False: there is none, or memory lacks. */
 static bool find(struct stretches *stretches, const struct fronts *from, const struct progress *progress, size_t window) {
     const char *text = progress->in;
+    const size_t unit = unit_length(from->kind), most = MOST_WINDOW * unit;
     struct stretch stretch = {.length = 0};
     size_t at = 0, length = 0, left = progress->in_left;
     enum front front = WELL_FORMED;
-    while (at < MOST_WINDOW && (at < window || stretches->parts.length == 0) && at < left &&
+    while (at < most && (at < window || stretches->parts.length == 0) && at < left &&
            (front = front_at(from, text + at, left - at, &length)) != CUT_OFF) {
-        at += front == FAULTY ? 1 : length;
+        at += front == FAULTY ? unit : length;
         if (front == WELL_FORMED) {
             stretch.length += length;
             stretch.characters++;
             continue;
         }
         if (!buffer_append(&stretches->parts, (const char *)&stretch, sizeof stretch) ||
-            !buffer_append(&stretches->kept, text + at - 1 - stretch.length, stretch.length))
+            !buffer_append(&stretches->kept, text + at - unit - stretch.length, stretch.length))
             return false;
         stretch = (struct stretch){.length = 0};
     }
@@ -78,7 +79,7 @@ static iconvd_status convert(struct iconvd_cd *cd, const struct buffer *characte
     if (!buffer_reserve(out, room))
         return ICONVD_ENOMEM;
     struct work work = {.in = characters->bytes, .in_length = characters->length, .out = out->bytes, .room = room};
-    iconvd_status status = characters->length > 0 ? pool_convert(cd->pool, &cd->pair, &work) : ICONVD_OK;
+    iconvd_status status = characters->length > 0 ? convert_piece(cd, &work) : ICONVD_OK;
     out->length = work.produced;
     return status;
 }
@@ -95,6 +96,7 @@ struct weaving {
 static bool weave_one(struct weaving *weaving, struct buffer *out, struct stretch *stretch) {
     const struct buffer *converted = &weaving->converted;
     struct part part = sift_next(&weaving->sift, &weaving->walk);
+    stretch->ends_empty = part.kind == REPLACED && part.phrase->length == 0;
     if (part.kind == REPLACED) {
         stretch->replaced++;
         return buffer_append(out, weaving->sift.phrases.bytes.bytes + part.phrase->at, part.phrase->length);

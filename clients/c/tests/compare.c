@@ -1,6 +1,6 @@
 /* Compares the preload library with the C library, call by call.
  *
- * Random texts in 26 encodings, half of them damaged, cut at random and with random room, go through both. After each call the return
+ * Random texts in 29 encodings, half of them damaged, cut at random and with random room, go through both. After each call the return
  * value, errno, both pointers, both counts and the bytes have to be equal. A difference has to be of a kind that docs/CLIENTS.md
  * names; each is proved to be of its kind from the bytes, and every other one fails.
  *
@@ -11,6 +11,7 @@ static const char *const NAMES[] = {
     "UTF-8",      "UTF-16",     "UTF-16LE", "UTF-16BE", "UTF-32", "UTF-32LE", "UTF-32BE", "UCS-4", "WCHAR_T",
     "ASCII",      "LATIN1",     "LATIN2",   "GREEK",    "KOI8-R", "CP1251",   "CP1252",   "IBM037", "MACINTOSH",
     "ISO-8859-15", "TIS-620",   "EUC-JP",   "EUC-KR",   "GBK",    "BIG5",     "SJIS",     "EUC-TW",
+    "GB18030",     "CP932",     "EUC-JP-MS",
 };
 enum { NAME_COUNT = sizeof NAMES / sizeof *NAMES };
 
@@ -104,7 +105,8 @@ static enum kind find_kind(const struct passing *passing, const struct step *ste
     if (out_mark > 0 && mine->produced == 0 && other->produced == out_mark) {
         other_rest.produced = 0;
         bool same = mine->error == other->error && mine->used == other->used && strcmp(passing->from, "WCHAR_T") == 0;
-        return same ? WRITES_MARK : UNKNOWN;
+        bool above = mine->used == other->used && is_above(passing->from, (const unsigned char *)step->in + mine->used, step->length - mine->used);
+        return same ? WRITES_MARK : above ? ABOVE : UNKNOWN;
     }
     rest.to = mark_free(passing->to, "", 0);
     rest.from = mark_free(passing->from, passing->text, passing->length);

@@ -3,73 +3,18 @@
 #ifndef ICONVD_DIFFERENCES_H
 #define ICONVD_DIFFERENCES_H
 
-#include <errno.h>
-#include <stdbool.h>
-#include <string.h>
-
-#include "libraries.h"
-
-enum { TEXT = 4000, OUT = 20000 };
+#include "calls.h"
 
 enum kind { EARLY, ABOVE, ONE_WAY, FAULTY_LENGTH, WRITES_MARK, NO_ROOM, ROOM_FIRST, KINDS, UNKNOWN = KINDS, FAULT };
 static const char *const KIND_NAMES[KINDS] = {
     "EILSEQ at once, of a multibyte charmap, where glibc waits for more",
     "values that Unicode has not, in UTF-8, UCS-4 and WCHAR_T, which glibc copies or passes over",
-    "mappings that glibc has and the charmap has not",
+    "the tags U+E0000 to U+E007F, which glibc passes over where the target lacks them",
     "how many faulty bytes of a multibyte charmap //IGNORE leaves out",
     "glibc writes a mark before it has a character",
     "E2BIG by glibc where the room of WCHAR_T, or of UCS-4 from it, is full and the input is faulty or cut, too",
     "to EUC-JP with one or two bytes of room left, glibc does not look whether it has the character",
 };
-
-static struct library ours, theirs;
-
-/* One call of one library. */
-struct result {
-    size_t value;
-    int error;
-    size_t used;
-    size_t produced;
-    char bytes[OUT];
-};
-
-static void call(const struct library *library, iconv_t cd, const char *in, size_t length, size_t room, struct result *result) {
-    char copy[TEXT * 8];
-    memcpy(copy, in, length);
-    char *in_at = copy, *out_at = result->bytes;
-    size_t in_left = length, out_left = room;
-    errno = 0;
-    result->value = library->convert(cd, &in_at, &in_left, &out_at, &out_left);
-    check(result->value == (size_t)-1 || errno == 0, "errno of a call that succeeds: %d", errno);
-    result->error = result->value == (size_t)-1 ? errno : 0;
-    result->used = length - in_left;
-    result->produced = room - out_left;
-    check(in_at == copy + result->used && out_at == result->bytes + result->produced, "pointers and counts differ");
-}
-
-/* What was to be done. Encodings have an order and no mark, and so no state: marks are not in `in`. */
-struct step {
-    const char *to;
-    const char *from;
-    bool ignore;
-    const char *in;
-    size_t length;
-    size_t room;
-};
-
-/* One call by a conversion of its own. */
-static void call_alone(const struct library *library, const struct step *step, const char *in, size_t length, size_t room,
-                       struct result *result) {
-    char target[40];
-    snprintf(target, sizeof target, "%s%s", step->to, step->ignore ? "//IGNORE" : "");
-    iconv_t cd = library->open(target, step->from);
-    call(library, cd, in, length, room, result);
-    library->close(cd);
-}
-
-static bool same_output(const struct result *one, const struct result *other) {
-    return one->produced == other->produced && memcmp(one->bytes, other->bytes, one->produced) == 0;
-}
 
 /* How many bytes the character at the front has by a library; 0 where it has none. Its bytes in the target go to `result`, which is an
    error where the target lacks it. */
@@ -96,7 +41,8 @@ static bool is_above(const char *name, const unsigned char *in, size_t length) {
 }
 
 static bool is_multibyte(const char *name) {
-    static const char *const NAMES[] = {"EUC-JP", "EUC-KR", "GBK", "BIG5", "SJIS", "EUC-TW"};
+    static const char *const NAMES[] = {"EUC-JP", "EUC-KR", "GBK",       "BIG5", "SJIS",
+                                        "EUC-TW", "CP932",  "EUC-JP-MS", "GB18030"};
     for (size_t i = 0; i < sizeof NAMES / sizeof *NAMES; i++)
         if (strcmp(NAMES[i], name) == 0)
             return true;
@@ -219,8 +165,11 @@ static enum kind classify_room(const struct step *step, const struct result *min
     call_alone(&theirs, step, step->in + other->used, mine->used - other->used, OUT, &more);
     if (more.produced != 0 || more.used != mine->used - other->used)
         return UNKNOWN;
-    call_alone(&theirs, step, step->in + mine->used, step->length - mine->used, OUT, &more);
-    bool same = mine->error == E2BIG ? more.produced > room : more.error == mine->error && more.used == 0;
+    /* If that is all, it says what was left out; else what follows says why it stops. */
+    if (mine->used < step->length)
+        call_alone(&theirs, step, step->in + mine->used, step->length - mine->used, OUT, &more);
+    bool stays = mine->used == step->length || more.used == 0;
+    bool same = mine->error == E2BIG ? more.produced > room : more.error == mine->error && stays;
     bool is_wide = strcmp(step->to, "WCHAR_T") == 0 || (strcmp(step->from, "WCHAR_T") == 0 && strcmp(step->to, "UCS-4") == 0);
     if (same && is_wide && room < 4)
         return NO_ROOM;

@@ -114,7 +114,7 @@ static void test_names(void) {
     check(!name_parse(&parsed, text), "a name of 128 bytes");
     check(name_parse(&parsed, "") && name_find(parsed.name) == US_ASCII, "the locale's encoding");
     check(name_find("LATIN1") == ISO_8859_1 && name_find("UCS-4") == UTF_32BE && name_find("UTF-7") == UTF_7, "built-in names");
-    check(name_find("KOI8-R") >= BUILTIN_COUNT && name_find("NOPE") == -1 && name_find("UCS-2") == -1, "charmaps and no names");
+    check(name_find("KOI8-R") >= BUILTIN_COUNT && name_find("NOPE") == -1 && name_find("UNICODEBIG") == -1, "charmaps and no names");
     for (size_t i = 0; iconvd_name(i); i++)
         check(name_find(iconvd_name(i)) >= 0 && (i == 0 || strcmp(iconvd_name(i - 1), iconvd_name(i)) < 0), "%s", iconvd_name(i));
 }
@@ -170,13 +170,14 @@ static void test_long_lines(void) {
     /* The lengths near a block's end have each byte of the line after them there. */
     for (size_t row = 0; row < sizeof LENGTHS / sizeof *LENGTHS + 140; row++) {
         size_t length = row < 140 ? 65536 - 120 + row : LENGTHS[row - 140];
-        struct charmap map, light;
+        struct charmap_set set;
+        const struct charmap *map = &set.whole;
         write_charmap(path, length, row % 2 ? 0 : 'x');
-        iconvd_status status = charmap_read(&map, &light, folder, "TOY", "map-TOY");
-        check(status == ICONVD_OK && map.mappings == 2 && map.text.length == sizeof TEXT - 1 &&
-                  memcmp(map.text.bytes, TEXT, sizeof TEXT - 1) == 0,
+        iconvd_status status = charmap_read(&set, folder, "TOY", "TOY", "map-TOY");
+        check(status == ICONVD_OK && map->mappings == 2 && map->text.length == sizeof TEXT - 1 &&
+                  memcmp(map->text.bytes, TEXT, sizeof TEXT - 1) == 0,
               "a comment of %zu bytes: status %d", length, (int)status);
-        buffer_free(&map.text);
+        charmap_set_free(&set);
     }
     unlink(path);
     rmdir(folder);

@@ -91,6 +91,54 @@ static void test_text(const struct text *text, int to, size_t piece, unsigned mo
     iconvd_disconnect(pool);
 }
 
+/* A long text that has few characters above U+FFFF: by each policy, from GB18030 and to it. */
+static void test_long(iconvd_pool *pool) {
+    static const char *const ROWS[][3] = {{"UTF-8", "GB18030", "\x90\x30\x81\x30"}, {"UTF-16LE", "GB18030", "\x90\x30\x81\x30"},
+                                          {"KOI8-R", "GB18030", "\x90\x30\x81\x30"}, {"GB18030", "UTF-8", "\xf0\x90\x80\x80"},
+                                          {"GB18030", "KOI8-R", "abcd"}};
+    static char text[600000], out_bytes[ROOM];
+    for (size_t i = 0; i < 2 * sizeof ROWS / sizeof *ROWS; i++) {
+        iconvd_cd *cd = NULL;
+        const char *const *row = ROWS[i / 2], *in = text;
+        char *out = out_bytes;
+        size_t left = sizeof text, room = ROOM;
+        bool stops = i % 2 == 0 && strcmp(row[0], "KOI8-R") == 0;
+        memset(text, 'a', sizeof text);
+        memcpy(text + 262000, row[2], 4);
+        iconvd_status status = iconvd_open(pool, row[0], row[1], i % 2 ? ICONVD_SUBSTITUTE : ICONVD_STRICT, &cd);
+        if (status == ICONVD_OK)
+            status = iconvd_convert(cd, &in, &left, &out, &room, NULL);
+        check(stops ? status == ICONVD_ENOCHAR && left == sizeof text - 262000 : status == ICONVD_OK && left == 0,
+              "%s to %s, %s: status %d, %zu bytes left", row[1], row[0], i % 2 ? "by substitutes" : "strict", (int)status, left);
+        iconvd_close(cd);
+    }
+}
+
+/* From GB18030 to UTF-7, with any room, and back by the C library. */
+static void test_utf7(iconvd_pool *pool, const struct text *text, size_t piece) {
+    static char utf7[ROOM], back[ROOM];
+    iconvd_cd *cd = NULL;
+    const char *in = text->bytes[0];
+    char *out = utf7;
+    size_t left = text->lengths[0], room = 0;
+    iconvd_status status = iconvd_open(pool, "UTF-7", "GB18030", ICONVD_STRICT, &cd);
+    while (left > 0 && (status == ICONVD_OK || status == ICONVD_E2BIG) && out + piece < utf7 + ROOM) {
+        room += piece;
+        status = iconvd_convert(cd, &in, &left, &out, &room, NULL);
+    }
+    room = 10;
+    if (status == ICONVD_OK)
+        status = iconvd_reset(cd, &out, &room);
+    iconvd_close(cd);
+    iconv_t reading = iconv_open("UTF-8", "UTF-7");
+    char *utf7_at = utf7, *back_at = back;
+    size_t utf7_left = (size_t)(out - utf7), back_left = ROOM;
+    iconv(reading, &utf7_at, &utf7_left, &back_at, &back_left);
+    iconv_close(reading);
+    check(status == ICONVD_OK && ROOM - back_left == text->lengths[1] && memcmp(back, text->bytes[1], ROOM - back_left) == 0,
+          "%s to UTF-7, %zu bytes of room: status %d, %zu bytes left", text->name, piece, (int)status, left);
+}
+
 /* A fault is where it is, and a character that is cut is cut. */
 static void test_faults(void) {
     static const struct {
@@ -124,8 +172,15 @@ int main(void) {
         test_text(&shorts, to, 1000, 1);
         test_text(&longs, to, ROOM, 2);
         test_text(&longs, to, 777, 2);
-        test_text(&planes, to, ROOM, 2);
+        /* The client reads their codes, and the service is not asked. */
+        test_text(&planes, to, ROOM, to ? 2 : 1);
     }
     test_faults();
+    iconvd_pool *pool = connect_pool();
+    test_long(pool);
+    test_utf7(pool, &planes, ROOM / 2);
+    test_utf7(pool, &planes, 997);
+    test_utf7(pool, &longs, 9973);
+    iconvd_disconnect(pool);
     return checks_end("large");
 }

@@ -1,10 +1,13 @@
 /* Hostile text costs its length: what a conversion sends is at most four times its input and 64 KiB, in at most eight requests for each
  * 64 KiB, whatever the text, the encodings, the policy and the room are. A relay counts it.
  *
+ *   meter texts    texts of every kind
+ *   meter names    each name that the library knows
+ *
  * METER_TIMES=1 also says how long each of the large texts takes. */
 #include <time.h>
 
-#include "../src/names.h"
+#include "../src/encodings.h"
 #include "texts.h"
 
 enum { LARGE = 1 << 20, OUT = 8 * LARGE };
@@ -43,8 +46,8 @@ static void meter(const struct call *call, iconvd_cd *cd, const char *text, size
 static void test(const struct call *call, const char *text, size_t length) {
     iconvd_cd *cd = NULL;
     iconvd_status status = iconvd_open(pool, call->to, call->from, call->policy, &cd);
-    /* Nothing is left out of UTF-7. GB18030 and EUC-TW together are too large for a service's caller. */
-    if (status == ICONVD_UNSUPPORTED || status == ICONVD_QUOTA)
+    /* Nothing is left out of UTF-7, and there is no way from it, or from shifts, to encodings that compose. */
+    if (status == ICONVD_UNSUPPORTED)
         return;
     check(status == ICONVD_OK, "%s to %s: %s", call->from, call->to, iconvd_status_text(status));
     if (status == ICONVD_OK)
@@ -75,19 +78,27 @@ static void test_large_text(const char *from, const char *to, enum text kind, in
 
 /* Large texts of the encodings that mail has most: random ones of all, and every kind of two. */
 static void test_large(void) {
-    static const char *const FROM[] = {"EUC-KR", "UTF-8", "EUC-JP", "BIG5", "GB18030", "SHIFT_JIS", "UTF-16", "KOI8-R"};
+    static const char *const FROM[] = {"EUC-KR", "UTF-8", "ISO-2022-JP-2", "EUC-JP", "BIG5", "GB18030", "SHIFT_JIS", "UTF-16", "KOI8-R"};
     for (size_t i = 0; i < sizeof FROM / sizeof *FROM * TEXTS; i++) {
         enum text kind = (enum text)(i % TEXTS);
-        if (i >= 2 * TEXTS && kind != RANDOM)
+        if (i >= 3 * TEXTS && kind != RANDOM)
             continue;
         test_large_text(FROM[i / TEXTS], "UTF-8", kind, ICONVD_IGNORE);
         test_large_text(FROM[i / TEXTS], "KOI8-R", kind, ICONVD_IGNORE | ICONVD_TRANSLIT);
     }
 }
 
+/* Characters that the client computes, each after one that the service converts. */
+static void test_planes(void) {
+    static const char *const PAIRS[][2] = {{"UTF-8", "GB18030"}, {"GB18030", "UTF-8"},  {"UTF-16LE", "GB18030"},
+                                           {"GB18030", "UTF-16"}, {"GB18030", "KOI8-R"}, {"GB18030", "GB18030"}};
+    for (size_t i = 0; i < sizeof PAIRS / sizeof *PAIRS * POLICY_COUNT; i++)
+        test_large_text(PAIRS[i / POLICY_COUNT][0], PAIRS[i / POLICY_COUNT][1], PLANES, POLICIES[i % POLICY_COUNT]);
+}
+
 /* Little room. */
 static void test_rooms(void) {
-    static const char *const FROM[] = {"EUC-KR", "UTF-8", "GB18030", "KOI8-R"};
+    static const char *const FROM[] = {"EUC-KR", "UTF-8", "ISO-2022-JP-2", "HZ", "GB18030", "KOI8-R"};
     static const size_t ROOMS[] = {0, 1, 10, 1000, 30000};
     static char text[SMALL];
     for (size_t i = 0; i < sizeof FROM / sizeof *FROM * TEXTS; i++) {
@@ -103,7 +114,7 @@ static void test_rooms(void) {
 
 /* An encoding: random bytes by all policies, German text that is labelled so, and damaged text. */
 static void test_encoding(const char *name) {
-    static const enum text KINDS[] = {RANDOM, GERMAN, DAMAGED};
+    static const enum text KINDS[] = {RANDOM, GERMAN, DAMAGED, SHIFTS};
     static char text[SMALL];
     for (size_t i = 0; i < sizeof KINDS / sizeof *KINDS * POLICY_COUNT; i++) {
         struct call call = {.to = "KOI8-R", .from = name, .policy = POLICIES[i % POLICY_COUNT], .kind = KINDS[i / POLICY_COUNT], .room = OUT};
@@ -114,6 +125,50 @@ static void test_encoding(const char *name) {
         call.to = "UTF-8";
         if (call.policy == ICONVD_IGNORE)
             test(&call, text, sizeof text);
+    }
+}
+
+/* Texts to an encoding with shifts, or that composes, from others and from one with shifts. */
+static void test_writing(const char *name) {
+    static const char *const FROM[] = {"UTF-8", "EUC-JP", "WCHAR_T", "ISO-2022-JP-2"};
+    static const enum text KINDS[] = {RANDOM, DAMAGED, SHIFTS, LACKING};
+    static const size_t ROOMS[] = {OUT, 1000};
+    static char text[SMALL];
+    enum { KIND_COUNT = sizeof KINDS / sizeof *KINDS };
+    for (size_t i = 0; i < sizeof FROM / sizeof *FROM * KIND_COUNT; i++) {
+        enum text kind = KINDS[i % KIND_COUNT];
+        make_text(kind, FROM[i / KIND_COUNT], text, sizeof text);
+        for (size_t j = 0; j < sizeof ROOMS / sizeof *ROOMS * POLICY_COUNT; j++) {
+            struct call call = {
+                .to = name, .from = FROM[i / KIND_COUNT], .policy = POLICIES[j % POLICY_COUNT], .kind = kind, .room = ROOMS[j / POLICY_COUNT]};
+            test(&call, text, sizeof text);
+        }
+    }
+}
+
+/* The same to all of them, and the longest texts from them. */
+static void test_shifted(void) {
+    const struct encoding *encoding;
+    for (size_t i = 0; (encoding = encoding_shifted(i)); i++) {
+        connect_anew("meter");
+        test_writing(encoding->name);
+        test_large_text("UTF-8", encoding->name, LACKING, ICONVD_IGNORE | ICONVD_TRANSLIT);
+        for (enum text kind = SHIFTS; kind <= KANA; kind++) {
+            test_large_text(encoding->name, "UTF-8", kind, ICONVD_IGNORE);
+            test_large_text(encoding->name, "KOI8-R", kind, ICONVD_IGNORE | ICONVD_TRANSLIT);
+        }
+    }
+}
+
+/* Texts to encodings that compose. */
+static void test_composing(void) {
+    static const char *const TO[] = {"CP1255", "CP1258", "TCVN", "BIG5-HKSCS"};
+    for (size_t i = 0; i < sizeof TO / sizeof *TO; i++) {
+        connect_anew("meter");
+        test_writing(TO[i]);
+        test_large_text("UTF-8", TO[i], LACKING, ICONVD_IGNORE | ICONVD_TRANSLIT);
+        test_large_text(TO[i], "KOI8-R", DAMAGED, ICONVD_IGNORE);
+        test_large_text(TO[i], TO[(i + 1) % 4], RANDOM, ICONVD_IGNORE);
     }
 }
 
@@ -137,17 +192,33 @@ static void test_number(int number) {
     }
 }
 
-int main(void) {
-    where = start_counting("meter");
-    connect_anew("meter");
+static void test_texts(void) {
     double begin = seconds();
     test_large();
+    test_planes();
     double large = seconds();
     test_rooms();
     double rooms = seconds();
-    for (int number = 0; number < BUILTIN_COUNT + (int)charmap_count(); number++)
+    test_shifted();
+    test_composing();
+    printf("meter: %.1f s large texts, %.1f s rooms, %.1f s shifts and compositions\n", large - begin, rooms - large, seconds() - rooms);
+}
+
+static void test_names(void) {
+    double begin = seconds();
+    int number = 0, charmaps_end = BUILTIN_COUNT + (int)charmap_count();
+    for (; number < charmaps_end || encoding_shifted((size_t)(number - charmaps_end)); number++)
         test_number(number);
-    printf("meter: %.1f s large texts, %.1f s rooms, %.1f s the %lu names\n", large - begin, rooms - large, seconds() - rooms, names);
+    printf("meter: %.1f s the %lu names\n", seconds() - begin, names);
+}
+
+int main(int count, char **words) {
+    where = start_counting("meter");
+    connect_anew("meter");
+    if (count > 1 && strcmp(words[1], "names") == 0)
+        test_names();
+    else
+        test_texts();
     iconvd_disconnect(pool);
     unlink(where + 5);
     printf("meter: %llu requests, %llu bytes of text\n", (unsigned long long)texts_sent, (unsigned long long)text_bytes_sent);

@@ -1,5 +1,5 @@
 /* What goes wrong is named: in the log the program that is not there, the address that nobody serves and the charmap that is missing; by
- * a status a policy that is none. */
+ * a status a policy that is none. And names are known, or none. */
 #include <sys/stat.h>
 
 #include "server.h"
@@ -102,8 +102,65 @@ static void test_missing(const struct missing *missing) {
     for (int side = 0; side < 2; side++) {
         iconvd_status status = iconvd_open(pool, side ? "UTF-8" : missing->from, side ? missing->from : "UTF-8", ICONVD_STRICT, &cd);
         check(status == ICONVD_UNSUPPORTED, "%s: status %d", missing->from, status);
+        check(!iconvd_supports(pool, missing->from), "%s is supported", missing->from);
     }
     check(line_count == (*missing->named ? 2 : 0) && strstr(lines, missing->named) == lines, "%s: %s", missing->from, lines);
+    iconvd_disconnect(pool);
+}
+
+/* Names, and whether they are known where the system's charmaps are. */
+struct name {
+    const char *name;
+    int is_known;
+};
+
+static const struct name NAMES[] = {
+    {"UTF-8", 1},        {"utf8", 1},          {"u8", 1},          {"cp65001", 1},       {"utf_16_be", 1},       {"UTF-8//IGNORE", 1},
+    {"", 1},             {"1252", 1},          {"x-cp1252", 1},    {"mac_roman", 1},     {"x-mac-roman", 1},     {"ks_c_5601-1987", 1},
+    {"KS_C_5601_1987", 1}, {"koi8_r", 1},      {"iso-ir-9-1", 1},  {"csISOLatin9", 1},   {"unicodefffe", 1},     {"L9", 1},
+    {"iso2022_jp", 1},   {"HZ", 1},            {"hz-gb-2312", 1},  {"csJISEncoding", 1},  {"iso_2022_kr", 1},    {"windows-50221", 1},
+    {"iso-ir-91", 0},    {"NOPE", 0},          {"-", 0},           {"8", 0},             {"utf", 1},             {"UTF-8-SIG", 0},
+    {"x-user-defined", 1}, {"replacement", 1}, {"rot13", 0},       {"cp720", 1},         {"../../etc/passwd", 0}, {"UCS-2BE", 0},
+};
+
+static void test_name(iconvd_pool *pool, const struct name *name) {
+    iconvd_cd *cd = NULL;
+    check(iconvd_supports(pool, name->name) == name->is_known, "%s is supported: %d", name->name, !name->is_known);
+    iconvd_status status = iconvd_open(pool, "UTF-8", name->name, ICONVD_STRICT, &cd);
+    check(status == (name->is_known ? ICONVD_OK : ICONVD_UNSUPPORTED), "%s: status %d", name->name, status);
+    iconvd_close(status == ICONVD_OK ? cd : NULL);
+}
+
+/* Each name that is listed, in lower case and with each `-` as `_`. */
+static void test_spelling(iconvd_pool *pool, const char *name) {
+    char spelling[130];
+    size_t length = 0;
+    for (; *name && length < sizeof spelling - 1; name++)
+        spelling[length++] = (char)(*name == '-' ? '_' : *name >= 'A' && *name <= 'Z' ? *name + 'a' - 'A' : *name);
+    spelling[length] = 0;
+    check(iconvd_supports(pool, spelling) == 1, "%s is not supported", spelling);
+}
+
+/* A charmap of the program's own. Nothing is sent or logged for a name. */
+static void test_names(void) {
+    static const char TEXT[] = "<code_set_name> OWN\nCHARMAP\n<A> \\x41\n<question-mark> \\x3f\nEND CHARMAP\n";
+    char long_name[300];
+    iconvd_badmap bad;
+    iconvd_counters before, after;
+    iconvd_pool *pool = NULL;
+    forget_lines();
+    check(iconvd_connect(wanted("ICONVD"), &LOGGED, &pool) == ICONVD_OK, "the service");
+    iconvd_count(pool, &before);
+    memset(long_name, 'x', sizeof long_name - 1);
+    long_name[sizeof long_name - 1] = 0;
+    check(!iconvd_supports(pool, long_name) && !iconvd_supports(pool, "OWN"), "a long name, and one that is not there yet");
+    for (size_t number = 0; iconvd_name(number); number++)
+        test_spelling(pool, iconvd_name(number));
+    iconvd_count(pool, &after);
+    check(before.round_trips == after.round_trips && before.uploads == after.uploads && line_count == 0, "something was sent: %s", lines);
+    check(iconvd_put_charmap(pool, "OWN", TEXT, sizeof TEXT - 1, &bad) == ICONVD_OK && iconvd_supports(pool, "own"), "a charmap of its own");
+    for (size_t i = 0; i < sizeof NAMES / sizeof *NAMES; i++)
+        test_name(pool, &NAMES[i]);
     iconvd_disconnect(pool);
 }
 
@@ -156,6 +213,7 @@ int main(void) {
     test_path();
     for (size_t i = 0; i < sizeof MISSING / sizeof *MISSING; i++)
         test_missing(&MISSING[i]);
+    test_names();
     for (size_t i = 0; i < sizeof POLICIES / sizeof *POLICIES; i++)
         test_policy(&POLICIES[i]);
     test_lost();

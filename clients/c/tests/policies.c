@@ -203,7 +203,7 @@ static void test_charmaps(void) {
     check(outcome.stop.skipped == 2, "%zu characters left out", outcome.stop.skipped);
     iconvd_close(cd);
     check(iconvd_open(pool, "NOPE", "UTF-8", 0, &cd) == ICONVD_UNSUPPORTED, "a name that nobody has");
-    check(iconvd_open(pool, "UTF-8", "UCS-2", 0, &cd) == ICONVD_UNSUPPORTED, "a name that is left to the C library");
+    check(iconvd_open(pool, "UTF-8", "UNICODEBIG", 0, &cd) == ICONVD_UNSUPPORTED, "a name that is left to the C library");
 }
 
 /* A long text by pieces that are under way together is the same as by single calls. */

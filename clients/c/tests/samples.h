@@ -23,6 +23,8 @@ static const struct sample SAMPLES[] = {
     {"CP1251", "UTF-8", "\u041f\u0440\u0438"},
     {"EUC-KR", "UTF-8", "\ud55c\uad6d\uc5b4"},
     {"UTF-8", "UTF-7", "A+AOk-B"},
+    {"ISO-2022-JP", "UTF-8", "\u65e5\u672c\u8a9e a"},
+    {"UTF-8", "ISO-2022-KR", "\x1b$)C\x0eGQ19\x0f."},
 };
 enum { SAMPLE_COUNT = sizeof SAMPLES / sizeof *SAMPLES };
 

@@ -96,31 +96,65 @@ static void stop_relay(pid_t relay) {
     waitpid(relay, NULL, 0);
 }
 
-/* The first half of a text, then something happens, then the second half. */
-struct halves {
+/* A text in two halves, and what they are converted to. Where the C library goes on after the first one, it goes on from the first set. */
+static const struct halves_row {
+    const char *to, *from, *first, *second;
+    const char *right, *right_by_fallback;
+    size_t length, length_by_fallback;
+} HALVES[] = {
+#define MARKED "\xff\xfe\x1f\x04\x40\x04\x38\x04\x32\x04\x35\x04\x42\x04"
+    {"UTF-16", "UTF-8", "\u041f\u0440\u0438", "\u0432\u0435\u0442", MARKED, MARKED, 14, 14},
+    {"UTF-8", "ISO-2022-JP", "\x1b$BF|", "K\\\x1b(Ba", "\u65e5\u672c" "a", "\u65e5\u672c" "a", 7, 7},
+    {"UTF-7", "ISO-2022-JP", "\x1b$BF|", "K\\\x1b(Ba", "+ZeVnLA-a", "+ZeU-+Zyw-a", 9, 11},
+    {"UTF-7", "GB18030", "\x90\x30\x81\x30", "\x90\x30\x81\x30" "a", "+2ADcANgA3AA-a", "+2ADcAA-+2ADcAA-a", 14, 17},
+    {"ISO-2022-JP", "UTF-8", "\u65e5", "\u672c" "a", "\x1b$BF|K\\\x1b(Ba", "\x1b$BF|\x1b(B\x1b$BK\\\x1b(Ba", 11, 17},
+};
+enum { HALVES_COUNT = sizeof HALVES / sizeof *HALVES };
+
+/* The first half of each, then something happens, then the second half. */
+struct half {
     iconv_t cd;
-    char text[20], out[60];
-    char *in, *at;
-    size_t left, room;
+    char out[60];
+    char *at;
+    size_t room;
+};
+struct halves {
+    struct half halves[HALVES_COUNT];
 };
 
-static void begin_halves(struct halves *halves) {
-    *halves = (struct halves){.text = "\u041f\u0440\u0438\u0432\u0435\u0442", .left = 6, .room = 60};
-    halves->in = halves->text;
-    halves->at = halves->out;
-    halves->cd = ours.open("UTF-16", "UTF-8");
-    check(ours.convert(halves->cd, &halves->in, &halves->left, &halves->at, &halves->room) == 0, "the first half");
+static bool convert_half(struct half *half, const char *text) {
+    char *in = (char *)(uintptr_t)text;
+    size_t left = strlen(text);
+    return ours.convert(half->cd, &in, &left, &half->at, &half->room) == 0;
 }
 
+static void begin_halves(struct halves *halves) {
+    for (size_t i = 0; i < HALVES_COUNT; i++) {
+        struct half *half = &halves->halves[i];
+        *half = (struct half){.room = sizeof half->out, .cd = ours.open(HALVES[i].to, HALVES[i].from)};
+        half->at = half->out;
+        check(convert_half(half, HALVES[i].first), "the first half, to %s", HALVES[i].to);
+    }
+}
+
+/* True: the second halves are converted. */
 static bool end_halves(struct halves *halves) {
-    halves->left = 6;
-    bool well = ours.convert(halves->cd, &halves->in, &halves->left, &halves->at, &halves->room) == 0;
-    int saved = errno;
-    static const char RIGHT[] = "\xff\xfe\x1f\x04\x40\x04\x38\x04\x32\x04\x35\x04\x42\x04";
-    check(!well || (halves->at - halves->out == 14 && memcmp(halves->out, RIGHT, 14) == 0), "both halves, with one mark");
-    ours.close(halves->cd);
+    bool all = true;
+    int saved = 0;
+    for (size_t i = 0; i < HALVES_COUNT; i++) {
+        const struct halves_row *row = &HALVES[i];
+        struct half *half = &halves->halves[i];
+        bool well = convert_half(half, row->second);
+        saved = well ? saved : errno;
+        size_t length = (size_t)(half->at - half->out);
+        bool right = length == row->length && memcmp(half->out, row->right, length) == 0;
+        right |= length == row->length_by_fallback && memcmp(half->out, row->right_by_fallback, length) == 0;
+        check(!well || right, "both halves, to %s: %.*s", row->to, (int)length, half->out);
+        all &= well;
+        ours.close(half->cd);
+    }
     errno = saved;
-    return well;
+    return all;
 }
 
 static bool falls_back(void) {
@@ -218,6 +252,17 @@ static void test_forking(void) {
     stop_relay(relay);
 }
 
+/* What the standard of WHATWG reads otherwise than the C library is left to that: UCS-2 has no surrogates there. */
+static void test_whatwg_name(void) {
+    char text[] = "\x3d\xd8\x00\xde", room[8], *in = text, *out = room;
+    size_t in_left = 4, out_left = sizeof room;
+    iconv_t cd = ours.open("UTF-8", "UCS-2");
+    check(cd != (iconv_t)-1, "UCS-2 is not opened");
+    size_t result = ours.convert(cd, &in, &in_left, &out, &out_left);
+    check(falls_back() ? result == (size_t)-1 : result == 0 && out_left == sizeof room - 4, "a surrogate of UCS-2: %zu", result);
+    ours.close(cd);
+}
+
 static void test_names(void) {
     errno = 0;
     check(ours.open("NOPE", "UTF-8") == (iconv_t)-1 && errno == EINVAL, "a name that nobody has");
@@ -225,23 +270,29 @@ static void test_names(void) {
     check(cd != (iconv_t)-1 && ours.close(cd) == 0, "the locale's encoding");
     errno = 0;
     check(ours.close((iconv_t)-1) == -1 && errno == EBADF, "no iconv_t");
-    cd = ours.open("UTF-8", "ISO-2022-JP");
+    cd = ours.open("UTF-8", "ISO-2022-JP-3");
     check(falls_back() == (cd != (iconv_t)-1), "a name that the C library alone has");
     if (cd != (iconv_t)-1)
         ours.close(cd);
-    /* Two charmaps that no caller number has room for together. */
-    errno = 0;
     cd = ours.open("EUC-TW", "GB18030");
-    check(falls_back() ? cd != (iconv_t)-1 : errno == EMFILE, "EUC-TW from GB18030: %s", strerror(errno));
-    if (cd != (iconv_t)-1)
-        ours.close(cd);
+    check(cd != (iconv_t)-1 && ours.close(cd) == 0, "the two largest charmaps");
     cd = ours.open("L1", "L1");
     check(cd != (iconv_t)-1 && ours.close(cd) == 0, "what iconv -l opens");
+    test_whatwg_name();
+}
+
+/* Two charmaps that no caller number has room for together. Their folder is in ICONVD_CHARMAPS. */
+static void test_quota(void) {
+    errno = 0;
+    iconv_t cd = ours.open("KOI8-U", "KOI8-R");
+    check(falls_back() ? cd != (iconv_t)-1 : errno == EMFILE, "two charmaps of 140,000 mappings: %s", strerror(errno));
+    if (cd != (iconv_t)-1)
+        ours.close(cd);
 }
 
 static const struct test TESTS[] = {
     {"many", test_many}, {"million", test_million}, {"restart", test_restart}, {"stopped", test_stopped}, {"names", test_names},
-    {"forking", test_forking}, {"back", test_back},
+    {"forking", test_forking}, {"back", test_back}, {"quota", test_quota},
 };
 
 int main(int count, char **words) {

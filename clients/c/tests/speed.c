@@ -79,32 +79,55 @@ static void open_again(const char *to, const char *from) {
     printf("%-10s %-10s open and close again: %.2f us\n", from, to, best);
 }
 
-/* What no call can be faster than: as many bytes as a call of 64 sends and receives, to a process that sends them back at once. */
-static void send_and_receive(void) {
-    enum { SENT = 85, CALLS = 1000 };
+/* The peer of exchange(): for each `asked` bytes it sends `answered` ones back. */
+static void answer(int stream, size_t asked, size_t answered) {
+    for (size_t due = 0;;) {
+        ssize_t got = read(stream, text, sizeof text);
+        if (got <= 0)
+            _exit(0);
+        for (due += (size_t)got; due >= asked; due -= asked)
+            for (size_t sent = 0; sent < answered;) {
+                ssize_t wrote = write(stream, out + sent, answered - sent);
+                if (wrote <= 0)
+                    _exit(0);
+                sent += (size_t)wrote;
+            }
+    }
+}
+
+static void exchange_once(int stream, int parts, size_t asked, size_t answered) {
+    for (int i = 0; i < parts; i++)
+        if (write(stream, text, asked) != (ssize_t)asked)
+            return;
+    for (size_t due = (size_t)parts * answered; due > 0;) {
+        ssize_t got = read(stream, out, due);
+        if (got <= 0)
+            return;
+        due -= (size_t)got;
+    }
+}
+
+/* What no call can be faster than: as many bytes as a call sends and receives, to a process that converts nothing. A text of 64 KiB goes in
+ * two parts. */
+static void exchange(int parts, size_t asked, size_t answered, int calls) {
     int pair[2];
-    char bytes[SENT] = {0};
     double best = 1e12;
     if (socketpair(AF_UNIX, SOCK_STREAM, 0, pair) != 0)
         return;
     if (fork() == 0) {
         close(pair[0]);
-        for (ssize_t got; (got = read(pair[1], bytes, SENT)) > 0;)
-            if (write(pair[1], bytes, (size_t)got) != got)
-                break;
-        _exit(0);
+        answer(pair[1], asked, answered);
     }
     close(pair[1]);
     for (int round = 0; round < 25; round++) {
         double start = now();
-        for (int i = 0; i < CALLS; i++)
-            if (write(pair[0], bytes, SENT) != SENT || read(pair[0], bytes, SENT) != SENT)
-                break;
-        double time = (now() - start) / CALLS;
+        for (int i = 0; i < calls; i++)
+            exchange_once(pair[0], parts, asked, answered);
+        double time = (now() - start) / calls;
         best = time < best ? time : best;
     }
     close(pair[0]);
-    printf("a socketpair to another process, %d bytes there and back: %.2f us\n", SENT, best);
+    printf("a socketpair to another process, %zu bytes there and %zu back: %.2f us\n", (size_t)parts * asked, (size_t)parts * answered, best);
 }
 
 int main(void) {
@@ -127,6 +150,7 @@ int main(void) {
         run(&TASKS[i]);
     open_again("UTF-16LE", "UTF-8");
     open_again("UTF-8", "KOI8-R");
-    send_and_receive();
+    exchange(1, 85, 85, 1000);
+    exchange(2, 32768, 64512, 50);
     return 0;
 }

@@ -10,7 +10,7 @@ The environment variable ICONVD names the server: `exec:COMMAND`, `unix:PATH` or
 """
 
 from .aio import AsyncClient
-from .client import Client, convert, default, use
+from .client import Client, convert, default, supports, use
 from .codecs import register
 from .errors import (
     CharmapRefused,
@@ -37,6 +37,7 @@ __all__ = [
     "convert",
     "default",
     "register",
+    "supports",
     "use",
 ]
 __version__ = "0.1.0"

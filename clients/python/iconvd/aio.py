@@ -9,14 +9,16 @@ from collections import deque
 from types import TracebackType
 from typing import Awaitable, Callable, Deque, List, NamedTuple, Optional, Sequence, Type, TypeVar, Union, overload
 
-from . import steps, text, transport
+from . import marks, steps, transport
 from .charmaps import Charmap
 from .conversion import WholeConversion
 from .errors import ServerLost, TimedOut
 from .frames import Reply, ReplyReader, Request, Status
 from .library import Library
+from .names import is_direct
 from .order import ends
 from .session import UTF_8, Pair, Session, Steps
+from .set_text import codec_of, decoder_of
 from .tries import Tries, again, concerns_all
 
 T = TypeVar("T")
@@ -192,21 +194,21 @@ class AsyncClient:
         """Converts bytes of `source` to bytes of `to`. See Client.convert."""
         asked = ends(by_place, to, source, errors)
         conversion = WholeConversion(self.library, asked, data)
-        return self._run(conversion.pair, conversion.run)
+        return self._run(conversion.first_pair, conversion.run)
 
     async def decode(self, data: bytes, source: str, errors: str = "strict") -> str:
         """Decodes bytes as `bytes.decode` does."""
-        origin, begin = text.without_mark(self.library.find(source), data)
-        codec = text.TextCodec(source, origin, self.library)
-        pair = Pair(UTF_8, origin)
+        origin, begin = marks.without_mark(self.library.find(source), data)
+        codec = decoder_of(source, origin, self.library)
+        pair = Pair(UTF_8, origin) if is_direct(origin) else None
         return (await self._run(pair, lambda session: codec.decode(session, data, errors, True, begin))).text
 
     async def encode(self, characters: str, target: str, errors: str = "strict") -> bytes:
         """Encodes a text as `str.encode` does."""
-        ordered, mark = text.mark_of(self.library.find(target))
-        codec = text.TextCodec(target, ordered, self.library)
-        pair = Pair(ordered, UTF_8)
-        return mark + await self._run(pair, lambda session: codec.encode(session, characters, errors))
+        ordered, mark = marks.mark_of(self.library.find(target))
+        codec = codec_of(target, ordered, self.library)
+        pair = Pair(ordered, UTF_8) if is_direct(ordered) else None
+        return mark + await self._run(pair, lambda session: codec.encode(session, characters, errors)) + codec.finish()
 
     async def upload(self, charmap: Union[bytes, str]) -> Charmap:
         """Adds a charmap of the caller's own. See Client.upload."""
@@ -220,7 +222,7 @@ class AsyncClient:
             raise
         return self.library.get(encoding.name)
 
-    async def _run(self, pair: Pair, make: Callable[[Session], Steps[T]]) -> T:
+    async def _run(self, pair: Optional[Pair], make: Callable[[Session], Steps[T]]) -> T:
         tries = Tries(self._timeout, self._connection is not None and self._connection.fault is None)
         while True:
             try:
@@ -231,12 +233,12 @@ class AsyncClient:
                     raise
             await asyncio.sleep(pause)
 
-    async def _run_once(self, pair: Pair, make: Callable[[Session], Steps[T]]) -> T:
+    async def _run_once(self, pair: Optional[Pair], make: Callable[[Session], Steps[T]]) -> T:
         connection = await self._connected()
         try:
             async with connection.opening:
-                descriptor = await self._drive(connection, connection.session.descriptor(pair))
-                if descriptor.has_state:
+                descriptor = await self._drive(connection, connection.session.descriptor(pair)) if pair else None
+                if descriptor is not None and descriptor.has_state:
                     return await self._drive(connection, make(connection.session))
             return await self._drive(connection, make(connection.session))
         except ServerLost:

@@ -16,7 +16,9 @@ from itertools import repeat
 from operator import sub
 from typing import Dict, List, NamedTuple, Optional, Tuple
 
+from . import hangul, mappings
 from .errors import CharmapRefused
+from .repairs import Mapping, Repairs
 
 #: The folder of the system's charmaps. The environment variable ICONVD_CHARMAPS names another.
 FOLDER = "/usr/share/i18n/charmaps"
@@ -67,6 +69,12 @@ def listed() -> List[str]:
     return sorted(name[: -len(".gz")] if name.endswith(".gz") else name for name in files)
 
 
+def is_there(name: str) -> bool:
+    """Whether the folder has a charmap file of that name."""
+    path = os.path.join(folder(), name)
+    return os.path.exists(path + ".gz") or os.path.exists(path)
+
+
 def _why_missing(path: str) -> str:
     """Returns what is missing: the folder of charmaps, or the file in it."""
     there = os.path.isdir(folder())
@@ -100,6 +108,12 @@ def _body(text: bytes) -> Tuple[bytes, bytes]:
     if not text.startswith(_END, end):
         end = text.find(b"\n" + _END, end) + 1 or len(text)
     return text[: begin.start()], text[begin.end() : end]
+
+
+def _escape(header: bytes) -> bytes:
+    """Returns the escape character that a charmap's header declares."""
+    declared: Dict[bytes, bytes] = dict(_DECLARATION.findall(header))
+    return declared.get(b"escape_char", b"\\")[:1]
 
 
 def _span(name: bytes) -> int:
@@ -140,11 +154,11 @@ def _declared_charmap(name: bytes, body: bytes, declared: Dict[bytes, bytes], ma
     return Charmap(name, text, mappings, int(lengths[0]), int(lengths[1]), declared[b"escape_char"])
 
 
-def _measured(name: bytes, text: bytes, mappings: List[Tuple[bytes, bytes, bytes]], escape: bytes) -> Charmap:
-    lengths = {encoding.count(escape) for _, _, encoding in mappings} - {0}
+def _measured(name: bytes, text: bytes, lines: List[Tuple[bytes, bytes, bytes]], escape: bytes) -> Charmap:
+    lengths = {encoding.count(escape) for _, _, encoding in lines} - {0}
     if not lengths:
         raise CharmapRefused(name.decode("ascii", "replace"), "no line is a mapping")
-    count = sum(_span(mapped) if b".." in mapped else 1 for _, mapped, _ in mappings)
+    count = sum(_span(mapped) if b".." in mapped else 1 for _, mapped, _ in lines)
     return Charmap(name, text, count, min(lengths), max(lengths), escape)
 
 
@@ -155,9 +169,9 @@ def mend(file: str, text: bytes) -> Charmap:
     name = b"map-" + file.encode("ascii", "replace")
     if len(declared) == 5 and _is_clean(body, declared[b"comment_char"]):
         return _declared_charmap(name, body, declared, body.count(b"\n<") + 1 + _spans(body))
-    escape = declared.get(b"escape_char", b"\\")[:1]
-    mappings = _MAPPING.findall(body)
-    found = _measured(name, b"", mappings, escape)
+    escape = _escape(header)
+    lines = _MAPPING.findall(body)
+    found = _measured(name, b"", lines, escape)
     head = [
         b"<code_set_name> " + name,
         b"<escape_char> " + escape,
@@ -165,9 +179,83 @@ def mend(file: str, text: bytes) -> Charmap:
         b"<mb_cur_max> %d" % found.longest,
         b"CHARMAP",
     ]
-    both_ways = [mapped + b" " + encoding for one_way, mapped, encoding in mappings if not one_way]
-    read_only = [mapped + b" " + encoding for one_way, mapped, encoding in mappings if one_way]
+    both_ways = [mapped + b" " + encoding for one_way, mapped, encoding in lines if not one_way]
+    read_only = [mapped + b" " + encoding for one_way, mapped, encoding in lines if one_way]
     return found._replace(text=b"\n".join(head + both_ways + read_only + [b"END CHARMAP", b""]))
+
+
+def _spelled(code: bytes, escape: bytes) -> bytes:
+    """Returns the constants of bytes."""
+    return b"".join(escape + b"x%02x" % byte for byte in code)
+
+
+def _kept(lines: List[Tuple[bytes, bytes]], escape: bytes, repairs: Repairs) -> List[bytes]:
+    """Returns the mappings of a file that its repairs leave."""
+    dropped = {_spelled(code, escape) for code in repairs.dropped}
+    if repairs.is_computed:
+        lines = [line for line in lines if len(line[0]) < len(b"<U00010000>")]
+    kept = [b" ".join(line) for line in lines if b">.." not in line[0] and line[1].lower() not in dropped]
+    ranged = b"".join(b"%s %s\n" % line for line in lines if b">.." in line[0])
+    for first, count, code, length in mappings.ranges(ranged, escape):
+        codes = [(code + step).to_bytes(length, "big") for step in range(count)]
+        kept.extend(b"<U%04X> %s" % (first + step, _spelled(each, escape)) for step, each in enumerate(codes) if each not in repairs.dropped)
+    return kept
+
+
+def _repaired_text(name: bytes, escape: bytes, lines: List[bytes]) -> Charmap:
+    lengths = {line.count(escape) for line in lines}
+    head = [b"<code_set_name> " + name, b"<escape_char> " + escape, b"<comment_char> %", b"<mb_cur_min> %d" % min(lengths)]
+    body = b"\n".join(lines)
+    text = b"\n".join([*head, b"<mb_cur_max> %d" % max(lengths), b"CHARMAP", body, b"END CHARMAP", b""])
+    return Charmap(name, text, len(lines) + _spans(body), min(lengths), max(lengths), escape)
+
+
+class Repaired(NamedTuple):
+    """The charmaps of an encoding: for reading, and for writing if that is another."""
+
+    read: Charmap
+    written: Charmap
+
+
+def _codes(text: bytes) -> Dict[bytes, int]:
+    """Returns the codes of a charmap's text, with their characters."""
+    header, body = _body(text)
+    found = mappings.ranges(body, _escape(header))
+    return {(code + step).to_bytes(length, "big"): first + step for first, count, code, length in found for step in range(count)}
+
+
+def _added(text: bytes, repairs: Repairs) -> List[Mapping]:
+    """Returns the mappings of other charmaps that the repairs add to a charmap's text."""
+    if not repairs.more:
+        return []
+    taken = {*_codes(text), *repairs.dropped}
+    return [
+        Mapping(point, code)
+        for more in repairs.more
+        for code, point in _codes(read_file(more.file)).items()
+        if code.startswith(more.beginning) and code not in taken
+    ]
+
+
+def repaired(encoding: str, text: bytes, repairs: Repairs) -> Repaired:
+    """Returns the charmaps of a file with its repairs. Of two codes of a character the first is written."""
+    header, body = _body(text)
+    escape = _escape(header)
+    found = _MAPPING.findall(body)
+    usual = _kept([(mapped, code) for one_way, mapped, code in found if not one_way], escape, repairs)
+    read_only = _kept([(mapped, code) for one_way, mapped, code in found if one_way], escape, repairs)
+    both, more, read, written = (
+        [b"<U%04X> %s" % (point, _spelled(code, escape)) for point, code in some]
+        for some in (repairs.both, _added(text, repairs), repairs.read, repairs.written)
+    )
+    usual += more
+    if repairs.has_syllables:
+        usual += [b"<U%04X>..<U%04X> %s" % (first, last, _spelled(code, escape)) for first, last, code in hangul.runs()]
+    name = b"map-" + encoding.replace("/", "-").encode("ascii", "replace")
+    reading = _repaired_text(name, escape, both + usual + read_only + read)
+    if not repairs.has_two_texts:
+        return Repaired(reading, reading)
+    return Repaired(reading, _repaired_text(name + b"-written", escape, both + usual + read_only + written))
 
 
 class Beginning(NamedTuple):
@@ -198,6 +286,5 @@ def beginning(file: str, text: bytes) -> Optional[Beginning]:
 def own(text: bytes) -> Charmap:
     """Returns a charmap of the caller's own, whose text is left as it is. Raises CharmapRefused if no line is a mapping."""
     header, body = _body(text)
-    declared = dict(_DECLARATION.findall(header))
-    name = declared.get(b"code_set_name", b"").strip(b'"')
-    return _measured(name, text, _MAPPING.findall(body), declared.get(b"escape_char", b"\\")[:1])
+    name = dict(_DECLARATION.findall(header)).get(b"code_set_name", b"").strip(b'"')
+    return _measured(name, text, _MAPPING.findall(body), _escape(header))

@@ -146,13 +146,17 @@ class Client:
 
         self.run(make)
 
+    def supports(self, name: str) -> bool:
+        """Whether this client converts an encoding of that name, also one of the caller's own. Nothing is sent."""
+        return self.library.supports(name)
+
     def decode(self, data: bytes, source: str, errors: str = "strict") -> str:
         """Decodes bytes as `bytes.decode` does, also marks of UTF-16 and UTF-32."""
         return self.decoder(source, source).decode(data, errors, True)[0]
 
     def encode(self, characters: str, target: str, errors: str = "strict") -> bytes:
         """Encodes a text as `str.encode` does."""
-        return self.encoder(target, target).encode(characters, errors)
+        return self.encoder(target, target).encode(characters, errors, True)
 
     @overload
     def convert(self, data: bytes, *, to: str, source: str, errors: str = "strict") -> bytes: ...
@@ -180,6 +184,9 @@ class Client:
             if decoded:
                 yield encoder.encode(decoded, errors)
             if not piece:
+                ending = encoder.finish()
+                if ending:
+                    yield ending
                 return
 
     def decoder(self, name: str, source: str) -> Decoder:
@@ -222,11 +229,20 @@ def use(client: Client) -> None:
         _default[:] = [client]
 
 
+def _library() -> Library:
+    """Returns the library of the default client, which is not made for that."""
+    with _default_lock:
+        return _default[0].library if _default else Library()
+
+
 def find(name: str) -> Encoding:
     """Returns the encoding of that name, also one that was added to the default client. Raises UnknownEncoding."""
-    with _default_lock:
-        library = _default[0].library if _default else Library()
-    return library.find(name)
+    return _library().find(name)
+
+
+def supports(name: str) -> bool:
+    """Whether the default client converts an encoding of that name. See Client.supports."""
+    return _library().supports(name)
 
 
 @overload

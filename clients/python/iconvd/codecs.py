@@ -3,29 +3,58 @@
 from __future__ import annotations
 
 import codecs
-from typing import Any, List, Optional, Tuple
+from typing import Any, Callable, List, Optional, Tuple
 
+from . import set_codecs, waiting
 from .client import Client, default, find
 from .errors import UnknownEncoding
-from .names import Encoding
+from .joined import MAX_HELD
+from .names import Encoding, is_shifted
 from .pieces import Decoder, Encoder
+from .streams import FAULTS, PieceReader, Pieces
 
 _PREFIX = "iconvd"
-_ORDERS = ("", "LE", "BE")
 
 
 def _client(client: Optional[Client]) -> Client:
     return client if client is not None else default()
 
 
+class _DecoderPieces:
+    """The pieces of a file. After a fault what was held is dropped, as in CPython."""
+
+    def __init__(self, make: Callable[[], Decoder]) -> None:
+        self._make = make
+        self._decoder = make()
+        self.held = b""
+
+    def decode(self, piece: bytes, errors: str, is_end: bool) -> str:
+        """Returns the text of the next piece."""
+        whole = self.held + piece
+        try:
+            decoded, used = self._decoder.decode(whole, errors, is_end)
+        except FAULTS:
+            self.held = b""
+            raise
+        self.held = whole[used:]
+        return decoded
+
+    def reset(self) -> None:
+        """Drops what is held, and goes back to the start."""
+        self._decoder = self._make()
+        self.held = b""
+
+
 def info(name: str, encoding: Encoding, client: Optional[Client] = None) -> codecs.CodecInfo:
     """Returns the codec of an encoding, which exceptions call `name`."""
+    if is_shifted(encoding):
+        return set_codecs.info(name, encoding, lambda: _client(client))
 
     def encode(input: str, errors: str = "strict") -> Tuple[bytes, int]:
-        return Encoder(_client(client), name, encoding).encode(input, errors or "strict"), len(input)
+        return Encoder(_client(client), name, encoding).encode(input, errors or "strict", True), len(input)
 
     def decode(input: bytes, errors: str = "strict") -> Tuple[str, int]:
-        raw = bytes(input)
+        raw = bytes(memoryview(input))
         return Decoder(_client(client), name, encoding).decode(raw, errors or "strict", True)[0], len(raw)
 
     class IncrementalEncoder(codecs.IncrementalEncoder):
@@ -36,43 +65,59 @@ def info(name: str, encoding: Encoding, client: Optional[Client] = None) -> code
             self.reset()
 
         def encode(self, input: str, final: bool = False) -> bytes:
-            return self._encoder.encode_piece(input, self.errors)
+            encoded = self._encoder.encode_piece(input, self.errors)
+            return encoded + self._encoder.finish() if final else encoded
 
         def reset(self) -> None:
             self._encoder = Encoder(_client(client), name, encoding)
 
-        # As in CPython's utf_16: 2 before the mark of UTF-16 or UTF-32 is written, 0 after it.
         def getstate(self) -> int:
-            return 0 if self._encoder.is_started else 2
+            return self._encoder.number
 
         def setstate(self, state: int) -> None:  # type: ignore[override]
             self.reset()
-            self._encoder.is_started = not state
+            self._encoder.number = state
+
+        def finish(self) -> bytes:
+            """Returns what ends the text, and begins another one."""
+            ending = self._encoder.finish()
+            self.reset()
+            return ending
 
     class IncrementalDecoder(codecs.BufferedIncrementalDecoder):
         """Decodes bytes in pieces."""
 
         def __init__(self, errors: str = "strict") -> None:
             super().__init__(errors)
-            self._decoder = Decoder(_client(client), name, encoding, needs_mark=True)
+            self.reset()
+
+        def decode(self, input: Any, final: bool = False) -> str:
+            try:
+                return super().decode(input, final)
+            except FAULTS as error:
+                if self._decoder.drops_held(error):
+                    self.buffer = b""
+                raise
 
         def _buffer_decode(self, input: Any, errors: str, final: bool) -> Tuple[str, int]:
             return self._decoder.decode(bytes(input), errors, final)
 
         def reset(self) -> None:
             super().reset()
-            self._decoder = Decoder(_client(client), name, encoding, needs_mark=True)
+            self._decoder = Decoder(_client(client), name, encoding, is_stream=True)
 
-        # The number says which byte order the text has: 0 if it is not known yet.
+        # The number says what the mark of the text said: 0 if that is not known yet.
         def getstate(self) -> Tuple[bytes, int]:
-            found = self._decoder.encoding
-            return super().getstate()[0], _ORDERS.index(found.name[-2:]) if found and found.name[-2:] in _ORDERS else 0
+            return super().getstate()[0], self._decoder.state()
 
         def setstate(self, state: Tuple[bytes, int]) -> None:
-            super().setstate((state[0], 0))
-            order = _ORDERS[state[1]] if 0 <= state[1] < len(_ORDERS) else ""
-            has_mark = not encoding.is_charmap and encoding.name in ("UTF-16", "UTF-32")
-            self._decoder.set_encoding(Encoding(False, encoding.name + order) if order and has_mark else None)
+            held, number = state
+            if not isinstance(held, bytes) or not isinstance(number, int):
+                raise TypeError("the state of a decoder is bytes and a number")
+            if encoding.is_charmap and len(held) > MAX_HELD:
+                raise UnicodeError("more bytes are held than a character has")
+            super().setstate((held, 0))
+            self._decoder.set_state(number)
 
     class StreamWriter(codecs.StreamWriter):
         """Writes text to a file of bytes."""
@@ -85,15 +130,18 @@ def info(name: str, encoding: Encoding, client: Optional[Client] = None) -> code
             self._incremental.errors = errors
             return self._incremental.encode(input), len(input)
 
+        # As in CPython, a character that is held is written.
         def reset(self) -> None:
-            self._incremental.reset()
+            ending = self._incremental.finish()
+            if ending:
+                self.stream.write(ending)
 
     class StreamReader(codecs.StreamReader):
         """Reads text from a file of bytes."""
 
         def __init__(self, stream: object, errors: str = "strict") -> None:
             super().__init__(stream, errors)  # type: ignore[arg-type]
-            self._decoder = Decoder(_client(client), name, encoding, needs_mark=True)
+            self._decoder = Decoder(_client(client), name, encoding, is_stream=True)
 
         def decode(self, input: bytes, errors: str = "strict") -> Tuple[str, int]:
             return self._decoder.decode(bytes(input), errors, False)
@@ -107,12 +155,18 @@ def info(name: str, encoding: Encoding, client: Optional[Client] = None) -> code
 
         def reset(self) -> None:
             super().reset()
-            self._decoder = Decoder(_client(client), name, encoding, needs_mark=True)
+            self._decoder = Decoder(_client(client), name, encoding, is_stream=True)
+
+    class MultibyteStreamReader(PieceReader):
+        """Reads text from a file of bytes, in an encoding that CPython has a codec of several bytes for."""
+
+        def make_pieces(self) -> Pieces:
+            return _DecoderPieces(lambda: Decoder(_client(client), name, encoding, is_stream=True))
 
     return codecs.CodecInfo(
         encode=encode,
         decode=decode,
-        streamreader=StreamReader,
+        streamreader=MultibyteStreamReader if waiting.pattern_of(encoding) else StreamReader,
         streamwriter=StreamWriter,
         incrementalencoder=IncrementalEncoder,
         incrementaldecoder=IncrementalDecoder,

@@ -8,39 +8,79 @@ from __future__ import annotations
 
 import functools
 import re
-from typing import Dict, Iterator, List, Optional, Set, Tuple
+from typing import Callable, Dict, FrozenSet, List, NamedTuple, Optional, Pattern, Set, Tuple
 
 from . import mappings
 from .charmaps import Charmap
-from .errors import CharmapRefused
-from .forms import PatternForm, Patterns, Span
+from .errors import ILLEGAL, INCOMPLETE, CharmapRefused
+from .forms import PatternForm, Span
 from .mappings import LastBytes, Range
+from .patterns import Patterns
 from .scan import Box, Scanner, Strings, union
 
 _ALL = (1 << 256) - 1
 _UNDEFINED = "character maps to <undefined>"
-_ILLEGAL = "illegal multibyte sequence"
+#: The most bytes of a string that a scanner finds.
+_MOST_SCANNED = 4
+
+
+class Computed(NamedTuple):
+    """Codes of four bytes that are in no charmap, and that the client computes."""
+
+    #: The first of their characters, and the last.
+    span: Span
+    box: Box
+    #: The first two bytes of each.
+    beginnings: FrozenSet[bytes]
+    #: The pattern of a code, and that of its first two or three bytes.
+    multiple: bytes
+    cut: bytes
+    #: Adds the last bytes of computed codes to those of a charmap.
+    last_bytes: Callable[[LastBytes], LastBytes]
+
+
+class Beside(NamedTuple):
+    """What an encoding has beside the codes of its charmap."""
+
+    computed: Optional[Computed] = None
+    #: The pattern of what is cut at the end of a text, though no code may begin so.
+    waiting: bytes = b""
+    #: Bytes that are one fault together. Of all others the first byte is one.
+    faults: FrozenSet[bytes] = frozenset()
 
 
 class _Strings:
     """Byte strings as bits: the last bytes, by the bytes before them."""
 
-    def __init__(self, found: LastBytes) -> None:
+    def __init__(self, found: LastBytes, beside: Beside) -> None:
         self._leaves = found
+        self._computed, self._waiting, self._faults = beside
 
     def scanner(self, separator: bytes) -> Optional[Scanner]:
-        """Returns the scanner that finds the faults of a text, or None if there is none for these strings."""
+        """Returns the scanner that finds the faults of a text, or None if there is none for these strings. See unscanned()."""
+        leaves = {prefix: last for prefix, last in self._leaves.items() if len(prefix) < _MOST_SCANNED}
         by_size: Dict[int, List[bytes]] = {}
-        for prefix in self._leaves:
+        for prefix in leaves:
             by_size.setdefault(len(prefix), []).append(prefix)
         pairs: Dict[int, int] = {}
         for prefix in by_size.get(1, ()):
-            last = self._leaves[prefix]
+            last = leaves[prefix]
             pairs[last] = pairs.get(last, 0) | 1 << prefix[0]
         boxes: List[Box] = [(leads, last) for last, leads in pairs.items()]
         boxes.extend(self._box(size, prefixes) for size, prefixes in by_size.items() if size > 1)
-        shorter = {prefix[:size] for size in range(max(by_size)) for prefix in self._leaves if len(prefix) > size}
-        return Scanner.of(self._leaves.get(b"", 0), boxes, separator, Strings(self._leaves, shorter))
+        shorter = {prefix[:size] for size in range(max(by_size)) for prefix in leaves if len(prefix) > size}
+        if self._computed:
+            boxes.append(self._computed.box)
+            shorter |= self._computed.beginnings
+            leaves = self._computed.last_bytes(leaves)
+        waiting = re.compile(b"(?s)" + self._waiting) if self._waiting else None
+        return Scanner.of(leaves.get(b"", 0), boxes, separator, Strings(leaves, shorter, waiting))
+
+    def unscanned(self) -> Optional[Pattern[bytes]]:
+        """Returns the pattern of what a scanner does not find: bytes that are one fault together, and the beginnings of long strings."""
+        beginnings = {prefix[:2] for prefix in self._leaves if len(prefix) >= _MOST_SCANNED}
+        found = sorted({*self._faults, *beginnings})
+        return re.compile(b"|".join(map(re.escape, found))) if found else None
 
     def _box(self, size: int, prefixes: List[bytes]) -> Box:
         """Returns the bytes that strings have at each place."""
@@ -65,13 +105,26 @@ class _Strings:
         single, leads = leaves.get(b"", 0), 0
         for bits in kinds.values():
             leads |= bits
-        return Patterns(
+        patterns = Patterns(
             single=_class(single),
             lead=_class(leads),
             multiple=b"|".join(_class(bits) + rest for (rest, _), bits in _by_size(kinds)),
             never=_class(_ALL & ~(single | leads)),
             bad=b"|".join(_class(bits) + (b"(?:(?:%s)\\Z)?" % cut if cut else b"") for (_, cut), bits in _by_size(kinds)),
             cut=b"|".join(_class(bits) + (b"(?:%s)?" % cut if cut else b"") for (_, cut), bits in _by_size(kinds)),
+        )
+        if self._waiting:
+            patterns = patterns._replace(cut=self._waiting, waiting=self._waiting)
+        if self._faults:
+            whole = b"|".join(re.escape(each) for each in sorted(self._faults))
+            patterns = patterns._replace(bad=whole + b"|" + patterns.bad)
+        computed = self._computed
+        if computed is None:
+            return patterns
+        return patterns._replace(
+            multiple=patterns.multiple + b"|" + computed.multiple,
+            bad=b"(?:%s)\\Z|%s" % (computed.cut, patterns.bad),
+            cut=computed.cut + b"|" + patterns.cut,
         )
 
 
@@ -109,19 +162,7 @@ def _class(bits: int) -> bytes:
     if not bits:
         return b""
     spans = [(byte, byte + 1) for byte in range(256) if bits >> byte & 1]
-    return b"[%s]" % b"".join(b"\\x%02x-\\x%02x" % span for span in _runs(spans))
-
-
-def _runs(spans: List[Tuple[int, int]]) -> Iterator[Tuple[int, int]]:
-    """Joins sorted spans that touch, and yields the first and the last number of each."""
-    begin, end = spans[0]
-    for first, after in spans[1:]:
-        if first > end:
-            yield begin, end - 1
-            begin = first
-        if after > end:
-            end = after
-    yield begin, end - 1
+    return b"[%s]" % b"".join(b"\\x%02x-\\x%02x" % (first, end - 1) for first, end in mappings.merged(spans))
 
 
 def _separator(found: List[Range]) -> Tuple[str, bytes]:
@@ -148,14 +189,16 @@ def _usual_separator(charmap: Charmap, body: bytes, rest: bytes) -> Optional[Tup
 class CharmapForm(PatternForm):
     """The form of a charmap's encoding. Its parts are made when they are first needed."""
 
-    def __init__(self, charmap: Charmap, rest: bytes = b"") -> None:
-        """`charmap` may be the beginning of a longer one, whose other lines are `rest`."""
+    def __init__(self, charmap: Charmap, rest: bytes = b"", written: Optional[Charmap] = None, beside: Beside = Beside()) -> None:
+        """`charmap` may be the beginning of a longer one, whose other lines are `rest`. `written` is the one for writing."""
         self._charmap = charmap
+        self._written = written or charmap
         self._rest = rest
+        self._beside = beside
         self.is_multibyte = charmap.longest > 1
         mark, separator = _usual_separator(charmap, charmap.body(), rest) or _separator(self._ranges())
         super().__init__(separator, mark, not self.is_multibyte)
-        self.lacking_reason = _ILLEGAL if self.is_multibyte else _UNDEFINED
+        self.lacking_reason = ILLEGAL if self.is_multibyte else _UNDEFINED
 
     def _ranges(self) -> List[Range]:
         bodies = (self._charmap.body(), self._rest)
@@ -166,21 +209,27 @@ class CharmapForm(PatternForm):
         found = mappings.last_bytes(self._charmap.body(), self._charmap.escape)
         for before, last in mappings.last_bytes(self._rest, self._charmap.escape).items():
             found[before] = found.get(before, 0) | last
-        return _Strings(found)
+        return _Strings(found, self._beside)
 
     @functools.cached_property
     def _scanner(self) -> Optional[Scanner]:
         return self._strings.scanner(self.separator)
 
-    def scanner(self) -> Optional[Scanner]:
-        return self._scanner
+    @functools.cached_property
+    def _unscanned(self) -> Optional[Pattern[bytes]]:
+        return self._strings.unscanned()
+
+    def scanner(self, window: bytes) -> Optional[Scanner]:
+        return None if self._unscanned and self._unscanned.search(window) else self._scanner
 
     def patterns(self) -> Patterns:
         return self._strings.patterns(self.separator)
 
     def has(self) -> List[Span]:
-        found = mappings.spans(self._charmap.body(), self._charmap.escape)
-        return list(_runs(sorted([*found, *self._rest_spans])))
+        found = mappings.spans(self._written.body(), self._written.escape)
+        computed = self._beside.computed
+        more = [(computed.span[0], computed.span[1] + 1)] if computed else []
+        return [(first, end - 1) for first, end in mappings.merged(sorted([*found, *self._rest_spans, *more]))]
 
     # ---- the rest of a charmap of which only the beginning is uploaded
 
@@ -203,5 +252,5 @@ class CharmapForm(PatternForm):
 
     def reason(self, item: bytes, is_cut: bool) -> str:
         if is_cut:
-            return "incomplete multibyte sequence"
+            return INCOMPLETE
         return self.lacking_reason

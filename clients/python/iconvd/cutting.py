@@ -34,6 +34,8 @@ class DecodingCut(NamedTuple):
     has_faults: bool
     #: The text that replaces all of them, if that is the same; then `between` is empty.
     same: Optional[str] = None
+    #: Whether the text ends there, though bytes are left.
+    is_last: bool = False
 
 
 class EncodingCut(NamedTuple):
@@ -82,12 +84,17 @@ class _Handling:
 class DecodingHandling(_Handling):
     """An error handler, for decoding."""
 
+    #: Whether bytes are left that the handler does not take of a character that the end of the text cuts, as by CPython's decoders of
+    #: pieces.
+    stops_at_end = False
+
     def cut(self, data: bytes, at: int, end: int, is_end: bool) -> DecodingCut:
         """Cuts the faults out of the bytes from `at` to `end`. `is_end` says that the text ends there."""
         found: Optional[DecodingCut] = None
         if self.is_local:
-            scanner = self._form.scanner()
-            found = self._scanned(scanner, data[at:end], end, is_end) if scanner else self._cut_at_once(data, at, end, is_end)
+            window = data[at:end]
+            scanner = self._form.scanner(window)
+            found = self._scanned(scanner, window, end, is_end) if scanner else self._cut_at_once(data, at, end, is_end)
         return found or self._cut_one_by_one(data, at, end, is_end)
 
     def _texts(self, items: Iterable[bytes]) -> Optional[Dict[bytes, str]]:
@@ -95,7 +102,7 @@ class DecodingHandling(_Handling):
         texts: Dict[bytes, str] = {}
         try:
             for item in items:
-                texts[item], after = _text(self._handle(UnicodeDecodeError(self._name, item, 0, len(item), "")), len(item))
+                texts[item], after = text_of(self._handle(UnicodeDecodeError(self._name, item, 0, len(item), "")), len(item))
                 if after != len(item):
                     return None
         except UnicodeDecodeError:
@@ -182,9 +189,11 @@ class DecodingHandling(_Handling):
             if found.reason:
                 has_faults = True
                 error = UnicodeDecodeError(self._name, data, found.start, found.end, found.reason)
-                handled, at = _text(self._handle(error), len(data))
+                handled, at = text_of(self._handle(error), len(data))
                 text += handled
             between.append(text)
+            if found.is_cut and self.stops_at_end:
+                return self._cut([*good, b""], between, at, has_faults)._replace(is_last=True)
             if at > end:
                 good.append(b"")
                 return self._cut(good, between, at, has_faults)
@@ -202,10 +211,11 @@ class EncodingHandling(_Handling):
         """Returns None if the handler has to see the characters' place in the text."""
         form = self._form
         items = form.special.findall(window)
-        replaced = self.replaced(set(items) - {form.mark})
+        replaced = self.replaced(set(items) - {form.mark} - form.pairs.keys())
         if replaced is None:
             return None
         replaced[form.mark] = form.separator
+        replaced.update(form.pairs)
         return EncodingCut(form.special.split(window), [replaced[item] for item in items], end)
 
     def replaced(self, items: Iterable[str]) -> Optional[Dict[str, Union[str, bytes]]]:
@@ -232,8 +242,8 @@ class EncodingHandling(_Handling):
                 break
             good.append(text[at : found.start()])
             size += len(good[-1]) + 1
-            if found[0] == form.mark:
-                between.append(form.separator)
+            if found[0] == form.mark or found[0] in form.pairs:
+                between.append(form.pairs.get(found[0], form.separator))
                 at = found.end()
                 continue
             error = UnicodeEncodeError(self._name, text, found.start(), found.end(), form.lacking_reason)
@@ -246,9 +256,7 @@ class EncodingHandling(_Handling):
 
     def _replaced(self, error: UnicodeEncodeError, size: int) -> Tuple[Union[str, bytes], int]:
         """Returns what the handler gives for characters. Raises the fault if the encoding lacks that text."""
-        replaced, after = self._handle(error)
-        if not isinstance(replaced, (str, bytes)) or not isinstance(after, int):
-            raise TypeError("encoding error handler must return (str/bytes, int) tuple")
+        replaced, after = encoded_by(self._handle(error))
         if isinstance(replaced, bytes):
             if len(replaced) % self._form.unit:
                 raise error
@@ -260,18 +268,28 @@ class EncodingHandling(_Handling):
                 raise UnicodeEncodeError(self._name, replaced, lacking, lacking + 1, self._form.lacking_reason)
             if lacking is not None:
                 raise error
-        return replaced, _position(after, size)
+        return replaced, position(after, size)
 
 
-def _text(result: Tuple[Union[str, bytes], int], size: int) -> Tuple[str, int]:
+def text_of(result: Tuple[Union[str, bytes], int], size: int) -> Tuple[str, int]:
+    """Returns the text that a handler gives for faulty bytes, and where the bytes go on."""
     text, after = result
     if not isinstance(text, str) or not isinstance(after, int):
         raise TypeError("decoding error handler must return (str, int) tuple")
-    return text, _position(after, size)
+    return text, position(after, size)
 
 
-def _position(after: int, size: int) -> int:
-    position = after + size if after < 0 else after
-    if not 0 <= position <= size:
+def encoded_by(result: Tuple[Union[str, bytes], int]) -> Tuple[Union[str, bytes], int]:
+    """Returns what a handler gives for lacking characters."""
+    replaced, after = result
+    if not isinstance(replaced, (str, bytes)) or not isinstance(after, int):
+        raise TypeError("encoding error handler must return (str/bytes, int) tuple")
+    return replaced, after
+
+
+def position(after: int, size: int) -> int:
+    """Returns the place that a handler names, also if it counts from the end."""
+    found = after + size if after < 0 else after
+    if not 0 <= found <= size:
         raise IndexError(f"position {after} from error handler out of bounds")
-    return position
+    return found

@@ -1,6 +1,10 @@
-"""The exceptions of this package."""
+"""The exceptions of this package, and the reasons of faults."""
 
 from __future__ import annotations
+
+#: CPython's reasons in encodings of several bytes.
+ILLEGAL = "illegal multibyte sequence"
+INCOMPLETE = "incomplete multibyte sequence"
 
 
 class IconvdError(Exception):

@@ -12,6 +12,7 @@ import functools
 import re
 from typing import Callable, Dict, List, NamedTuple, Optional, Pattern, Sequence, Tuple
 
+from .patterns import Patterns
 from .scan import Box, Scanner, bits
 
 #: The first and the last of a run of characters.
@@ -54,6 +55,7 @@ class Form:
         self.mark = mark
         self._in_runs = in_runs
         self._special: Optional[Pattern[str]] = None
+        self.pairs: Dict[str, bytes] = {}  # two characters that have one code; see joined.py
 
     def has(self) -> Sequence[Span]:
         """Returns all characters of the encoding."""
@@ -67,8 +69,8 @@ class Form:
         """Returns all good bytes between `at` and `end`, and the items between them, one less; or None if `find` is needed."""
         raise NotImplementedError
 
-    def scanner(self) -> Optional[Scanner]:
-        """Returns the scanner that finds all faults at once, if the encoding has one."""
+    def scanner(self, window: bytes) -> Optional[Scanner]:
+        """Returns the scanner that finds all faults of a window at once, if there is one."""
         return None
 
     def split(self, data: bytes, count: int) -> List[bytes]:
@@ -87,37 +89,13 @@ class Form:
     def special(self) -> Pattern[str]:
         """The pattern of the mark, and of the lacking characters that CPython reports at once."""
         if self._special is None:
-            self._special = re.compile(f"{re.escape(self.mark)}|{_lacking(self.has())}" + ("+" if self._in_runs else ""))
+            pairs = "".join(re.escape(pair) + "|" for pair in self.pairs)
+            self._special = re.compile(f"{pairs}{re.escape(self.mark)}|{_lacking(self.has())}" + ("+" if self._in_runs else ""))
         return self._special
 
     def lacks(self, text: str) -> Optional[int]:
         """Returns the place of the first character that the encoding lacks."""
-        return next((found.start() for found in self.special.finditer(text) if found[0] != self.mark), None)
-
-
-class Patterns(NamedTuple):
-    """Regular expressions of the bytes of an encoding. None matches the separator, and each may be empty."""
-
-    #: One byte that is a character by itself.
-    single: bytes
-    #: The first byte of a character of several bytes, and such a character.
-    lead: bytes
-    multiple: bytes
-    #: A byte with which no character begins.
-    never: bytes
-    #: The bytes of a fault at the beginning of a character, or of a character that the end of the text cuts.
-    bad: bytes
-    #: A character that the end of the text cuts.
-    cut: bytes
-
-
-def _good(patterns: Patterns) -> bytes:
-    """Returns the pattern of any number of characters, which skips those of one byte fastest."""
-    single = patterns.single + b"*" if patterns.single else b""
-    if not patterns.multiple:
-        return single
-    first = b"(?=%s)" % patterns.lead if patterns.lead else b""
-    return b"%s(?:%s(?:%s)%s)*" % (single, first, patterns.multiple, single)
+        return next((each.start() for each in self.special.finditer(text) if each[0] not in {self.mark, *self.pairs}), None)
 
 
 class PatternForm(Form):
@@ -130,8 +108,9 @@ class PatternForm(Form):
     @functools.cached_property
     def _tokens(self) -> Pattern[bytes]:
         patterns = self.patterns()
-        items = b"|".join(item for item in (patterns.never, re.escape(self.separator), patterns.bad, b"\\Z") if item)
-        return re.compile(b"(?s)(%s)(%s)" % (_good(patterns), items))
+        waiting = b"(?:%s)\\Z" % patterns.waiting if patterns.waiting else b""
+        items = b"|".join(item for item in (waiting, patterns.never, re.escape(self.separator), patterns.bad, b"\\Z") if item)
+        return re.compile(b"(?s)(%s)(%s)" % (patterns.good(), items))
 
     @functools.cached_property
     def _cut(self) -> Optional[Pattern[bytes]]:
@@ -209,7 +188,7 @@ class UnicodeForm(PatternForm):
             return None
         return Scanner.of(bits(0, min(0xFF, self._last)) if not self._boxes else bits(0, 0x7F), self._boxes, self.separator)
 
-    def scanner(self) -> Optional[Scanner]:
+    def scanner(self, window: bytes) -> Optional[Scanner]:
         return self._scanner
 
     def has(self) -> Sequence[Span]:

@@ -77,6 +77,16 @@ def ranges(body: bytes, escape: bytes) -> List[Range]:
     return found + list(_unusual_ranges(usual.sub(b"%", body)))
 
 
+def pairs(text: bytes, escape: bytes) -> Dict[bytes, str]:
+    """Returns the codes of two characters. The files have them in comments."""
+    line = re.compile(rb"^%?<U([0-9A-Fa-f]{4,8})><U([0-9A-Fa-f]{4,8})>[ \t]+" + _CODE % re.escape(escape), re.M)
+    found: Dict[bytes, str] = {}
+    for first, second, constants in line.findall(text):
+        code, length = _code(constants)
+        found[code.to_bytes(length, "big")] = chr(int(first, 16)) + chr(int(second, 16))
+    return found
+
+
 def _parts(body: bytes) -> Tuple[bytes, bytes]:
     """Returns the lines before the first range, and those from it on. Each part begins with the end of the line before."""
     lines = b"\n" + body
@@ -102,6 +112,18 @@ def spans(body: bytes, escape: bytes) -> List[Tuple[int, int]]:
         points = _numbers(alike)
         found.extend(_runs(points, points))
     return sorted(found)
+
+
+def merged(spans: List[Tuple[int, int]]) -> Iterator[Tuple[int, int]]:
+    """Joins sorted spans that touch: yields the first number of each, and the one after its last."""
+    begin, end = spans[0] if spans else (0, 0)
+    for first, after in spans:
+        if first > end:
+            yield begin, end
+            begin = first
+        end = max(end, after)
+    if spans:
+        yield begin, end
 
 
 def _alike(items: List[bytes]) -> List[List[bytes]]:

@@ -1,17 +1,17 @@
 """Names of encodings: which built-in encoding or which charmap a name means.
 
-The C library has the same table. When the package is built, `clients/names/generate.py` makes it from glibc's gconv-modules and
-from the system's charmaps.
+When the package is built, `clients/names/generate.py` makes the table from glibc's gconv-modules, from the system's charmaps and from
+the names that WHATWG, CPython and IANA have. The C library has the same, except for names that CPython reads otherwise than glibc.
 """
 
 from __future__ import annotations
 
 import functools
-import os
 import re
-from typing import Dict, List, NamedTuple, Tuple
+from typing import Dict, FrozenSet, List, NamedTuple, Tuple
 
 from .errors import UnknownEncoding
+from .tables import read_rows
 
 #: The built-in encodings of the server.
 BUILTIN = (
@@ -27,19 +27,29 @@ BUILTIN = (
     "UTF-7",
 )
 
+#: UTF-8 that begins with a mark, as CPython's `utf-8-sig`: the client writes and skips the mark.
+UTF_8_SIG = "UTF-8-SIG"
+
 _OTHER = re.compile(r"[^A-Z0-9_\-.,:/]")
-_NEITHER_LETTER_NOR_DIGIT = re.compile(r"[^A-Z0-9]")
+_BETWEEN_DIGITS = re.compile(r"(?<=[0-9])[^A-Z0-9]+(?=[0-9])")
+_SEPARATOR = re.compile(r"[^A-Z0-9-]|-(?![0-9])|(?<![0-9])-")
+
+
+#: WHATWG's encoding of which nothing is read, and those that are read as it; see replacement.py.
+REPLACEMENT = "REPLACEMENT"
+_REPLACED = frozenset((REPLACEMENT, "ISO-2022-CN", "ISO-2022-CN-EXT"))
 
 
 class Encoding(NamedTuple):
-    """An encoding: a built-in one, or a charmap, by the name of its file."""
+    """An encoding: a built-in one, one with escapes or shifts, or a charmap. Its name is that of the charmap's file, and after a slash
+    that of its repairs (see repairs.py)."""
 
     is_charmap: bool
     name: str
 
 
 class Table(NamedTuple):
-    """The encodings by name, and by only the letters and digits of the name."""
+    """The encodings by name, and by what decides of a name that is none of these."""
 
     exact: Dict[str, Encoding]
     loose: Dict[str, Encoding]
@@ -50,15 +60,18 @@ def _normal(name: str) -> str:
 
 
 def _loose(name: str) -> str:
-    return _NEITHER_LETTER_NOR_DIGIT.sub("", name.upper())
+    """Returns the letters and digits of a name, with `-` where two digits are apart: ISO-IR-9-1 is not ISO-IR-91."""
+    return _SEPARATOR.sub("", _BETWEEN_DIGITS.sub("-", name.upper()))
 
 
-def read_table(lines: List[str]) -> Table:
-    """Reads the lines `NAME<TAB>builtin|charmap<TAB>ENCODING`."""
+@functools.lru_cache(maxsize=None)
+def table() -> Table:
+    """Returns the table that was made when the package was built, or only the built-in names if there is none."""
     exact = {name: Encoding(False, name) for name in BUILTIN}
-    for line in lines:
-        name, kind, target = line.rstrip("\n").split("\t")
+    for name, kind, target in read_rows("names.tsv"):
         exact.setdefault(name, Encoding(kind == "charmap", target))
+    for target, name, meaning, *_ in read_rows("shifted_composing_encodings.tsv"):
+        exact.setdefault(name if meaning == "name" else target, Encoding(False, target))
     loose: Dict[str, Encoding] = {}
     for name, encoding in exact.items():
         loose.setdefault(_loose(name), encoding)
@@ -66,14 +79,24 @@ def read_table(lines: List[str]) -> Table:
 
 
 @functools.lru_cache(maxsize=None)
-def table() -> Table:
-    """Returns the table that was made when the package was built, or only the built-in names if there is none."""
-    path = os.path.join(os.path.dirname(os.path.abspath(__file__)), "data", "names.tsv")
-    try:
-        with open(path, encoding="utf-8") as file:
-            return read_table(file.readlines())
-    except FileNotFoundError:
-        return read_table([])
+def _shifted() -> FrozenSet[str]:
+    """Returns the encodings with escapes or shifts."""
+    return frozenset(row[0] for row in read_rows("shifted_encodings.tsv") + read_rows("shifted_composing_encodings.tsv"))
+
+
+def is_shifted(encoding: Encoding) -> bool:
+    """Whether an encoding has escapes or shifts, and is made of sets that the service converts."""
+    return not encoding.is_charmap and encoding.name in _shifted() and not is_replaced(encoding)
+
+
+def is_replaced(encoding: Encoding) -> bool:
+    """Whether nothing is read of an encoding, as of WHATWG's `replacement`."""
+    return not encoding.is_charmap and encoding.name in _REPLACED
+
+
+def is_direct(encoding: Encoding) -> bool:
+    """Whether the service converts texts in an encoding as they are, by a descriptor of that encoding."""
+    return not is_shifted(encoding) and not is_replaced(encoding)
 
 
 @functools.lru_cache(maxsize=1024)

@@ -3,12 +3,15 @@
 from __future__ import annotations
 
 from types import TracebackType
-from typing import TYPE_CHECKING, Optional, Tuple, Type
+from typing import TYPE_CHECKING, Optional, Tuple, Type, Union
 
-from . import text
-from .errors import ConversionError
+from . import marks, text
+from .errors import INCOMPLETE, ConversionError
+from .joined import held_of, number_of
 from .known import Known
-from .names import Encoding
+from .names import Encoding, is_replaced
+from .replacement import ReplacementCodec
+from .set_text import SetCodec, codec_of, decoder_of
 
 if TYPE_CHECKING:
     from .client import Client
@@ -20,36 +23,63 @@ _SHORT = 1024
 class Decoder:
     """Decodes one text, which may be in pieces."""
 
-    def __init__(self, client: Client, name: str, encoding: Encoding, needs_mark: bool = False) -> None:
-        """With `needs_mark` a text in UTF-16 or UTF-32 without a mark is refused, as by CPython's streams."""
+    def __init__(self, client: Client, name: str, encoding: Encoding, is_stream: bool = False) -> None:
+        """With `is_stream` marks and the end are read as by CPython's streams: a text in UTF-16 or UTF-32 without a mark is refused, and
+        the beginning of the mark of UTF-8-SIG is no text."""
         self._client = client
         self._name = name
         self._declared = encoding
-        self._needs_mark = needs_mark
-        self._codec: Optional[text.TextCodec] = None
+        self._is_stream = is_stream
+        self._codec: Optional[Union[text.TextCodec, SetCodec, ReplacementCodec]] = None
+        # The state of an encoding without one. A number that is set is kept, as by CPython's codecs, and means nothing.
+        self._number = 0
 
     def decode(self, data: bytes, errors: str, final: bool) -> Tuple[str, int]:
         """Returns the text of the first bytes, and how many they are: all but an incomplete character if `final` is false."""
         skipped = 0
         if self._codec is None:
-            ordered, skipped = text.without_mark(self._declared, data)
-            if ordered != self._declared and len(data) < (4 if self._declared.name == "UTF-32" else 2) and not final:
+            is_needed = marks.is_needed(self._declared)
+            if marks.waits(self._declared, data) and not (final and (is_needed or not self._is_stream)):
                 return "", 0
-            if self._needs_mark and ordered != self._declared and data and not skipped:
+            ordered, skipped = marks.without_mark(self._declared, data)
+            if self._is_stream and is_needed and data and not skipped:
                 raise UnicodeError(f"{self._declared.name} stream does not start with BOM")
-            self._codec = text.TextCodec(self._name, ordered, self._client.library)
+            self._codec = decoder_of(self._name, ordered, self._client.library)
+            if isinstance(self._codec, text.TextCodec):
+                self._codec.stops_at_end = self._is_stream
         codec = self._codec
-        decoded = self._client.run(lambda session: codec.decode(session, data, errors, final, skipped))
-        return decoded.text, decoded.used
+        if skipped and not marks.is_needed(self._declared):
+            # As in CPython's utf-8-sig, positions of faults count from after the mark.
+            rest = data[skipped:]
+            found = self._client.run(lambda session: codec.decode(session, rest, errors, final))
+            return found.text, found.used + skipped
+        return self._client.run(lambda session: codec.decode(session, data, errors, final, skipped))
 
-    @property
-    def encoding(self) -> Optional[Encoding]:
-        """The encoding with its byte order, once that is known."""
-        return self._codec.encoding if self._codec else None
+    def drops_held(self, error: Exception) -> bool:
+        """Whether the bytes of an incomplete character before a piece are dropped after a fault in it, as by CPython's codecs of several
+        bytes. They are kept if the end of the text is the fault."""
+        if not self._declared.is_charmap or not self._client.library.form(self._declared).is_multibyte:
+            return False
+        return not isinstance(error, UnicodeDecodeError) or error.reason != INCOMPLETE
 
-    def set_encoding(self, encoding: Optional[Encoding]) -> None:
-        """Goes on with the byte order that another decoder found."""
-        self._codec = text.TextCodec(self._name, encoding, self._client.library) if encoding else None
+    def state(self) -> int:
+        """Returns what the mark of the text said, as a number; 0 before the text begins. Of a text of which nothing is read 1 says that the
+        fault was reported."""
+        if self._declared.is_charmap:
+            return self._number
+        if isinstance(self._codec, ReplacementCodec):
+            return int(self._codec.is_told)
+        return marks.state_of(self._declared, self._codec.encoding) if self._codec else 0
+
+    def set_state(self, state: int) -> None:
+        """Goes on after a mark, or a fault, that another decoder read."""
+        self._number = state
+        if is_replaced(self._declared):
+            self._codec = ReplacementCodec(self._name, self._declared)
+            self._codec.is_told = bool(state)
+            return
+        found = marks.encoding_of(self._declared, state)
+        self._codec = text.TextCodec(self._name, found, self._client.library) if found != self._declared else None
 
 
 class Encoder:
@@ -57,19 +87,37 @@ class Encoder:
 
     def __init__(self, client: Client, name: str, encoding: Encoding) -> None:
         self._client = client
-        ordered, self._mark = text.mark_of(encoding)
-        self._codec = text.TextCodec(name, ordered, client.library)
+        ordered, self._mark = marks.mark_of(encoding)
+        self._codec = codec_of(name, ordered, client.library)
         self.is_started = False
         # The known characters, and their error handler, once the text is started.
         self._known: Optional[Known] = None
         self._known_errors = ""
 
-    def encode(self, characters: str, errors: str) -> bytes:
-        """Returns the bytes of a text."""
-        output = self._client.run(lambda session: self._codec.encode(session, characters, errors))
+    def encode(self, characters: str, errors: str, is_end: bool = False) -> bytes:
+        """Returns the bytes of the next piece of a text, and what ends the text. See `finish`."""
+        codec = self._codec
+        output = self._client.run(lambda session: codec.encode_piece(session, characters, errors, is_end))
         mark = b"" if self.is_started else self._mark
         self.is_started = True
         return mark + output
+
+    def finish(self) -> bytes:
+        """Returns what ends the text: a character that was held, and the escape or shift back to ASCII, if the encoding has any."""
+        codec = self._codec
+        if not isinstance(codec, SetCodec) and not codec.held:
+            return b""
+        return self._client.run(lambda session: codec.encode_piece(session, "", "strict", True))
+
+    @property
+    def number(self) -> int:
+        """The state as the number that CPython's encoder keeps it in: 2 before the mark of UTF-16 or UTF-32, and what is held."""
+        return 2 if self._mark and not self.is_started else number_of(self._codec.held)
+
+    @number.setter
+    def number(self, number: int) -> None:
+        self.is_started = not (self._mark and number)
+        self._codec.held = "" if self._mark else held_of(number)
 
     def encode_piece(self, characters: str, errors: str) -> bytes:
         """Returns the bytes of the next piece of a text. In short pieces each character costs one request in all. So a text file
@@ -82,11 +130,13 @@ class Encoder:
 
     def _encode_new(self, characters: str, errors: str) -> bytes:
         """Returns the bytes of a piece that is long, begins the text, or has unknown characters."""
-        if not self.is_started or len(characters) > _SHORT:
+        codec = self._codec
+        if isinstance(codec, SetCodec) or codec.pairs or not self.is_started or len(characters) > _SHORT:
             return self.encode(characters, errors)
-        known = self._known = self._codec.known(errors)
+        known = self._known = codec.known(errors)
         self._known_errors = errors
-        self._client.run(lambda session: self._codec.learn(session, characters, errors, known))
+        learn = codec.learn
+        self._client.run(lambda session: learn(session, characters, errors, known))
         encoded = known.bytes_of(characters)
         return self.encode(characters, errors) if encoded is None else encoded
 
@@ -108,19 +158,22 @@ class Conversion:
         self._held = b""
 
     def convert(self, data: bytes, errors: str = "strict", final: bool = False) -> bytes:
-        """Converts the next bytes. An incomplete character at the end is kept for the next call, unless `final` is true."""
+        """Converts the next bytes. An incomplete character at the end is kept for the next call, unless `final` is true. Then the
+        bytes also end a text with escapes or shifts."""
         held = self._held + data
         decoded, used = self._decoder.decode(held, errors, final)
         self._held = held[used:]
-        return self._encoder.encode(decoded, errors) if decoded else b""
+        encoded = self._encoder.encode(decoded, errors) if decoded else b""
+        return encoded + self._encoder.finish() if final else encoded
 
     def reset(self) -> bytes:
-        """Ends the text and goes back to the start. Raises ConversionError if it ends inside a character."""
-        held = self._held
+        """Ends the text and goes back to the start. Returns the escape or shift that ends it, if the target has any. Raises
+        ConversionError if the text ends inside a character."""
+        held, ending = self._held, self._encoder.finish()
         self._start()
         if held:
             raise ConversionError("the text ends inside a character", 0)
-        return b""
+        return ending
 
     def close(self) -> None:
         """Forgets kept bytes and the state. The server's descriptors are shared, and stay open."""

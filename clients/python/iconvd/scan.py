@@ -7,7 +7,7 @@ few operations on these find where a character of each length can begin. So it t
 from __future__ import annotations
 
 from itertools import compress
-from typing import Container, Iterable, List, Mapping, NamedTuple, Optional, Sequence, Tuple
+from typing import Container, Iterable, List, Mapping, NamedTuple, Optional, Pattern, Sequence, Tuple
 
 #: For each place in a character, the possible bytes, as bits. All combinations of these are characters.
 Box = Tuple[int, ...]
@@ -44,6 +44,8 @@ class Strings(NamedTuple):
     last: Mapping[bytes, int]
     #: The proper prefixes of the bytes before them.
     shorter: Container[bytes]
+    #: What is the beginning of a character at the end of a text, though no string begins so.
+    waiting: Optional[Pattern[bytes]] = None
 
 
 def bits(first: int, last: int) -> int:
@@ -207,7 +209,8 @@ class Scanner:
     def _is_beginning(self, rest: bytes) -> bool:
         """Whether bytes are the beginning of a character."""
         if self._strings is not None:
-            return rest in self._strings.last or rest in self._strings.shorter
+            waiting = self._strings.waiting
+            return rest in self._strings.last or rest in self._strings.shorter or (waiting is not None and waiting.fullmatch(rest) is not None)
         boxes = (box for box in self._boxes if len(box) > len(rest))
         return any(all(some >> byte & 1 for some, byte in zip(box, rest)) for box in boxes)
 

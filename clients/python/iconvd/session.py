@@ -6,7 +6,7 @@ so that a blocking client and an asyncio client share them.
 
 from __future__ import annotations
 
-from typing import Dict, Generator, Iterable, List, NamedTuple, Set, Tuple, TypeVar
+from typing import Dict, Generator, Iterable, List, NamedTuple, Optional, Set, Tuple, TypeVar
 
 from . import frames
 from .charmaps import Charmap
@@ -20,6 +20,8 @@ T = TypeVar("T")
 _SHORT = 256
 #: The end of the keys of beginnings. No charmap's name has it.
 _BEGINNING = "\n"
+#: The end of the keys of charmaps for writing.
+_WRITTEN = "\t"
 #: A caller number that no session uses.
 NO_CALLER = 0xFFFFFFFF
 UTF_7 = Encoding(False, "UTF-7")
@@ -110,6 +112,14 @@ class Session:
         character = data.decode("utf-8", "ignore")[:1] if pair.source == UTF_8 else ""
         return not character or self._library.may_have_in_rest(pair.target, character)
 
+    def settle(self, target: Encoding, output: bytes) -> bytes:
+        """Returns what a conversion to an encoding means, from what the server wrote."""
+        return self._library.settle(target, output)
+
+    def is_computed(self, encoding: Encoding) -> bool:
+        """Whether the client computes the characters of an encoding above U+FFFF."""
+        return self._library.is_computed(encoding)
+
     def first_piece(self, pair: Pair) -> int:
         """Returns how many bytes the first request of a call may have."""
         return self._first_pieces.get(pair, frames.CHUNK) if self._first_pieces else frames.CHUNK
@@ -127,17 +137,17 @@ class Session:
     def _open(self, pair: Pair, is_whole: bool) -> Steps[Descriptor]:
         status = Status.QUOTA
         for _ in range(3):
-            used = {end: self._charmap(end, is_whole) for end in pair if end.is_charmap}
-            wanted = dict(used.values())
+            used = [self._charmap(pair, end, is_whole) for end in pair]
+            wanted = dict(key_and_map for key_and_map in used if key_and_map)
             caller = self._caller_for(wanted)
             if not (yield from self._upload_all(caller, wanted)):
                 caller.fill()
                 continue
-            target, source = (used[end][1].name if end in used else _server_name(end) for end in pair)
+            target, source = (found[1].name if found else _server_name(end) for found, end in zip(used, pair))
             (reply,) = yield [frames.open_request(caller.number, target, source)]
             if reply.status == Status.OK:
                 caller.descriptors += 1
-                parts = tuple(end for end, (key, _) in used.items() if key != end.name)
+                parts = tuple(end for found, end in zip(used, pair) if found and found[0].endswith(_BEGINNING))
                 return Descriptor(caller.number, reply.number(), UTF_7 in pair, parts)
             if reply.status != Status.EMFILE and not (reply.status == Status.UNSUPPORTED and wanted):
                 raise RequestRefused("OPEN", reply.status)
@@ -148,13 +158,17 @@ class Session:
             caller.fill()
         raise RequestRefused("OPEN", status)
 
-    def _charmap(self, end: Encoding, is_whole: bool) -> Tuple[str, Charmap]:
-        """Returns the key and the charmap to upload for an encoding: the beginning of a long file, or all of it."""
+    def _charmap(self, pair: Pair, end: Encoding, is_whole: bool) -> Optional[Tuple[str, Charmap]]:
+        """Returns the key and the charmap to upload for an end of a pair: the beginning of a long file, or all of it."""
+        if not end.is_charmap:
+            return None
         is_there = any(end.name in caller.charmaps for caller in self._callers)
         beginning = None if is_whole or is_there else self._library.beginning(end.name)
-        if beginning is None:
-            return end.name, self._library.get(end.name)
-        return end.name + _BEGINNING, beginning.charmap
+        if beginning is not None:
+            return end.name + _BEGINNING, beginning.charmap
+        read = self._library.get(end.name)
+        written = self._library.written(end.name)
+        return (end.name + _WRITTEN, written) if end is pair.target and written is not read else (end.name, read)
 
     def _caller_for(self, wanted: Dict[str, Charmap]) -> _Caller:
         """Returns the caller that has most of these charmaps and room for the rest, or a new one."""
@@ -186,8 +200,9 @@ class Session:
                 self._library.refuse_beginning(key[: -len(_BEGINNING)])
                 return False
             line, cause = frames.read_bad_map(reply)
-            refused = CharmapRefused(key, cause, line)
-            self._library.refuse(refused, key)
+            name = key.rstrip(_WRITTEN)
+            refused = CharmapRefused(name, cause, line)
+            self._library.refuse(refused, name)
             raise refused
         return True
 

@@ -2,9 +2,9 @@
 
 from __future__ import annotations
 
-from typing import List, NamedTuple
+from typing import List, NamedTuple, Sequence, Tuple
 
-from . import frames
+from . import frames, planes
 from .errors import RequestRefused
 from .frames import Reply, Request, Status
 from .session import UTF_8, Descriptor, Pair, Session, Steps
@@ -25,6 +25,43 @@ class Run(NamedTuple):
 
 
 def run(session: Session, pair: Pair, data: bytes, is_careful: bool = False) -> Steps[Run]:
+    """Converts from the start of `data` up to a fault or the end; see `run_mapped`. Computed characters are converted here."""
+    if session.is_computed(pair.source) and planes.may_be_in(data):
+        return (yield from _read_computed(session, pair, data, is_careful))
+    if session.is_computed(pair.target):
+        return (yield from _write_computed(session, pair, data, is_careful))
+    ran = yield from run_mapped(session, pair, data, is_careful)
+    begins = ran.status == Status.EILSEQ and session.is_computed(pair.source) and planes.may_begin(data[ran.used : ran.used + 4])
+    return ran._replace(status=Status.EINVAL) if begins else ran
+
+
+def _read_computed(session: Session, pair: Pair, data: bytes, is_careful: bool) -> Steps[Run]:
+    marked = planes.marked_codes(data)
+    ran = yield from run_mapped(session, Pair(UTF_8, pair.source), marked.data, is_careful)
+    text = planes.characters_put_back(ran.output, marked.meant)
+    if ran.status == Status.EILSEQ and planes.may_begin(data[ran.used : ran.used + 4]):
+        ran = ran._replace(status=Status.EINVAL)
+    if pair.target == UTF_8:
+        return ran._replace(output=text)
+    if is_careful and ran.status != Status.OK:
+        return ran._replace(output=b"")
+    written = yield from run(session, Pair(pair.target, UTF_8), text)
+    # Where it stopped is not known in the source: the caller begins again.
+    return ran._replace(output=written.output) if written.status == Status.OK else Run(b"", 0, written.status)
+
+
+def _write_computed(session: Session, pair: Pair, data: bytes, is_careful: bool) -> Steps[Run]:
+    if pair.source != UTF_8:
+        read = yield from run(session, Pair(UTF_8, pair.source), data, is_careful)
+        written = yield from _write_computed(session, Pair(pair.target, UTF_8), read.output, False)
+        return read._replace(output=written.output) if written.status == Status.OK else Run(b"", 0, written.status)
+    marked = planes.marked_characters(data)
+    ran = yield from run_mapped(session, pair, marked.data, is_careful)
+    found = planes.codes_put_back(ran.output, marked.meant)
+    return ran._replace(output=found.output, used=ran.used + found.longer)
+
+
+def run_mapped(session: Session, pair: Pair, data: bytes, is_careful: bool = False) -> Steps[Run]:
     """Converts from the start of `data` up to a fault or the end. `is_careful` is for a call that ends at a fault: its first
     request is short if the last such call had a fault, since a program may go on after each fault by a call for all that is
     left."""
@@ -57,7 +94,38 @@ def run(session: Session, pair: Pair, data: bytes, is_careful: bool = False) -> 
     if descriptor.has_state and pieces:
         (reply,) = yield [_reset(descriptor, _CLOSING)]
         pieces.append(_accepted("RESET", reply).body)
-    return Run(b"".join(pieces), at, Status.OK if at == len(data) else status)
+    output = session.settle(pair.target, b"".join(pieces))
+    return Run(output, at, Status.OK if at == len(data) else status)
+
+
+def run_at_once(session: Session, work: Sequence[Tuple[Pair, List[bytes]]]) -> Steps[List[bytes]]:
+    """Converts the pieces of several texts that have no faults, all by one round trip. Returns the output of each text."""
+    requests: List[Request] = []
+    for pair, pieces in work:
+        descriptor = yield from session.descriptor(pair, is_whole=True)
+        requests += [_convert(descriptor, piece) for piece in pieces]
+    replies = iter((yield requests) if requests else [])
+    return [b"".join(_whole(next(replies), piece) for piece in pieces) for _, pieces in work]
+
+
+def cut(codes: bytes, width: int) -> List[bytes]:
+    """Cuts codes of some bytes each into pieces for a request."""
+    size = frames.CHUNK // width * width
+    return [codes[at : at + size] for at in range(0, len(codes), size)]
+
+
+def cut_text(text: str) -> List[bytes]:
+    """Cuts a text into pieces for a request, in UTF-8."""
+    size = frames.CHUNK // 4
+    return [text[at : at + size].encode("utf-8") for at in range(0, len(text), size)]
+
+
+def _whole(reply: Reply, piece: bytes) -> bytes:
+    """Returns the output for a piece without faults."""
+    done = frames.read_converted(_accepted("CONV", reply), len(piece))
+    if done.status != Status.OK or done.left:
+        raise RequestRefused("CONV", done.status)
+    return done.output
 
 
 def _convert(descriptor: Descriptor, data: bytes) -> Request:

@@ -6,10 +6,9 @@ cutting.py), window by window, and sends what is between them.
 
 from __future__ import annotations
 
-import codecs
-import sys
-from typing import AnyStr, Iterable, List, NamedTuple, Sequence, Tuple, Union
+from typing import AnyStr, Iterable, List, NamedTuple, Optional, Sequence, Tuple, Union
 
+from . import joined as joined_codes
 from . import shifted, steps
 from .cutting import WINDOW, DecodingCut, DecodingHandling, EncodingCut, EncodingHandling, gathered, joined
 from .errors import RequestRefused
@@ -21,6 +20,8 @@ from .session import UTF_8, Pair, Session, Steps
 
 #: How many characters, or bytes, of a long text are converted before the next are copied.
 _PART = 1_048_576
+#: Where a part of a text begins and ends.
+Span = Tuple[int, int]
 #: The error handler that ends a call at its first fault.
 _STRICT = "strict"
 #: CPython's names of the encodings of Unicode.
@@ -40,28 +41,6 @@ class Decoded(NamedTuple):
     used: int
 
 
-def without_mark(encoding: Encoding, data: bytes) -> Tuple[Encoding, int]:
-    """Returns the encoding with the byte order of a text in UTF-16 or UTF-32, and the size of its mark. Without a mark it is the
-    machine's order."""
-    if encoding.is_charmap or encoding.name not in ("UTF-16", "UTF-32"):
-        return encoding, 0
-    wide = encoding.name == "UTF-32"
-    little, big = (codecs.BOM_UTF32_LE, codecs.BOM_UTF32_BE) if wide else (codecs.BOM_UTF16_LE, codecs.BOM_UTF16_BE)
-    if data.startswith(little):
-        return Encoding(False, encoding.name + "LE"), len(little)
-    if data.startswith(big):
-        return Encoding(False, encoding.name + "BE"), len(big)
-    return Encoding(False, encoding.name + ("LE" if sys.byteorder == "little" else "BE")), 0
-
-
-def mark_of(encoding: Encoding) -> Tuple[Encoding, bytes]:
-    """Returns the encoding of the text after the mark of UTF-16 or UTF-32, and the mark."""
-    if encoding.is_charmap or encoding.name not in ("UTF-16", "UTF-32"):
-        return encoding, b""
-    ordered = Encoding(False, encoding.name + ("LE" if sys.byteorder == "little" else "BE"))
-    return ordered, codecs.BOM_UTF32 if encoding.name == "UTF-32" else codecs.BOM_UTF16
-
-
 class TextCodec:
     """Decodes and encodes texts of one encoding."""
 
@@ -75,6 +54,14 @@ class TextCodec:
         self.has_state = encoding == Encoding(False, "UTF-7")
         # After a piece with faults the next one of the text is not sent as it is.
         self._has_faults = has_faults
+        #: See DecodingHandling. It is so in encodings of several bytes.
+        self.stops_at_end = False
+        #: The codes that are two characters each, if the encoding has such.
+        self.pairs = joined_codes.pairs_of(encoding)
+        #: A letter at the end of the last piece that is not written yet, since a mark may follow.
+        self.held = ""
+        # Where the last call that encoded ended.
+        self._end = 0
 
     # ---- decoding
 
@@ -86,21 +73,29 @@ class TextCodec:
         if not self._has_faults:
             at, waits = yield from self._decode_whole(session, data, (at, end), errors == _STRICT, pieces)
             if at == end or (waits and not final):
-                return Decoded("".join(pieces), at)
+                return Decoded(self._text(pieces), at)
             if self.has_state:
                 # The fault may be within a shifted sequence, of which only the beginning is known.
                 at = begin
                 pieces.clear()
-        handling = DecodingHandling(self._library.form(self.encoding), self._error_name, errors)
+        form = self._library.form(self.encoding)
+        handling = DecodingHandling(form, self._error_name, errors)
+        handling.stops_at_end = self.stops_at_end and form.is_multibyte
         while at < end:
             stop = end if self.has_state else min(end, at + WINDOW)
             cut = handling.cut(data, at, stop, stop == end and final)
             self._has_faults = cut.has_faults
             pieces.append((yield from self._decode_cut(session, cut)))
-            if cut.at == at and not cut.marks:
-                break
+            is_stuck = cut.at == at and not cut.marks
             at = cut.at
-        return Decoded("".join(pieces), at)
+            if is_stuck or cut.is_last:
+                break
+        return Decoded(self._text(pieces), at)
+
+    def _text(self, pieces: List[str]) -> str:
+        """Joins the pieces of a text, with both characters of codes that are two."""
+        text = "".join(pieces)
+        return self.pairs.restored(text) if self.pairs else text
 
     def _end_of_whole(self, data: bytes) -> int:
         """Returns the end of the bytes that need not wait for others. An open shifted sequence has to wait. So has the beginning
@@ -110,9 +105,7 @@ class TextCodec:
         waits = self.encoding == UTF_8 and data[-2:-1] == b"\xed" and data[-1] & 0xE0 == 0xA0
         return len(data) - 2 if waits else len(data)
 
-    def _decode_whole(
-        self, session: Session, data: bytes, span: Tuple[int, int], is_careful: bool, pieces: List[str]
-    ) -> Steps[Tuple[int, bool]]:
+    def _decode_whole(self, session: Session, data: bytes, span: Span, is_careful: bool, pieces: List[str]) -> Steps[Tuple[int, bool]]:
         """Decodes up to the first fault. Returns its place, and whether more bytes may complete a character there."""
         at, end = span
         pair = Pair(UTF_8, self.encoding)
@@ -139,26 +132,42 @@ class TextCodec:
 
     # ---- encoding
 
-    def encode(self, session: Session, text: str, errors: str, at: int = 0) -> Steps[bytes]:
-        """Encodes the characters from `at` on."""
+    def encode_piece(self, session: Session, text: str, errors: str, is_end: bool) -> Steps[bytes]:
+        """Encodes the next piece of a text. A letter at its end with which a mark may have one code is held."""
+        whole = self.held + text
+        end = len(whole) if is_end or self.pairs is None else len(whole) - self.pairs.held(whole)
+        encoded = yield from self.encode(session, whole, errors, 0, end)
+        # An error handler may have gone on after that letter.
+        self.held = whole[max(end, self._end) :]
+        return encoded
+
+    def encode(self, session: Session, text: str, errors: str, at: int = 0, end: Optional[int] = None) -> Steps[bytes]:
+        """Encodes the characters from `at` on, up to `end` or the end."""
         pieces: List[bytes] = []
+        end = len(text) if end is None else end
+        # The server knows no code of two characters.
+        self._has_faults |= self.pairs is not None and self.pairs.pattern.search(text, at, end) is not None
         if not self._has_faults:
-            at = yield from self._encode_whole(session, text, at, errors == _STRICT, pieces)
-        if at == len(text):
-            return b"".join(pieces)
-        handling = EncodingHandling(self._library.form(self.encoding), self._error_name, errors)
-        while at < len(text):
-            cut = handling.cut(text, at, min(len(text), at + WINDOW))
+            at = yield from self._encode_whole(session, text, (at, end), errors == _STRICT, pieces)
+        if at < end:
+            handling = EncodingHandling(self._library.form(self.encoding), self._error_name, errors)
+        while at < end:
+            stop = min(end, at + WINDOW)
+            if self.pairs and stop < end:
+                stop -= self.pairs.held(text[at:stop])
+            cut = handling.cut(text, at, stop)
             self._has_faults = bool(cut.between)
             pieces.append((yield from self._encode_cut(session, cut)))
             at = cut.at
+        self._end = at
         return b"".join(pieces)
 
-    def _encode_whole(self, session: Session, text: str, at: int, is_careful: bool, pieces: List[bytes]) -> Steps[int]:
+    def _encode_whole(self, session: Session, text: str, span: Span, is_careful: bool, pieces: List[bytes]) -> Steps[int]:
         """Encodes up to the first character that the encoding lacks. Returns its place."""
+        at, end = span
         pair = Pair(self.encoding, UTF_8)
-        while at < len(text):
-            limit = len(text) if self.has_state else at + _PART
+        while at < end:
+            limit = end if self.has_state else min(end, at + _PART)
             data = text[at:limit].encode("utf-8", "surrogatepass")
             ran = yield from steps.run(session, pair, data, is_careful)
             pieces.append(ran.output)
@@ -186,10 +195,22 @@ class TextCodec:
     def _as_bytes(self, session: Session, texts: Sequence[Union[str, bytes]]) -> Steps[List[bytes]]:
         """Encodes what error handlers returned, from the bytes of each unit. The server is asked once for each unit."""
         known = self._library.known(self.encoding)
-        unlike = {text for text in texts if isinstance(text, str)}
-        yield from self._learn(session, unlike, known)
-        encoded = {text: known.bytes_of(text) or b"" for text in unlike}
+        parts = {text: self._parts(text) for text in texts if isinstance(text, str)}
+        yield from self._learn(session, {part for each in parts.values() for part in each if isinstance(part, str)}, known)
+        encoded = {
+            text: b"".join((known.bytes_of(part) or b"") if isinstance(part, str) else part for part in each) for text, each in parts.items()
+        }
         return [encoded[text] if isinstance(text, str) else text for text in texts]
+
+    def _parts(self, text: str) -> List[Union[str, bytes]]:
+        """Returns the parts of a text: those that the server encodes, and codes of two characters."""
+        if self.pairs is None:
+            return [text]
+        return [self.pairs.written.get(part, part) for part in self.pairs.parts(text)]
+
+    def finish(self) -> bytes:
+        """Returns what ends a text. The server closes each shifted sequence itself."""
+        return b""
 
     def known(self, errors: str) -> Known:
         """Returns the known characters of the encoding."""

@@ -260,7 +260,7 @@ class Faulty(ClientTest):
         self.assertLess(len(exchanges), 40)
 
     def test_unknown_names(self) -> None:
-        for name in ("iconvd-", "iconvd-nothing", "iconvd", "iconvd-ISO-2022-JP", "iconvd-utf-8//TRANSLIT", "iconvd-" + "x" * 5000, "iconvd-é"):
+        for name in ("iconvd-", "iconvd-nothing", "iconvd", "iconvd-INIS", "iconvd-utf-8//TRANSLIT", "iconvd-" + "x" * 5000, "iconvd-é"):
             with self.assertRaises(LookupError, msg=name):
                 codecs.lookup(name)
 

@@ -7,7 +7,7 @@ import random
 import unittest
 from typing import Callable, List, Tuple
 
-from meter import every_encoding, metered
+from meter import OF_EACH_SET, every_encoding, metered, use_each_set
 from support import SERVER
 
 import iconvd
@@ -40,6 +40,8 @@ def repeated(data: bytes) -> bytes:
 def texts(client: iconvd.Client, name: str) -> List[Tuple[str, bytes]]:
     """Random bytes, text of other encodings, text of this one with each hundredth byte damaged, and clean text with a fault."""
     good = repeated(client.encode(SCRIPTS, name, "ignore") or b"\0")
+    # The charmap for reading may be another one.
+    client.decode(good[:8], name, "ignore")
     damaged = bytearray(good)
     for at in range(0, len(damaged), 100):
         damaged[at] = (damaged[at] * 7 + at // 100 + 0x80) & 0xFF
@@ -49,7 +51,26 @@ def texts(client: iconvd.Client, name: str) -> List[Tuple[str, bytes]]:
         ("French in CP1252", repeated("Déjà l’été où l’on goûte “çà”. ".encode("cp1252"))),
         ("damaged", bytes(damaged)),
         ("a fault at the beginning", b"\xff" + good[:-1]),
+        ("characters above U+FFFF", repeated(client.encode("a\U0001f600", name, "ignore") or b"\0")),
     ]
+
+
+PAIRS = (
+    ("EUC-KR", "KOI8-R"),
+    ("UTF-8", "EUC-JP"),
+    ("TIS-620", "CP874"),
+    ("UTF-16", "UTF-7"),
+    ("CP1251", "UTF-16"),
+    ("UTF-8", "GB18030"),
+    ("UTF-16", "GB18030"),
+    ("GB18030", "KOI8-R"),
+    ("GB18030", "UTF-16"),
+    ("ISO-2022-JP-2", "EUC-KR"),
+    ("EUC-JP", "CP50221"),
+    ("EUC-JIS-2004", "BIG5-HKSCS"),
+    ("UTF-8", "SHIFT_JISX0213"),
+    ("SHIFT_JIS-2004", "UTF-16"),
+)
 
 
 class Cost(unittest.TestCase):
@@ -70,6 +91,7 @@ class Cost(unittest.TestCase):
     def test_decoding(self) -> None:
         policies = "replace ignore test.marked backslashreplace test.skipping replace surrogateescape".split()
         for number, name in enumerate(every_encoding()):
+            use_each_set(self.client, name)
             for turn, (kind, data) in enumerate(texts(self.client, name)):
                 errors = policies[(number + turn) % len(policies)]
                 self.measured(len(data), (name, kind, errors), lambda: self.decoded(data, name, errors))
@@ -85,6 +107,7 @@ class Cost(unittest.TestCase):
         chance = random.Random(5)
         strange = "".join(chr(chance.choice((chance.randrange(0x250), chance.randrange(0xD800), 0xDC80))) for _ in range(15_000))
         for number, name in enumerate(every_encoding()):
+            use_each_set(self.client, name)
             for turn, text in enumerate((SCRIPTS * 400, strange)):
                 errors = policies[(number + turn) % len(policies)]
                 size = len(text.encode("utf-8", "surrogatepass"))
@@ -99,7 +122,11 @@ class Cost(unittest.TestCase):
             self.assertIn(errors, ("backslashreplace", "namereplace", "xmlcharrefreplace"), name)
 
     def test_converting(self) -> None:
-        for source, target in (("EUC-KR", "KOI8-R"), ("UTF-8", "EUC-JP"), ("TIS-620", "CP874"), ("UTF-16", "UTF-7"), ("CP1251", "UTF-16")):
+        for source, target in PAIRS:
+            for end in (source, target):
+                use_each_set(self.client, end)
+            # The charmaps of encodings with codes of two characters are needed from and to UTF-8.
+            self.client.encode(self.client.decode(b"a\0", source, "replace"), target, "replace")
             for kind, data in texts(self.client, source):
                 self.client.convert(b"", to=target, source=source)
                 label = (source, target, kind)
@@ -122,7 +149,8 @@ class Cost(unittest.TestCase):
         before = iconvd.default()
         iconvd.use(self.client)
         self.addCleanup(iconvd.use, before)
-        for name in ("EUC-KR", "UTF-8", "GB18030", "UTF-16LE", "CP1253"):
+        for name in ("EUC-KR", "UTF-8", "GB18030", "UTF-16LE", "CP1253", "ISO-2022-JP-2", "HZ", "EUC-JIS-2004"):
+            use_each_set(self.client, name)
             whole = dict(texts(self.client, name))
             for kind, data in (("damaged", whole["damaged"]), ("random", whole["random"][:8000])):
                 ways: List[Callable[[bytes], object]] = [
@@ -140,7 +168,8 @@ class Cost(unittest.TestCase):
 
     def test_a_handler_that_skips_a_byte(self) -> None:
         codecs.register_error("test.byte", lambda error: ("?", getattr(error, "start") + 1))
-        for name in ("EUC-KR", "UTF-8", "GB18030", "UTF-16LE", "CP1253"):
+        for name in ("EUC-KR", "UTF-8", "GB18030", "UTF-16LE", "CP1253", "ISO-2022-KR", "SHIFT_JISX0213"):
+            use_each_set(self.client, name)
             for kind, data in texts(self.client, name):
                 self.measured(len(data), (name, kind), lambda: self.client.decode(data, name, "test.byte"))
 
@@ -164,6 +193,21 @@ class Cost(unittest.TestCase):
             size = len(text.encode())
             self.measured(size, (name, "ignore"), lambda: self.client.encode(text, name, "ignore"))
             self.assertEqual(self.client.decode(self.client.encode(text, name, "ignore"), name), good * (SIZE // 10_000))
+
+    def test_texts_that_change_sets_often(self) -> None:
+        """Each character in another set than the one before, and escapes and shifts without characters."""
+        for name in ("ISO-2022-JP-2", "ISO-2022-JP-EXT", "ISO-2022-KR", "HZ", "CP50221"):
+            use_each_set(self.client, name)
+            text = (OF_EACH_SET + "a\n") * 8000
+            size = len(text.encode())
+            self.measured(size, name, lambda: self.client.encode(text, name, "ignore"))
+            data = self.client.encode(text, name, "ignore")
+            self.measured(len(data), name, lambda: self.client.decode(data, name))
+            self.assertEqual(self.client.encode(self.client.decode(data, name), name), data)
+            for kind in (b"\x1b$B\x1b(B", b"\x1b$B0!\xff", b"\x1b", b"\x1b(", b"\x0e\x0f", b"~{~}", b"~{0!~", b"\x1bN", b"\n\x1b$)C\x0e0!"):
+                hostile = repeated(kind)
+                for errors in ("replace", "ignore", "test.marked"):
+                    self.measured(len(hostile), (name, kind, errors), lambda: self.decoded(hostile, name, errors))
 
     def test_surrogateescape(self) -> None:
         for name in ("UTF-8", "US-ASCII", "CP1253", "EUC-KR"):

@@ -8,11 +8,11 @@ import random
 import unittest
 from typing import Callable, List, Tuple
 
-from meter import every_encoding
+from meter import every_form
 from support import ClientTest
 
 import iconvd
-from iconvd import frames, steps, text
+from iconvd import frames, marks, steps, text
 from iconvd.forms import Found
 from iconvd.frames import Status
 from iconvd.names import Encoding
@@ -23,7 +23,7 @@ LONGEST = 8
 
 
 def ordered(client: iconvd.Client, name: str) -> Encoding:
-    return text.without_mark(client.library.find(name), b"")[0]
+    return marks.without_mark(client.library.find(name), b"")[0]
 
 
 def statuses(session: Session, pair: Pair, pieces: List[bytes]) -> Steps[List[frames.Converted]]:
@@ -57,7 +57,7 @@ class Agreement(ClientTest):
         return found
 
     def test_decoding(self) -> None:
-        for name in every_encoding():
+        for name in every_form():
             encoding = ordered(self.client, name)
             if encoding.name == "UTF-7":
                 continue  # its descriptor has a state; see test_shifted.py
@@ -75,7 +75,7 @@ class Agreement(ClientTest):
         """All faults of a piece are found at once for Python's own handlers, and one by one for those of a program."""
         for kind in ("replace", "ignore", "backslashreplace"):
             codecs.register_error("test." + kind, functools.partial(handled, codecs.lookup_error(kind)))
-        for name in every_encoding():
+        for name in every_form():
             chance = random.Random(name)
             kind = chance.choice(("replace", "replace", "ignore", "backslashreplace"))
             for data in self.samples(name):
@@ -92,7 +92,7 @@ class Agreement(ClientTest):
                 self.assertEqual(text, wanted, (name, kind, size, piece))
 
     def test_encoding(self) -> None:
-        for name in every_encoding():
+        for name in every_form():
             encoding = ordered(self.client, name)
             if encoding.name == "UTF-7":
                 continue

@@ -50,7 +50,7 @@ HOSTILE_CHARSETS = [
 
 
 #: Charsets that the system has a charmap of, which the service refuses.
-REFUSED_CHARSETS = ["INIS", "ARABIC7", "ISO_2033-1983", "JIS_C6220-1969-jp", "EBCDIC-PT"]
+REFUSED_CHARSETS = ["INIS", "ARABIC7", "ISO_2033-1983", "JIS_C6220-1969-jp", "ISO_5428"]
 
 
 def part_text(client: iconvd.Client, data: bytes, charset: str) -> str:

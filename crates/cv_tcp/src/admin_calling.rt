@@ -3,7 +3,7 @@ ghost use Rattle.std.specs.Prelude.{◌≡◌, ℕ, List, ◌++◌, IfOk, OnOk, 
 ghost use Rattle.cv_tcp.specs.Admin.{Adds};
 ghost use Rattle.cv_tcp.specs.Admin as spec;
 
-use crate::calling::connect;
+use crate::connecting::connect;
 use crate::retrying::{Retrying, TimeFrom, begin};
 use crate::timed::Timed;
 use cv_admin::{Page, read_answer, request_for};
@@ -95,8 +95,8 @@ pub(crate) fn show_answer(answer: &[u8], text: &mut Vec<u8>) -> Result<bool, Adm
 }
 
 /// Asks the server at an admin address for a page, appends the page's text to `text`, and returns whether the status is
-/// 200 or 202. Reads and writes end `timeout` seconds after the call begins. Connecting over TCP may take `timeout`
-/// seconds for each address that the host name has. A fault leaves `text` as it is.
+/// 200 or 202. Reads and writes end `timeout` seconds after the call begins. Connecting may take `timeout` seconds, for
+/// each address that a host name has. A fault leaves `text` as it is.
 pub fn call_admin<R>(
     rt: &R,
     alloc: Global,

@@ -7,6 +7,7 @@ use std::fmt::{self, Display, Formatter};
 use std::fs::Files;
 use std::io::{self, ErrorKind};
 use std::net::{Net, SocketAddr, TcpListener, TcpStream};
+use std::time::Clock;
 
 /// Shows the address that was given for the admin pages.
 #[derive(Clone, Copy, Debug)]
@@ -60,7 +61,7 @@ where
 }
 
 /// Listens at a Unix socket.
-fn open_unix<R: Net + Files>(rt: &R, alloc: Global, path: &str) -> io::Result<AdminInlet> {
+fn open_unix<R: Net + Files + Clock>(rt: &R, alloc: Global, path: &str) -> io::Result<AdminInlet> {
     let place = AdminPlace::Unix(String::from_str(alloc, path)?);
     let listener = socket_file::bind(rt, path)?;
     let made = socket_file::id_of(rt, path);
@@ -77,7 +78,7 @@ impl AdminInlet {
     /// Listens at an address. The socket file that a dead server left is replaced.
     pub(crate) fn open<R>(rt: &R, alloc: Global, address: &str) -> io::Result<AdminInlet>
     where
-        R: Net<Listener = TcpListener, Stream = TcpStream> + Files,
+        R: Net<Listener = TcpListener, Stream = TcpStream> + Files + Clock,
     {
         match Address::of(address) {
             Address::Tcp(address) => open_tcp(rt, address),

@@ -7,6 +7,7 @@ mod admin;
 mod admin_calling;
 mod admin_inlet;
 mod calling;
+mod connecting;
 mod connection;
 mod counted;
 mod counters;

@@ -77,7 +77,7 @@ impl<'a, R, T> Retrying<'a, R, T> {
 }
 
 /// Whether a signal ended a call.
-fn is_interrupted(failure: &io::Error) -> bool
+pub(crate) fn is_interrupted(failure: &io::Error) -> bool
     ensures { result ≡ false → error_kind failure.now ≢ ErrorKind.Interrupted }
 {
     failure.kind() == ErrorKind::Interrupted

@@ -1,10 +1,12 @@
 //! The file of a Unix socket.
+use crate::connecting::connect_unix;
 use std::fmt::{self, Display, Formatter};
 use std::fs::{self, Files};
 use std::io::{self, ErrorKind};
 use std::net::Net;
 use std::os::unix::fs::{FileTypeExt, MetadataExt};
-use std::os::unix::net::{UnixListener, UnixStream};
+use std::os::unix::net::UnixListener;
+use std::time::{Clock, Duration};
 
 /// Shows a path as the address of a socket.
 #[derive(Clone, Copy, Debug)]
@@ -17,14 +19,17 @@ impl Display for SocketAt<'_> {
     }
 }
 
+/// How many seconds it takes to know that a server listens whose queue of connections is full.
+const WAIT: u64 = 1;
+
 /// Whether the path names the socket of a dead server: a socket file at which no process listens.
-fn is_stale<R: Files + Net>(rt: &R, path: &str) -> bool {
+fn is_stale<R: Files + Net + Clock>(rt: &R, path: &str) -> bool {
     let is_socket = match fs::symlink_metadata(rt, path) {
         Ok(metadata) => metadata.file_type().is_socket(),
         Err(_) => false,
     };
     is_socket
-        && match UnixStream::connect(rt, path) {
+        && match connect_unix(rt, path, Duration::from_secs(WAIT)) {
             Ok(_) => false,
             Err(e) => e.kind() == ErrorKind::ConnectionRefused,
         }
@@ -32,7 +37,7 @@ fn is_stale<R: Files + Net>(rt: &R, path: &str) -> bool {
 
 /// Listens at a path. It replaces the socket file that a dead server left; any other file there is a fault. The
 /// process's umask decides who may connect.
-pub(crate) fn bind<R: Files + Net>(rt: &R, path: &str) -> io::Result<UnixListener> {
+pub(crate) fn bind<R: Files + Net + Clock>(rt: &R, path: &str) -> io::Result<UnixListener> {
     if path.is_empty() {
         // The system would choose a name that no client knows.
         return Err(io::Error::from(ErrorKind::InvalidInput));

@@ -1,9 +1,9 @@
 /* iconvd_open(), iconvd_convert() and their companions. */
 #include "composed.h"
 
-/* A server reads 65,536 bytes at a time: a request of one read is answered at once. From WORTH_CUTTING on a text goes in PARTS, so that
-   the service converts one while the next is under way; more of them gain nothing. What is computed here (computed.c) goes in chunks whose
-   output has room in one request. */
+/* A server reads 65,536 bytes at a time: a request of one read is answered at once. From WORTH_CUTTING on a text between the service's own
+   encodings goes in PARTS, so that the service converts one while the next is under way; more of them gain nothing, and by a charmap two gain
+   nothing. What is computed here (computed.c) goes in chunks whose output has room in one request. */
 enum { ONE_READ = 65536 - ICONVD_CONV_HEAD, CHUNK = 262144, COMPUTED_CHUNK = 131072, WORTH_CUTTING = 32768, PARTS = 2 };
 
 iconvd_status convert_piece(struct iconvd_cd *cd, struct work *work) {
@@ -23,10 +23,16 @@ static size_t most_output(const struct pair *pair, size_t length) {
     return (length / encoding_least_bytes(pair->from) + 1) * most;
 }
 
+/* How long the pieces are into which a long input is cut. */
+static size_t piece_length(const struct pair *pair, size_t in_left) {
+    bool by_charmap = pair->from->kind == BUILTIN_COUNT || pair->to->kind == BUILTIN_COUNT;
+    return by_charmap || in_left > 2 * ONE_READ ? ONE_READ : in_left / PARTS + 1;
+}
+
 /* Cuts a long input into pieces that go under way together. 0: it cannot be cut, or the room may not be enough for two. */
 static size_t cut_into_batch(const struct iconvd_cd *cd, const struct progress *progress, struct batch *batch) {
     size_t in_left = progress->in_left, out_left = progress->out_left;
-    size_t piece = in_left > 2 * ONE_READ ? ONE_READ : in_left / PARTS + 1;
+    size_t piece = piece_length(&cd->pair, in_left);
     size_t most = cd->ahead / piece < BATCH_PIECES ? cd->ahead / piece : BATCH_PIECES;
     const char *in = progress->in;
     batch->number = 0;

@@ -43,12 +43,12 @@ pub below_written : (limit c : ℕ) → c < limit → written (byte_writes limit
 below_written limit c h = rw (lt-ltb c limit h) refl
 
 -- no character before, nor one more, is greater than the bitwise OR of all
-pub joined_more : (characters : List ℕ) (k joined c : ℕ) → ((j : ℕ) → j < k → get_or characters j 0 ≤ joined) → c ≡ get_or characters k c → k < length characters
-    → (j : ℕ) → j < k + 1 → get_or characters j 0 ≤ bit_or joined c
-joined_more characters k joined c p e l j h = elim (cases_lt j k) [
-  | inl m ↦ omega (arith, p j m, le_or_l joined c)
+pub any_bits_more : (characters : List ℕ) (k bits c : ℕ) → ((j : ℕ) → j < k → get_or characters j 0 ≤ bits) → c ≡ get_or characters k c → k < length characters
+    → (j : ℕ) → j < k + 1 → get_or characters j 0 ≤ bit_or bits c
+any_bits_more characters k bits c p e l j h = elim (cases_lt j k) [
+  | inl m ↦ omega (arith, p j m, le_or_l bits c)
   | inr m ↦ (
       let is : j ≡ k = omega arith in
       let there : c ≡ get_or characters k 0 = get_or_read characters k c l e 0 in
-      rw is (omega (arith, there, le_or_r joined c)))
+      rw is (omega (arith, there, le_or_r bits c)))
 ]

@@ -7,6 +7,7 @@ use Rattle.cv_base.specs.SingleBytes.{byte_reads, byte_writes}
 use Rattle.cv_base.specs.ReadBack.{ReadsBack}
 use Rattle.cv_base.specs.declared.state.ReadState.{ReadState}
 use Rattle.cv_base.specs.declared.state.ReadState.TheVariants as read
+use Rattle.cv_base.specs.declared.state.WriteState.{WriteState}
 use Rattle.cv_base.specs.declared.state.WriteState.TheVariants as write
 use Rattle.cv_base.proofs.ReadBacks.{IsReadFrom, EachReadsBack, one_item, same_written, no_closing, texts_back}
 
@@ -26,6 +27,10 @@ uses_byte limit s (x ∷ []) i p = let e : i.used ≡ 1 = ap (λ t. t.used) p.1 
 -- the encodings of one byte are readable
 pub byte_readable : (limit : ℕ) → IsReadable (byte_reads limit)
 byte_readable limit = record { one_item = one_byte limit; uses = uses_byte limit }
+
+-- a character below the limit is written as its byte
+pub byte_written : (limit c : ℕ) (t : WriteState) → c < limit → byte_writes limit t c ≡ Some (c ∷ [], write.Start)
+byte_written limit c t l = rw (lt-ltb c limit l) refl
 
 byte_back : (limit : ℕ) → EachReadsBack (byte_reads limit) (byte_writes limit) (λ t s. Unit {0})
 byte_back limit t s c bytes next m scalar e = elim (cases_lt c limit) [

@@ -85,11 +85,11 @@ fn are_below(limit: u32, characters: &[Scalar]) -> bool
     ensures { IsTrue result → (k : ℕ) → k < length characters.now
         → slice_index characters.now k < limit }
 {
-    let mut joined = 0;
+    let mut any_bits = 0;
     for k in 0..characters.len() {
-        joined |= characters[k].value();
+        any_bits |= characters[k].value();
     }
-    joined < limit
+    any_bits < limit
 }
 
 /// Writes characters that are all below a limit. None is tested, so that LLVM vectorizes the loop.

@@ -1,130 +1,16 @@
 //! ISO-8859-1.
-ghost use Rattle.std.specs.Prelude.{[]};
-ghost use Rattle.cv_base.specs.SingleBytes.{byte_reads, byte_writes};
 
-use crate::ascii_form::AsciiForm;
-use crate::block::{ReadBlock, WrittenBlock};
-use crate::block_codec::BlockCodec;
-use crate::bytes::{read_bytes, write_bytes};
-use crate::codec::Codec;
-use crate::item::Item;
-use crate::piece::Piece;
-use crate::place::{Put, write_slice};
-use crate::placing::write_each;
-use crate::policy::Policy;
-use crate::scalar::Scalar;
-use crate::state::{ReadState, WriteState};
+use crate::single_byte::SingleByte;
 
 /// ISO-8859-1 (ISO/IEC 8859-1): each byte is the character with its value.
 #[derive(Clone, Copy, Debug, PartialEq, Eq)]
 pub struct Latin1;
 
-impl Codec for Latin1 {
-    ghost reads = { λ _. byte_reads 256 };
+impl SingleByte for Latin1 {
+    ghost LIMIT = { 256 };
 
-    ghost writes = { λ _. byte_writes 256 };
-
-    ghost closes = { λ _ _. [] };
-
-    #[tactic(auto, using(crate::proofs::SingleByteLaws::byte_readable))]
-    fn assert_valid(&self) {}
-
-    #[inline]
-    #[tactic(auto, using(crate::proofs::SingleByteItems::byte_stands, crate::proofs::SingleByteItems::byte_ill))]
-    fn item(&self, _state: ReadState, input: &[u8]) -> Item {
-        match input {
-            [] => Item::End,
-            [b, ..] => Item::Char {
-                c: Scalar::known(*b as u32),
-                n: 1,
-                next: ReadState::Start,
-            },
-        }
-    }
-
-    #[inline]
-    fn put_at(&self, _state: WriteState, c: Scalar, out: &mut [u8], at: usize) -> Put {
-        let value = c.value();
-        if value >= 256 {
-            return Put::Lacks;
-        }
-        if out.len() - at < 1 {
-            return Put::NoRoom;
-        }
-        write_slice(out, at, [value as u8]);
-        Put::Wrote {
-            n: 1,
-            next: WriteState::Start,
-        }
-    }
-
-    fn close(&self, _state: WriteState) -> Piece {
-        Piece::new()
-    }
-
-    #[tactic(auto, using(crate::proofs::SingleByteItems::byte_writes_one))]
-    fn most_bytes(&self) -> usize {
-        1
-    }
-
-    #[inline]
-    fn reads_ascii(&self, state: ReadState) -> Option<AsciiForm> {
-        (state == ReadState::Start).then_some(AsciiForm::Byte)
-    }
-
-    #[inline]
-    fn writes_ascii(&self, state: WriteState) -> Option<AsciiForm> {
-        (state == WriteState::Start).then_some(AsciiForm::Byte)
-    }
-}
-
-impl BlockCodec for Latin1 {
-    #[tactic(auto, using(crate::proofs::BlockLaws::nothing_read))]
-    fn read_block(&self, state: ReadState, input: &[u8], buffer: &mut [Scalar]) -> ReadBlock {
-        match state {
-            ReadState::Start => read_bytes(256, input, buffer),
-            _ => ReadBlock::nothing(state),
-        }
-    }
+    const LIMIT: u32 = 256;
 
     #[inline(always)]
-    fn write_block(
-        &self,
-        policy: Policy,
-        state: WriteState,
-        characters: &[Scalar],
-        out: &mut [u8],
-        at: usize,
-    ) -> Option<WrittenBlock> {
-        match (state, policy) {
-            (WriteState::Start, _) => write_bytes(256, policy, characters, out, at),
-            (_, Policy::Substitute) => Some(write_each(self, state, characters, out, at)),
-            (_, Policy::Strict) => None,
-        }
-    }
-
-    #[inline]
-    #[tactic(auto, using(crate::proofs::UnchangedLaws::none_unchanged, crate::proofs::UnchangedLaws::bytes_unchanged))]
-    fn unchanged(&self, reading: ReadState, writing: WriteState, input: &[u8]) -> usize {
-        match (reading, writing) {
-            (ReadState::Start, WriteState::Start) => input.len(),
-            _ => 0,
-        }
-    }
-
-    #[inline]
-    fn reads_latin(&self, state: ReadState) -> Option<AsciiForm> {
-        match state {
-            ReadState::Start => Some(AsciiForm::Byte),
-            _ => None,
-        }
-    }
-
-    #[inline]
-    fn writes_latin(&self, state: WriteState) -> Option<AsciiForm> {
-        match state {
-            WriteState::Start => Some(AsciiForm::Byte),
-            _ => None,
-        }
-    }
+    fn assert_limit() {}
 }

@@ -18,6 +18,7 @@ pub mod place;
 mod placing;
 mod policy;
 mod scalar;
+mod single_byte;
 mod state;
 mod substituting;
 
@@ -36,4 +37,5 @@ pub use place::Put;
 pub use placing::{Placed, place_character, write_each};
 pub use policy::Policy;
 pub use scalar::Scalar;
+pub use single_byte::SingleByte;
 pub use state::{Bits, ReadState, WriteState};

@@ -74,12 +74,12 @@ pub below_weaker : (limit larger : ℕ) (form : AsciiForm) (text : List ℕ) (at
 below_weaker limit larger form text at h p = record { c = p.c; small = omega (arith, p.small); stands = p.stands }
 
 -- no unit from an index on, nor the one after them, is greater than the bitwise OR of them all
-pub joined_more : (form : AsciiForm) (text : List ℕ) (at n place joined u : ℕ) → place ≡ at + unit_size form * n → ((k : ℕ) → k < n → IsBelowAt (joined + 1) form text (at + unit_size form * k)) → IsUnitAt form text place u
-    → (k : ℕ) → k < n + 1 → IsBelowAt (bit_or joined u + 1) form text (at + unit_size form * k)
-joined_more form text at n place joined u e p q =
-    below_more (bit_or joined u + 1) form text at n place e
-    (λ k h. below_weaker (joined + 1) (bit_or joined u + 1) form text (at + unit_size form * k) (omega (arith, le_or_l joined u)) (p k h))
-    (below_at (bit_or joined u + 1) form text place u q (omega (arith, le_or_r joined u)))
+pub any_bits_more : (form : AsciiForm) (text : List ℕ) (at n place bits u : ℕ) → place ≡ at + unit_size form * n → ((k : ℕ) → k < n → IsBelowAt (bits + 1) form text (at + unit_size form * k)) → IsUnitAt form text place u
+    → (k : ℕ) → k < n + 1 → IsBelowAt (bit_or bits u + 1) form text (at + unit_size form * k)
+any_bits_more form text at n place bits u e p q =
+    below_more (bit_or bits u + 1) form text at n place e
+    (λ k h. below_weaker (bits + 1) (bit_or bits u + 1) form text (at + unit_size form * k) (omega (arith, le_or_l bits u)) (p k h))
+    (below_at (bit_or bits u + 1) form text place u q (omega (arith, le_or_r bits u)))
 
 -- a run, and one unit of a small character after it
 pub run_more : (limit : ℕ) (form : AsciiForm) (text : List ℕ) (n place : ℕ) → place ≡ unit_size form * n → IsRunBelow limit form text n → IsBelowAt limit form text place → IsRunBelow limit form text (n + 1)

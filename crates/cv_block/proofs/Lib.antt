@@ -1,5 +1,5 @@
-pub mod SpelledRuns
-pub mod SpelledBlocks
+pub mod FormRuns
+pub mod FormBlocks
 pub mod FrontOfAWord
 pub mod WordRuns
 pub mod UnitBytes
@@ -7,5 +7,5 @@ pub mod UnitRuns
 pub mod AsciiRuns
 pub mod CopiedBytes
 pub mod SixteenBelow
-pub mod SpelledFronts
+pub mod FormPrefixes
 pub mod Lanes

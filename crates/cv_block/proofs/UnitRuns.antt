@@ -10,8 +10,8 @@ use Rattle.cv_base.specs.Items.{Begins}
 use Rattle.cv_base.specs.Scalars.{AreScalars}
 use Rattle.cv_base.specs.Units.{unit_of, unit_size}
 use Rattle.cv_base.specs.declared.ascii_form.AsciiForm.{AsciiForm}
-use Rattle.cv_block.specs.Spelled.{BytesOf, IsReadSpelled, IsWrittenSpelled}
-use Rattle.cv_block.specs.Units.{AreUnits, AreScalarsBelow, AreSingle, SpellsUnits}
+use Rattle.cv_block.specs.StatelessForms.{BytesOf, IsReadForm, IsWrittenForm}
+use Rattle.cv_block.specs.Units.{AreUnits, AreScalarsBelow, AreSingle, HasUnits}
 use Rattle.cv_block.proofs.UnitBytes.{length-unit_of}
 
 -- the bytes of characters and of one more
@@ -24,7 +24,7 @@ pub record Begun (bytes_of : BytesOf) (form : AsciiForm) (text numbers : List �
   pub uses : length (flat_map bytes_of (take n numbers)) ≡ unit_size form * n
 
 -- units at the start of a text are the bytes of their characters
-pub begun : (bytes_of : BytesOf) (form : AsciiForm) → SpellsUnits form bytes_of → (text numbers : List ℕ) (n : ℕ) → n ≤ length numbers → AreUnits form text numbers n → Begun bytes_of form text numbers n
+pub begun : (bytes_of : BytesOf) (form : AsciiForm) → HasUnits form bytes_of → (text numbers : List ℕ) (n : ℕ) → n ≤ length numbers → AreUnits form text numbers n → Begun bytes_of form text numbers n
 begun bytes_of form spells text numbers zero h units = record { begins = tt; uses = sym (mul-zero (unit_size form)) }
 begun bytes_of form spells text numbers (suc n) h units =
     let before = begun bytes_of form spells text numbers n (omega arith) (λ k l. units k (omega arith)) in
@@ -46,8 +46,8 @@ all_scalars [] h = tt
 all_scalars (c ∷ numbers) h = (h 0 (omega arith), all_scalars numbers (λ k l. h (suc k) (omega arith)))
 
 -- many units are read
-pub all_read : (bytes_of : BytesOf) (form : AsciiForm) → SpellsUnits form bytes_of → (text : List ℕ) (at : ℕ) (before : List ℕ) (n used : ℕ) (numbers after : List ℕ) → length numbers ≡ 16 → AreUnits form (take (length text - at) (drop at text)) numbers 16 → AreScalarsBelow numbers 16 → n + 16 ≤ length before
-    → used ≡ unit_size form * 16 → take (n + 16) after ≡ take n before ++ numbers → length after ≡ length before → IsReadSpelled bytes_of text at before n (record { n = 16; used = used }) after
+pub all_read : (bytes_of : BytesOf) (form : AsciiForm) → HasUnits form bytes_of → (text : List ℕ) (at : ℕ) (before : List ℕ) (n used : ℕ) (numbers after : List ℕ) → length numbers ≡ 16 → AreUnits form (take (length text - at) (drop at text)) numbers 16 → AreScalarsBelow numbers 16 → n + 16 ≤ length before
+    → used ≡ unit_size form * 16 → take (n + 16) after ≡ take n before ++ numbers → length after ≡ length before → IsReadForm bytes_of text at before n (record { n = 16; used = used }) after
 all_read bytes_of form spells text at before n used numbers after long units scalars room uses stand same =
     let b = begun bytes_of form spells _ numbers 16 (omega arith) units in
     let all : take 16 numbers ≡ numbers = take_all 16 numbers (omega arith) in
@@ -75,7 +75,7 @@ length-units : (form : AsciiForm) (values : List ℕ) → length (flat_map (unit
 length-units form [] = sym (mul-zero (unit_size form))
 length-units form (c ∷ values) = omega (arith, length-append (unit_of form c) (flat_map (unit_of form) values), length-unit_of form c, length-units form values, mul-suc (unit_size form) (length values))
 
-same_bytes : (bytes_of : BytesOf) (form : AsciiForm) → SpellsUnits form bytes_of → (values : List ℕ) → AreSingle form values (length values) → flat_map (unit_of form) values ≡ flat_map bytes_of values
+same_bytes : (bytes_of : BytesOf) (form : AsciiForm) → HasUnits form bytes_of → (values : List ℕ) → AreSingle form values (length values) → flat_map (unit_of form) values ≡ flat_map bytes_of values
 same_bytes bytes_of form spells [] single = refl
 same_bytes bytes_of form spells (c ∷ values) single =
     let rest = same_bytes bytes_of form spells values (λ k l. single (suc k) (omega arith)) in
@@ -83,8 +83,8 @@ same_bytes bytes_of form spells (c ∷ values) single =
     rw (first, rest) refl
 
 -- many units are written
-pub all_written : (bytes_of : BytesOf) (form : AsciiForm) → SpellsUnits form bytes_of → (characters : List ℕ) (n : ℕ) (before : List ℕ) (at used : ℕ) (values after : List ℕ) → n + 16 ≤ length characters → values ≡ take 16 (drop n characters) → AreSingle form values 16 → used ≡ unit_size form * 16 → at + used ≤ length before
-    → take (at + unit_size form * 16) after ≡ take at before ++ flat_map (unit_of form) values → length after ≡ length before → IsWrittenSpelled bytes_of characters n before at (record { n = 16; used = used }) after
+pub all_written : (bytes_of : BytesOf) (form : AsciiForm) → HasUnits form bytes_of → (characters : List ℕ) (n : ℕ) (before : List ℕ) (at used : ℕ) (values after : List ℕ) → n + 16 ≤ length characters → values ≡ take 16 (drop n characters) → AreSingle form values 16 → used ≡ unit_size form * 16 → at + used ≤ length before
+    → take (at + unit_size form * 16) after ≡ take at before ++ flat_map (unit_of form) values → length after ≡ length before → IsWrittenForm bytes_of characters n before at (record { n = 16; used = used }) after
 all_written bytes_of form spells characters n before at used values after within is single uses fits stand size =
     let long : length values ≡ 16 = ap length is ∙ simp (length-take, length-drop) (omega arith) in
     let same : flat_map (unit_of form) values ≡ flat_map bytes_of values = same_bytes bytes_of form spells values (rw long single) in

@@ -3,7 +3,7 @@ use Rattle.std.proofs.Common.{◌≡◌, ℕ, ◌+◌, ◌<◌, ◌≤◌, List,
 use Rattle.std.specs.List.{flat_map}
 use borrow.Rule.Slice.PartMut.{put_mid}
 use Rattle.cv_base.specs.Items.{Begins}
-use Rattle.cv_block.specs.Spelled.{BytesOf}
+use Rattle.cv_block.specs.StatelessForms.{BytesOf}
 use Rattle.std.proofs.lemmas.List.{take_more}
 use Rattle.cv_block.proofs.UnitRuns.{flat_map-more}
 use Rattle.cv_block.proofs.FrontOfAWord.{front_stands}

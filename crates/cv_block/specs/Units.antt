@@ -4,7 +4,7 @@ use Rattle.cv_base.specs.Items.{Begins}
 use Rattle.cv_base.specs.Scalars.{IsScalar}
 use Rattle.cv_base.specs.Units.{unit_of, unit_size, unit_limit}
 use Rattle.cv_base.specs.declared.ascii_form.AsciiForm.{AsciiForm}
-use Rattle.cv_block.specs.Spelled.{BytesOf}
+use Rattle.cv_block.specs.StatelessForms.{BytesOf}
 
 -- The unit of a number is at index `at` of a text.
 pub record IsUnitAt (form : AsciiForm) (text : List ℕ) (at number : ℕ) : Type 0 where
@@ -24,5 +24,5 @@ abbrev pub AreSingle : AsciiForm → List ℕ → ℕ → Type 0
 AreSingle form numbers n = (k : ℕ) → k < n → get_or numbers k 0 < unit_limit form
 
 -- A character of one unit has the bytes of that unit.
-abbrev pub SpellsUnits : AsciiForm → BytesOf → Type 0
-SpellsUnits form bytes_of = (c : ℕ) → c < unit_limit form → bytes_of c ≡ unit_of form c
+abbrev pub HasUnits : AsciiForm → BytesOf → Type 0
+HasUnits form bytes_of = (c : ℕ) → c < unit_limit form → bytes_of c ≡ unit_of form c

@@ -1,12 +1,12 @@
-//! Runs of small characters: units of one form, written as units of another.
+//! Runs of characters below a limit: units of one form, written as units of another.
 ghost use Rattle.std.specs.Prelude.{◌≡◌, ◌≤◌, ◌+◌, ◌*◌, ◌++◌, length, take, drop};
 ghost use Rattle.cv_base.specs.Units.{unit_size};
 ghost use Rattle.cv_base.specs.declared.ascii_form.AsciiForm.{AsciiForm};
 ghost use Rattle.cv_block.specs.AsciiRuns.{IsRunBelow, characters_in, units_of};
 
 use crate::byte_order::{BigEndian, LittleEndian};
-use crate::repertoire::Repertoire;
-use crate::small_units::{BLOCK, form_may_run, is_below};
+use crate::code_limit::CodeLimit;
+use crate::limited_units::{BLOCK, form_may_run, is_below};
 use crate::unit::{Byte, Four, Two, Unit};
 use crate::unit_blocks::{character, take_all_blocks};
 use cv_base::{AsciiForm, Endian};
@@ -14,7 +14,7 @@ use cv_base::{AsciiForm, Endian};
 /// Writes the units of a run at the start of a text in another form one by one, `most` at most, and returns how many it
 /// wrote.
 #[inline(always)]
-fn take_few<R: Repertoire, From: Unit, To: Unit>(
+fn take_few<R: CodeLimit, From: Unit, To: Unit>(
     rest: &[u8],
     most: usize,
     out: &mut [u8],
@@ -55,7 +55,7 @@ pub fn unit_bytes(form: AsciiForm) -> usize
 /// Writes the run at the start of a text in another form, as far as there is room, and returns how many units it wrote.
 /// It may write none if the run is shorter than a block and the text is not.
 #[inline(always)]
-fn take_in<R: Repertoire, From: Unit, To: Unit>(rest: &[u8], out: &mut [u8], at: usize) -> usize
+fn take_in<R: CodeLimit, From: Unit, To: Unit>(rest: &[u8], out: &mut [u8], at: usize) -> usize
     requires { at ≤ length out.old }
     ensures stand { unit_size From.form * result ≤ length rest.now }
     ensures fit { at + unit_size To.form * result ≤ length out.old }
@@ -76,7 +76,7 @@ fn take_in<R: Repertoire, From: Unit, To: Unit>(rest: &[u8], out: &mut [u8], at:
 
 /// Writes the run at the start of a text in the target form, as `take_in` does.
 #[inline(always)]
-fn take_units<R: Repertoire, From: Unit>(
+fn take_units<R: CodeLimit, From: Unit>(
     target: AsciiForm,
     rest: &[u8],
     out: &mut [u8],
@@ -103,7 +103,7 @@ fn take_units<R: Repertoire, From: Unit>(
 /// Writes the run at the start of a text in another form, as `take_run` does. Kept out of line, so that the callers'
 /// loops stay small.
 #[inline(never)]
-fn take_form<R: Repertoire>(
+fn take_form<R: CodeLimit>(
     form: AsciiForm,
     target: AsciiForm,
     rest: &[u8],
@@ -133,7 +133,7 @@ fn take_form<R: Repertoire>(
 /// Writes the run of units of a form at the start of a text in the target form, as far as there is room, and returns
 /// how many units it wrote. It may write none if the run is shorter than a block and the text is not.
 #[inline(always)]
-pub(crate) fn take_run<R: Repertoire>(
+pub(crate) fn take_run<R: CodeLimit>(
     form: AsciiForm,
     target: AsciiForm,
     rest: &[u8],

@@ -29,7 +29,7 @@ pub fn is_low(unit: u32) -> bool
 
 /// Returns the character of a high and a low surrogate. For other units the result has no meaning.
 #[inline(always)]
-pub fn joined(high: u32, low: u32) -> u32
+pub fn from_surrogates(high: u32, low: u32) -> u32
     ensures { IsHighUnit high → IsLowUnit low → IsPair high low result }
 {
     0x1_0000 + (high % 0x400) * 0x400 + low % 0x400
@@ -38,7 +38,7 @@ pub fn joined(high: u32, low: u32) -> u32
 /// Returns the first code unit of a character: its high surrogate, or below U+10000 the character itself. It is
 /// computed without a branch.
 #[inline(always)]
-pub fn first_of(value: u32) -> u32
+pub fn lead_surrogate(value: u32) -> u32
     requires { value < 0x110000 }
     ensures one { value < 0x10000 → result ≡ value }
     ensures high { 0x10000 ≤ value → result ≡ high_unit value }
@@ -53,7 +53,7 @@ pub fn first_of(value: u32) -> u32
 
 /// Returns the low surrogate of a character from U+10000 on. For other characters the result has no meaning.
 #[inline(always)]
-pub fn second_of(value: u32) -> u32
+pub fn trail_surrogate(value: u32) -> u32
     ensures low { 0x10000 ≤ value → result ≡ low_unit value }
     ensures few { result < 0x10000 }
 {

@@ -1,10 +1,10 @@
-//! Blocks of small characters: many units of one form, written at once as units of another.
+//! Blocks of characters below a limit: many units of one form, written at once as units of another.
 ghost use Rattle.std.specs.Prelude.{◌≡◌, ◌≤◌, ◌<◌, ◌+◌, ◌*◌, ◌++◌, length, take, drop, get_or};
 ghost use Rattle.cv_base.specs.Units.{unit_size};
 ghost use Rattle.cv_block.specs.AsciiRuns.{IsRunBelow, characters_in, offset, units_of};
 
-use crate::repertoire::Repertoire;
-use crate::small_units::{BLOCK, are_blocks_below};
+use crate::code_limit::CodeLimit;
+use crate::limited_units::{BLOCK, are_blocks_below};
 use crate::unit::{Byte, Unit};
 
 /// How many blocks are tested and written at once while a run has that many left: 64 units with one branch.
@@ -46,10 +46,10 @@ fn low_bytes<U: Unit>(units: &[u8]) -> [u8; BLOCK]
     ensures { result ≡ characters_in U.form units.now 16 }
 {
     let mut low = [0; BLOCK];
-    let mut place = 0;
+    let mut index = 0;
     for k in 0..BLOCK {
-        low[k] = character::<U>(units, place) as u8;
-        place += U::size();
+        low[k] = character::<U>(units, index) as u8;
+        index += U::size();
     }
     low
 }
@@ -90,7 +90,7 @@ fn write_blocks<From: Unit, To: Unit, const BLOCKS: usize>(units: &[u8], out: &m
 /// `most` units at most, and returns how many units it wrote. One branch tests `BLOCKS` blocks, and the same pass
 /// writes them.
 #[inline(always)]
-fn take_blocks<R: Repertoire, From: Unit, To: Unit, const BLOCKS: usize>(
+fn take_blocks<R: CodeLimit, From: Unit, To: Unit, const BLOCKS: usize>(
     rest: &[u8],
     most: usize,
     out: &mut [u8],
@@ -122,7 +122,7 @@ fn take_blocks<R: Repertoire, From: Unit, To: Unit, const BLOCKS: usize>(
 /// Writes the blocks of a run's units at the start of a text in another form, as `take_blocks` does: many at once if
 /// that is faster, and then one by one.
 #[inline(always)]
-pub(crate) fn take_all_blocks<R: Repertoire, From: Unit, To: Unit>(
+pub(crate) fn take_all_blocks<R: CodeLimit, From: Unit, To: Unit>(
     rest: &[u8],
     most: usize,
     out: &mut [u8],

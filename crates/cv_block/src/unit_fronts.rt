@@ -1,10 +1,10 @@
 //! How long the prefix of a text is that has only characters of one unit each.
 ghost use Rattle.std.specs.Prelude.{◌*◌, ◌+◌, ◌≤◌, IsTrue, length, drop};
 ghost use Rattle.cv_base.specs.Units.{unit_size};
-ghost use Rattle.cv_block.specs.Spelled.{BytesOf, IsSpelledFront};
-ghost use Rattle.cv_block.specs.Units.{SpellsUnits};
+ghost use Rattle.cv_block.specs.StatelessForms.{BytesOf, IsFormPrefix};
+ghost use Rattle.cv_block.specs.Units.{HasUnits};
 
-use crate::spelling::MANY;
+use crate::stateless_form::LANES;
 use crate::unit::Unit;
 use crate::unit_runs::{are_scalars, numbers_of};
 
@@ -12,8 +12,8 @@ use crate::unit_runs::{are_scalars, numbers_of};
 #[inline(always)]
 fn are_characters<U: Unit>(input: &[u8], at: usize) -> bool
     requires { at + unit_size U.form * 16 ≤ length input.now }
-    ensures { IsTrue result → (bytes_of : BytesOf) → SpellsUnits U.form bytes_of
-        → IsSpelledFront bytes_of (drop at input.now) (unit_size U.form * 16) }
+    ensures { IsTrue result → (bytes_of : BytesOf) → HasUnits U.form bytes_of
+        → IsFormPrefix bytes_of (drop at input.now) (unit_size U.form * 16) }
 {
     are_scalars(&numbers_of::<U>(&input[at..]))
 }
@@ -24,10 +24,10 @@ fn are_characters<U: Unit>(input: &[u8], at: usize) -> bool
 #[inline(never)]
 pub fn unit_front<U: Unit>(input: &[u8]) -> usize
     ensures within { result ≤ length input.now }
-    ensures front { (bytes_of : BytesOf) → SpellsUnits U.form bytes_of
-        → IsSpelledFront bytes_of input.now result }
+    ensures front { (bytes_of : BytesOf) → HasUnits U.form bytes_of
+        → IsFormPrefix bytes_of input.now result }
 {
-    let size = U::size() * MANY;
+    let size = U::size() * LANES;
     let mut used = 0;
     while input.len() - used >= size && are_characters::<U>(input, used) {
         used += size;

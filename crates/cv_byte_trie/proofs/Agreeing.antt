@@ -4,7 +4,7 @@ use Rattle.std.proofs.lemmas.Bool.{cases_lt}
 use Rattle.std.proofs.lemmas.List.{take_all, take-take, drop-take}
 use Rattle.cv_base.specs.Items.{Begins}
 use Rattle.cv_base.proofs.Front.{Begins-take, Begins-agree}
-use Rattle.cv_byte_trie.specs.Private.Meetings.{AgreeFor}
+use Rattle.cv_byte_trie.specs.Private.Comparisons.{AgreeFor}
 
 -- the same for the two strings exchanged
 pub agree_flip : (v x : List ℕ) (n : ℕ) → AgreeFor v x n → AgreeFor x v n

@@ -17,8 +17,8 @@ pub node_read : (t : Steps) (n : ℕ) (x y : Node) → n < length t.nodes.items 
 node_read t n x y low is e = sym (get_or_read t.nodes.items n x low is (Table 0)) ∙ e
 
 -- reading an edge by its index gives the edge of the specification
-pub place_read : (edges : List Edge) (k : ℕ) (x : Edge) → k < length edges → x ≡ get_or edges k x → x ≡ edge_in edges k
-place_read edges k x low is = get_or_read edges k x low is (record { byte = 256; code = none })
+pub edge_read : (edges : List Edge) (k : ℕ) (x : Edge) → k < length edges → x ≡ get_or edges k x → x ≡ edge_in edges k
+edge_read edges k x low is = get_or_read edges k x low is (record { byte = 256; code = none })
 
 module _ (t : Steps) (s : IsSound t) (n size start : ℕ) (low : n < length t.nodes.items) (few : node_at t n ≡ Few size start) (b : ℕ) (byte : b < 256) where
   -- the edges of a node with a block are those of the block

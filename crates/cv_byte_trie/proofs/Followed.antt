@@ -46,7 +46,7 @@ module _ (entries : List Entry) (a : AreEntries entries) (S : StepsBy) (count : 
     leads_to_leaf p e l = let q = r.trie.leaf i b p r.low byte (sym e) l in (q.0, q.1 ∙ front)
 
     -- to an entry that has bytes after this one
-    pub leads_to_tail : (p : ℕ) → S i b ≡ tail_code p → p < tails → IsTail S count entries x (record { node = i; depth = d; place = p })
+    pub leads_to_tail : (p : ℕ) → S i b ≡ tail_code p → p < tails → IsTail S count entries x (record { node = i; depth = d; index = p })
     leads_to_tail p e l = record { here = r; more = more; byte = rw is at byte; code = rw is at e; few = l }
 
     -- to a node
@@ -80,11 +80,11 @@ vacant_meets_none entries a S count x d i v = meets_none entries a S count x d i
 -- The next byte leads to an entry that has bytes after it.
 module _ (entries : List Entry) (a : AreEntries entries) (S : StepsBy) (count : ℕ) (x : List ℕ) (tail : Tail) (t : IsTail S count entries x tail) where
   -- it is the only entry that begins with these bytes
-  pub tail_alone : IsAlone entries (t.here.way tail.node ++ get_or x tail.depth 0 ∷ []) tail.place
-  tail_alone = t.here.trie.tail tail.node (get_or x tail.depth 0) tail.place t.here.low t.byte t.code t.few
+  pub tail_alone : IsAlone entries (t.here.way tail.node ++ get_or x tail.depth 0 ∷ []) tail.index
+  tail_alone = t.here.trie.tail tail.node (get_or x tail.depth 0) tail.index t.here.low t.byte t.code t.few
 
   -- there is such an entry
-  pub tail_low : tail.place < length entries
+  pub tail_low : tail.index < length entries
   tail_low = tail_alone.on.low
 
   -- the text begins with the bytes that lead to it
@@ -95,15 +95,15 @@ module _ (entries : List Entry) (a : AreEntries entries) (S : StepsBy) (count : 
   tail_size = longer_by_one (t.here.way tail.node) (get_or x tail.depth 0) ∙ ap (λ (n : ℕ). n + 1) t.here.deep
 
   -- a text that does not meet that entry meets none
-  pub tail_meets_none : (Begins (bytes_at entries tail.place) x → ⊥) → (Begins x (bytes_at entries tail.place) → ⊥) → MeetsNone entries x
+  pub tail_meets_none : (Begins (bytes_at entries tail.index) x → ⊥) → (Begins x (bytes_at entries tail.index) → ⊥) → MeetsNone entries x
   tail_meets_none not_held not_begun p low = (
     λ f. elim (cases_lt tail.depth (length (bytes_at entries p))) [
       | inl l ↦ (
-          let same : p ≡ tail.place = tail_alone.alone p low (Begins-meet (t.here.way tail.node ++ get_or x tail.depth 0 ∷ []) (bytes_at entries p) x tail_begun f (omega (arith, tail_size))) in
+          let same : p ≡ tail.index = tail_alone.alone p low (Begins-meet (t.here.way tail.node ++ get_or x tail.depth 0 ∷ []) (bytes_at entries p) x tail_begun f (omega (arith, tail_size))) in
           not_held (subst (λ (k : ℕ). Begins (bytes_at entries k) x) same f))
       | inr l ↦ short entries a S count x tail.depth tail.node t.here p low f l
     ],
     λ f. (
-        let same : p ≡ tail.place = tail_alone.alone p low (Begins-trans (t.here.way tail.node ++ get_or x tail.depth 0 ∷ []) x (bytes_at entries p) tail_begun f) in
+        let same : p ≡ tail.index = tail_alone.alone p low (Begins-trans (t.here.way tail.node ++ get_or x tail.depth 0 ∷ []) x (bytes_at entries p) tail_begun f) in
         not_begun (subst (λ (k : ℕ). Begins x (bytes_at entries k)) same f)),
   )

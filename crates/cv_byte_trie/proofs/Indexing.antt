@@ -10,9 +10,9 @@ use Rattle.cv_byte_trie.specs.Results.{MeetsNone}
 use Rattle.cv_byte_trie.specs.Tries.{StepsBy, tails, none, IsAlone, HasTrie}
 use Rattle.cv_byte_trie.specs.Tables.{edge_in, node_at, edge_at, edge_of}
 use Rattle.cv_byte_trie.specs.Private.Sound.{IsSound}
-use Rattle.cv_byte_trie.specs.Private.Growth.{IsUnchanged, SetsEdge, Forks, end_code, code_behind}
+use Rattle.cv_byte_trie.specs.Private.Growth.{IsUnchanged, SetsEdge, Splits, end_code, code_behind}
 use Rattle.cv_byte_trie.specs.Private.Reading.{IsAt, IsVacant, IsTail}
-use Rattle.cv_byte_trie.specs.Private.Meetings.{AgreeFor}
+use Rattle.cv_byte_trie.specs.Private.Comparisons.{AgreeFor}
 use Rattle.cv_byte_trie.specs.Private.Indexed.{IsIndexed}
 use Rattle.cv_byte_trie.specs.declared.node.Edge.{Edge}
 use Rattle.cv_byte_trie.specs.declared.node.Node.{Node}
@@ -22,7 +22,7 @@ use Rattle.cv_byte_trie.specs.declared.walking.Tail.{Tail}
 use Rattle.cv_byte_trie.proofs.Agreeing.{agree_flip, agree_not, agree_deep}
 use Rattle.cv_byte_trie.proofs.Followed.{vacant_meets_none, tail_alone, tail_begun, tail_size, tail_meets_none}
 use Rattle.cv_byte_trie.proofs.OneMore.{cases_same, one_more_entry, one_more_trie, one_more_at, longer, root_alone}
-use Rattle.cv_byte_trie.proofs.Lowering.{at_fork}
+use Rattle.cv_byte_trie.proofs.SplitEdges.{at_split}
 use Rattle.cv_byte_trie.proofs.Setting.{edge_same}
 
 -- ---- if nothing changed
@@ -130,14 +130,14 @@ without_other T m x n c h = elim (cases_eq n m) [
 
 -- The bytes `w` and those of the entry to which the next byte leads have `l` bytes in common.
 module _ (entries : List Entry) (a : AreEntries entries) (old new : Steps) (w : List ℕ) (tail : Tail) (t : IsTail (edge_of old) (length old.nodes.items) entries w tail) (l : ℕ)
-    (agree : AgreeFor (bytes_at entries tail.place) w l) (parts_held : l < length (bytes_at entries tail.place)) (parts : l < length w) where
+    (agree : AgreeFor (bytes_at entries tail.index) w l) (parts_held : l < length (bytes_at entries tail.index)) (parts : l < length w) where
   abbrev d : ℕ
   d = tail.depth
 
   abbrev v : List ℕ
-  v = bytes_at entries tail.place
+  v = bytes_at entries tail.index
 
-  alone : IsAlone entries (t.here.way tail.node ++ get_or w d 0 ∷ []) tail.place
+  alone : IsAlone entries (t.here.way tail.node ++ get_or w d 0 ∷ []) tail.index
   alone = tail_alone entries a (edge_of old) (length old.nodes.items) w tail t
 
   -- the bytes that lead to it are in common
@@ -179,7 +179,7 @@ module _ (entries : List Entry) (a : AreEntries entries) (old new : Steps) (w : 
   pub beside_meets_none : MeetsNone entries w
   beside_meets_none = tail_meets_none entries a (edge_of old) (length old.nodes.items) w tail t (agree_not v w l agree parts_held) (agree_not w v l (agree_flip v w l agree) parts)
 
-  beside_trie : (character : ℕ) → length entries < tails → get_or w l 0 < 256 → Forks old new tail.node (get_or w d 0) between (end_code (length v) l tail.place) (get_or w l 0) (end_code (length w) l (length entries)) → HasTrie (edge_of new) (length new.nodes.items) (entries ++ (w, character) ∷ [])
+  beside_trie : (character : ℕ) → length entries < tails → get_or w l 0 < 256 → Splits old new tail.node (get_or w d 0) between (end_code (length v) l tail.index) (get_or w l 0) (end_code (length w) l (length entries)) → HasTrie (edge_of new) (length new.nodes.items) (entries ++ (w, character) ∷ [])
   beside_trie character small byte g =
       let count = length old.nodes.items in
       let m = l - d in
@@ -187,11 +187,11 @@ module _ (entries : List Entry) (a : AreEntries entries) (old new : Steps) (w : 
       let b = get_or w d 0 in
       let x = get_or w l 0 in
       let T : StepsBy = edge_of new in
-      let last = end_code (length v) l tail.place in
+      let last = end_code (length v) l tail.index in
       let node = t.here.low in
       let first : edge_of new tail.node b ≡ code_behind last count m = g.set ∙ ap (code_behind last count) between_size in
       let sum : length new.nodes.items ≡ count + m = g.branches.count ∙ ap (λ (k : ℕ). count + k) between_size in
-      let fork = at_fork entries a (edge_of old) count tail.place alone.on.low d tail.node here b (omega arith) same_byte t.byte t.code t.few l m (omega arith) (omega arith) parts_held
+      let fork = at_split entries a (edge_of old) count tail.index alone.on.low d tail.node here b (omega arith) same_byte t.byte t.code t.few l m (omega arith) (omega arith) parts_held
       (without T count x)
       (λ n c low cb h. without_other T count x n c (λ q. omega (arith, q.0)) ∙ g.same n c low cb h)
       (without_other T count x tail.node b (λ q. omega (arith, q.0)) ∙ first)
@@ -207,7 +207,7 @@ module _ (entries : List Entry) (a : AreEntries entries) (old new : Steps) (w : 
 
   -- the invariant holds with one more entry beside another
   pub indexed_beside : (character : ℕ) → IsIndexed entries old → length w ≤ 8 → IsScalar character → length entries < 16777216 → get_or w l 0 < 256 → IsSound new
-      → Forks old new tail.node (get_or w d 0) between (end_code (length v) l tail.place) (get_or w l 0) (end_code (length w) l (length entries))
+      → Splits old new tail.node (get_or w d 0) between (end_code (length v) l tail.index) (get_or w l 0) (end_code (length w) l (length entries))
       → length new.edges.items ≤ length old.edges.items + 32 → length new.tables.items ≤ length old.tables.items + 256 → IsIndexed (entries ++ (w, character) ∷ []) new
   indexed_beside character i short scalar room byte sound g edges tables =
       let e : Entry = (w, character) in

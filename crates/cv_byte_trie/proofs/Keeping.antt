@@ -114,10 +114,10 @@ module _ (t u : Steps) (s : IsSound t) (n : ℕ) (low : n < length t.nodes.items
   }
 
 -- an edge of a block may change to another
-pub place_keeps : (t u : Steps) → IsSound t → (n b code size start k : ℕ) → n < length t.nodes.items → node_at t n ≡ Few size start → k < size
+pub slot_keeps : (t u : Steps) → IsSound t → (n b code size start k : ℕ) → n < length t.nodes.items → node_at t n ≡ Few size start → k < size
     → ((j : ℕ) → j < size → (edge_in t.edges.items (start + j)).byte ≡ b → j ≡ k) → code ≢ none
     → u.nodes.items ≡ t.nodes.items → u.tables.items ≡ t.tables.items → u.edges.items ≡ slice_set t.edges.items (start + k) (record { byte = b; code = code }) → IsSound u
-place_keeps t u s n b code size start k low few here once leads nodes tables edges =
+slot_keeps t u s n b code size start k low few here once leads nodes tables edges =
     let within = s.within n size start low few in
     let e : Edge = record { byte = b; code = code } in
     let nothing : Edge = record { byte = 256; code = none } in

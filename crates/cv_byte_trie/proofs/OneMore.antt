@@ -66,28 +66,28 @@ cases_same i b n c = elim (cases_eq n i) [
 ]
 
 -- the code that leads to an entry, by its last byte or by another
-pub end_cases : (size depth place : ℕ) → ((size ≡ depth + 1) × (end_code size depth place ≡ place)) ⊎ ((size ≢ depth + 1) × (end_code size depth place ≡ tail_code place))
-end_cases size depth place = elim (cases_eq size (depth + 1)) [
-  | inl e ↦ inl (e, ap (λ (t : Bool). cond t place (tail_code place)) (eq-eqb size (depth + 1) e))
-  | inr e ↦ inr (e, ap (λ (t : Bool). cond t place (tail_code place)) (ne_eqb size (depth + 1) e))
+pub end_cases : (size depth index : ℕ) → ((size ≡ depth + 1) × (end_code size depth index ≡ index)) ⊎ ((size ≢ depth + 1) × (end_code size depth index ≡ tail_code index))
+end_cases size depth index = elim (cases_eq size (depth + 1)) [
+  | inl e ↦ inl (e, ap (λ (t : Bool). cond t index (tail_code index)) (eq-eqb size (depth + 1) e))
+  | inr e ↦ inr (e, ap (λ (t : Bool). cond t index (tail_code index)) (ne_eqb size (depth + 1) e))
 ]
 
 -- it is below the code of no edge
-pub end_low : (size depth place : ℕ) → place < tails → end_code size depth place < none
-end_low size depth place l = elim (end_cases size depth place) [ inl e ↦ rw e.1 (omega arith) | inr e ↦ rw e.1 (omega arith) ]
+pub end_low : (size depth index : ℕ) → index < tails → end_code size depth index < none
+end_low size depth index l = elim (end_cases size depth index) [ inl e ↦ rw e.1 (omega arith) | inr e ↦ rw e.1 (omega arith) ]
 
 -- if it is an index, it is the entry's own, and the byte is the entry's last
-pub end_whole : (size depth place p : ℕ) → end_code size depth place ≡ p → p < tails → (size ≡ depth + 1) × (p ≡ place)
-end_whole size depth place p is low = elim (end_cases size depth place) [
+pub end_whole : (size depth index p : ℕ) → end_code size depth index ≡ p → p < tails → (size ≡ depth + 1) × (p ≡ index)
+end_whole size depth index p is low = elim (end_cases size depth index) [
   | inl e ↦ (e.0, sym is ∙ e.1)
-  | inr e ↦ absurd (let f : p ≡ tail_code place = sym is ∙ e.1 in omega arith)
+  | inr e ↦ absurd (let f : p ≡ tail_code index = sym is ∙ e.1 in omega arith)
 ]
 
 -- if it is the code of an entry with bytes after the edge's, it is the entry's own, and the byte is not its last
-pub end_tail : (size depth place p : ℕ) → place < tails → end_code size depth place ≡ tail_code p → (size ≢ depth + 1) × (p ≡ place)
-end_tail size depth place p low is = elim (end_cases size depth place) [
-  | inl e ↦ absurd (let f : place ≡ tail_code p = sym e.1 ∙ is in omega arith)
-  | inr e ↦ (let f : tail_code place ≡ tail_code p = sym e.1 ∙ is in (e.0, omega arith))
+pub end_tail : (size depth index p : ℕ) → index < tails → end_code size depth index ≡ tail_code p → (size ≢ depth + 1) × (p ≡ index)
+end_tail size depth index p low is = elim (end_cases size depth index) [
+  | inl e ↦ absurd (let f : index ≡ tail_code p = sym e.1 ∙ is in omega arith)
+  | inr e ↦ (let f : tail_code index ≡ tail_code p = sym e.1 ∙ is in (e.0, omega arith))
 ]
 
 -- A byte string whose first `d` bytes lead to a node, which has no edge for the next.

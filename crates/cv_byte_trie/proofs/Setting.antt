@@ -62,10 +62,10 @@ module _ (t u : Steps) (s : IsSound t) (n : ℕ) (low : n < length t.nodes.items
   }
 
 -- an edge in a block is set
-pub place_sets : (t u : Steps) → IsSound t → (n b code size start k : ℕ) → n < length t.nodes.items → b < 256 → node_at t n ≡ Few size start → k < size
+pub slot_sets : (t u : Steps) → IsSound t → (n b code size start k : ℕ) → n < length t.nodes.items → b < 256 → node_at t n ≡ Few size start → k < size
     → ((j : ℕ) → j < size → (edge_in t.edges.items (start + j)).byte ≡ b → j ≡ k) → ((c : ℕ) → c < 256 → c ≢ b → (edge_in t.edges.items (start + k)).byte ≢ c)
     → u.nodes.items ≡ t.nodes.items → u.tables.items ≡ t.tables.items → u.edges.items ≡ slice_set t.edges.items (start + k) (record { byte = b; code = code }) → SetsEdge t u n b code
-place_sets t u s n b code size start k low byte few here once was nodes tables edges =
+slot_sets t u s n b code size start k low byte few here once was nodes tables edges =
     let within = s.within n size start low few in
     let e : Edge = record { byte = b; code = code } in
     let nothing : Edge = record { byte = 256; code = none } in

@@ -13,11 +13,11 @@ no_entry = ([], 0)
 
 -- the byte string at an index
 abbrev pub bytes_at : List Entry → ℕ → List ℕ
-bytes_at entries place = (slice_index_or entries place no_entry).0
+bytes_at entries index = (slice_index_or entries index no_entry).0
 
 -- the character at an index
 abbrev pub character_at : List Entry → ℕ → ℕ
-character_at entries place = (slice_index_or entries place no_entry).1
+character_at entries index = (slice_index_or entries index no_entry).1
 
 -- No byte string begins that at another index: so they are distinct, and none is a prefix of another.
 abbrev pub AreApart : List Entry → Type 0

@@ -2,5 +2,5 @@ pub mod Blocks
 pub mod Sound
 pub mod Growth
 pub mod Reading
-pub mod Meetings
+pub mod Comparisons
 pub mod Indexed

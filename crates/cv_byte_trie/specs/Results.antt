@@ -13,16 +13,16 @@ MeetsNone entries bytes =
     (p : ℕ) → p < length entries → (Begins (bytes_at entries p) bytes → ⊥) × (Begins bytes (bytes_at entries p) → ⊥)
 
 -- The bytes of the entry at an index begin with these, and are longer.
-pub record GoesOnBehind (entries : List Entry) (bytes : List ℕ) (place : ℕ) : Type 0 where
-  pub low : place < length entries
-  pub front : Begins bytes (bytes_at entries place)
-  pub longer : length bytes < length (bytes_at entries place)
+pub record GoesOnBehind (entries : List Entry) (bytes : List ℕ) (index : ℕ) : Type 0 where
+  pub low : index < length entries
+  pub front : Begins bytes (bytes_at entries index)
+  pub longer : length bytes < length (bytes_at entries index)
 
 -- What a text is among the entries: it begins with the bytes of one, or is a proper prefix of the bytes of one, or
 -- neither.
 abbrev pub Finds : List Entry → List ℕ → Found → Type 0
-Finds entries text (found.Entry place) = (place < length entries) × Begins (bytes_at entries place) text
-Finds entries text found.Inside = (place : ℕ) × GoesOnBehind entries text place
+Finds entries text (found.Entry index) = (index < length entries) × Begins (bytes_at entries index) text
+Finds entries text found.Inside = (index : ℕ) × GoesOnBehind entries text index
 Finds entries text found.Nothing = MeetsNone entries text
 
 -- The result of adding an entry. If it meets no other, it is the last of the new list. Otherwise nothing changes: an
@@ -30,8 +30,8 @@ Finds entries text found.Nothing = MeetsNone entries text
 -- are longer.
 abbrev pub Adds : List Entry → Entry → Added → List Entry → Type 0
 Adds old entry added.Entered new = MeetsNone old entry.0 × (new ≡ old ++ entry ∷ [])
-Adds old entry (added.Held place) new = (place < length old) × (bytes_at old place ≡ entry.0) × (new ≡ old)
-Adds old entry (added.Continues place) new =
-    (place < length old) × Begins (bytes_at old place) entry.0
-    × (length (bytes_at old place) < length entry.0) × (new ≡ old)
-Adds old entry added.Begins new = ((place : ℕ) × GoesOnBehind old entry.0 place) × (new ≡ old)
+Adds old entry (added.Held index) new = (index < length old) × (bytes_at old index ≡ entry.0) × (new ≡ old)
+Adds old entry (added.Continues index) new =
+    (index < length old) × Begins (bytes_at old index) entry.0
+    × (length (bytes_at old index) < length entry.0) × (new ≡ old)
+Adds old entry added.Begins new = ((index : ℕ) × GoesOnBehind old entry.0 index) × (new ≡ old)

@@ -26,9 +26,9 @@ abbrev pub node_code : ℕ → ℕ
 node_code n = n + 0x80000001
 
 -- The bytes of the entry at an index begin with these and are longer, and those of no other entry begin with these.
-pub record IsAlone (entries : List Entry) (bytes : List ℕ) (place : ℕ) : Type 0 where
-  pub on : GoesOnBehind entries bytes place
-  pub alone : (p : ℕ) → p < length entries → Begins bytes (bytes_at entries p) → p ≡ place
+pub record IsAlone (entries : List Entry) (bytes : List ℕ) (index : ℕ) : Type 0 where
+  pub on : GoesOnBehind entries bytes index
+  pub alone : (p : ℕ) → p < length entries → Begins bytes (bytes_at entries p) → p ≡ index
 
 -- The steps between the nodes below `count` are a trie of the entries. Node 0 is the root. `way` gives the bytes that
 -- lead from the root to each node.

@@ -7,15 +7,15 @@ use Rattle.cv_byte_trie.specs.Tries.{StepsBy, tails, none, IsAlone}
 -- A walk reaches the entry at an index after so many bytes: by its last byte (`Leaf`), or by one that others follow
 -- (`Tail`). Or it ends at a node, or leads nowhere.
 pub data Destination : Type 0 where
-  Leaf : (place count : ℕ) → Destination
-  Tail : (place count : ℕ) → Destination
+  Leaf : (index count : ℕ) → Destination
+  Tail : (index count : ℕ) → Destination
   Node : (node : ℕ) → Destination
   Nowhere : Destination
 
 -- the same, after one byte more
 abbrev pub later : Destination → Destination
-later (Leaf place count) = Leaf place (suc count)
-later (Tail place count) = Tail place (suc count)
+later (Leaf index count) = Leaf index (suc count)
+later (Tail index count) = Tail index (suc count)
 later (Node node) = Node node
 later Nowhere = Nowhere
 

@@ -12,10 +12,10 @@ ghost use Rattle.cv_byte_trie.specs.Private.Indexed.{IsIndexed};
 ghost use Rattle.cv_byte_trie.specs.Results.{Finds, Adds};
 
 use crate::added::Added;
+use crate::comparing::{Comparison, compare};
 use crate::entering::{enter, enter_beside};
 use crate::entry::Entry;
 use crate::found::Found;
-use crate::meeting::{Meeting, meet};
 use crate::running::enter_run;
 use crate::steps::Steps;
 use crate::walking::{Reached, walk};
@@ -58,15 +58,15 @@ fn roomy(alloc: Global, room: usize) -> Vec<Entry>
 }
 
 /// Tells whether bytes are those of the entry at an index, or longer. They begin with the entry's bytes.
-fn met(entries: &[Entry], bytes: &[u8], place: usize) -> Added
-    requires low { place < length entries.now }
-    requires front { Begins (bytes_at entries.now place) bytes.now }
+fn met(entries: &[Entry], bytes: &[u8], index: usize) -> Added
+    requires low { index < length entries.now }
+    requires prefix { Begins (bytes_at entries.now index) bytes.now }
     ensures { (c : ℕ) → Adds entries.now (bytes.now, c) result entries.now }
 {
-    if entries[place].len() == bytes.len() {
-        Added::Held(place)
+    if entries[index].len() == bytes.len() {
+        Added::Held(index)
     } else {
-        Added::Continues(place)
+        Added::Continues(index)
     }
 }
 
@@ -120,10 +120,10 @@ impl ByteTrie {
     /// Returns the entry at an index, counted from 0 in the order in which entries were added, or `None` if there are
     /// not so many.
     #[inline]
-    pub fn get(&self, place: usize) -> Option<&Entry>
-        ensures { option_copied result ≡ slice_get self.now.entries place }
+    pub fn get(&self, index: usize) -> Option<&Entry>
+        ensures { option_copied result ≡ slice_get self.now.entries index }
     {
-        self.entries.get(place)
+        self.entries.get(index)
     }
 
     /// Returns the entries in the order in which they were added. No entry's bytes begin with another's.
@@ -171,12 +171,12 @@ impl ByteTrie {
         ensures { Finds self.now.entries text.now result }
     {
         match walk(&self.steps, &self.entries, text) {
-            Reached::Leaf { place, .. } => Found::Entry(place),
+            Reached::Leaf { index, .. } => Found::Entry(index),
             Reached::Tail(tail) => {
-                match meet(&self.entries, tail.place, text) {
-                    Meeting::Held => Found::Entry(tail.place),
-                    Meeting::Inside => Found::Inside,
-                    Meeting::Parts(_) => Found::Nothing,
+                match compare(&self.entries, tail.index, text) {
+                    Comparison::Held => Found::Entry(tail.index),
+                    Comparison::Inside => Found::Inside,
+                    Comparison::Parts(_) => Found::Nothing,
                 }
             }
             Reached::Inside => Found::Inside,
@@ -196,12 +196,12 @@ impl ByteTrie {
         ensures entries { AreEntries self.new.entries }
     {
         match walk(&self.steps, &self.entries, bytes) {
-            Reached::Leaf { place, .. } => Ok(met(&self.entries, bytes, place)),
+            Reached::Leaf { index, .. } => Ok(met(&self.entries, bytes, index)),
             Reached::Tail(tail) => {
-                match meet(&self.entries, tail.place, bytes) {
-                    Meeting::Held => Ok(met(&self.entries, bytes, tail.place)),
-                    Meeting::Inside => Ok(Added::Begins),
-                    Meeting::Parts(common) => {
+                match compare(&self.entries, tail.index, bytes) {
+                    Comparison::Held => Ok(met(&self.entries, bytes, tail.index)),
+                    Comparison::Inside => Ok(Added::Begins),
+                    Comparison::Parts(common) => {
                         enter_beside(
                             &mut self.entries,
                             &mut self.steps,

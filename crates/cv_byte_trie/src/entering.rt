@@ -6,25 +6,26 @@ ghost use Rattle.cv_byte_trie.specs.Tables.{node_count, edge_of};
 ghost use Rattle.cv_byte_trie.specs.Private.Indexed.{IsIndexed};
 ghost use Rattle.cv_byte_trie.specs.Private.Growth.{end_code};
 ghost use Rattle.cv_byte_trie.specs.Private.Reading.{IsAt, IsVacant, IsTail};
-ghost use Rattle.cv_byte_trie.specs.Private.Meetings.{AgreeFor};
+ghost use Rattle.cv_byte_trie.specs.Private.Comparisons.{AgreeFor};
 ghost use Rattle.cv_byte_trie.specs.Results.{MeetsNone};
 
 use crate::entry::Entry;
+use crate::fork::Fork;
 use crate::steps::{Steps, TAIL};
 use crate::walking::Tail;
 use cv_base::{Memory, Scalar};
 
-/// Returns the code for the edge of the byte at `depth` to the entry at `place`, which has `len` bytes.
-fn code_of(len: usize, depth: usize, place: usize) -> u32
+/// Returns the code for the edge of the byte at `depth` to the entry at `index`, which has `len` bytes.
+fn code_of(len: usize, depth: usize, index: usize) -> u32
     requires few { depth < 2 ^ 32 }
-    requires low { place < tails }
-    ensures value { result ≡ end_code len depth place }
+    requires low { index < tails }
+    ensures value { result ≡ end_code len depth index }
     ensures leads { result ≢ none }
 {
     if len == depth + 1 {
-        place as u32
+        index as u32
     } else {
-        TAIL + place as u32
+        TAIL + index as u32
     }
 }
 
@@ -54,19 +55,19 @@ pub(crate) fn enter(
     ensures apart { MeetsNone entries.old.items bytes.now }
 {
     let _scalar = character.value();
-    let place = entries.len();
-    let code = code_of(bytes.len(), depth, place);
+    let index = entries.len();
+    let code = code_of(bytes.len(), depth, index);
     entries.push(Entry::new(bytes, character))?;
     match steps.set(node, bytes[depth], code) {
         Ok(()) => Ok(()),
         Err(_) => {
-            entries.truncate(place);
+            entries.truncate(index);
             Err(Memory)
         }
     }
 }
 
-/// Adds an entry that has its first `common` bytes in common with the one at `tail.place`. The first `tail.depth` of
+/// Adds an entry that has its first `common` bytes in common with the one at `tail.index`. The first `tail.depth` of
 /// them lead to `tail.node`, and the next leads from there to that entry.
 pub(crate) fn enter_beside(
     entries: &mut Vec<Entry>,
@@ -79,8 +80,8 @@ pub(crate) fn enter_beside(
     requires indexed { IsIndexed entries.old.items steps.old }
     requires tail { IsTail (edge_of steps.old) (node_count steps.old) entries.old.items
         bytes.now tail }
-    requires agree { AgreeFor (bytes_at entries.old.items tail.place) bytes.now common }
-    requires held { common < length (bytes_at entries.old.items tail.place) }
+    requires agree { AgreeFor (bytes_at entries.old.items tail.index) bytes.now common }
+    requires held { common < length (bytes_at entries.old.items tail.index) }
     requires more { common < length bytes.now }
     requires deep { tail.depth < common }
     requires short { length bytes.now ≤ 8 }
@@ -93,19 +94,17 @@ pub(crate) fn enter_beside(
 {
     let _scalar = character.value();
     let end = entries.len();
-    let held = *entries[tail.place].padded();
-    let first = code_of(entries[tail.place].len(), common, tail.place);
-    let second = code_of(bytes.len(), common, end);
+    let held = *entries[tail.index].padded();
+    let code = code_of(entries[tail.index].len(), common, tail.index);
+    let other_code = code_of(bytes.len(), common, end);
     entries.push(Entry::new(bytes, character))?;
-    let between = &held[tail.depth + 1..common + 1];
-    match steps.fork(
-        tail.node,
-        bytes[tail.depth],
-        between,
-        first,
-        bytes[common],
-        second,
-    ) {
+    let fork = Fork {
+        bytes: &held[tail.depth + 1..common + 1],
+        code,
+        other_byte: bytes[common],
+        other_code,
+    };
+    match steps.split_edge(tail.node, bytes[tail.depth], &fork) {
         Ok(()) => Ok(()),
         Err(_) => {
             entries.truncate(end);

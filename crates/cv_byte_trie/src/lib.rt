@@ -3,11 +3,12 @@
 
 mod added;
 mod byte_trie;
+mod comparing;
 mod entering;
 mod entry;
+mod fork;
 mod found;
 mod growing;
-mod meeting;
 mod node;
 mod running;
 mod setting_edges;

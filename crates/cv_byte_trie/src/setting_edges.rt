@@ -15,7 +15,14 @@ const MOST: usize = 32;
 
 impl Steps {
     /// Gives a node with one edge a block of two, which has a second edge.
-    fn pair(&mut self, node: u32, own: u8, led: u32, byte: u8, code: u32) -> Result<(), AllocError>
+    fn to_block(
+        &mut self,
+        node: u32,
+        own: u8,
+        led: u32,
+        byte: u8,
+        code: u32,
+    ) -> Result<(), AllocError>
         requires sound { IsSound self.old }
         requires low { node < node_count self.old }
         requires one { node_at self.old node ≡ One own led }
@@ -49,7 +56,7 @@ impl Steps {
     }
 
     /// Gives a node with a full block a new one of twice the size after all others, and adds an edge to it.
-    fn double(
+    fn grow_block(
         &mut self,
         node: u32,
         size: u8,
@@ -71,7 +78,7 @@ impl Steps {
         ensures edges { OnOk result (edge_count self.new ≤ edge_count self.old + 32) }
         ensures tables { OnOk result (self.new.tables.items ≡ self.old.tables.items) }
     {
-        let place = self.edges.len() as u32;
+        let new_start = self.edges.len() as u32;
         let mut block = [Edge {
             byte: VACANT,
             code: NONE,
@@ -86,13 +93,13 @@ impl Steps {
         self.edges.extend_from_slice(&block[..2 * size as usize])?;
         self.nodes[node as usize] = Node::Few {
             size: 2 * size,
-            start: place,
+            start: new_start,
         };
         Ok(())
     }
 
     /// Doubles a full block where it is, and adds an edge to it. The block has to be the last.
-    fn stretch(
+    fn grow_in_place(
         &mut self,
         node: u32,
         size: u8,
@@ -189,7 +196,7 @@ impl Steps {
             Node::One {
                 byte: own,
                 code: led,
-            } => self.pair(node, own, led, byte, code),
+            } => self.to_block(node, own, led, byte, code),
             Node::Few { size, start } => {
                 if let Some(at) = self.find(start, size, byte, VACANT) {
                     self.edges[start as usize + at] = Edge {
@@ -204,16 +211,16 @@ impl Steps {
                     return Ok(());
                 }
                 if start as usize + size as usize == self.edges.len() {
-                    self.stretch(node, size, start, byte, code)
+                    self.grow_in_place(node, size, start, byte, code)
                 } else {
-                    self.double(node, size, start, byte, code)
+                    self.grow_block(node, size, start, byte, code)
                 }
             }
         }
     }
 
     /// Changes the code of an edge that a node has.
-    pub(crate) fn turn(&mut self, node: u32, byte: u8, code: u32)
+    pub(crate) fn redirect(&mut self, node: u32, byte: u8, code: u32)
         requires sound { IsSound self.old }
         requires low { node < node_count self.old }
         requires there { edge_of self.old node byte ≢ none }

@@ -9,19 +9,19 @@ ghost use Rattle.cv_byte_trie.specs.Private.Reading.{LeadsTo};
 use crate::entry::Entry;
 use crate::steps::{NODE, NONE, Steps, TAIL};
 
-/// The first `depth` bytes lead to `node`. The next leads from there to the entry at `place`, which has bytes after it.
+/// The first `depth` bytes lead to `node`. The next leads from there to the entry at `index`, which has bytes after it.
 #[derive(Clone, Copy, Debug)]
 pub(crate) struct Tail {
     pub(crate) node: u32,
     pub(crate) depth: usize,
-    pub(crate) place: usize,
+    pub(crate) index: usize,
 }
 
 /// Where bytes lead from the root.
 #[derive(Clone, Copy, Debug)]
 pub(crate) enum Reached {
     /// To an entry, by its last byte, which follows `depth` others.
-    Leaf { place: usize, depth: usize },
+    Leaf { index: usize, depth: usize },
     /// To an entry, by a byte that is not its last.
     Tail(Tail),
     /// To a node, by all of them.
@@ -43,7 +43,7 @@ pub(crate) fn walk(steps: &Steps, _entries: &[Entry], text: &[u8]) -> Reached
         let code = steps.edge(node, text[depth]);
         if code < TAIL {
             return Reached::Leaf {
-                place: code as usize,
+                index: code as usize,
                 depth,
             };
         }
@@ -51,7 +51,7 @@ pub(crate) fn walk(steps: &Steps, _entries: &[Entry], text: &[u8]) -> Reached
             return Reached::Tail(Tail {
                 node,
                 depth,
-                place: (code - TAIL) as usize,
+                index: (code - TAIL) as usize,
             });
         }
         if code == NONE {

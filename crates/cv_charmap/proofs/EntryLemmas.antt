@@ -9,8 +9,8 @@ use Rattle.cv_charmap.specs.Entries.{Pair, number_of, named_by, entry_at}
 use Rattle.cv_charmap.specs.Lists.{entered, pair_cause, entry_cause}
 use Rattle.cv_charmap.specs.Private.Runs.{entries_from, run_entries, with_entry, unless, fault}
 use Rattle.cv_charmap.specs.Private.Seen.{Enters, RunsTo}
-use Rattle.cv_charmap.specs.declared.draft.EntryFault.{EntryFault}
-use Rattle.cv_charmap.specs.declared.draft.EntryFault.TheVariants.{Faulty, Memory}
+use Rattle.cv_charmap.specs.declared.pair_list.EntryFault.{EntryFault}
+use Rattle.cv_charmap.specs.declared.pair_list.EntryFault.TheVariants.{Faulty, Memory}
 use Rattle.cv_charmap.specs.declared.fault.MapFault.{MapFault}
 
 -- an entry whose number does not fit its bytes

@@ -1,6 +1,6 @@
 pub mod Powers
 pub mod Meeting
-pub mod Drafts
+pub mod PairLists
 pub mod FirstFaults
 pub mod LineKinds
 pub mod RunMeaning

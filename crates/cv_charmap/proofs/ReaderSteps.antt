@@ -9,8 +9,8 @@ use Rattle.cv_charmap.specs.Meaning.{Charmap, meaning_of_lines}
 use Rattle.cv_charmap.specs.Private.Runs.{◌>>=◌, run_entries, State, state, line_run, lines_run, finish_run, run_of, inside_by}
 use Rattle.cv_charmap.specs.Private.Seen.{RunsTo, TakesInside, InsideTo, NextTo, after_entries, finished}
 use Rattle.cv_charmap.specs.Results.{Reads}
-use Rattle.cv_charmap.specs.declared.draft.EntryFault.{EntryFault}
-use Rattle.cv_charmap.specs.declared.draft.EntryFault.TheVariants as entry
+use Rattle.cv_charmap.specs.declared.pair_list.EntryFault.{EntryFault}
+use Rattle.cv_charmap.specs.declared.pair_list.EntryFault.TheVariants as entry
 use Rattle.cv_charmap.specs.declared.fault.MapFault.{MapFault}
 use Rattle.cv_charmap.specs.declared.fault.CompileFault.{CompileFault}
 use Rattle.cv_charmap.specs.declared.fault.CompileFault.TheVariants as compile

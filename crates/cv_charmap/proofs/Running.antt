@@ -20,7 +20,7 @@ use Rattle.cv_charmap.specs.Private.Runs.{run_entries, entries_from}
 use Rattle.cv_charmap.specs.Private.Seen.{PassesOn}
 use Rattle.cv_charmap.proofs.Counting.{is_entry}
 use Rattle.cv_charmap.proofs.Covering.{pair_stays}
-use Rattle.cv_charmap.proofs.Drafts.{enters_new}
+use Rattle.cv_charmap.proofs.PairLists.{enters_new}
 use Rattle.cv_charmap.proofs.EntryLemmas.{goes_on}
 
 -- ---- their bytes
@@ -138,7 +138,7 @@ module _ (all new : List Pair) (first : ℕ) (bytes w : List ℕ) (i c m : ℕ) 
       (length all + (k - i), s.0, ap (entry_at true first bytes) (sym here) ∙ s.1)
 
   -- entries that were entered at once, as a pass over them
-  passed_at_once : (count : ℕ) → i + m ≤ count → 0 < m → PassesOn all true first bytes i count (Ok (record { at = i; place = length all; size = m }, i + m)) new
+  passed_at_once : (count : ℕ) → i + m ≤ count → 0 < m → PassesOn all true first bytes i count (Ok (record { at = i; index = length all; size = m }, i + m)) new
   passed_at_once count within more = (omega arith, stays, run_on count within, (omega arith, stood), has)
 
 -- the last byte of an entry that has other bytes after it
@@ -150,9 +150,9 @@ last_of word n size more few =
 -- entries that were entered at once, if the range counts in hexadecimal
 pub at_once : (all new : List Pair) (hex : Bool) (first : ℕ) (bytes w : List ℕ) (i c m : ℕ) → hex ≡ true → 0 < length bytes → entry_at hex first bytes i ≡ Ok (w, c) → get_or w (length w - 1) 0 + m ≤ 256
     → ((k : ℕ) → k < m → IsScalar (c + k)) → new ≡ all ++ run_of w c m → AreApart new → length new ≤ most_pairs → (count : ℕ) → i + m ≤ count → 0 < m
-    → PassesOn all hex first bytes i count (Ok (record { at = i; place = length all; size = m }, i + m)) new
+    → PassesOn all hex first bytes i count (Ok (record { at = i; index = length all; size = m }, i + m)) new
 at_once all new hex first bytes w i c m is_hex some e low scalars is apart few count within more =
-    subst (λ (h : Bool). PassesOn all h first bytes i count (Ok (record { at = i; place = length all; size = m }, i + m)) new) (sym is_hex)
+    subst (λ (h : Bool). PassesOn all h first bytes i count (Ok (record { at = i; index = length all; size = m }, i + m)) new) (sym is_hex)
     (passed_at_once all new first bytes w i c m some (subst (λ (h : Bool). entry_at h first bytes i ≡ Ok (w, c)) is_hex e) low scalars is apart few count within more)
 
 -- a list with `n` more pairs is not too long

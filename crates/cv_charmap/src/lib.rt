@@ -1,15 +1,16 @@
 //! Reading charmap texts (POSIX XBD 6.4, character set description file).
 #![tactic(auto)]
 
-mod draft;
+mod covered;
 mod entry;
 mod fault;
 mod header;
 pub mod laws;
+mod pair_list;
 mod pairs;
 mod phase;
 mod range;
-mod reach;
+mod range_start;
 mod reader;
 mod reading;
 

@@ -7,10 +7,11 @@ ghost use Rattle.cv_charmap.specs.Private.Runs.{run_entries};
 ghost use Rattle.cv_charmap.specs.Private.Seen.{RunsTo, Passes, PassesOn};
 ghost use Rattle.cv_lex.specs.Mappings.{One, Range};
 
-use crate::draft::{Draft, EntryFault};
+use crate::covered::LookedUp;
 use crate::entry::entry_at;
 use crate::header::Header;
-use crate::reach::Stop;
+use crate::pair_list::{EntryFault, PairList};
+use crate::range_start::RangeStart;
 use cv_base::Scalar;
 use cv_lex::Cause;
 
@@ -52,80 +53,79 @@ fn run_limit(hex: bool, character: Scalar, last: u8, left: u64) -> usize
 }
 
 /// Enters at most `left` entries of a range at once, from the `i`th on, and returns how many.
-fn pass_run(draft: &mut Draft, hex: bool, first: u32, bytes: &[u8], i: u64, left: u64) -> usize
-    requires some { 0 < length bytes.now }
-    requires few { length bytes.now ≤ 8 }
+fn pass_run(pairs: &mut PairList, start: &RangeStart<'_>, i: u64, left: u64) -> usize
+    requires some { 0 < length start.now.bytes.now }
+    requires few { length start.now.bytes.now ≤ 8 }
     requires near { i < 2 ^ 32 }
-    ensures run { 0 < result → (count : ℕ) → i + left ≤ count → PassesOn draft.old hex first bytes.now i count
-        (Ok (record { at = i; place = length draft.old; size = result }, i + result)) draft.new }
-    ensures none { result ≡ 0 → draft.new ≡ draft.old }
+    ensures run { 0 < result → (count : ℕ) → i + left ≤ count
+        → PassesOn pairs.old start.now.hex start.now.first start.now.bytes.now i count
+        (Ok (record { at = i; index = length pairs.old; size = result }, i + result)) pairs.new }
+    ensures none { result ≡ 0 → pairs.new ≡ pairs.old }
     ensures near { result ≤ 256 }
 {
     if left < 2 {
         return 0;
     }
-    let Ok(entry) = entry_at(hex, first, bytes, i) else {
+    let Ok(entry) = entry_at(start, i) else {
         return 0;
     };
-    let most = run_limit(hex, entry.1, entry.0[bytes.len() - 1], left);
-    draft.enter_run(&entry.0[..bytes.len()], entry.1, most)
+    let most = run_limit(start.hex, entry.1, entry.0[start.bytes.len() - 1], left);
+    pairs.enter_run(&entry.0[..start.bytes.len()], entry.1, most)
 }
 
 /// Enters the `i`th entry of a range. Returns the index of its pair, and the number of the next entry that is not known
 /// to be in the list.
 fn pass_one(
-    draft: &mut Draft,
-    hex: bool,
-    first: u32,
-    bytes: &[u8],
+    pairs: &mut PairList,
+    start: &RangeStart<'_>,
     i: u64,
 ) -> Result<(usize, u64), EntryFault>
-    requires some { 0 < length bytes.now }
-    requires few { length bytes.now ≤ 8 }
+    requires some { 0 < length start.now.bytes.now }
+    requires few { length start.now.bytes.now ≤ 8 }
     requires near { i < 2 ^ 32 }
     ensures passes { (count : ℕ) → i < count
-        → Passes draft.old hex first bytes.now i count result draft.new }
+        → Passes pairs.old start.now.hex start.now.first start.now.bytes.now i count
+        result pairs.new }
     ensures near { IfOk result (λ p. p.1 ≤ 2 ^ 33) }
 {
-    let (word, c) = match entry_at(hex, first, bytes, i) {
+    let (word, c) = match entry_at(start, i) {
         Ok(entry) => entry,
         Err(cause) => return Err(EntryFault::Faulty(cause)),
     };
-    let place = match draft.enter(&word[..bytes.len()], c) {
-        Ok(place) => place,
+    let index = match pairs.enter(&word[..start.bytes.len()], c) {
+        Ok(index) => index,
         Err(fault) => return Err(fault),
     };
-    let known = draft.reach(place, hex, u64::from(first) + i);
-    Ok((place, i + known.max(1)))
+    let known = pairs.covered_from(index, start.hex, u64::from(start.first) + i);
+    Ok((index, i + known.max(1)))
 }
 
 /// Enters the `i`th entry of a range, and as many of those after it as can be entered at once. Returns where their
 /// pairs are, and the number of the next entry that is not known to be in the list.
 fn pass(
-    draft: &mut Draft,
-    hex: bool,
-    first: u32,
-    bytes: &[u8],
+    pairs: &mut PairList,
+    start: &RangeStart<'_>,
     i: u64,
     left: u64,
-) -> Result<(Stop, u64), EntryFault>
-    requires some { 0 < length bytes.now }
-    requires few { length bytes.now ≤ 8 }
+) -> Result<(LookedUp, u64), EntryFault>
+    requires some { 0 < length start.now.bytes.now }
+    requires few { length start.now.bytes.now ≤ 8 }
     requires near { i < 2 ^ 32 }
     ensures passes { (count : ℕ) → i < count → i + left ≤ count
-        → PassesOn draft.old hex first bytes.now i count result draft.new }
+        → PassesOn pairs.old start.now.hex start.now.first start.now.bytes.now i count
+        result pairs.new }
     ensures near { IfOk result (λ p. p.1 ≤ 2 ^ 33) }
 {
-    let place = draft.len();
-    let size = pass_run(draft, hex, first, bytes, i, left) as u64;
+    let index = pairs.len();
+    let size = pass_run(pairs, start, i, left) as u64;
     if size > 0 {
-        return Ok((Stop { at: i, place, size }, i + size));
+        return Ok((LookedUp { at: i, index, size }, i + size));
     }
-    match pass_one(draft, hex, first, bytes, i) {
+    match pass_one(pairs, start, i) {
         Ok(passed) => {
-            let alone = Stop {
+            let alone = LookedUp {
                 at: i,
-                place: passed.0,
+                index: passed.0,
                 size: 1,
             };
             Ok((alone, passed.1))
@@ -145,36 +145,33 @@ fn left_of(grew: bool, i: u64, count: u64) -> u64
 
 /// Enters the entries of a range.
 pub(crate) fn enter_range(
-    draft: &mut Draft,
-    first: u32,
+    pairs: &mut PairList,
+    start: &RangeStart<'_>,
     last: u32,
-    hex: bool,
-    bytes: &[u8],
 ) -> Result<(), EntryFault>
-    requires some { 0 < length bytes.now }
-    requires few { length bytes.now ≤ 8 }
-    ensures { (n : ℕ)
-        → RunsTo (run_entries draft.old n (entries_of (Range first last hex bytes.now))) n result
-        draft.new }
+    requires some { 0 < length start.now.bytes.now }
+    requires few { length start.now.bytes.now ≤ 8 }
+    ensures { (n : ℕ) → RunsTo (run_entries pairs.old n (entries_of
+        (Range start.now.first last start.now.hex start.now.bytes.now))) n result pairs.new }
 {
-    let count = count_of(first, last);
-    let mut stops = Vec::new(draft.alloc());
+    let count = count_of(start.first, last);
+    let mut found = Vec::new(pairs.alloc());
     let mut i: u64 = 0;
     let mut grew = false;
     while i < count {
-        let before = draft.len();
+        let before = pairs.len();
         let left = left_of(grew, i, count);
-        let (stop, next) = match pass(draft, hex, first, bytes, i, left) {
+        let (run, next) = match pass(pairs, start, i, left) {
             Ok(passed) => passed,
             Err(fault) => return Err(fault),
         };
-        if stops.push(stop).is_err() {
+        if found.push(run).is_err() {
             return Err(EntryFault::Memory);
         }
-        grew = draft.len() > before;
+        grew = pairs.len() > before;
         i = next;
     }
-    match draft.cover(hex, first, bytes, &stops, i) {
+    match pairs.cover(start, &found, i) {
         Ok(()) => Ok(()),
         Err(_) => Err(EntryFault::Memory),
     }
@@ -191,20 +188,20 @@ fn is_unfit(header: &Header<'_>, bytes: &[u8]) -> bool
 /// Enters a mapping of one character, if its number of bytes is allowed.
 #[tactic(auto, using(crate::proofs::EntryLemmas::one_entry), unfolding(crate::specs::Private::Runs::run_entries))]
 pub(crate) fn enter_sized_one(
-    draft: &mut Draft,
+    pairs: &mut PairList,
     header: &Header<'_>,
     c: Scalar,
     bytes: &[u8],
 ) -> Result<(), EntryFault>
     requires some { 0 < length bytes.now }
     requires few { length bytes.now ≤ 8 }
-    ensures { (n : ℕ) → RunsTo (run_entries draft.old n
-        (sized_entries header.now.least header.now.most (One c bytes.now))) n result draft.new }
+    ensures { (n : ℕ) → RunsTo (run_entries pairs.old n
+        (sized_entries header.now.least header.now.most (One c bytes.now))) n result pairs.new }
 {
     if is_unfit(header, bytes) {
         return Err(EntryFault::Faulty(Cause::Length));
     }
-    match draft.enter(bytes, c) {
+    match pairs.enter(bytes, c) {
         Ok(_) => Ok(()),
         Err(fault) => Err(fault),
     }
@@ -213,21 +210,19 @@ pub(crate) fn enter_sized_one(
 /// Enters the mappings of a range, if their number of bytes is allowed.
 #[tactic(auto, unfolding(crate::specs::Private::Runs::run_entries))]
 pub(crate) fn enter_sized_range(
-    draft: &mut Draft,
+    pairs: &mut PairList,
     header: &Header<'_>,
-    first: u32,
+    start: &RangeStart<'_>,
     last: u32,
-    hex: bool,
-    bytes: &[u8],
 ) -> Result<(), EntryFault>
-    requires some { 0 < length bytes.now }
-    requires few { length bytes.now ≤ 8 }
-    ensures { (n : ℕ) → RunsTo (run_entries draft.old n
-        (sized_entries header.now.least header.now.most (Range first last hex bytes.now))) n result
-        draft.new }
+    requires some { 0 < length start.now.bytes.now }
+    requires few { length start.now.bytes.now ≤ 8 }
+    ensures { (n : ℕ) → RunsTo (run_entries pairs.old n
+        (sized_entries header.now.least header.now.most
+        (Range start.now.first last start.now.hex start.now.bytes.now))) n result pairs.new }
 {
-    if is_unfit(header, bytes) {
+    if is_unfit(header, start.bytes) {
         return Err(EntryFault::Faulty(Cause::Length));
     }
-    enter_range(draft, first, last, hex, bytes)
+    enter_range(pairs, start, last)
 }

@@ -7,11 +7,11 @@ ghost use Rattle.cv_charmap.specs.Results.{Reads};
 ghost use Rattle.cv_charmap.specs.Private.Seen.{header_seen, finished};
 ghost use Rattle.cv_charmap.specs.declared.fault.CompileFault.TheVariants.{Map};
 
-use crate::draft::Draft;
 use crate::fault::{CompileFault, MapFault};
 use crate::header::Header;
+use crate::pair_list::PairList;
 use crate::pairs::Pairs;
-use crate::phase::{Phase, Place};
+use crate::phase::{Phase, ReaderState};
 use crate::reading::read_next;
 use cv_byte_trie::Entry;
 use cv_lex::{Cause, lines};
@@ -36,9 +36,9 @@ fn finish(
     alloc: Global,
     header: Header<'_>,
     phase: Phase,
-    draft: Draft,
+    pairs: PairList,
 ) -> Result<Pairs, CompileFault>
-    ensures { Reads (finished phase (header_seen header.entry) draft) result }
+    ensures { Reads (finished phase (header_seen header.entry) pairs) result }
 {
     match phase {
         Phase::Above => return Err(lacking(Cause::NoMap)),
@@ -48,7 +48,7 @@ fn finish(
     let Some(name) = header.name else {
         return Err(lacking(Cause::NoName));
     };
-    let entries = draft.into_trie();
+    let entries = pairs.into_trie();
     if !has_substitute(entries.entries()) {
         return Err(lacking(Cause::NoSubstitute));
     }
@@ -63,24 +63,24 @@ fn finish(
 pub fn read(alloc: Global, text: &[u8]) -> Result<Pairs, CompileFault>
     ensures { Reads (meaning text.now) result }
 {
-    let mut draft = match Draft::new(alloc, text.len()) {
-        Ok(draft) => draft,
+    let mut pairs = match PairList::new(alloc, text.len()) {
+        Ok(pairs) => pairs,
         Err(_) => return Err(CompileFault::Memory),
     };
-    let mut place = Place {
+    let mut state = ReaderState {
         header: Header::new(),
         phase: Phase::Above,
     };
     let mut number: u32 = 0;
     for line in lines(text) {
         number = number.saturating_add(1);
-        match read_next(&mut draft, &mut place, line, number) {
+        match read_next(&mut pairs, &mut state, line, number) {
             Ok(()) => {}
             Err(fault) => return Err(fault),
         }
-        if let Phase::Behind = place.phase {
-            return finish(alloc, place.header, place.phase, draft);
+        if let Phase::Behind = state.phase {
+            return finish(alloc, state.header, state.phase, pairs);
         }
     }
-    finish(alloc, place.header, place.phase, draft)
+    finish(alloc, state.header, state.phase, pairs)
 }

@@ -5,11 +5,12 @@ ghost use Rattle.cv_lex.specs.Seen.{line_seen, HasBytes};
 ghost use Rattle.cv_charmap.specs.Private.Runs.{next_number};
 ghost use Rattle.cv_charmap.specs.Private.Seen.{TakesInside, NextTo, taken, header_seen, state_seen, AboveTo, InsideTo, after_entries};
 
-use crate::draft::{Draft, EntryFault};
 use crate::fault::{CompileFault, MapFault};
 use crate::header::Header;
-use crate::phase::{Phase, Place};
+use crate::pair_list::{EntryFault, PairList};
+use crate::phase::{Phase, ReaderState};
 use crate::range::{enter_sized_one, enter_sized_range};
+use crate::range_start::RangeStart;
 use cv_lex::{Line, read_line, read_plain};
 
 /// Reads a line above `CHARMAP`. Returns the header's values after it, and the part in which the next line is.
@@ -47,19 +48,19 @@ fn after(entered: Result<(), EntryFault>, number: u32) -> Result<Phase, CompileF
 
 /// Does what a line among the mappings says. Returns the part in which the next line is.
 fn take_inside(
-    draft: &mut Draft,
+    pairs: &mut PairList,
     header: &Header<'_>,
     line: Line<'_>,
     number: u32,
 ) -> Result<Phase, CompileFault>
     requires { HasBytes line }
-    ensures { TakesInside (header_seen header.now) draft.old (line_seen line.entry) number result
-        draft.new }
+    ensures { TakesInside (header_seen header.now) pairs.old (line_seen line.entry) number result
+        pairs.new }
 {
     match line {
         Line::Finish => Ok(Phase::Behind),
         Line::One { c, bytes } => {
-            let entered = enter_sized_one(draft, header, c, bytes.as_slice());
+            let entered = enter_sized_one(pairs, header, c, bytes.as_slice());
             after(entered, number)
         }
         Line::Range {
@@ -68,7 +69,12 @@ fn take_inside(
             hex,
             bytes,
         } => {
-            let entered = enter_sized_range(draft, header, first, last, hex, bytes.as_slice());
+            let start = RangeStart {
+                hex,
+                first,
+                bytes: bytes.as_slice(),
+            };
+            let entered = enter_sized_range(pairs, header, &start, last);
             after(entered, number)
         }
         Line::Skip | Line::Begin | Line::Setting(_) => Ok(Phase::Inside),
@@ -78,21 +84,21 @@ fn take_inside(
 /// Reads a line among the mappings, and returns the part in which the next line is. Lines of the commonest form are
 /// tried first: their reading is that of `read_line`.
 pub(crate) fn read_inside(
-    draft: &mut Draft,
+    pairs: &mut PairList,
     header: &Header<'_>,
     line: &[u8],
     number: u32,
 ) -> Result<Phase, CompileFault>
-    ensures { InsideTo (header_seen header.now) draft.old line.now number result draft.new }
+    ensures { InsideTo (header_seen header.now) pairs.old line.now number result pairs.new }
 {
     let marks = header.marks(true);
     let mut bytes = [0u8; 8];
     if let Some((c, n)) = read_plain(&marks, line, &mut bytes) {
-        let entered = enter_sized_one(draft, header, c, &bytes[..n]);
+        let entered = enter_sized_one(pairs, header, c, &bytes[..n]);
         return after(entered, number);
     }
     match read_line(&marks, line) {
-        Ok(said) => take_inside(draft, header, said, number),
+        Ok(said) => take_inside(pairs, header, said, number),
         Err(cause) => Err(CompileFault::Map(MapFault {
             line: number,
             cause,
@@ -103,26 +109,26 @@ pub(crate) fn read_inside(
 /// Reads a line in the part of the charmap in which it is, and sets what the next line depends on.
 #[tactic(auto, unfolding(crate::specs::Private::Runs::line_run))]
 pub(crate) fn read_next<'a>(
-    draft: &mut Draft,
-    place: &mut Place<'a>,
+    pairs: &mut PairList,
+    state: &mut ReaderState<'a>,
     line: &'a [u8],
     number: u32,
 ) -> Result<(), CompileFault>
     ensures { (k : ℕ) → number ≡ next_number k
-        → NextTo (state_seen place.old.header draft.old place.old.phase k) line.entry.now (taken place.new result)
-        draft.new }
+        → NextTo (state_seen state.old.header pairs.old state.old.phase k) line.entry.now (taken state.new result)
+        pairs.new }
 {
-    match place.phase {
-        Phase::Above => match read_above(place.header, line, number) {
+    match state.phase {
+        Phase::Above => match read_above(state.header, line, number) {
             Ok((header, phase)) => {
-                *place = Place { header, phase };
+                *state = ReaderState { header, phase };
                 Ok(())
             }
             Err(fault) => Err(CompileFault::Map(fault)),
         },
-        Phase::Inside => match read_inside(draft, &place.header, line, number) {
+        Phase::Inside => match read_inside(pairs, &state.header, line, number) {
             Ok(phase) => {
-                place.phase = phase;
+                state.phase = phase;
                 Ok(())
             }
             Err(fault) => Err(fault),

@@ -6,7 +6,7 @@ use Rattle.cv_base.specs.Scalars.{AreScalars}
 use Rattle.cv_base.specs.Units.{unit_of, unit_size}
 use Rattle.cv_base.specs.declared.ascii_form.AsciiForm.{AsciiForm}
 use Rattle.cv_block.specs.AsciiRuns.{IsRunBelow, characters_in, units_of}
-use Rattle.cv_block.specs.Spelled.{BytesOf}
+use Rattle.cv_block.specs.StatelessForms.{BytesOf}
 use Rattle.cv_block.proofs.AsciiRuns.{length-run, run_begins, run_is_below}
 use Rattle.cv_direct.specs.Direct.{IsConverted}
 

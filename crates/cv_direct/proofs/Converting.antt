@@ -5,8 +5,8 @@ use Rattle.std.proofs.lemmas.Grind.{flat_map-append}
 use Rattle.cv_base.proofs.Front.{Begins-join}
 use Rattle.cv_base.specs.Items.{Begins}
 use Rattle.cv_base.specs.Scalars.{AreScalars}
-use Rattle.cv_block.specs.Spelled.{BytesOf}
-use Rattle.cv_block.proofs.SpelledRuns.{AreScalars-append}
+use Rattle.cv_block.specs.StatelessForms.{BytesOf}
+use Rattle.cv_block.proofs.FormRuns.{AreScalars-append}
 use Rattle.cv_direct.specs.Direct.{IsConverted}
 use Rattle.cv_direct.specs.Private.Loose.{IsPutLoosely, IsConvertedLoosely}
 use Rattle.cv_direct.specs.Private.Windows.{IsWindow}

@@ -4,8 +4,8 @@ use Rattle.std.specs.List.{flat_map}
 use Rattle.std.proofs.lemmas.Grind.{flat_map-append}
 use Rattle.cv_base.proofs.Front.{Begins-join, rest_is}
 use Rattle.cv_base.specs.Places.{IsPut}
-use Rattle.cv_block.specs.Spelled.{BytesOf}
-use Rattle.cv_block.proofs.SpelledRuns.{AreScalars-append}
+use Rattle.cv_block.specs.StatelessForms.{BytesOf}
+use Rattle.cv_block.proofs.FormRuns.{AreScalars-append}
 use Rattle.cv_wide.proofs.PutTwice.{put_both}
 use Rattle.cv_direct.specs.Direct.{IsConverted}
 use Rattle.cv_direct.specs.Private.Windows.{IsHigh}

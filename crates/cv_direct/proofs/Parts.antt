@@ -7,7 +7,7 @@ use Rattle.std.proofs.lemmas.Grind.{flat_map-append}
 use Rattle.std.proofs.lemmas.List.{take-take, take_at}
 use Rattle.cv_base.proofs.Front.{Begins-length}
 use Rattle.cv_base.specs.Places.{IsPut}
-use Rattle.cv_block.specs.Spelled.{BytesOf}
+use Rattle.cv_block.specs.StatelessForms.{BytesOf}
 use Rattle.cv_direct.specs.Direct.{IsConverted}
 use Rattle.cv_direct.specs.declared.direct.Direct.{Direct}
 use Rattle.cv_direct.specs.Private.Loose.{IsPutLoosely, IsConvertedLoosely}

@@ -7,7 +7,7 @@ use Rattle.cv_base.specs.Places.{IsPut}
 use Rattle.std.specs.List.{flat_map}
 use Rattle.std.proofs.lemmas.Grind.{flat_map-append}
 use Rattle.cv_base.proofs.Front.{Begins-length}
-use Rattle.cv_block.specs.Spelled.{BytesOf}
+use Rattle.cv_block.specs.StatelessForms.{BytesOf}
 use Rattle.cv_direct.specs.Private.Loose.{IsPutLoosely}
 use Rattle.cv_direct.proofs.Putting.{put_more}
 use Rattle.cv_utf8.specs.Units.{characters_of, AreRead}

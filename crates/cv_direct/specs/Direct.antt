@@ -4,7 +4,7 @@ use Rattle.std.specs.List.{flat_map}
 use Rattle.cv_base.specs.Scalars.{AreScalars}
 use Rattle.cv_base.specs.Items.{Begins}
 use Rattle.cv_base.specs.Places.{IsPut}
-use Rattle.cv_block.specs.Spelled.{BytesOf}
+use Rattle.cv_block.specs.StatelessForms.{BytesOf}
 use Rattle.cv_direct.specs.declared.direct.Direct.{Direct}
 
 -- The characters at the start of a text in one spelling were written in another, into a slice from index `at` on.

@@ -12,7 +12,7 @@ use crate::target::{ROOM, Target, write_last};
 use crate::utf8::{Utf8Bytes, are_below};
 use crate::utf16::Utf16In;
 use crate::utf32::Utf32In;
-use cv_block::{ByteOrder, MANY};
+use cv_block::{ByteOrder, LANES};
 use std::simd::prelude::*;
 
 /// How much was converted.
@@ -50,7 +50,7 @@ fn many_windows<T: Target>() -> usize
 fn next_stop<T: Target>(wrote: usize, used: usize, many: usize, stop: usize) -> usize
     requires { used + many < 2 ^ 64 }
 {
-    if T::zero_size() != 1 || wrote == MANY {
+    if T::zero_size() != 1 || wrote == LANES {
         return stop;
     }
     used + many

@@ -13,7 +13,7 @@ use crate::direct::Direct;
 use crate::target::{ROOM, Target};
 use crate::utf16::Utf16In;
 use cv_base::Endian;
-use cv_block::{ByteOrder, MANY, is_ascii_block};
+use cv_block::{ByteOrder, LANES, is_ascii_block};
 use cv_utf8::{Units, read_units};
 use std::simd::prelude::*;
 
@@ -79,7 +79,7 @@ fn ascii_units(text: &[u8], at: usize) -> Units
         firsts: EIGHT,
         second: u8x8::from_slice(&text[at + EIGHT..]).cast::<u16>(),
         seconds: EIGHT,
-        used: MANY,
+        used: LANES,
     }
 }
 
@@ -184,9 +184,9 @@ fn have_no_fours(text: &[u8]) -> bool
 #[inline(always)]
 fn are_apart(before: &[u8]) -> bool {
     let n = before.len();
-    n >= MANY
-        && have_no_fours(&before[n - MANY..])
-        && (n < 2 * MANY || have_no_fours(&before[n - 2 * MANY..]))
+    n >= LANES
+        && have_no_fours(&before[n - LANES..])
+        && (n < 2 * LANES || have_no_fours(&before[n - 2 * LANES..]))
 }
 
 /// Converts the characters of four bytes after a window that used `window` bytes, and returns how many bytes they have.
@@ -206,7 +206,7 @@ fn convert_behind<O: ByteOrder>(
     ensures converted { IsConverted utf8_bytes (utf16 O.endian) text.now out.old at
         (record { used = result; wrote = result }) out.new }
 {
-    if window >= MANY || begins_with_fours(text) && !are_apart(before) {
+    if window >= LANES || begins_with_fours(text) && !are_apart(before) {
         return 0;
     }
     convert_high::<O>(text, out, at)
@@ -218,7 +218,7 @@ fn convert_behind<O: ByteOrder>(
 fn may_go_on(window: usize, high: usize) -> bool
     ensures { IsTrue result → 0 < window + high }
 {
-    window >= MANY || (high > 0 && high < MANY_HIGH)
+    window >= LANES || (high > 0 && high < MANY_HIGH)
 }
 
 /// Where the last character that is not ASCII ended: at `end` if one is in the window or among the characters of four

@@ -7,7 +7,7 @@ ghost use Rattle.cv_utf8.specs.Utf8.{utf8_bytes};
 ghost use Rattle.cv_utf8.specs.Private.Utf8Fours.{four_of};
 
 use crate::sizes::{threes, twos};
-use cv_pack::packed_fours;
+use cv_simd::compress_triples;
 use std::simd::prelude::*;
 
 /// How many units are packed at once.
@@ -64,7 +64,7 @@ fn put_four(fours: u8x16, sizes: u64, out: &mut [u8], at: usize) -> usize
         → fours ≡ flat_map four_of units → sizes ≡ marks units
         → IsPutLoosely (flat_map utf8_bytes units) out.old at result 16 out.new }
 {
-    let bytes = packed_fours(fours, sizes);
+    let bytes = compress_triples(fours, sizes);
     bytes.copy_to_slice(&mut out[at..]);
     FOUR + sizes.count_ones() as usize
 }

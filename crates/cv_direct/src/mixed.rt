@@ -8,7 +8,7 @@ use crate::direct::{Direct, convert};
 use crate::runs::convert_ascii;
 use crate::source::{Source, count_characters, first_units, surrogates};
 use crate::target::{ROOM, Target, copy_front};
-use cv_block::MANY;
+use cv_block::LANES;
 use std::simd::prelude::*;
 
 /// The size of the buffer for mixed text, in bytes.
@@ -57,7 +57,7 @@ fn write_first<T: Target>(units: u16x16, n: usize, out: &mut [u8], at: usize) ->
     ensures put { IsPutLoosely (flat_map T.bytes_of (take n units)) out.old at result 48 out.new }
 {
     let wrote = T::write_window(first_units(units, n), out, at);
-    wrote - (MANY - n) * T::zero_size()
+    wrote - (LANES - n) * T::zero_size()
 }
 
 /// Converts a window up to its first surrogate, and then the characters from U+10000 on, up to index `end` of the
@@ -79,13 +79,13 @@ fn convert_window<S: Source, T: Target>(
     let size = S::window_size();
     let units = S::window(text);
     let n = count_characters(units);
-    if n == MANY {
+    if n == LANES {
         return Direct {
             used: size,
             wrote: T::write_window(units, out, at),
         };
     }
-    let used = n * (size / MANY);
+    let used = n * (size / LANES);
     let wrote = write_first::<T>(units, n, out, at);
     let highs = convert_highs::<S, T>(&text[used..], out, at + wrote, end);
     Direct {
@@ -113,7 +113,7 @@ fn last_other<S: Source, T: Target>(wrote: usize, used: usize, other: usize) -> 
     requires { other ≤ used }
     ensures { result ≤ used }
 {
-    if S::window_size() == WIDE && T::zero_size() == 1 && wrote == MANY {
+    if S::window_size() == WIDE && T::zero_size() == 1 && wrote == LANES {
         return other;
     }
     used

@@ -6,7 +6,7 @@ ghost use Rattle.cv_utf8.specs.Utf8.{utf8_bytes};
 ghost use Rattle.cv_utf8.specs.Private.Utf8Pairs.{pair_of};
 
 use crate::sizes::twos;
-use cv_pack::packed_pairs;
+use cv_simd::compress_pairs;
 use std::simd::prelude::*;
 
 /// How many units are packed at once.
@@ -37,7 +37,7 @@ pub(crate) fn write_short(units: u16x8, out: &mut [u8], at: usize) -> usize
     ensures put { IsPutLoosely (flat_map utf8_bytes units) out.old at result 16 out.new }
 {
     let twos = twos(units);
-    let bytes = packed_pairs(pairs(units), twos);
+    let bytes = compress_pairs(pairs(units), twos);
     bytes.copy_to_slice(&mut out[at..]);
     EIGHT + twos.count_ones() as usize
 }

@@ -3,12 +3,12 @@ ghost use Rattle.std.specs.Prelude.{◌≡◌, ◌-◌, ◌≤◌, ◌<◌, ◌+
 ghost use Rattle.std.specs.Simd.Lanes.{mask_l};
 ghost use Rattle.cv_base.specs.Units.{unit_of};
 ghost use Rattle.cv_base.specs.declared.ascii_form.AsciiForm.{AsciiForm};
-ghost use Rattle.cv_block.specs.Spelled.{BytesOf};
+ghost use Rattle.cv_block.specs.StatelessForms.{BytesOf};
 ghost use Rattle.cv_block.specs.Units.{AreScalarsBelow};
 ghost use Rattle.cv_direct.specs.Private.Windows.{AreSixteen, IsHigh, is_surrogate};
 
 use cv_base::AsciiForm;
-use cv_block::MANY;
+use cv_block::LANES;
 use std::simd::prelude::*;
 
 /// An encoding in which any sixteen of its characters below U+10000 have the same number of bytes.
@@ -77,7 +77,7 @@ pub(crate) fn count_characters(units: u16x16) -> usize
     ensures few { result ≤ 16 }
     ensures characters { AreScalarsBelow units result }
 {
-    MANY.min(surrogates(units).trailing_zeros() as usize)
+    LANES.min(surrogates(units).trailing_zeros() as usize)
 }
 
 /// The indexes of sixteen units.

@@ -5,7 +5,7 @@ ghost use Rattle.cv_base.specs.Places.{IsPut};
 ghost use Rattle.cv_base.specs.Scalars.{IsScalar};
 ghost use Rattle.cv_base.specs.Units.{unit_of};
 ghost use Rattle.cv_base.specs.declared.ascii_form.AsciiForm.{AsciiForm};
-ghost use Rattle.cv_block.specs.Spelled.{BytesOf};
+ghost use Rattle.cv_block.specs.StatelessForms.{BytesOf};
 ghost use Rattle.cv_direct.specs.Private.Loose.{IsPutLoosely};
 
 use cv_base::AsciiForm;

@@ -9,7 +9,9 @@ ghost use Rattle.cv_wide.specs.Utf16.{utf16};
 use crate::source::Source;
 use crate::target::Target;
 use cv_base::{AsciiForm, Endian};
-use cv_block::{ByteOrder, MANY, first_of, is_high, is_low, joined, second_of};
+use cv_block::{
+    ByteOrder, LANES, from_surrogates, is_high, is_low, lead_surrogate, trail_surrogate,
+};
 use std::marker::PhantomData;
 use std::simd::prelude::*;
 
@@ -20,9 +22,9 @@ fn units_of<O: ByteOrder>(text: &[u8]) -> u16x16
     ensures long { length result ≡ 16 }
     ensures units { AreUnits (Two O.endian) text.now result 16 }
 {
-    let mut units = [0; MANY];
+    let mut units = [0; LANES];
     let mut at = 0;
-    for k in 0..MANY {
+    for k in 0..LANES {
         units[k] = O::two(text, at) as u16;
         at += 2;
     }
@@ -93,7 +95,7 @@ impl<O: ByteOrder> Source for Utf16In<O> {
         if !is_high(high) || !is_low(low) {
             return None;
         }
-        Some(joined(high, low))
+        Some(from_surrogates(high, low))
     }
 
     #[inline(always)]
@@ -122,7 +124,7 @@ impl<O: ByteOrder> Target for Utf16In<O> {
     fn write_window(units: u16x16, out: &mut [u8], at: usize) -> usize {
         let bytes = ordered::<O>(units).to_le_bytes();
         bytes.copy_to_slice(&mut out[at..]);
-        2 * MANY
+        2 * LANES
     }
 
     #[inline(always)]
@@ -132,7 +134,7 @@ impl<O: ByteOrder> Target for Utf16In<O> {
 
     #[inline(always)]
     fn write_high(value: u32, out: &mut [u8], at: usize) {
-        O::write_two(out, at, first_of(value));
-        O::write_two(out, at + 2, second_of(value));
+        O::write_two(out, at, lead_surrogate(value));
+        O::write_two(out, at + 2, trail_surrogate(value));
     }
 }

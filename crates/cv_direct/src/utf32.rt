@@ -7,7 +7,7 @@ ghost use Rattle.cv_wide.specs.Utf32.{utf32};
 
 use crate::source::Source;
 use cv_base::AsciiForm;
-use cv_block::{ByteOrder, MANY};
+use cv_block::{ByteOrder, LANES};
 use std::marker::PhantomData;
 use std::simd::prelude::*;
 
@@ -16,14 +16,14 @@ const NONE: u16 = 0xd800;
 
 /// The numbers of the units at the start of a text. None is tested, so that LLVM loads all at once.
 #[inline(always)]
-fn numbers_of<O: ByteOrder>(text: &[u8]) -> [u32; MANY]
+fn numbers_of<O: ByteOrder>(text: &[u8]) -> [u32; LANES]
     requires { 64 ≤ length text.now }
     ensures long { length result ≡ 16 }
     ensures units { AreUnits (Four O.endian) text.now result 16 }
 {
-    let mut numbers = [0; MANY];
+    let mut numbers = [0; LANES];
     let mut at = 0;
-    for k in 0..MANY {
+    for k in 0..LANES {
         numbers[k] = O::four(text, at);
         at += 4;
     }
@@ -44,13 +44,13 @@ fn narrow(number: u32) -> u16
 
 /// Sixteen numbers as units.
 #[inline(always)]
-fn narrowed(numbers: &[u32; MANY]) -> u16x16
+fn narrowed(numbers: &[u32; LANES]) -> u16x16
     requires { length numbers.now ≡ 16 }
     ensures long { length result ≡ 16 }
     ensures units { AreNarrow numbers.now result 16 }
 {
-    let mut units = [0; MANY];
-    for k in 0..MANY {
+    let mut units = [0; LANES];
+    for k in 0..LANES {
         units[k] = narrow(numbers[k]);
     }
     u16x16::from_array(units)

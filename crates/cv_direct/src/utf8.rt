@@ -10,7 +10,7 @@ use crate::short::write_short;
 use crate::target::Target;
 use cv_base::AsciiForm;
 use cv_base::place::write_slice;
-use cv_block::MANY;
+use cv_block::LANES;
 use std::simd::prelude::*;
 
 /// Whether each of the units is below a limit.
@@ -65,7 +65,7 @@ impl Target for Utf8Bytes {
     fn write_window(units: u16x16, out: &mut [u8], at: usize) -> usize {
         if are_below(units, 0x80) {
             write_ascii(units, out, at);
-            return MANY;
+            return LANES;
         }
         let first = first_of(units);
         let second = second_of(units);

@@ -13,8 +13,8 @@ use Rattle.cv_base.specs.declared.state.WriteState.{WriteState}
 use Rattle.cv_base.specs.declared.state.WriteState.TheVariants as write
 use Rattle.cv_base.proofs.AllWritten.{none_allowed}
 use Rattle.cv_base.proofs.BlockLaws.{AreRead, read_block_of}
-use Rattle.cv_block.specs.Spelled.{BytesOf}
-use Rattle.cv_block.proofs.SpelledBlocks.{ReadsSpelled, WritesSpelled, scalars_read, spelled_written}
+use Rattle.cv_block.specs.StatelessForms.{BytesOf}
+use Rattle.cv_block.proofs.FormBlocks.{ReadsForm, WritesForm, scalars_read, spelled_written}
 use Rattle.cv_direct.specs.Direct.{IsConverted}
 use Rattle.cv_direct.specs.declared.direct.Direct.{Direct}
 use Rattle.cv_utf8.specs.Utf8.{utf8_bytes, utf8_reads, utf8_writes}
@@ -28,7 +28,7 @@ abbrev ReadsAll : ItemRelation → ReadState → BytesOf → List ℕ → Type 0
 ReadsAll reads s bytes_of rest = (characters : List ℕ) → AreScalars characters → Begins (flat_map bytes_of characters) rest → AreRead reads s bytes_of characters
 
 -- characters that were converted from one spelling to another
-pub converted_takes : (reads : ItemRelation) (writes : Writing) (policy : Policy) (from : States) (bytes_of bytes_to : BytesOf) (rest before : List ℕ) (at : ℕ) (run : Direct) (after : List ℕ) → ReadsAll reads from.reading bytes_of rest → WritesSpelled writes from.writing bytes_to → 0 < run.used
+pub converted_takes : (reads : ItemRelation) (writes : Writing) (policy : Policy) (from : States) (bytes_of bytes_to : BytesOf) (rest before : List ℕ) (at : ℕ) (run : Direct) (after : List ℕ) → ReadsAll reads from.reading bytes_of rest → WritesForm writes from.writing bytes_to → 0 < run.used
     → IsConverted bytes_of bytes_to rest before at run after → TakesSome reads writes policy from rest before at (record { used = run.used; wrote = run.wrote; count = 0 }) from after
 converted_takes reads writes policy from bytes_of bytes_to rest before at run after r w some p =
     let characters : List ℕ = p.characters in
@@ -39,7 +39,7 @@ converted_takes reads writes policy from bytes_of bytes_to rest before at run af
     block_takes reads writes policy from rest before at _ characters characters _ after block some (sym whole) (none_allowed policy _ (sym written.counts)) written
 
 -- characters that were converted from a spelling
-pub spelled_takes : (reads : ItemRelation) (writes : Writing) (policy : Policy) (from : States) (bytes_of bytes_to : BytesOf) (rest before : List ℕ) (at : ℕ) (run : Direct) (after : List ℕ) → ReadsSpelled reads from.reading bytes_of → WritesSpelled writes from.writing bytes_to → 0 < run.used
+pub spelled_takes : (reads : ItemRelation) (writes : Writing) (policy : Policy) (from : States) (bytes_of bytes_to : BytesOf) (rest before : List ℕ) (at : ℕ) (run : Direct) (after : List ℕ) → ReadsForm reads from.reading bytes_of → WritesForm writes from.writing bytes_to → 0 < run.used
     → IsConverted bytes_of bytes_to rest before at run after → TakesSome reads writes policy from rest before at (record { used = run.used; wrote = run.wrote; count = 0 }) from after
 spelled_takes reads writes policy from bytes_of bytes_to rest before at run after r w some p =
     converted_takes reads writes policy from bytes_of bytes_to rest before at run after (λ characters scalars begins. scalars_read reads from.reading bytes_of r characters scalars) w some p
@@ -50,15 +50,15 @@ bytes_read (c ∷ characters) [] p h = absurd h
 bytes_read (c ∷ characters) (b ∷ rest) p h = ((omega (arith, h.0, p 0), refl), bytes_read characters rest (λ k. p (suc k)) h.1)
 
 -- characters that were converted from the bytes of ISO-8859-1
-pub bytes_take : (writes : Writing) (policy : Policy) (from : States) (bytes_to : BytesOf) (rest before : List ℕ) (at : ℕ) (run : Direct) (after : List ℕ) → from.reading ≡ read.Start → ((k : ℕ) → get_or rest k 0 < 256) → WritesSpelled writes from.writing bytes_to → 0 < run.used
+pub bytes_take : (writes : Writing) (policy : Policy) (from : States) (bytes_to : BytesOf) (rest before : List ℕ) (at : ℕ) (run : Direct) (after : List ℕ) → from.reading ≡ read.Start → ((k : ℕ) → get_or rest k 0 < 256) → WritesForm writes from.writing bytes_to → 0 < run.used
     → IsConverted (λ c. c ∷ []) bytes_to rest before at run after → TakesSome (byte_reads 256) writes policy from rest before at (record { used = run.used; wrote = run.wrote; count = 0 }) from after
 bytes_take writes policy from bytes_to rest before at run after e p w some q =
     converted_takes (byte_reads 256) writes policy from (λ c. c ∷ []) bytes_to rest before at run after (λ characters scalars begins. subst (λ (s : ReadState). AreRead (byte_reads 256) s (λ c. c ∷ []) characters) (sym e) (bytes_read characters rest p begins)) w some q
 
 -- UTF-8 is written by its spelling at the start
-pub utf8_spelled : (t : WriteState) → t ≡ write.Start → WritesSpelled utf8_writes t utf8_bytes
-utf8_spelled t e = subst (λ (s : WriteState). WritesSpelled utf8_writes s utf8_bytes) (sym e) (λ c. refl)
+pub utf8_spelled : (t : WriteState) → t ≡ write.Start → WritesForm utf8_writes t utf8_bytes
+utf8_spelled t e = subst (λ (s : WriteState). WritesForm utf8_writes s utf8_bytes) (sym e) (λ c. refl)
 
 -- UTF-8 is read by its spelling at the start
-pub utf8_read : (s : ReadState) → s ≡ read.Start → ReadsSpelled utf8_reads s utf8_bytes
-utf8_read s e = subst (λ (t : ReadState). ReadsSpelled utf8_reads t utf8_bytes) (sym e) utf8_reads_spelled
+pub utf8_read : (s : ReadState) → s ≡ read.Start → ReadsForm utf8_reads s utf8_bytes
+utf8_read s e = subst (λ (t : ReadState). ReadsForm utf8_reads t utf8_bytes) (sym e) utf8_reads_spelled

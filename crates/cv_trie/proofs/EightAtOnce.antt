@@ -6,8 +6,8 @@ use Rattle.cv_base.specs.Items.{taken, Stands}
 use Rattle.cv_base.specs.Scalars.{IsScalar}
 use Rattle.cv_base.specs.declared.state.ReadState.TheVariants as read
 use Rattle.cv_byte_trie.specs.Entries.{Entry}
-use Rattle.cv_lead.specs.Cuts.{leads, place_of, second_of}
-use Rattle.cv_lead.proofs.Places.{place_next, one_or_two}
+use Rattle.cv_simd.specs.Splits.{leads, start_of, second_byte}
+use Rattle.cv_simd.proofs.SplitStarts.{start_next, one_or_two}
 use Rattle.cv_trie.specs.Charmaps.{map_reads}
 use Rattle.cv_trie.specs.Private.Ones.{no_character, IsOne, AreOnes}
 use Rattle.cv_trie.specs.Private.Twos.{IsTwo, row_of, two_at, AreTwos}
@@ -45,13 +45,13 @@ read_as pairs ones twos starts text p singles doubles begins byte next low some 
     elim (cases_Bool b) [
       | inl first ↦ (
           let least : 128 ≤ f = leb-true 128 f (is ∙ first) in
-          let second : second_of text p ≡ s = ap (λ (x : Bool). cond x s 0) (is ∙ first) in
+          let second : second_byte text p ≡ s = ap (λ (x : Bool). cond x s 0) (is ∙ first) in
           let e : number_at twos starts text p ≡ two_at ones twos f s = ap (λ (x : ℕ). get_or twos (start + x) 0) second ∙ ap (λ (x : ℕ). get_or twos (x + s) 0) (begins.first f least byte) in
           let two : IsTwo pairs f s (two_at ones twos f s) = doubles.each f s byte next (rw e at some) in
           rw (first, e) (record { scalar = two.0; stands = two_stands pairs text p f s (two_at ones twos f s) low refl refl two }))
       | inr single ↦ (
           let less : f < 128 = leb-false 128 f (is ∙ single) in
-          let second : second_of text p ≡ 0 = ap (λ (x : Bool). cond x s 0) (is ∙ single) in
+          let second : second_byte text p ≡ 0 = ap (λ (x : Bool). cond x s 0) (is ∙ single) in
           let cell : start + 0 ≡ start = omega arith in
           let e : number_at twos starts text p ≡ get_or ones f 0 = ap (λ (x : ℕ). get_or twos (start + x) 0) second ∙ ap (λ (x : ℕ). get_or twos x 0) cell ∙ begins.single f less in
           let one : IsOne pairs f (get_or ones f 0) = singles f byte (rw e at some) in
@@ -64,12 +64,12 @@ pub number_scalar : (pairs : List Entry) (ones twos starts text : List ℕ) (p :
 number_scalar pairs ones twos starts text p singles doubles begins byte next low some = (read_as pairs ones twos starts text p singles doubles begins byte next low some (leads (get_or text p 0)) refl).scalar
 
 -- one more character of one or two bytes
-pub window_more : (pairs : List Entry) (ones twos starts text buffer : List ℕ) (n used k : ℕ) → AreOnes pairs ones 256 → AreTwos pairs ones twos → AreStarts ones twos starts → ((i : ℕ) → get_or text i 0 < 256) → IsReadFront pairs text (record { n = n + k; used = place_of text used k }) buffer → n + k < length buffer
-    → place_of text used k + 1 < length text → number_at twos starts text (place_of text used k) < no_character → IsReadFront pairs text (record { n = n + (k + 1); used = place_of text used (k + 1) }) (slice_set buffer (n + k) (number_at twos starts text (place_of text used k)))
+pub window_more : (pairs : List Entry) (ones twos starts text buffer : List ℕ) (n used k : ℕ) → AreOnes pairs ones 256 → AreTwos pairs ones twos → AreStarts ones twos starts → ((i : ℕ) → get_or text i 0 < 256) → IsReadFront pairs text (record { n = n + k; used = start_of text used k }) buffer → n + k < length buffer
+    → start_of text used k + 1 < length text → number_at twos starts text (start_of text used k) < no_character → IsReadFront pairs text (record { n = n + (k + 1); used = start_of text used (k + 1) }) (slice_set buffer (n + k) (number_at twos starts text (start_of text used k)))
 window_more pairs ones twos starts text buffer n used k singles doubles begins byte f room low some =
-    let p = place_of text used k in
+    let p = start_of text used k in
     let b = leads (get_or text p 0) in
     let next_n : n + (k + 1) ≡ n + k + 1 = omega arith in
     let read = read_as pairs ones twos starts text p singles doubles begins (byte p) (byte (p + 1)) low some b refl in
     let fits : 1 + cond b 1 0 ≤ length (drop p text) = omega (arith, length-drop p text, one_or_two b) in
-    rw (next_n, place_next text used k) (front_more pairs text buffer (n + k) p (1 + cond b 1 0) (number_at twos starts text p) f room read.stands fits)
+    rw (next_n, start_next text used k) (front_more pairs text buffer (n + k) p (1 + cond b 1 0) (number_at twos starts text p) f room read.stands fits)

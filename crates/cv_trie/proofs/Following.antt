@@ -41,7 +41,7 @@ pub followed_on : (entries : List Entry) → AreEntries entries → (S : StepsBy
 followed_on entries a S count text d i at b code more is byte e = record {
   low = λ l. (leads_to_leaf entries a S count text d i at b more is byte code e l).0;
   leaf = λ l. (leads_to_leaf entries a S count text d i at b more is byte code e l).1;
-  tail = λ p f few. tail_low entries a S count text (record { node = i; depth = d; place = p }) (leads_to_tail entries a S count text d i at b more is byte p (sym e ∙ f) few);
+  tail = λ p f few. tail_low entries a S count text (record { node = i; depth = d; index = p }) (leads_to_tail entries a S count text d i at b more is byte p (sym e ∙ f) few);
   node = λ n f. leads_to_node entries a S count text d i at b more is byte n (sym e ∙ f);
 }
 

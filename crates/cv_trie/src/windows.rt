@@ -1,6 +1,6 @@
 //! Characters of one and of two bytes, eight at once.
 ghost use Rattle.std.specs.Prelude.{◌≡◌, ◌≤◌, ◌<◌, ◌+◌, ℕ, length, slice_index};
-ghost use Rattle.cv_lead.specs.Cuts.{AreCut, place_of};
+ghost use Rattle.cv_simd.specs.Splits.{AreSplit, start_of};
 ghost use Rattle.cv_trie.specs.Private.Ones.{AreOnes, no_character};
 ghost use Rattle.cv_trie.specs.Private.Twos.{AreTwos};
 ghost use Rattle.cv_trie.specs.Private.Starts.{AreStarts, number_at};
@@ -10,8 +10,8 @@ use crate::front::Front;
 use crate::ones::NO_CHARACTER;
 use cv_base::Scalar;
 use cv_byte_trie::ByteTrie;
-use cv_lead::{Cut, WINDOW, cut_eight};
 use cv_pages::{MANY, joined};
+use cv_simd::{SPLIT_WINDOW, Split, split_double_bytes};
 
 /// Returns the numbers of eight characters. None is tested, so that there is no branch.
 #[inline(always)]
@@ -22,19 +22,19 @@ fn numbers_of(
     starts: &[u32],
     _input: &[u8],
     _at: usize,
-    cut: &Cut,
+    split: &Split,
 ) -> [u32; MANY]
     requires twos { AreTwos _trie.now.entries _ones.now twos.now }
     requires starts { AreStarts _ones.now twos.now starts.now }
-    requires cut { AreCut _input.now _at 8 cut.now.pairs }
+    requires split { AreSplit _input.now _at 8 split.now.pairs }
     ensures long { length result ≡ 8 }
     ensures numbers { (k : ℕ) → k < 8
-        → slice_index result k ≡ number_at twos.now starts.now _input.now (place_of _input.now _at k) }
+        → slice_index result k ≡ number_at twos.now starts.now _input.now (start_of _input.now _at k) }
 {
     let mut numbers = [0; MANY];
     for k in 0..MANY {
-        let start = starts[cut.pairs[2 * k] as usize];
-        numbers[k] = twos[start as usize + cut.pairs[2 * k + 1] as usize];
+        let start = starts[split.pairs[2 * k] as usize];
+        numbers[k] = twos[start as usize + split.pairs[2 * k + 1] as usize];
     }
     numbers
 }
@@ -47,7 +47,7 @@ fn put_eight(
     _twos: &[u32],
     _starts: &[u32],
     _input: &[u8],
-    cut: &Cut,
+    split: &Split,
     numbers: &[u32; MANY],
     buffer: &mut [Scalar],
     front: Front,
@@ -57,26 +57,26 @@ fn put_eight(
     requires twos { AreTwos _trie.now.entries _ones.now _twos.now }
     requires starts { AreStarts _ones.now _twos.now _starts.now }
     requires numbers { (k : ℕ) → k < 8 → slice_index numbers.now k
-        ≡ number_at _twos.now _starts.now _input.now (place_of _input.now front.used k) }
+        ≡ number_at _twos.now _starts.now _input.now (start_of _input.now front.used k) }
     requires characters { (k : ℕ) → k < 8 → slice_index numbers.now k < no_character }
-    requires used { front.used + cut.now.used ≡ place_of _input.now front.used 8 }
+    requires used { front.used + split.now.used ≡ start_of _input.now front.used 8 }
     requires room { front.n + 8 ≤ length buffer.old }
     requires within { front.used + 16 ≤ length _input.now }
     ensures read { IsReadFront _trie.now.entries _input.now result buffer.new }
     ensures on { result.n ≡ front.n + 8 }
-    ensures used { result.used ≡ front.used + cut.now.used }
+    ensures used { result.used ≡ front.used + split.now.used }
 {
     for k in 0..MANY {
         buffer[front.n + k] = Scalar::known(numbers[k]);
     }
     Front {
         n: front.n + MANY,
-        used: front.used + cut.used,
+        used: front.used + split.used,
     }
 }
 
 /// Reads characters of one and of two bytes after those that were read, eight at a time, until one of eight is in no
-/// table. The text is cut as if each byte below 128 were a character and any other the first of two. If the charmap
+/// table. The text is split as if each byte below 128 were a character and any other the first of two. If the charmap
 /// reads bytes otherwise, their cell has no character. Kept out of line, so that its loop has the registers.
 #[inline(never)]
 pub(crate) fn read_windows(
@@ -98,13 +98,15 @@ pub(crate) fn read_windows(
     ensures on { front.n ≤ result.n }
 {
     let mut now = front;
-    while buffer.len() - now.n >= MANY && input.len() - now.used >= WINDOW {
-        let cut = cut_eight(input, now.used);
-        let numbers = numbers_of(trie, ones, twos, starts, input, now.used, &cut);
+    while buffer.len() - now.n >= MANY && input.len() - now.used >= SPLIT_WINDOW {
+        let split = split_double_bytes(input, now.used);
+        let numbers = numbers_of(trie, ones, twos, starts, input, now.used, &split);
         if joined(&numbers) >= NO_CHARACTER {
             break;
         }
-        now = put_eight(trie, ones, twos, starts, input, &cut, &numbers, buffer, now);
+        now = put_eight(
+            trie, ones, twos, starts, input, &split, &numbers, buffer, now,
+        );
     }
     now
 }

@@ -1,7 +1,7 @@
 -- The sets of bytes are those of the characters that are direct.
 use Rattle.std.proofs.Common.{◌≡◌, ℕ, ◌<◌, refl}
 use Rattle.std.proofs.lemmas.Bool.{agree_below_at}
-use Rattle.cv_byte_sets.specs.ByteSets.{is_in}
+use Rattle.cv_simd.specs.ByteClasses.{is_in}
 use Rattle.cv_utf7.specs.Sets.{may_be_direct, is_direct, is_set_d, is_set_o, is_blank}
 use Rattle.cv_utf7.specs.declared.direct_bytes.TheConstants.{MAY_STAND, STANDS}
 

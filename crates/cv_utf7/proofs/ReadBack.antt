@@ -2,7 +2,7 @@
 use Rattle.std.proofs.Common.{◌≡◌, ℕ, ◌+◌, ◌-◌, ◌*◌, ◌/◌, ◌%◌, ◌<◌, ◌≤◌, Bool, true, false, ◌||◌, List, [], ◌∷◌, ◌++◌, length, take, drop, replicate, refl, sym, ◌∙◌, ap, subst, arith, inl, inr, Some, None, option_to_list}
 use Rattle.std.proofs.lemmas.Bool.{cases_Bool, cases_eq, eq-eqb, or_cases, or_right}
 use Rattle.std.proofs.lemmas.List.{length-append, append_assoc, append-nil, length-take-le, length-replicate, take-append-drop, drop_at}
-use Rattle.cv_block.proofs.SpelledRuns.{AreScalars-append}
+use Rattle.cv_block.proofs.FormRuns.{AreScalars-append}
 use Rattle.cv_base.specs.Scalars.{IsScalar, AreScalars}
 use Rattle.cv_base.specs.Items.{Taken, taken}
 use Rattle.cv_base.proofs.Front.{Begins-append}

@@ -4,7 +4,7 @@ ghost use Rattle.std.specs.Prelude.{◌≡◌, [], ◌∷◌, ◌⊎◌, ◌++�
 use crate::items::NONE;
 use crate::sets::digit_for;
 use cv_base::{Bits, Scalar};
-use cv_block::{first_of, second_of};
+use cv_block::{lead_surrogate, trail_surrogate};
 
 /// The digits of a character after pending bits: how many there are, the number that they spell, and the bits left
 /// over, which are pending next.
@@ -82,7 +82,7 @@ impl Cut {
         ensures count { (result.n ≡ 5) ⊎ (result.n ≡ 6) }
         ensures first { pending.count ≡ 0 → result.n ≡ 5 }
     {
-        let units = first_of(value) as u64 * 0x1_0000 + second_of(value) as u64;
+        let units = lead_surrogate(value) as u64 * 0x1_0000 + trail_surrogate(value) as u64;
         let all = pending.value as u64 * 0x1_0000_0000 + units;
         match pending.count {
             0 => Cut::of(5, all, 2),

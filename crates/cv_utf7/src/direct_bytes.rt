@@ -2,7 +2,7 @@
 ghost use Rattle.std.specs.Prelude.{◌≡◌, ◌+◌, ◌≤◌, ◌<◌, ℕ, true, length, get_or};
 ghost use Rattle.cv_utf7.specs.Sets.{may_be_direct, is_direct};
 
-use cv_byte_sets::{front_in, run_in};
+use cv_simd::{prefix_in, run_in};
 
 // A set has sixteen entries, one for each lower half of a byte, and an entry has a bit for each higher half. For
 // example, entry 9 of `MAY_STAND`, 0xFD, has the tab (09), `)` (29), `9`, `I`, `Y`, `i` and `y`, but not 19, a control.
@@ -48,5 +48,5 @@ pub(crate) fn written_direct(bytes: &[u8]) -> usize
     ensures within { result ≤ length bytes.now }
     ensures direct { (i : ℕ) → i < result → is_direct (get_or bytes.now i 0) ≡ true }
 {
-    front_in(STANDS, bytes)
+    prefix_in(STANDS, bytes)
 }

@@ -9,7 +9,7 @@ use crate::direct_bytes::written_direct;
 use crate::write_runs::copy;
 use cv_base::AsciiForm;
 use cv_block::take_ascii_run;
-use cv_byte_sets::SIXTEEN;
+use cv_simd::SIXTEEN;
 
 /// How many units of more than one byte are converted to bytes at once.
 const MANY_UNITS: usize = 64;

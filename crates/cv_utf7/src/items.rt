@@ -9,7 +9,7 @@ ghost use Rattle.cv_utf7.specs.Private.ItemSteps.{IsUnit, NoUnit, IsEnding};
 use crate::sets::{digit, may_stand};
 use crate::units::{Front, Unit};
 use cv_base::{Bits, Item, ReadState, Scalar};
-use cv_block::{is_high, is_low, is_surrogate, joined};
+use cv_block::{from_surrogates, is_high, is_low, is_surrogate};
 
 // No bits are pending.
 pub(crate) const NONE: Bits = Bits { count: 0, value: 0 };
@@ -116,7 +116,7 @@ fn item_of_surrogate(pending: Bits, input: &[u8], high: Unit) -> Item
         return Item::Ill;
     }
     Item::Char {
-        c: Scalar::known(joined(high.value, low.value)),
+        c: Scalar::known(from_surrogates(high.value, low.value)),
         n: high.n + low.n,
         next: ReadState::Shifted(low.over),
     }

@@ -6,7 +6,7 @@ use crate::read_runs::{LONE_PLACES, read_direct, read_run};
 use crate::read_sequences::{read_inside, read_lone, read_sequence};
 use crate::utf7::Utf7;
 use cv_base::{Codec, Item, ReadBlock, ReadState, Scalar};
-use cv_byte_sets::SIXTEEN;
+use cv_simd::SIXTEEN;
 
 /// Reads direct characters, and the sequences between them, as far as possible.
 #[inline(always)]

@@ -5,7 +5,7 @@ ghost use Rattle.cv_utf7.specs.Private.ReadSteps.{place, ReadsOn};
 use crate::direct_bytes::direct_run;
 use crate::sets::may_stand;
 use cv_base::{ReadState, Scalar};
-use cv_byte_sets::SIXTEEN;
+use cv_simd::SIXTEEN;
 use std::simd::prelude::*;
 
 /// How many characters a shifted sequence of one character may add to the buffer: its own, and the one that ends it.

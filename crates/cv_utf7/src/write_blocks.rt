@@ -5,7 +5,7 @@ ghost use Rattle.cv_utf7.specs.Private.WriteSteps.{place, WritesOn};
 use crate::write_runs::write_run;
 use crate::write_sequences::{Reached, write_inside, write_one, write_sequence};
 use cv_base::{Scalar, WriteState};
-use cv_byte_sets::SIXTEEN;
+use cv_simd::SIXTEEN;
 
 /// Writes direct characters, and the sequences between them, as far as possible.
 #[inline(always)]

@@ -6,7 +6,7 @@ ghost use Rattle.cv_utf7.specs.Private.WriteSteps.{place, WritesOn};
 use crate::direct_bytes::written_run;
 use crate::sets::stands;
 use cv_base::{Scalar, WriteState};
-use cv_byte_sets::SIXTEEN;
+use cv_simd::SIXTEEN;
 
 /// Writes direct characters one by one, and returns how many it wrote.
 #[inline(always)]

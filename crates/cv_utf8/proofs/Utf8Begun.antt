@@ -5,7 +5,7 @@ use Rattle.std.proofs.Math.Seq.{drop-cons}
 use Rattle.std.proofs.lemmas.Bool.{le-ltb, lt-ltb}
 use Rattle.cv_base.specs.Scalars.{IsScalar}
 use Rattle.std.specs.Int.{bit_at}
-use Rattle.cv_block.specs.Spelled.{IsSpelledAt}
+use Rattle.cv_block.specs.StatelessForms.{IsFormAt}
 use Rattle.cv_utf8.specs.Utf8.{utf8_bytes}
 use Rattle.cv_utf8.specs.Private.Utf8Short.{is_behind}
 use Rattle.cv_utf8.specs.Private.Utf8Windows.{IsLane, AreBegun, IsOneAt, IsTwoAt, IsThreeAt, IsFollowing, AreWhole, whole_of, whole_value}
@@ -33,7 +33,7 @@ two_is x y z h k = grind arith
 one_is : (x y z : ℕ) → x < 128 → whole_of x y z ≡ x
 one_is x y z h = grind arith
 
-three_spelled : (text : List ℕ) (at v : ℕ) → at + 3 ≤ length text → IsThreeAt text at → v ≡ whole_value text at → IsSpelledAt utf8_bytes text at v 3
+three_spelled : (text : List ℕ) (at v : ℕ) → at + 3 ≤ length text → IsThreeAt text at → v ≡ whole_value text at → IsFormAt utf8_bytes text at v 3
 three_spelled text at v room p e =
     let x = get_or text at 0 in
     let y = get_or text (at + 1) 0 in

@@ -8,8 +8,8 @@ use Rattle.std.proofs.lemmas.Bool.{cases_Bool}
 use Rattle.std.proofs.lemmas.List.{length-map}
 use Rattle.std.proofs.lemmas.Simd.{mask_l-lt, mask_l-mod, length-chunk}
 use Rattle.cv_block.proofs.Lanes.{div_all, rem_all, mul_all, sum_all}
-use Rattle.cv_pack.specs.Packed.{flags, from_fours}
-use Rattle.cv_pack.proofs.Rows.{flags_of}
+use Rattle.cv_simd.specs.Compressed.{flags, from_triples}
+use Rattle.cv_simd.proofs.TableRows.{flags_of}
 use Rattle.cv_utf8.specs.Utf8.{utf8_bytes}
 use Rattle.cv_utf8.specs.Private.Utf8Pairs.{has_two}
 use Rattle.cv_utf8.specs.Private.Utf8Fours.{has_three, four_of}
@@ -147,23 +147,23 @@ two_bytes v h k = (grind arith, grind arith)
 three_bytes : (v : ℕ) → v < 0x10000 → has_three v ≡ true → (has_two v ≡ true) × (four_of v ≡ (0xe0 + v / 4096) ∷ (0x80 + v / 64 % 64) ∷ (0x80 + v % 64) ∷ 0 ∷ []) × (utf8_bytes v ≡ (0xe0 + v / 4096) ∷ (0x80 + v / 64 % 64) ∷ (0x80 + v % 64) ∷ [])
 three_bytes v l h = (grind arith, grind arith, grind arith)
 
-packed_are : (vs : List ℕ) → AreMiddle vs → from_fours (map has_two vs) (map has_three vs) (flat_map four_of vs) ≡ flat_map utf8_bytes vs
+packed_are : (vs : List ℕ) → AreMiddle vs → from_triples (map has_two vs) (map has_three vs) (flat_map four_of vs) ≡ flat_map utf8_bytes vs
 packed_are [] p = refl
 packed_are (v ∷ vs) p =
     let left : List ℕ = flat_map utf8_bytes vs in
     let rest : List ℕ = flat_map four_of vs in
-    let more : from_fours (map has_two vs) (map has_three vs) rest ≡ left = packed_are vs (behind_first v vs p) in
+    let more : from_triples (map has_two vs) (map has_three vs) rest ≡ left = packed_are vs (behind_first v vs p) in
     elim (cases_Bool (has_three v)) [
       | inl h ↦ (
           let is = three_bytes v (p 0 (omega arith)) h in
-          ap₂ (λ (b c : Bool). from_fours (b ∷ map has_two vs) (c ∷ map has_three vs) (four_of v ++ rest)) is.0 h ∙ ap (λ (l : List ℕ). from_fours (true ∷ map has_two vs) (true ∷ map has_three vs) (l ++ rest)) is.1 ∙ ap (λ (l : List ℕ). (0xe0 + v / 4096) ∷ (0x80 + v / 64 % 64) ∷ (0x80 + v % 64) ∷ l) more ∙ sym (ap (λ (l : List ℕ). l ++ left) is.2))
+          ap₂ (λ (b c : Bool). from_triples (b ∷ map has_two vs) (c ∷ map has_three vs) (four_of v ++ rest)) is.0 h ∙ ap (λ (l : List ℕ). from_triples (true ∷ map has_two vs) (true ∷ map has_three vs) (l ++ rest)) is.1 ∙ ap (λ (l : List ℕ). (0xe0 + v / 4096) ∷ (0x80 + v / 64 % 64) ∷ (0x80 + v % 64) ∷ l) more ∙ sym (ap (λ (l : List ℕ). l ++ left) is.2))
       | inr h ↦ elim (cases_Bool (has_two v)) [
         | inl k ↦ (
             let is = two_bytes v k h in
-            ap₂ (λ (b c : Bool). from_fours (b ∷ map has_two vs) (c ∷ map has_three vs) (four_of v ++ rest)) k h ∙ ap (λ (l : List ℕ). from_fours (true ∷ map has_two vs) (false ∷ map has_three vs) (l ++ rest)) is.0 ∙ ap (λ (l : List ℕ). (0xc0 + v / 64) ∷ (0x80 + v % 64) ∷ l) more ∙ sym (ap (λ (l : List ℕ). l ++ left) is.1))
+            ap₂ (λ (b c : Bool). from_triples (b ∷ map has_two vs) (c ∷ map has_three vs) (four_of v ++ rest)) k h ∙ ap (λ (l : List ℕ). from_triples (true ∷ map has_two vs) (false ∷ map has_three vs) (l ++ rest)) is.0 ∙ ap (λ (l : List ℕ). (0xc0 + v / 64) ∷ (0x80 + v % 64) ∷ l) more ∙ sym (ap (λ (l : List ℕ). l ++ left) is.1))
         | inr k ↦ (
             let is = one_byte v k in
-            ap₂ (λ (b c : Bool). from_fours (b ∷ map has_two vs) (c ∷ map has_three vs) (four_of v ++ rest)) k h ∙ ap (λ (l : List ℕ). from_fours (false ∷ map has_two vs) (false ∷ map has_three vs) (l ++ rest)) is.1 ∙ ap (λ (l : List ℕ). v ∷ l) more ∙ sym (ap (λ (l : List ℕ). l ++ left) is.2))
+            ap₂ (λ (b c : Bool). from_triples (b ∷ map has_two vs) (c ∷ map has_three vs) (four_of v ++ rest)) k h ∙ ap (λ (l : List ℕ). from_triples (false ∷ map has_two vs) (false ∷ map has_three vs) (l ++ rest)) is.1 ∙ ap (λ (l : List ℕ). v ∷ l) more ∙ sym (ap (λ (l : List ℕ). l ++ left) is.2))
       ]
     ]
 
@@ -178,9 +178,9 @@ pub part_middle : (characters values : List ℕ) (n : ℕ) → values ≡ take 4
 part_middle characters values n e p k h = rw (e, get_or-take, get_or-drop) (p k h)
 
 -- packed, they begin with the bytes of the characters
-pub begin_packed : (vs fours packed : List ℕ) (sizes : ℕ) → length vs ≡ 4 → AreMiddle vs → fours ≡ flat_map four_of vs → sizes ≡ marks vs → take (4 + count_ones sizes) packed ≡ from_fours (flags 4 sizes) (flags 4 (sizes / 16)) fours → take (4 + count_ones sizes) packed ≡ flat_map utf8_bytes vs
+pub begin_packed : (vs fours packed : List ℕ) (sizes : ℕ) → length vs ≡ 4 → AreMiddle vs → fours ≡ flat_map four_of vs → sizes ≡ marks vs → take (4 + count_ones sizes) packed ≡ from_triples (flags 4 sizes) (flags 4 (sizes / 16)) fours → take (4 + count_ones sizes) packed ≡ flat_map utf8_bytes vs
 begin_packed vs fours packed sizes long p is bits front =
     let high : sizes / 16 ≡ mask_l (map has_three vs) = omega (arith, bits, four_bits has_two vs long) in
     let twos : flags 4 sizes ≡ map has_two vs = ap (flags 4) bits ∙ flags_low (mask_l (map has_two vs)) (mask_l (map has_three vs)) ∙ flags_are has_two vs long in
     let threes : flags 4 (sizes / 16) ≡ map has_three vs = ap (flags 4) high ∙ flags_are has_three vs long in
-    front ∙ ap₂ (λ (bs cs : List Bool). from_fours bs cs fours) twos threes ∙ ap (from_fours (map has_two vs) (map has_three vs)) is ∙ packed_are vs p
+    front ∙ ap₂ (λ (bs cs : List Bool). from_triples bs cs fours) twos threes ∙ ap (from_triples (map has_two vs) (map has_three vs)) is ∙ packed_are vs p

@@ -13,8 +13,8 @@ use Rattle.cv_base.specs.Blocks.{IsUnchanged}
 use Rattle.cv_base.specs.declared.state.ReadState.TheVariants as read
 use Rattle.cv_base.specs.declared.state.WriteState.TheVariants as write
 use Rattle.cv_base.proofs.Front.{Begins-take}
-use Rattle.cv_block.specs.Spelled.{IsSpelledFront}
-use Rattle.cv_block.proofs.SpelledFronts.{spelled_unchanged}
+use Rattle.cv_block.specs.StatelessForms.{IsFormPrefix}
+use Rattle.cv_block.proofs.FormPrefixes.{spelled_unchanged}
 use Rattle.cv_utf8.specs.Utf8.{utf8_reads, utf8_bytes, utf8_writes}
 use Rattle.cv_utf8.proofs.Utf8Spelled.{utf8_reads_spelled, utf8_writes_spelled}
 
@@ -42,7 +42,7 @@ are_scalars (c ∷ characters) p =
 pub utf8_unchanged : (text : List ℕ) (n : ℕ) → n ≤ length text → IsUtf8 (take n text) → IsUnchanged utf8_reads utf8_writes read.Start write.Start text n
 utf8_unchanged text n h p =
     let same : flat_map utf8_bytes p.0 ≡ take n text = sym (all_same p.0) ∙ p.1.1 in
-    let front : IsSpelledFront utf8_bytes text n = record {
+    let front : IsFormPrefix utf8_bytes text n = record {
       characters = p.0;
       scalars = are_scalars p.0 p.1.0;
       begins = subst (λ (x : List ℕ). Begins x text) (sym same) (Begins-take n text);

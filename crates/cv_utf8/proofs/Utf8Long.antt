@@ -17,10 +17,10 @@ use Rattle.cv_base.specs.Scalars.{IsScalar, AreScalars}
 use Rattle.cv_base.specs.Units.{unit_of}
 use Rattle.cv_base.specs.declared.ascii_form.AsciiForm.TheVariants.{Four}
 use Rattle.cv_base.specs.declared.endian.Endian.TheVariants.{Little}
-use Rattle.cv_block.specs.Spelled.{IsReadSpelled}
+use Rattle.cv_block.specs.StatelessForms.{IsReadForm}
 use Rattle.cv_block.specs.Units.{IsUnitAt}
 use Rattle.cv_block.proofs.UnitRuns.{flat_map-more}
-use Rattle.cv_block.proofs.SpelledRuns.{AreScalars-append}
+use Rattle.cv_block.proofs.FormRuns.{AreScalars-append}
 use Rattle.cv_utf8.specs.Utf8.{utf8_bytes}
 use Rattle.cv_utf8.specs.Private.Utf8Long.{AreWordsOf, IsNumberOf, AreNumbersOf}
 
@@ -67,7 +67,7 @@ begun size text numbers (suc n) h at =
 -- characters of size bytes each are read
 pub long_read : (size : ℕ) → size ≤ 4 → (text : List ℕ) (at : ℕ) (before : List ℕ) (n more : ℕ) (words numbers after : List ℕ) → length numbers ≡ 16
     → AreWordsOf size (take (length text - at) (drop at text)) words 16 → AreNumbersOf size words numbers 16 → more ≤ 16 → ((k : ℕ) → k < more → 0 < get_or numbers k 0) → n + 16 ≤ length before
-    → take (n + 16) after ≡ take n before ++ numbers → length after ≡ length before → IsReadSpelled utf8_bytes text at before n (record { n = more; used = size * more }) after
+    → take (n + 16) after ≡ take n before ++ numbers → length after ≡ length before → IsReadForm utf8_bytes text at before n (record { n = more; used = size * more }) after
 long_read size small text at before n more words numbers after long units threes few some room stand same =
     let b = begun size (drop at text) numbers more (omega arith) (λ k l. long_at size (drop at text) (size * k) (get_or words k 0) (get_or numbers k 0) small (rw take_rest at units k (omega arith)) (threes k (omega arith)) (some k l)) in
     let front = take more numbers in

@@ -7,8 +7,8 @@ use Rattle.std.proofs.Math.Dec.{leb}
 use Rattle.std.proofs.lemmas.Bool.{cases_Bool}
 use Rattle.std.proofs.lemmas.List.{length-map}
 use Rattle.std.proofs.lemmas.Simd.{mask_l-lt, mask_l-mod, length-chunk}
-use Rattle.cv_pack.specs.Packed.{flags, from_pairs}
-use Rattle.cv_pack.proofs.Rows.{flags_of}
+use Rattle.cv_simd.specs.Compressed.{flags, from_pairs}
+use Rattle.cv_simd.proofs.TableRows.{flags_of}
 use Rattle.cv_utf8.specs.Utf8.{utf8_bytes}
 use Rattle.cv_utf8.specs.Private.Utf8Pairs.{has_two, pair_of}
 

@@ -11,17 +11,17 @@ use Rattle.std.proofs.lemmas.Nat.Bits.{bit_at-suc, bit_at_lowest}
 use Rattle.cv_base.specs.Items.{Begins}
 use Rattle.cv_base.specs.Scalars.{AreScalars}
 use Rattle.cv_base.proofs.Front.{Begins-join}
-use Rattle.cv_block.specs.Spelled.{IsSpelledAt, IsReadSpelled}
-use Rattle.cv_block.proofs.SpelledRuns.{spelled, AreScalars-append}
+use Rattle.cv_block.specs.StatelessForms.{IsFormAt, IsReadForm}
+use Rattle.cv_block.proofs.FormRuns.{spelled, AreScalars-append}
 use Rattle.cv_utf8.specs.Utf8.{utf8_bytes}
-use Rattle.cv_pack.specs.Packed.{kept}
+use Rattle.cv_simd.specs.Compressed.{kept}
 use Rattle.cv_utf8.specs.Private.Utf8Windows.{IsLane, AreBegun}
 
 -- The bytes of some characters, `used` together, are at an offset of a text.
 abbrev pub IsRun : List ℕ → ℕ → List ℕ → ℕ → Type 0
 IsRun text at cs used = AreScalars cs × Begins (flat_map utf8_bytes cs) (drop at text) × (used ≡ length (flat_map utf8_bytes cs))
 
-one_more : (text cs : List ℕ) (at used c size : ℕ) → IsRun text at cs used → IsSpelledAt utf8_bytes text (at + used) c size → IsRun text at (cs ++ c ∷ []) (used + size)
+one_more : (text cs : List ℕ) (at used c size : ℕ) → IsRun text at cs used → IsFormAt utf8_bytes text (at + used) c size → IsRun text at (cs ++ c ∷ []) (used + size)
 one_more text cs at used c size p q =
     let front : List ℕ = flat_map utf8_bytes cs in
     let bytes : flat_map utf8_bytes (cs ++ c ∷ []) ≡ front ++ utf8_bytes c = flat_map-append utf8_bytes cs (c ∷ []) ∙ ap (λ (l : List ℕ). front ++ l) (append-nil (utf8_bytes c)) in
@@ -133,7 +133,7 @@ both_run text at numbers low high begun used p long also are these =
 -- what is written to a buffer in two parts is what the text has
 pub both_read : (text : List ℕ) (at : ℕ) (numbers low high : List ℕ) (begun used : ℕ) (before mid after : List ℕ) (n a b : ℕ) → AreBegun text at numbers begun used → length low ≡ 8 → length high ≡ 8 → ((k : ℕ) → k < 8 → get_or low k 0 ≡ get_or numbers k 0)
     → ((k : ℕ) → k < 8 → get_or high k 0 ≡ get_or numbers (8 + k) 0) → n + a + b ≤ length before → a ≡ length (kept (begun % 256) low) → b ≡ length (kept (begun / 256) high) → length mid ≡ length before → length after ≡ length mid
-    → take (n + a) mid ≡ take n before ++ kept (begun % 256) low → take (n + a + b) after ≡ take (n + a) mid ++ kept (begun / 256) high → IsReadSpelled utf8_bytes text at before n (spelled (a + b) used) after
+    → take (n + a) mid ≡ take n before ++ kept (begun % 256) low → take (n + a + b) after ≡ take (n + a) mid ++ kept (begun / 256) high → IsReadForm utf8_bytes text at before n (spelled (a + b) used) after
 both_read text at numbers low high begun used before mid after n a b p long also are these room e f size sizes stand stands =
     let x : List ℕ = kept (begun % 256) low in
     let y : List ℕ = kept (begun / 256) high in

@@ -8,7 +8,7 @@ use Rattle.std.proofs.Math.Seq.{drop-cons}
 use Rattle.std.proofs.lemmas.Simd.{bitmask_splat, zip2_splat, length-zip2, map-map}
 use Rattle.std.proofs.lemmas.Bool.{ltb-true, ltb-false, le-ltb}
 use Rattle.std.specs.Int.{bit_at}
-use Rattle.cv_block.specs.Spelled.{IsSpelledAt}
+use Rattle.cv_block.specs.StatelessForms.{IsFormAt}
 use Rattle.cv_utf8.specs.Utf8.{utf8_bytes}
 use Rattle.cv_utf8.specs.Private.Utf8Short.{is_among, is_behind, IsShort, IsShortAt, short_of, short_value, left_over}
 use Rattle.cv_utf8.specs.Private.Utf8Windows.{IsTwoAt, IsLane, AreBegun}
@@ -74,11 +74,11 @@ two_bytes : (x y : ℕ) → 0xc2 ≤ x → x ≤ 0xdf → 0x80 ≤ y → y ≤ 0
 two_bytes x y h k l m = grind arith
 
 -- a byte below 128 spells its character
-pub one_spelled : (text : List ℕ) (at v : ℕ) → at + 2 ≤ length text → get_or text at 0 < 128 → v ≡ get_or text at 0 → IsSpelledAt utf8_bytes text at v 1
+pub one_spelled : (text : List ℕ) (at v : ℕ) → at + 2 ≤ length text → get_or text at 0 < 128 → v ≡ get_or text at 0 → IsFormAt utf8_bytes text at v 1
 one_spelled text at v room h is = rw (is, one_bytes (get_or text at 0) h, two text at room) ((omega arith, λ l. omega arith), (refl, tt), refl)
 
 -- two bytes spell their character
-pub two_spelled : (text : List ℕ) (at v : ℕ) → at + 2 ≤ length text → IsTwoAt text at → v ≡ (get_or text at 0 % 32) * 64 + get_or text (at + 1) 0 % 64 → IsSpelledAt utf8_bytes text at v 2
+pub two_spelled : (text : List ℕ) (at v : ℕ) → at + 2 ≤ length text → IsTwoAt text at → v ≡ (get_or text at 0 % 32) * 64 + get_or text (at + 1) 0 % 64 → IsFormAt utf8_bytes text at v 2
 two_spelled text at v room p is =
     let bytes = two_bytes (get_or text at 0) (get_or text (at + 1) 0) p.0 p.1 p.2.0 p.2.1 in
     rw (is, bytes, two text at room) ((omega arith, λ l. omega arith), (refl, (refl, tt)), refl)

@@ -6,9 +6,9 @@ use Rattle.std.proofs.lemmas.Bool.{lt-ltb}
 use Rattle.std.proofs.lemmas.List.{take-take}
 use borrow.Rule.Slice.PartMut.{put_mid}
 use Rattle.cv_base.specs.Scalars.{AreScalars}
-use Rattle.cv_block.specs.Spelled.{IsReadSpelled, IsWrittenSpelled}
-use Rattle.cv_block.proofs.SpelledBlocks.{ReadsSpelled, WritesSpelled}
-use Rattle.cv_block.specs.declared.spelling.Spelled.{Spelled}
+use Rattle.cv_block.specs.StatelessForms.{IsReadForm, IsWrittenForm}
+use Rattle.cv_block.proofs.FormBlocks.{ReadsForm, WritesForm}
+use Rattle.cv_block.specs.declared.stateless_form.Converted.{Converted}
 use Rattle.cv_base.specs.declared.state.ReadState.TheVariants as read
 use Rattle.cv_base.specs.declared.state.WriteState.TheVariants as write
 use Rattle.cv_utf8.specs.Utf8.{utf8_reads, utf8_bytes, utf8_writes}
@@ -21,7 +21,7 @@ abbrev AreAscii : List ℕ → Type 0
 AreAscii xs = (k : ℕ) → k < length xs → get_or xs k 0 < 128
 
 -- as many bytes as characters
-abbrev pub as_many : ℕ → Spelled
+abbrev pub as_many : ℕ → Converted
 as_many k = record { n = k; used = k }
 
 spells_itself : (xs : List ℕ) → AreAscii xs → flat_map utf8_bytes xs ≡ xs
@@ -53,7 +53,7 @@ length-put before block at m h e = simp (length-append, length-take, length-drop
 
 -- If sixteen bytes are written to a buffer, and the first k are ASCII, k characters are read.
 pub read_front : (text : List ℕ) (at : ℕ) (before after : List ℕ) (n k : ℕ) → at + 16 ≤ length text → k ≤ 16 → ((j : ℕ) → j < k → get_or text (at + j) 0 < 128) → n + 16 ≤ length before → length after ≡ length before
-    → take (n + 16) after ≡ take n before ++ take 16 (drop at text) → IsReadSpelled utf8_bytes text at before n (as_many k) after
+    → take (n + 16) after ≡ take n before ++ take 16 (drop at text) → IsReadForm utf8_bytes text at before n (as_many k) after
 read_front text at before after n k within most p room size put =
     let some : at + k ≤ length text = omega arith in
     let same = part_spells_itself text at k some p in
@@ -73,7 +73,7 @@ read_front text at before after n k within most p room size put =
 
 -- If the bytes of sixteen characters of ASCII are written, the characters are.
 pub written_all : (characters : List ℕ) (n : ℕ) (before block : List ℕ) (at m : ℕ) → n + 16 ≤ length characters → ((j : ℕ) → j < 16 → get_or characters (n + j) 0 < 128) → at + 64 ≤ length before → m ≡ 16
-    → block ≡ take 16 (drop n characters) → IsWrittenSpelled utf8_bytes characters n before at (as_many 16) (put_mid at m before block)
+    → block ≡ take 16 (drop n characters) → IsWrittenForm utf8_bytes characters n before at (as_many 16) (put_mid at m before block)
 written_all characters n before block at m within p room e is =
     let same = part_spells_itself characters n 16 within p in
     let long = length-part characters n 16 within in
@@ -86,9 +86,9 @@ written_all characters n before block at m within p room e is =
     }
 
 -- the bytes of each scalar read as it
-pub utf8_reads_spelled : ReadsSpelled utf8_reads read.Start utf8_bytes
+pub utf8_reads_spelled : ReadsForm utf8_reads read.Start utf8_bytes
 utf8_reads_spelled c scalar = (c, is_in_table c scalar, refl)
 
 -- each scalar is written as its bytes
-pub utf8_writes_spelled : WritesSpelled utf8_writes write.Start utf8_bytes
+pub utf8_writes_spelled : WritesForm utf8_writes write.Start utf8_bytes
 utf8_writes_spelled c = refl

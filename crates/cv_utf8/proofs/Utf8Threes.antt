@@ -9,7 +9,7 @@ use Rattle.std.proofs.lemmas.List.Concat.{flat_map-append}
 use Rattle.std.proofs.lemmas.Simd.{Each1-all, Each2-splat, swz_l, get_or_wider, get_or-chunk}
 use Rattle.cv_base.proofs.Front.{Begins-join}
 use Rattle.cv_base.specs.Items.{Begins}
-use Rattle.cv_block.proofs.SpelledRuns.{AreScalars-append}
+use Rattle.cv_block.proofs.FormRuns.{AreScalars-append}
 use Rattle.cv_utf8.specs.Units.{AreRead}
 use Rattle.cv_utf8.specs.Utf8.{utf8_bytes}
 use Rattle.cv_utf8.specs.Private.Utf8Threes.{AreParts, AreThrees, IsThreeOf}

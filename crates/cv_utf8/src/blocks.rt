@@ -6,13 +6,13 @@ use crate::utf8_spelling::Utf8Spelling;
 use cv_base::{
     BlockCodec, Policy, ReadBlock, ReadState, Scalar, WriteState, WrittenBlock, write_each,
 };
-use cv_block::{read_spelled, write_spelled};
+use cv_block::{read_stateless, write_stateless};
 
 impl BlockCodec for Utf8 {
     #[tactic(auto, using(cv_base::proofs::BlockLaws::nothing_read))]
     fn read_block(&self, state: ReadState, input: &[u8], buffer: &mut [Scalar]) -> ReadBlock {
         match state {
-            ReadState::Start => read_spelled::<Utf8Spelling>(state, input, buffer),
+            ReadState::Start => read_stateless::<Utf8Spelling>(state, input, buffer),
             _ => ReadBlock::nothing(state),
         }
     }
@@ -27,7 +27,7 @@ impl BlockCodec for Utf8 {
         at: usize,
     ) -> Option<WrittenBlock> {
         match state {
-            WriteState::Start => Some(write_spelled::<Utf8Spelling>(state, characters, out, at)),
+            WriteState::Start => Some(write_stateless::<Utf8Spelling>(state, characters, out, at)),
             _ => Some(write_each(self, state, characters, out, at)),
         }
     }

@@ -1,10 +1,10 @@
 //! Reading ASCII in UTF-8.
 ghost use Rattle.std.specs.Prelude.{◌≡◌, ◌+◌, ◌++◌, ◌≤◌, ◌<◌, ℕ, length, take, drop, slice_index};
-ghost use Rattle.cv_block.specs.Spelled.{IsReadSpelled};
+ghost use Rattle.cv_block.specs.StatelessForms.{IsReadForm};
 ghost use Rattle.cv_utf8.specs.Utf8.{utf8_bytes};
 
 use cv_base::Scalar;
-use cv_block::{MANY, Spelled, is_ascii_block};
+use cv_block::{Converted, LANES, is_ascii_block};
 use std::simd::prelude::*;
 
 /// Writes sixteen bytes to a buffer, each as the character of its number. It loads all before it stores any, so that
@@ -17,37 +17,37 @@ fn put_bytes(input: &[u8], at: usize, buffer: &mut [Scalar], n: usize)
     ensures size { length buffer.new ≡ length buffer.old }
 {
     let block = u8x16::from_slice(&input[at..]).to_array();
-    for lane in 0..MANY {
+    for lane in 0..LANES {
         buffer[n + lane] = Scalar::known(block[lane] as u32);
     }
 }
 
 /// Reads sixteen characters of ASCII.
 #[inline(always)]
-pub(crate) fn read_ascii(input: &[u8], at: usize, buffer: &mut [Scalar], n: usize) -> Spelled
+pub(crate) fn read_ascii(input: &[u8], at: usize, buffer: &mut [Scalar], n: usize) -> Converted
     requires within { at + 16 ≤ length input.now }
     requires room { n + 16 ≤ length buffer.old }
     requires ascii { (k : ℕ) → at ≤ k → k < at + 16 → slice_index input.now k < 128 }
     ensures many { result.n ≤ 16 }
-    ensures read { IsReadSpelled utf8_bytes input.now at buffer.old n result buffer.new }
+    ensures read { IsReadForm utf8_bytes input.now at buffer.old n result buffer.new }
 {
     put_bytes(input, at, buffer, n);
-    Spelled {
-        n: MANY,
-        used: MANY,
+    Converted {
+        n: LANES,
+        used: LANES,
     }
 }
 
 /// Reads sixteen characters of ASCII at `at`, or none if fewer bytes are left or one of them is not ASCII.
 #[inline(always)]
-pub(crate) fn read_last(input: &[u8], at: usize, buffer: &mut [Scalar], n: usize) -> Spelled
+pub(crate) fn read_last(input: &[u8], at: usize, buffer: &mut [Scalar], n: usize) -> Converted
     requires within { at ≤ length input.now }
     requires room { n + 16 ≤ length buffer.old }
     ensures many { result.n ≤ 16 }
-    ensures read { IsReadSpelled utf8_bytes input.now at buffer.old n result buffer.new }
+    ensures read { IsReadForm utf8_bytes input.now at buffer.old n result buffer.new }
 {
-    if input.len() - at >= MANY && is_ascii_block(input, at) {
+    if input.len() - at >= LANES && is_ascii_block(input, at) {
         return read_ascii(input, at, buffer, n);
     }
-    Spelled { n: 0, used: 0 }
+    Converted { n: 0, used: 0 }
 }

@@ -1,14 +1,14 @@
 //! Writing the characters that begin among sixteen bytes one after the other to a buffer.
 ghost use Rattle.std.specs.Prelude.{◌≡◌, ◌+◌, ◌++◌, ◌≤◌, ◌<◌, ℕ, List, length, take, get_or};
 ghost use Rattle.cv_base.specs.Scalars.{IsScalar};
-ghost use Rattle.cv_block.specs.Spelled.{IsReadSpelled};
-ghost use Rattle.cv_pack.specs.Packed.{kept};
+ghost use Rattle.cv_block.specs.StatelessForms.{IsReadForm};
+ghost use Rattle.cv_simd.specs.Compressed.{kept};
 ghost use Rattle.cv_utf8.specs.Utf8.{utf8_bytes};
 ghost use Rattle.cv_utf8.specs.Private.Utf8Windows.{AreBegun};
 
 use cv_base::Scalar;
-use cv_block::{MANY, Spelled};
-use cv_pack::packed_numbers;
+use cv_block::{Converted, LANES};
+use cv_simd::compress_u16;
 use std::simd::prelude::*;
 
 /// How many numbers are written at once.
@@ -39,7 +39,7 @@ fn put_kept(numbers: u16x8, begun: u64, buffer: &mut [Scalar], n: usize) -> usiz
     ensures stand { take (n + result) buffer.new ≡ take n buffer.old ++ kept begun numbers }
     ensures size { length buffer.new ≡ length buffer.old }
 {
-    put_eight(&packed_numbers(numbers, begun).to_array(), buffer, n);
+    put_eight(&compress_u16(numbers, begun).to_array(), buffer, n);
     begun.count_ones() as usize
 }
 
@@ -48,25 +48,25 @@ fn put_kept(numbers: u16x8, begun: u64, buffer: &mut [Scalar], n: usize) -> usiz
 /// bytes they have together.
 #[inline(always)]
 pub(crate) fn put_begun(
-    numbers: &[u16; MANY],
+    numbers: &[u16; LANES],
     begun: u64,
     used: usize,
     buffer: &mut [Scalar],
     n: usize,
-) -> Spelled
+) -> Converted
     requires long { length numbers.now ≡ 16 }
     requires few { begun < 0x10000 }
     requires room { n + 16 ≤ length buffer.old }
     requires scalars { (k : ℕ) → k < 16 → IsScalar (get_or numbers.now k 0) }
     ensures many { result.n ≤ 16 }
     ensures read { (text : List ℕ) (at : ℕ) → AreBegun text at numbers.now begun used
-        → IsReadSpelled utf8_bytes text at buffer.old n result buffer.new }
+        → IsReadForm utf8_bytes text at buffer.old n result buffer.new }
 {
     let low = u16x8::from_slice(numbers);
     let high = u16x8::from_slice(&numbers[EIGHT..]);
     let first = put_kept(low, begun % 256, buffer, n);
     let second = put_kept(high, begun / 256, buffer, n + first);
-    Spelled {
+    Converted {
         n: first + second,
         used,
     }

@@ -2,14 +2,14 @@
 ghost use Rattle.std.specs.Prelude.{◌≡◌, ◌+◌, ◌*◌, ◌≤◌, ◌<◌, ℕ, length, take, drop, get_or, map};
 ghost use Rattle.std.specs.List.{flat_map};
 ghost use Rattle.std.specs.Simd.Lanes.{mask_l};
-ghost use Rattle.cv_block.specs.Spelled.{IsWrittenSpelled};
+ghost use Rattle.cv_block.specs.StatelessForms.{IsWrittenForm};
 ghost use Rattle.cv_utf8.specs.Utf8.{utf8_bytes};
 ghost use Rattle.cv_utf8.specs.Private.Utf8Pairs.{has_two};
 ghost use Rattle.cv_utf8.specs.Private.Utf8Fours.{has_three, four_of};
 
 use cv_base::Scalar;
-use cv_block::{MANY, Spelled};
-use cv_pack::packed_fours;
+use cv_block::{Converted, LANES};
+use cv_simd::compress_triples;
 use std::simd::prelude::*;
 
 /// How many characters are packed at once.
@@ -67,12 +67,12 @@ fn write_four(characters: &[Scalar], n: usize, out: &mut [u8], at: usize) -> usi
     requires room { at + 16 ≤ length out.old }
     requires middle { (k : ℕ) → k < 4 → get_or characters.now (n + k) 0 < 0x10000 }
     ensures few { result ≤ 16 }
-    ensures written { IsWrittenSpelled utf8_bytes characters.now n out.old at
+    ensures written { IsWrittenForm utf8_bytes characters.now n out.old at
         (record { n = 4; used = result }) out.new }
 {
     let numbers = u32x4::from_array(numbers_of(characters, n));
     let sizes = sizes(numbers);
-    let bytes = packed_fours(fours(numbers), sizes).to_array();
+    let bytes = compress_triples(fours(numbers), sizes).to_array();
     out[at..at + 16].copy_from_slice(&bytes);
     FOUR + sizes.count_ones() as usize
 }
@@ -80,16 +80,16 @@ fn write_four(characters: &[Scalar], n: usize, out: &mut [u8], at: usize) -> usi
 /// Writes sixteen characters of up to three bytes. There is room for 64 bytes from `at` on, and those after the
 /// characters may be overwritten.
 #[inline(always)]
-pub(crate) fn write_middle(characters: &[Scalar], n: usize, out: &mut [u8], at: usize) -> Spelled
+pub(crate) fn write_middle(characters: &[Scalar], n: usize, out: &mut [u8], at: usize) -> Converted
     requires within { n + 16 ≤ length characters.now }
     requires room { at + 64 ≤ length out.old }
     requires middle { (k : ℕ) → k < 16 → get_or characters.now (n + k) 0 < 0x10000 }
     ensures many { result.n ≤ 16 }
-    ensures written { IsWrittenSpelled utf8_bytes characters.now n out.old at result out.new }
+    ensures written { IsWrittenForm utf8_bytes characters.now n out.old at result out.new }
 {
     let mut used = 0;
     for quarter in 0..4 {
         used += write_four(characters, n + FOUR * quarter, out, at + used);
     }
-    Spelled { n: MANY, used }
+    Converted { n: LANES, used }
 }

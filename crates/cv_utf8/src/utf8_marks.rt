@@ -5,7 +5,7 @@ ghost use Rattle.std.specs.Simd.Lanes.{mask_l};
 ghost use Rattle.cv_utf8.specs.Private.Utf8Short.{is_among, is_behind};
 ghost use Rattle.cv_utf8.specs.Private.Utf8Windows.{AreWhole, AreMarks, IsTwoAt, IsThreeAt, three_high};
 
-use cv_block::MANY;
+use cv_block::LANES;
 use std::simd::prelude::*;
 
 /// Returns a mask of those of sixteen bytes that are among the `many` values from `least` on. The lowest bit is the

@@ -2,13 +2,13 @@
 ghost use Rattle.std.specs.Prelude.{◌≡◌, ◌+◌, ◌≤◌, ◌<◌, ℕ, length, take, drop, get_or, map};
 ghost use Rattle.std.specs.List.{flat_map};
 ghost use Rattle.std.specs.Simd.Lanes.{mask_l};
-ghost use Rattle.cv_block.specs.Spelled.{IsWrittenSpelled};
+ghost use Rattle.cv_block.specs.StatelessForms.{IsWrittenForm};
 ghost use Rattle.cv_utf8.specs.Utf8.{utf8_bytes};
 ghost use Rattle.cv_utf8.specs.Private.Utf8Pairs.{has_two, pair_of};
 
 use cv_base::Scalar;
-use cv_block::{MANY, Spelled};
-use cv_pack::packed_pairs;
+use cv_block::{Converted, LANES};
+use cv_simd::compress_pairs;
 use std::simd::prelude::*;
 
 /// How many characters are packed at once.
@@ -60,12 +60,12 @@ fn write_eight(characters: &[Scalar], n: usize, out: &mut [u8], at: usize) -> us
     requires room { at + 16 ≤ length out.old }
     requires short { (k : ℕ) → k < 8 → get_or characters.now (n + k) 0 < 0x800 }
     ensures few { result ≤ 16 }
-    ensures written { IsWrittenSpelled utf8_bytes characters.now n out.old at
+    ensures written { IsWrittenForm utf8_bytes characters.now n out.old at
         (record { n = 8; used = result }) out.new }
 {
     let numbers = u16x8::from_array(numbers_of(characters, n));
     let twos = twos(numbers);
-    let bytes = packed_pairs(pairs(numbers), twos).to_array();
+    let bytes = compress_pairs(pairs(numbers), twos).to_array();
     out[at..at + 16].copy_from_slice(&bytes);
     EIGHT + twos.count_ones() as usize
 }
@@ -73,17 +73,17 @@ fn write_eight(characters: &[Scalar], n: usize, out: &mut [u8], at: usize) -> us
 /// Writes sixteen characters of up to two bytes. There is room for 64 bytes from `at` on, and those after the
 /// characters may be overwritten.
 #[inline(always)]
-pub(crate) fn write_short(characters: &[Scalar], n: usize, out: &mut [u8], at: usize) -> Spelled
+pub(crate) fn write_short(characters: &[Scalar], n: usize, out: &mut [u8], at: usize) -> Converted
     requires within { n + 16 ≤ length characters.now }
     requires room { at + 64 ≤ length out.old }
     requires short { (k : ℕ) → k < 16 → get_or characters.now (n + k) 0 < 0x800 }
     ensures many { result.n ≤ 16 }
-    ensures written { IsWrittenSpelled utf8_bytes characters.now n out.old at result out.new }
+    ensures written { IsWrittenForm utf8_bytes characters.now n out.old at result out.new }
 {
     let first = write_eight(characters, n, out, at);
     let second = write_eight(characters, n + EIGHT, out, at + first);
-    Spelled {
-        n: MANY,
+    Converted {
+        n: LANES,
         used: first + second,
     }
 }

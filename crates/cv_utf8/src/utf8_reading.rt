@@ -1,6 +1,6 @@
 //! Reading characters of UTF-8 one by one.
 ghost use Rattle.std.specs.Prelude.{◌+◌, ◌≤◌, IfSome, length, get_or};
-ghost use Rattle.cv_block.specs.Spelled.{IsSpelledAt};
+ghost use Rattle.cv_block.specs.StatelessForms.{IsFormAt};
 ghost use Rattle.cv_utf8.specs.Utf8.{utf8_bytes};
 
 use cv_base::Scalar;
@@ -9,7 +9,7 @@ use cv_base::Scalar;
 #[inline(always)]
 fn two_at(input: &[u8], at: usize) -> Option<(Scalar, usize)>
     requires within { at + 2 ≤ length input.now }
-    ensures { IfSome result (λ read. IsSpelledAt utf8_bytes input.now at read.0 read.1) }
+    ensures { IfSome result (λ read. IsFormAt utf8_bytes input.now at read.0 read.1) }
 {
     let first = input[at] as u32;
     if first < 0xc2 || first > 0xdf {
@@ -30,7 +30,7 @@ fn three_at(input: &[u8], at: usize) -> Option<(Scalar, usize)>
     requires within { at + 3 ≤ length input.now }
     requires first { 0xe0 ≤ get_or input.now at 0 }
     requires last { get_or input.now at 0 ≤ 0xef }
-    ensures { IfSome result (λ read. IsSpelledAt utf8_bytes input.now at read.0 read.1) }
+    ensures { IfSome result (λ read. IsFormAt utf8_bytes input.now at read.0 read.1) }
 {
     let first = input[at] as u32;
     let second = input[at + 1] as u32;
@@ -51,7 +51,7 @@ fn three_at(input: &[u8], at: usize) -> Option<(Scalar, usize)>
 fn four_at(input: &[u8], at: usize) -> Option<(Scalar, usize)>
     requires within { at + 4 ≤ length input.now }
     requires first { 0xf0 ≤ get_or input.now at 0 }
-    ensures { IfSome result (λ read. IsSpelledAt utf8_bytes input.now at read.0 read.1) }
+    ensures { IfSome result (λ read. IsFormAt utf8_bytes input.now at read.0 read.1) }
 {
     let first = input[at] as u32;
     let second = input[at + 1] as u32;
@@ -72,7 +72,7 @@ fn four_at(input: &[u8], at: usize) -> Option<(Scalar, usize)>
 #[inline(always)]
 pub(crate) fn inner_at(input: &[u8], at: usize) -> Option<(Scalar, usize)>
     requires { at + 4 ≤ length input.now }
-    ensures { IfSome result (λ read. IsSpelledAt utf8_bytes input.now at read.0 read.1) }
+    ensures { IfSome result (λ read. IsFormAt utf8_bytes input.now at read.0 read.1) }
 {
     let first = input[at];
     if first < 0x80 {
@@ -92,7 +92,7 @@ pub(crate) fn inner_at(input: &[u8], at: usize) -> Option<(Scalar, usize)>
 #[inline(never)]
 pub(crate) fn last_at(input: &[u8], at: usize) -> Option<(Scalar, usize)>
     requires { at ≤ length input.now }
-    ensures { IfSome result (λ read. IsSpelledAt utf8_bytes input.now at read.0 read.1) }
+    ensures { IfSome result (λ read. IsFormAt utf8_bytes input.now at read.0 read.1) }
 {
     let left = input.len() - at;
     if left == 0 {

@@ -1,10 +1,10 @@
-//! UTF-8 as a spelling.
+//! UTF-8 as a stateless form.
 ghost use Rattle.std.specs.Prelude.{◌≡◌, ◌+◌, ◌≤◌, ◌<◌, ℕ, length, take, drop, get_or};
 ghost use Rattle.std.specs.Int.{to_le_bytes, w32};
 ghost use Rattle.cv_base.specs.Scalars.{IsScalar};
 ghost use Rattle.cv_base.specs.Items.{Begins};
 ghost use Rattle.cv_block.specs.Units.{AreScalarsBelow};
-ghost use Rattle.cv_block.specs.Words.{AreWords, AreSizes};
+ghost use Rattle.cv_block.specs.PackedWords.{AreWords, AreSizes};
 ghost use Rattle.cv_utf8.specs.Utf8.{utf8_bytes};
 
 use crate::utf8_fours::write_middle;
@@ -12,10 +12,10 @@ use crate::utf8_pairs::write_short;
 use crate::utf8_reading::{inner_at, last_at};
 use crate::utf8_windows::read_many;
 use cv_base::Scalar;
-use cv_block::{MANY, Spelled, Spelling, Words, write_words};
+use cv_block::{Converted, LANES, PackedWords, StatelessForm, write_words};
 use std::simd::prelude::*;
 
-/// The spelling of characters in UTF-8 (Unicode Standard, section 3.9, Table 3-6).
+/// The stateless form of characters in UTF-8 (Unicode Standard, section 3.9, Table 3-6).
 pub(crate) struct Utf8Spelling;
 
 /// The bytes of a character, as a number whose lowest byte is the first. The bytes after those of the character may be
@@ -57,7 +57,7 @@ fn joined(characters: &[Scalar], n: usize) -> u32
     ensures { (k : ℕ) → k < 16 → get_or characters.now (n + k) 0 ≤ result }
 {
     let mut joined = 0;
-    for lane in 0..MANY {
+    for lane in 0..LANES {
         joined |= characters[n + lane].value();
     }
     joined
@@ -101,36 +101,36 @@ fn sizes(values: u32x16) -> u32x16
 
 /// The bytes of sixteen characters of ASCII.
 #[inline(always)]
-fn narrowed(characters: &[Scalar], n: usize) -> [u8; MANY]
+fn narrowed(characters: &[Scalar], n: usize) -> [u8; LANES]
     requires within { n + 16 ≤ length characters.now }
     requires ascii { (k : ℕ) → k < 16 → get_or characters.now (n + k) 0 < 128 }
     ensures { result ≡ take 16 (drop n characters.now) }
 {
-    let mut block = [0; MANY];
-    for lane in 0..MANY {
+    let mut block = [0; LANES];
+    for lane in 0..LANES {
         block[lane] = characters[n + lane].value() as u8;
     }
     block
 }
 
-impl Words for Utf8Spelling {
+impl PackedWords for Utf8Spelling {
     ghost bytes_of = { utf8_bytes };
 
     #[inline(always)]
-    fn words(values: &[u32; MANY]) -> [u32; MANY] {
+    fn words(values: &[u32; LANES]) -> [u32; LANES] {
         words(u32x16::from_array(*values)).to_array()
     }
 
     #[inline(always)]
-    fn sizes(values: &[u32; MANY]) -> [u32; MANY] {
+    fn sizes(values: &[u32; LANES]) -> [u32; LANES] {
         sizes(u32x16::from_array(*values)).to_array()
     }
 }
 
-impl Spelling for Utf8Spelling {
+impl StatelessForm for Utf8Spelling {
     ghost bytes_of = { utf8_bytes };
 
-    const MANY_SIZE: usize = 1;
+    const RESUME_SIZE: usize = 1;
 
     #[inline(always)]
     fn assert_short() {}
@@ -146,7 +146,7 @@ impl Spelling for Utf8Spelling {
     }
 
     #[inline(always)]
-    fn read_many(input: &[u8], at: usize, buffer: &mut [Scalar], n: usize) -> Spelled {
+    fn read_many(input: &[u8], at: usize, buffer: &mut [Scalar], n: usize) -> Converted {
         read_many(input, at, buffer, n)
     }
 
@@ -158,7 +158,7 @@ impl Spelling for Utf8Spelling {
     }
 
     #[inline(always)]
-    fn write_many(characters: &[Scalar], n: usize, out: &mut [u8], at: usize) -> Spelled {
+    fn write_many(characters: &[Scalar], n: usize, out: &mut [u8], at: usize) -> Converted {
         let joined = joined(characters, n);
         if joined >= 0x1_0000 {
             return write_words::<Utf8Spelling>(characters, n, out, at);
@@ -169,10 +169,10 @@ impl Spelling for Utf8Spelling {
         if joined >= 0x80 {
             return write_short(characters, n, out, at);
         }
-        out[at..at + MANY].copy_from_slice(&narrowed(characters, n));
-        Spelled {
-            n: MANY,
-            used: MANY,
+        out[at..at + LANES].copy_from_slice(&narrowed(characters, n));
+        Converted {
+            n: LANES,
+            used: LANES,
         }
     }
 }

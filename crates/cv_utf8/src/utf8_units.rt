@@ -8,8 +8,8 @@ use crate::utf8_marks::{Front, beginnings, is_behind, whole};
 use crate::utf8_short::are_short;
 use crate::utf8_threes::{may_be_several, three_units};
 use crate::utf8_windows::{may_be_high, short_values, whole_values};
-use cv_block::MANY;
-use cv_pack::packed_numbers;
+use cv_block::LANES;
+use cv_simd::compress_u16;
 use std::simd::prelude::*;
 
 /// How many lanes a part has.
@@ -32,7 +32,7 @@ pub struct Units {
 
 /// The characters that begin among sixteen bytes, those of eight bytes at once.
 #[inline(always)]
-fn begun_units(numbers: &[u16; MANY], begun: u64, used: usize) -> Units
+fn begun_units(numbers: &[u16; LANES], begun: u64, used: usize) -> Units
     requires long { length numbers.now ≡ 16 }
     requires few { begun < 0x10000 }
     ensures { (text : List ℕ) (at : ℕ) → AreBegun text at numbers.now begun used → AreRead text at result }
@@ -42,9 +42,9 @@ fn begun_units(numbers: &[u16; MANY], begun: u64, used: usize) -> Units
     let lows = begun % 256;
     let highs = begun / 256;
     Units {
-        first: packed_numbers(low, lows),
+        first: compress_u16(low, lows),
         firsts: lows.count_ones() as usize,
-        second: packed_numbers(high, highs),
+        second: compress_u16(high, highs),
         seconds: highs.count_ones() as usize,
         used,
     }
@@ -58,7 +58,7 @@ fn short_units(input: &[u8], at: usize) -> Units
     requires begins { is_behind (get_or input.now at 0) ≡ false }
     ensures { AreRead input.now at result }
 {
-    let used = MANY + is_behind(input[at + MANY]) as usize;
+    let used = LANES + is_behind(input[at + LANES]) as usize;
     begun_units(&short_values(input, at), beginnings(input, at), used)
 }
 

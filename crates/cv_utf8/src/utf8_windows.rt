@@ -1,6 +1,6 @@
 //! Reading UTF-8 in windows of sixteen bytes, without a branch for each character.
 ghost use Rattle.std.specs.Prelude.{◌≡◌, ◌+◌, ◌*◌, ◌/◌, ◌%◌, ◌≤◌, ◌<◌, ℕ, length, get_or, IsTrue, false};
-ghost use Rattle.cv_block.specs.Spelled.{IsReadSpelled};
+ghost use Rattle.cv_block.specs.StatelessForms.{IsReadForm};
 ghost use Rattle.cv_utf8.specs.Utf8.{utf8_bytes};
 ghost use Rattle.cv_utf8.specs.Private.Utf8Short.{is_behind, IsShortAt, short_of, short_value};
 ghost use Rattle.cv_utf8.specs.Private.Utf8Windows.{whole_of, whole_value};
@@ -11,12 +11,12 @@ use crate::utf8_long::{read_fours, read_threes};
 use crate::utf8_marks::{Front, among, beginnings, is_behind, three_high, whole};
 use crate::utf8_short::are_short;
 use cv_base::Scalar;
-use cv_block::{MANY, Spelled, is_ascii_block};
+use cv_block::{Converted, LANES, is_ascii_block};
 use std::simd::prelude::*;
 
 /// The numbers of sixteen bits that have these low and high bytes.
 #[inline(always)]
-fn numbers_of(low: u8x16, high: u8x16) -> [u16; MANY]
+fn numbers_of(low: u8x16, high: u8x16) -> [u16; LANES]
     ensures { (k : ℕ) → k < 16 → get_or result k 0 ≡ get_or low k 0 + 256 * get_or high k 0 }
 {
     (low.cast::<u16>() + high.cast::<u16>() * u16x16::splat(256)).to_array()
@@ -44,7 +44,7 @@ fn short_high(first: u8x16) -> u8x16
 /// Returns the numbers of the characters that begin at each of sixteen bytes, if they have one or two bytes. It
 /// computes their low and high bytes, because a vector has twice as many lanes of bytes as of numbers.
 #[inline(always)]
-pub(crate) fn short_values(input: &[u8], at: usize) -> [u16; MANY]
+pub(crate) fn short_values(input: &[u8], at: usize) -> [u16; LANES]
     requires { at + 17 ≤ length input.now }
     ensures { (k : ℕ) → k < 16 → get_or result k 0 ≡ short_value input.now (at + k) }
 {
@@ -55,15 +55,15 @@ pub(crate) fn short_values(input: &[u8], at: usize) -> [u16; MANY]
 
 /// Reads the characters that begin among sixteen bytes, if all have one or two bytes.
 #[inline(always)]
-fn read_short(input: &[u8], at: usize, buffer: &mut [Scalar], n: usize) -> Spelled
+fn read_short(input: &[u8], at: usize, buffer: &mut [Scalar], n: usize) -> Converted
     requires within { at + 18 ≤ length input.now }
     requires room { n + 16 ≤ length buffer.old }
     requires short { (k : ℕ) → k < 16 → IsShortAt input.now (at + k) }
     requires begins { is_behind (get_or input.now at 0) ≡ false }
     ensures many { result.n ≤ 16 }
-    ensures read { IsReadSpelled utf8_bytes input.now at buffer.old n result buffer.new }
+    ensures read { IsReadForm utf8_bytes input.now at buffer.old n result buffer.new }
 {
-    let used = MANY + is_behind(input[at + MANY]) as usize;
+    let used = LANES + is_behind(input[at + LANES]) as usize;
     let begun = beginnings(input, at);
     put_begun(&short_values(input, at), begun, used, buffer, n)
 }
@@ -94,7 +94,7 @@ fn high_bytes(first: u8x16, second: u8x16) -> u8x16
 /// Returns the numbers of the characters that begin at each of sixteen bytes, if they have up to three bytes. All are
 /// scalar values, whatever the bytes are.
 #[inline(always)]
-pub(crate) fn whole_values(input: &[u8], at: usize) -> [u16; MANY]
+pub(crate) fn whole_values(input: &[u8], at: usize) -> [u16; LANES]
     requires { at + 18 ≤ length input.now }
     ensures { (k : ℕ) → k < 16 → get_or result k 0 ≡ whole_value input.now (at + k) }
 {
@@ -107,11 +107,11 @@ pub(crate) fn whole_values(input: &[u8], at: usize) -> [u16; MANY]
 /// Reads the complete characters of up to three bytes at the start of sixteen bytes. Kept out of line to save registers
 /// in the callers' loops.
 #[inline(never)]
-fn read_whole(input: &[u8], at: usize, buffer: &mut [Scalar], n: usize) -> Spelled
+fn read_whole(input: &[u8], at: usize, buffer: &mut [Scalar], n: usize) -> Converted
     requires within { at + 18 ≤ length input.now }
     requires room { n + 16 ≤ length buffer.old }
     ensures many { result.n ≤ 16 }
-    ensures read { IsReadSpelled utf8_bytes input.now at buffer.old n result buffer.new }
+    ensures read { IsReadForm utf8_bytes input.now at buffer.old n result buffer.new }
 {
     let Front { used, begun } = whole(input, at);
     put_begun(&whole_values(input, at), begun, used, buffer, n)
@@ -140,17 +140,17 @@ fn may_be_threes(input: &[u8], at: usize) -> bool
 /// of three if many likely follow each other. It reads none if one of four bytes may begin at the second byte.
 /// Otherwise it reads the characters that begin among sixteen bytes, up to one of four bytes.
 #[inline(always)]
-fn read_high(input: &[u8], at: usize, buffer: &mut [Scalar], n: usize) -> Spelled
+fn read_high(input: &[u8], at: usize, buffer: &mut [Scalar], n: usize) -> Converted
     requires within { at + 18 ≤ length input.now }
     requires room { n + 16 ≤ length buffer.old }
     ensures many { result.n ≤ 16 }
-    ensures read { IsReadSpelled utf8_bytes input.now at buffer.old n result buffer.new }
+    ensures read { IsReadForm utf8_bytes input.now at buffer.old n result buffer.new }
 {
     if input[at] >= 0xf0 {
         return read_fours(input, at, buffer, n);
     }
     if input[at + 1] >= 0xf0 {
-        return Spelled { n: 0, used: 0 };
+        return Converted { n: 0, used: 0 };
     }
     if may_be_threes(input, at) {
         return read_threes(input, at, buffer, n);
@@ -162,14 +162,14 @@ fn read_high(input: &[u8], at: usize, buffer: &mut [Scalar], n: usize) -> Spelle
 /// bytes is at the start, or one of three and likely many more after it, it reads those with as many bytes. It may read
 /// none, and reads only ASCII if fewer than 18 bytes are left.
 #[inline(always)]
-pub(crate) fn read_many(input: &[u8], at: usize, buffer: &mut [Scalar], n: usize) -> Spelled
+pub(crate) fn read_many(input: &[u8], at: usize, buffer: &mut [Scalar], n: usize) -> Converted
     requires within { at ≤ length input.now }
     requires room { n + 16 ≤ length buffer.old }
     ensures many { result.n ≤ 16 }
-    ensures read { IsReadSpelled utf8_bytes input.now at buffer.old n result buffer.new }
+    ensures read { IsReadForm utf8_bytes input.now at buffer.old n result buffer.new }
 {
     let left = input.len() - at;
-    if left < MANY + 2 {
+    if left < LANES + 2 {
         return read_last(input, at, buffer, n);
     }
     if may_be_high(input, at) {

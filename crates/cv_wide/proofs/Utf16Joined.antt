@@ -10,12 +10,12 @@ use Rattle.cv_base.specs.Items.{Begins}
 use Rattle.cv_base.specs.declared.ascii_form.AsciiForm.TheVariants.{Two}
 use Rattle.cv_base.specs.declared.endian.Endian.{Endian}
 use Rattle.cv_base.proofs.Front.{Begins-join}
-use Rattle.cv_block.specs.Spelled.{IsSpelledAt, IsReadSpelled}
+use Rattle.cv_block.specs.StatelessForms.{IsFormAt, IsReadForm}
 use Rattle.cv_block.specs.Surrogates.{IsHighUnit, IsLowUnit, IsPair}
 use Rattle.cv_block.specs.Units.{IsUnitAt}
 use Rattle.cv_block.proofs.UnitBytes.{one_number}
 use Rattle.cv_block.proofs.UnitRuns.{flat_map-more}
-use Rattle.cv_block.proofs.SpelledRuns.{AreScalars-append}
+use Rattle.cv_block.proofs.FormRuns.{AreScalars-append}
 use Rattle.cv_wide.specs.Private.Joined.{IsJoined, AreJoined, unless_low, without_low}
 use Rattle.cv_wide.specs.Utf16.{utf16}
 use Rattle.cv_wide.proofs.Utf16Units.{one_spelled, pair_spelled}
@@ -61,7 +61,7 @@ pub record IsFront (e : Endian) (text characters : List ℕ) (at : ℕ) : Type 0
   pub uses : length (flat_map (utf16 e) characters) ≡ at
 
 -- one character more is at the start
-front_more : (e : Endian) (text characters : List ℕ) (at size c : ℕ) → IsFront e text characters at → IsSpelledAt (utf16 e) text at c size → IsFront e text (characters ++ c ∷ []) (at + size)
+front_more : (e : Endian) (text characters : List ℕ) (at size c : ℕ) → IsFront e text characters at → IsFormAt (utf16 e) text at c size → IsFront e text (characters ++ c ∷ []) (at + size)
 front_more e text characters at size c front p =
     let more = flat_map-more (utf16 e) characters c in
     record {
@@ -101,7 +101,7 @@ after_other e text numbers m u h j is before never =
       other = λ f. elim (cases_eq (j.unit / 0x400) 0x37) [
         | inl low ↦ rw (low_more numbers m h (ap (λ x. x / 0x400) same ∙ low)) (subst (IsFront e text (without_low (take m numbers))) place (before.low low))
         | inr other ↦ (
-            let spelled = subst (λ (x : ℕ). IsSpelledAt (utf16 e) text (2 * m) x 2) (sym same) (one_spelled e text (2 * m) j.unit j.here never other) in
+            let spelled = subst (λ (x : ℕ). IsFormAt (utf16 e) text (2 * m) x 2) (sym same) (one_spelled e text (2 * m) j.unit j.here never other) in
             rw (other_more numbers m h (λ g. other (ap (λ x. x / 0x400) (sym same) ∙ g))) (subst (IsFront e text (without_low (take m numbers) ++ c ∷ [])) place (front_more e text _ (2 * m) 2 c (before.other other) spelled)))
       ];
     }
@@ -131,7 +131,7 @@ end false low b = b.other (λ f. (let g : false ≡ true = low.1 f in cc g))
 -- many units are read
 pub joined_read : (e : Endian) (text : List ℕ) (at : ℕ) (before : List ℕ) (n more : ℕ) (numbers after : List ℕ) (first last : ℕ) (is_low : Bool) → length numbers ≡ 16 → AreJoined e (take (length text - at) (drop at text)) numbers 16 → IsUnitAt (Two e) (take (length text - at) (drop at text)) 0 first
     → (IsLowUnit first → ⊥) → IsUnitAt (Two e) (take (length text - at) (drop at text)) 32 last → (IsTrue is_low ↔ (IsLowUnit last)) → n + 16 ≤ length before → more ≤ 16 → more ≡ length (without_low numbers) → take (n + more) after ≡ take n before ++ without_low numbers → length after ≡ length before
-    → IsReadSpelled (utf16 e) text at before n (record { n = more; used = 32 + 2 * bool_byte is_low }) after
+    → IsReadForm (utf16 e) text at before n (record { n = more; used = 32 + 2 * bool_byte is_low }) after
 joined_read e text at before n more numbers after first last is_low long joined here never unit low room few counts stand same =
     let b = all_before e _ numbers 16 last first (omega arith) (rw long joined) here never unit in
     let all : take 16 numbers ≡ numbers = take_all 16 numbers (omega arith) in

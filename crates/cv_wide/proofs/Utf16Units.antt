@@ -8,7 +8,7 @@ use Rattle.cv_base.specs.Units.{high_unit, low_unit, unit_of}
 use Rattle.cv_base.specs.declared.ascii_form.AsciiForm.TheVariants.{Two}
 use Rattle.cv_base.specs.declared.endian.Endian.{Endian}
 use Rattle.cv_base.proofs.Front.{Begins-join, Begins-length}
-use Rattle.cv_block.specs.Spelled.{IsSpelledAt}
+use Rattle.cv_block.specs.StatelessForms.{IsFormAt}
 use Rattle.cv_block.specs.Surrogates.{IsHighUnit, IsLowUnit, IsPair}
 use Rattle.cv_block.specs.Units.{IsUnitAt}
 use Rattle.cv_block.proofs.UnitBytes.{length-unit_of}
@@ -94,7 +94,7 @@ pub unit_within : (e : Endian) (text : List ℕ) (at u : ℕ) → IsUnitAt (Two 
 unit_within e text at u p = omega (arith, Begins-length (unit_of (Two e) u) (drop at text) p.stands, length-unit_of (Two e) u, length-drop at text)
 
 -- a unit that is no surrogate spells its character
-pub one_spelled : (e : Endian) (text : List ℕ) (at u : ℕ) → IsUnitAt (Two e) text at u → (IsHighUnit u → ⊥) → (IsLowUnit u → ⊥) → IsSpelledAt (utf16 e) text at u 2
+pub one_spelled : (e : Endian) (text : List ℕ) (at u : ℕ) → IsUnitAt (Two e) text at u → (IsHighUnit u → ⊥) → (IsLowUnit u → ⊥) → IsFormAt (utf16 e) text at u 2
 one_spelled e text at u p high low = (
   scalar_one u p.few high low,
   subst (λ (w : List ℕ). Begins w (drop at text)) (sym (one_unit e u p.few)) p.stands,
@@ -111,5 +111,5 @@ pair_stands e text at high low c p q pair =
     subst (λ (w : List ℕ). Begins w (drop at text)) (sym (pair_bytes e high low c pair)) (Begins-join (unit_of (Two e) high) (unit_of (Two e) low) (drop at text) p.stands second)
 
 -- the character of a pair is spelled where its units are
-pub pair_spelled : (e : Endian) (text : List ℕ) (at high low c : ℕ) → IsUnitAt (Two e) text at high → IsUnitAt (Two e) text (at + 2) low → IsHighUnit high → IsPair high low c → IsSpelledAt (utf16 e) text at c 4
+pub pair_spelled : (e : Endian) (text : List ℕ) (at high low c : ℕ) → IsUnitAt (Two e) text at high → IsUnitAt (Two e) text (at + 2) low → IsHighUnit high → IsPair high low c → IsFormAt (utf16 e) text at c 4
 pair_spelled e text at high low c p q h pair = (pair_scalar high low c h pair, pair_stands e text at high low c p q pair, sym (pair_size e high low c pair))

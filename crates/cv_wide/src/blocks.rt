@@ -6,15 +6,15 @@ use cv_base::{
     AsciiForm, BlockCodec, Endian, Policy, ReadBlock, ReadState, Scalar, WriteState, WrittenBlock,
     write_each,
 };
-use cv_block::{read_spelled, unit_front, write_spelled};
+use cv_block::{read_stateless, unit_front, write_stateless};
 
 impl<F: WideForm> BlockCodec for EncodingScheme<F> {
     #[tactic(auto, using(cv_base::proofs::BlockLaws::nothing_read))]
     fn read_block(&self, state: ReadState, input: &[u8], buffer: &mut [Scalar]) -> ReadBlock {
         F::assert_form();
         match self.order.kept_reading(state) {
-            Some(Endian::Big) => read_spelled::<F::Be>(state, input, buffer),
-            Some(Endian::Little) => read_spelled::<F::Le>(state, input, buffer),
+            Some(Endian::Big) => read_stateless::<F::Be>(state, input, buffer),
+            Some(Endian::Little) => read_stateless::<F::Le>(state, input, buffer),
             None => ReadBlock::nothing(state),
         }
     }
@@ -31,8 +31,8 @@ impl<F: WideForm> BlockCodec for EncodingScheme<F> {
     ) -> Option<WrittenBlock> {
         F::assert_form();
         match self.order.kept_writing(state) {
-            Some(Endian::Big) => Some(write_spelled::<F::Be>(state, characters, out, at)),
-            Some(Endian::Little) => Some(write_spelled::<F::Le>(state, characters, out, at)),
+            Some(Endian::Big) => Some(write_stateless::<F::Be>(state, characters, out, at)),
+            Some(Endian::Little) => Some(write_stateless::<F::Le>(state, characters, out, at)),
             None => Some(write_each(self, state, characters, out, at)),
         }
     }

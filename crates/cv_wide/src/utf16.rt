@@ -8,7 +8,8 @@ use crate::utf16_spelling::Utf16In;
 use crate::wide_form::WideForm;
 use cv_base::{AsciiForm, Endian, Item, Piece, ReadState, Scalar, character};
 use cv_block::{
-    BigEndian, ByteOrder, LittleEndian, Two, first_of, is_high, is_low, joined, second_of,
+    BigEndian, ByteOrder, LittleEndian, Two, from_surrogates, is_high, is_low, lead_surrogate,
+    trail_surrogate,
 };
 
 /// The encoding form UTF-16 (Unicode Standard, section 3.9, D91): each character has two or four bytes.
@@ -87,7 +88,7 @@ impl WideForm for Utf16Form {
         if !is_low(second) {
             return Item::Ill;
         }
-        character(joined(first, second), 4, next)
+        character(from_surrogates(first, second), 4, next)
     }
 
     #[inline]
@@ -99,9 +100,9 @@ impl WideForm for Utf16Form {
     #[inline]
     fn write<O: ByteOrder>(c: Scalar, out: &mut [u8], at: usize) {
         let value = c.value();
-        O::write_two(out, at, first_of(value));
+        O::write_two(out, at, lead_surrogate(value));
         if value >= 0x1_0000 {
-            O::write_two(out, at + 2, second_of(value));
+            O::write_two(out, at + 2, trail_surrogate(value));
         }
     }
 

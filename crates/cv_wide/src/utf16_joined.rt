@@ -1,12 +1,12 @@
 //! Characters of UTF-16 among which some are surrogate pairs, many at once.
 ghost use Rattle.std.specs.Prelude.{◌≡◌, ◌≤◌, ◌+◌, ◌++◌, IfSome, length, take};
-ghost use Rattle.cv_block.specs.Spelled.{IsReadSpelled};
+ghost use Rattle.cv_block.specs.StatelessForms.{IsReadForm};
 ghost use Rattle.cv_block.specs.Surrogates.{IsHighUnit, IsLowUnit, IsPair};
 ghost use Rattle.cv_wide.specs.Private.Joined.{AreJoined, AreScalarsOrLow, without_low};
 ghost use Rattle.cv_wide.specs.Utf16.{utf16};
 
 use cv_base::Scalar;
-use cv_block::{ByteOrder, MANY, Spelled, is_high, is_low, joined};
+use cv_block::{ByteOrder, Converted, LANES, from_surrogates, is_high, is_low};
 
 /// The number of the character of a high surrogate and the low one after it, or of another unit its own. Computed
 /// without a branch.
@@ -15,21 +15,21 @@ fn joined_with(unit: u32, next: u32) -> u32
     ensures pair { IsHighUnit unit → IsLowUnit next → IsPair unit next result }
     ensures alone { (IsHighUnit unit → ⊥) → result ≡ unit }
 {
-    let pair = joined(unit, next);
+    let pair = from_surrogates(unit, next);
     if is_high(unit) { pair } else { unit }
 }
 
 /// The numbers of the sixteen units at the start of a text, each high surrogate joined with the next unit, if all high
 /// and low surrogates are in pairs. No early exit, so that LLVM vectorizes the loop.
 #[inline(always)]
-fn joined_numbers<O: ByteOrder>(text: &[u8]) -> Option<[u32; MANY]>
+fn joined_numbers<O: ByteOrder>(text: &[u8]) -> Option<[u32; LANES]>
     requires { 34 ≤ length text.now }
     ensures { IfSome result
         (λ numbers. (length numbers ≡ 16) × AreJoined O.endian text.now numbers 16) }
 {
-    let mut numbers = [0; MANY];
+    let mut numbers = [0; LANES];
     let mut all = true;
-    for k in 0..MANY {
+    for k in 0..LANES {
         let unit = O::two(text, 2 * k);
         let next = O::two(text, 2 * k + 2);
         numbers[k] = joined_with(unit, next);
@@ -42,7 +42,7 @@ fn joined_numbers<O: ByteOrder>(text: &[u8]) -> Option<[u32; MANY]>
 /// surrogate is not one of them, since it belongs to its pair: the next character overwrites it. It is a function of
 /// its own, so that LLVM vectorizes the computation of the numbers.
 #[inline(never)]
-fn put_joined(numbers: &[u32; MANY], buffer: &mut [Scalar], n: usize) -> usize
+fn put_joined(numbers: &[u32; LANES], buffer: &mut [Scalar], n: usize) -> usize
     requires long { length numbers.now ≡ 16 }
     requires scalars { AreScalarsOrLow numbers.now 16 }
     requires room { n + 16 ≤ length buffer.old }
@@ -52,7 +52,7 @@ fn put_joined(numbers: &[u32; MANY], buffer: &mut [Scalar], n: usize) -> usize
     ensures size { length buffer.new ≡ length buffer.old }
 {
     let mut more = 0;
-    for k in 0..MANY {
+    for k in 0..LANES {
         let number = numbers[k];
         let low = is_low(number);
         buffer[n + more] = Scalar::known(if low { 0 } else { number });
@@ -69,26 +69,26 @@ pub(crate) fn read_joined<O: ByteOrder>(
     at: usize,
     buffer: &mut [Scalar],
     n: usize,
-) -> Spelled
+) -> Converted
     requires within { at ≤ length input.now }
     requires room { n + 16 ≤ length buffer.old }
     ensures many { result.n ≤ 16 }
-    ensures read { IsReadSpelled (utf16 O.endian) input.now at buffer.old n result buffer.new }
+    ensures read { IsReadForm (utf16 O.endian) input.now at buffer.old n result buffer.new }
 {
     let rest = &input[at..];
-    if rest.len() < 2 * MANY + 2 {
-        return Spelled { n: 0, used: 0 };
+    if rest.len() < 2 * LANES + 2 {
+        return Converted { n: 0, used: 0 };
     }
     if is_low(O::two(rest, 0)) {
-        return Spelled { n: 0, used: 0 };
+        return Converted { n: 0, used: 0 };
     }
     let Some(numbers) = joined_numbers::<O>(rest) else {
-        return Spelled { n: 0, used: 0 };
+        return Converted { n: 0, used: 0 };
     };
-    let behind = 2 * is_low(O::two(rest, 2 * MANY)) as usize;
+    let behind = 2 * is_low(O::two(rest, 2 * LANES)) as usize;
     let more = put_joined(&numbers, buffer, n);
-    Spelled {
+    Converted {
         n: more,
-        used: 2 * MANY + behind,
+        used: 2 * LANES + behind,
     }
 }

@@ -1,16 +1,16 @@
-//! UTF-16 as a spelling, in each byte order.
+//! UTF-16 as a stateless form, in each byte order.
 ghost use Rattle.std.specs.Prelude.{◌≡◌, ◌<◌, length};
 ghost use Rattle.cv_base.specs.Items.{Begins};
 ghost use Rattle.cv_base.specs.declared.endian.Endian.{Endian};
 ghost use Rattle.cv_block.specs.Units.{AreScalarsBelow};
-ghost use Rattle.cv_block.specs.Words.{AreWords, AreSizes};
+ghost use Rattle.cv_block.specs.PackedWords.{AreWords, AreSizes};
 ghost use Rattle.cv_wide.specs.Utf16.{utf16};
 
 use crate::utf16_joined::read_joined;
 use cv_base::{Endian, Scalar};
 use cv_block::{
-    ByteOrder, MANY, Spelled, Spelling, Two, Words, first_of, is_high, is_low, joined, read_units,
-    second_of, write_units, write_words,
+    ByteOrder, Converted, LANES, PackedWords, StatelessForm, Two, from_surrogates, is_high, is_low,
+    lead_surrogate, read_units, trail_surrogate, write_units, write_words,
 };
 use std::marker::PhantomData;
 use std::simd::prelude::*;
@@ -30,8 +30,8 @@ fn bytes_of(endian: Endian, value: u32) -> [u8; 4]
     requires { value < 0x110000 }
     ensures { Begins (utf16 endian value) result }
 {
-    let first = first_of(value);
-    let second = second_of(value);
+    let first = lead_surrogate(value);
+    let second = trail_surrogate(value);
     match endian {
         Endian::Big => (first * 0x1_0000 + second).to_be_bytes(),
         Endian::Little => (first + second * 0x1_0000).to_le_bytes(),
@@ -73,24 +73,24 @@ pub struct Utf16In<O> {
     order: PhantomData<O>,
 }
 
-impl<O: ByteOrder> Words for Utf16In<O> {
+impl<O: ByteOrder> PackedWords for Utf16In<O> {
     ghost bytes_of = { utf16 O.endian };
 
     #[inline(always)]
-    fn words(values: &[u32; MANY]) -> [u32; MANY] {
+    fn words(values: &[u32; LANES]) -> [u32; LANES] {
         words(O::order(), u32x16::from_array(*values)).to_array()
     }
 
     #[inline(always)]
-    fn sizes(values: &[u32; MANY]) -> [u32; MANY] {
+    fn sizes(values: &[u32; LANES]) -> [u32; LANES] {
         sizes(u32x16::from_array(*values)).to_array()
     }
 }
 
-impl<O: ByteOrder> Spelling for Utf16In<O> {
+impl<O: ByteOrder> StatelessForm for Utf16In<O> {
     ghost bytes_of = { utf16 O.endian };
 
-    const MANY_SIZE: usize = 0;
+    const RESUME_SIZE: usize = 0;
 
     #[inline(always)]
     #[tactic(auto, using(crate::proofs::Utf16Units::four_at_most))]
@@ -117,11 +117,11 @@ impl<O: ByteOrder> Spelling for Utf16In<O> {
         if !is_low(second) {
             return None;
         }
-        Some((Scalar::known(joined(first, second)), 4))
+        Some((Scalar::known(from_surrogates(first, second)), 4))
     }
 
     #[inline(always)]
-    fn read_many(input: &[u8], at: usize, buffer: &mut [Scalar], n: usize) -> Spelled {
+    fn read_many(input: &[u8], at: usize, buffer: &mut [Scalar], n: usize) -> Converted {
         let single = read_units::<Two<O>>(input, at, buffer, n);
         if single.n > 0 {
             return single;
@@ -137,7 +137,7 @@ impl<O: ByteOrder> Spelling for Utf16In<O> {
     }
 
     #[inline(always)]
-    fn write_many(characters: &[Scalar], n: usize, out: &mut [u8], at: usize) -> Spelled {
+    fn write_many(characters: &[Scalar], n: usize, out: &mut [u8], at: usize) -> Converted {
         let units = write_units::<Two<O>>(characters, n, out, at);
         if units.n > 0 {
             return units;

@@ -1,8 +1,8 @@
-//! UTF-32 as a spelling, in each byte order.
+//! UTF-32 as a stateless form, in each byte order.
 ghost use Rattle.cv_wide.specs.Utf32.{utf32};
 
 use cv_base::Scalar;
-use cv_block::{ByteOrder, Four, Spelled, Spelling, read_units, write_units};
+use cv_block::{ByteOrder, Converted, Four, StatelessForm, read_units, write_units};
 use std::marker::PhantomData;
 
 /// UTF-32 in a byte order.
@@ -10,10 +10,10 @@ pub struct Utf32In<O> {
     order: PhantomData<O>,
 }
 
-impl<O: ByteOrder> Spelling for Utf32In<O> {
+impl<O: ByteOrder> StatelessForm for Utf32In<O> {
     ghost bytes_of = { utf32 O.endian };
 
-    const MANY_SIZE: usize = 4;
+    const RESUME_SIZE: usize = 4;
 
     #[inline(always)]
     #[tactic(auto, using(crate::proofs::Utf32Form::four_bytes))]
@@ -29,7 +29,7 @@ impl<O: ByteOrder> Spelling for Utf32In<O> {
     }
 
     #[inline(always)]
-    fn read_many(input: &[u8], at: usize, buffer: &mut [Scalar], n: usize) -> Spelled {
+    fn read_many(input: &[u8], at: usize, buffer: &mut [Scalar], n: usize) -> Converted {
         read_units::<Four<O>>(input, at, buffer, n)
     }
 
@@ -40,7 +40,7 @@ impl<O: ByteOrder> Spelling for Utf32In<O> {
     }
 
     #[inline(always)]
-    fn write_many(characters: &[Scalar], n: usize, out: &mut [u8], at: usize) -> Spelled {
+    fn write_many(characters: &[Scalar], n: usize, out: &mut [u8], at: usize) -> Converted {
         write_units::<Four<O>>(characters, n, out, at)
     }
 }

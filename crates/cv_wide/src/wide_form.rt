@@ -4,23 +4,23 @@ ghost use Rattle.cv_base.specs.Items.{IsNext};
 ghost use Rattle.cv_base.specs.Places.{IsPut};
 ghost use Rattle.cv_base.specs.declared.endian.Endian.{Endian};
 ghost use Rattle.cv_base.specs.declared.endian.Endian.TheVariants.{Big, Little};
-ghost use Rattle.cv_block.specs.Units.{SpellsUnits};
+ghost use Rattle.cv_block.specs.Units.{HasUnits};
 ghost use Rattle.cv_wide.specs.Orders.{Form, mark};
 ghost use Rattle.cv_wide.specs.Private.AnyState.{always_gives};
 ghost use Rattle.cv_wide.specs.Private.Forms.{IsForm};
 
 use cv_base::{AsciiForm, Endian, Item, Piece, ReadState, Scalar};
-use cv_block::{ByteOrder, Spelling, Unit};
+use cv_block::{ByteOrder, StatelessForm, Unit};
 
 /// An encoding form whose units have a byte order.
 pub(crate) trait WideForm {
     ghost form: { Form };
 
-    /// Its big-endian spelling.
-    type Be: Spelling;
+    /// Its big-endian form, for blocks.
+    type Be: StatelessForm;
 
-    /// Its little-endian spelling.
-    type Le: Spelling;
+    /// Its little-endian form, for blocks.
+    type Le: StatelessForm;
 
     /// Its big-endian units.
     type BeUnit: Unit;
@@ -33,8 +33,8 @@ pub(crate) trait WideForm {
         ensures form { IsForm form }
         ensures be { Self.Be.bytes_of ≡ form Big }
         ensures le { Self.Le.bytes_of ≡ form Little }
-        ensures be_unit { SpellsUnits Self.BeUnit.form (form Big) }
-        ensures le_unit { SpellsUnits Self.LeUnit.form (form Little) };
+        ensures be_unit { HasUnits Self.BeUnit.form (form Big) }
+        ensures le_unit { HasUnits Self.LeUnit.form (form Little) };
 
     /// Returns what is next in a text in one byte order. The state after a character is `next`.
     fn item<O: ByteOrder>(input: &[u8], next: ReadState) -> Item
@@ -56,5 +56,5 @@ pub(crate) trait WideForm {
 
     /// Returns the form of its units: a character of one unit has the bytes of that unit.
     fn unit_form(endian: Endian) -> AsciiForm
-        ensures { SpellsUnits result (form endian) };
+        ensures { HasUnits result (form endian) };
 }

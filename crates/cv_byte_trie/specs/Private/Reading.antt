@@ -28,13 +28,13 @@ pub record IsTail (step : StepsBy) (count : ℕ) (entries : List Entry) (text : 
   pub here : IsAt step count entries text tail.depth tail.node
   pub more : tail.depth < length text
   pub byte : slice_index_or text tail.depth 0 < 256
-  pub code : step tail.node (slice_index_or text tail.depth 0) ≡ tail_code tail.place
-  pub few : tail.place < tails
+  pub code : step tail.node (slice_index_or text tail.depth 0) ≡ tail_code tail.index
+  pub few : tail.index < tails
 
 -- where a text leads
 abbrev pub LeadsTo : StepsBy → ℕ → List Entry → List ℕ → Reached → Type 0
-LeadsTo step count entries text (reached.Leaf place depth) =
-    (place < length entries) × (depth < length text) × (bytes_at entries place ≡ take (depth + 1) text)
+LeadsTo step count entries text (reached.Leaf index depth) =
+    (index < length entries) × (depth < length text) × (bytes_at entries index ≡ take (depth + 1) text)
 LeadsTo step count entries text (reached.Tail tail) = IsTail step count entries text tail
 LeadsTo step count entries text reached.Inside = (p : ℕ) × GoesOnBehind entries text p
 LeadsTo step count entries text (reached.Vacant node depth) = IsVacant step count entries text depth node

@@ -7,18 +7,18 @@ use Rattle.cv_charmap.specs.Headers as spec
 use Rattle.cv_charmap.specs.Headers.{marks_by}
 use Rattle.cv_charmap.specs.Lists.{entered, pair_cause}
 use Rattle.cv_charmap.specs.Meaning.{Charmap}
-use Rattle.cv_charmap.specs.Private.Covers.{pair_at, HasEntry, IsStop}
+use Rattle.cv_charmap.specs.Private.Covers.{pair_at, HasEntry, IsFound}
 use Rattle.cv_charmap.specs.Private.Runs.{fault, run_entries, entries_from, State, state, above_by, inside_by, finish_by, line_run, next_number}
-use Rattle.cv_charmap.specs.declared.draft.EntryFault.{EntryFault}
-use Rattle.cv_charmap.specs.declared.draft.EntryFault.TheVariants as entry
+use Rattle.cv_charmap.specs.declared.pair_list.EntryFault.{EntryFault}
+use Rattle.cv_charmap.specs.declared.pair_list.EntryFault.TheVariants as entry
 use Rattle.cv_charmap.specs.declared.fault.CompileFault.{CompileFault}
 use Rattle.cv_charmap.specs.declared.fault.CompileFault.TheVariants as compile
 use Rattle.cv_charmap.specs.declared.fault.MapFault.{MapFault}
 use Rattle.cv_charmap.specs.declared.header.Header.{Header}
 use Rattle.cv_charmap.specs.declared.phase.Phase.{Phase}
 use Rattle.cv_charmap.specs.declared.phase.Phase.TheVariants.{Above, Inside}
-use Rattle.cv_charmap.specs.declared.phase.Place.{Place}
-use Rattle.cv_charmap.specs.declared.reach.Stop.{Stop}
+use Rattle.cv_charmap.specs.declared.phase.ReaderState.{ReaderState}
+use Rattle.cv_charmap.specs.declared.covered.LookedUp.{LookedUp}
 
 -- the values of a header
 abbrev pub header_seen : Header → spec.Header
@@ -37,7 +37,7 @@ padded_entry size (Err cause) = Err cause
 
 -- A pair was entered into a list, and is at an index, or was refused. Nothing is claimed if an allocation failed.
 abbrev pub Enters : List Pair → Pair → Result ℕ EntryFault → List Pair → Type 0
-Enters all p (Ok place) after = (pair_cause all p ≡ None) × (after ≡ entered all p) × (place < length after) × (pair_at after place ≡ p)
+Enters all p (Ok index) after = (pair_cause all p ≡ None) × (after ≡ entered all p) × (index < length after) × (pair_at after index ≡ p)
 Enters all p (Err (entry.Faulty cause)) after = pair_cause all p ≡ Some cause
 Enters all p (Err entry.Memory) after = Unit {0}
 
@@ -55,11 +55,11 @@ Passes all hex first bytes i count (Err entry.Memory) after = Unit {0}
 
 -- Entries of a range from one on were entered. Those up to another are in the list, and the pairs of the first of them
 -- are one after another. Nothing is claimed if an allocation failed.
-abbrev pub PassesOn : List Pair → Bool → ℕ → List ℕ → ℕ → ℕ → Result (Stop × ℕ) EntryFault → List Pair → Type 0
+abbrev pub PassesOn : List Pair → Bool → ℕ → List ℕ → ℕ → ℕ → Result (LookedUp × ℕ) EntryFault → List Pair → Type 0
 PassesOn all hex first bytes i count (Ok passed) after =
     (i < passed.1) × (take (length all) after ≡ all)
     × ((n : ℕ) → run_entries all n (entries_from hex first bytes i count) ≡ run_entries after n (entries_from hex first bytes passed.1 count))
-    × IsStop after hex first bytes passed.1 passed.0
+    × IsFound after hex first bytes passed.1 passed.0
     × ((k : ℕ) → i ≤ k → k < passed.1 → HasEntry after hex first bytes k)
 PassesOn all hex first bytes i count (Err (entry.Faulty cause)) after =
     (n : ℕ) → run_entries all n (entries_from hex first bytes i count) ≡ Err (fault n cause)
@@ -103,12 +103,12 @@ TakesInside h all said n (Err (compile.Map fault)) after = (k : ℕ) → inside_
 TakesInside h all said n (Err compile.Memory) after = Unit {0}
 
 -- what the next line depends on, if the line was read
-abbrev pub taken : Place → Result (Unit {0}) CompileFault → Result Place CompileFault
-taken place (Ok done) = Ok place
-taken place (Err why) = Err why
+abbrev pub taken : ReaderState → Result (Unit {0}) CompileFault → Result ReaderState CompileFault
+taken reader (Ok done) = Ok reader
+taken reader (Err why) = Err why
 
 -- A line was read. Nothing is claimed if an allocation failed.
-abbrev pub NextTo : State → List ℕ → Result Place CompileFault → List Pair → Type 0
-NextTo s line (Ok place) after = line_run s line ≡ Ok (state (header_seen place.header) after place.phase (next_number s.number))
+abbrev pub NextTo : State → List ℕ → Result ReaderState CompileFault → List Pair → Type 0
+NextTo s line (Ok reader) after = line_run s line ≡ Ok (state (header_seen reader.header) after reader.phase (next_number s.number))
 NextTo s line (Err (compile.Map fault)) after = line_run s line ≡ Err fault
 NextTo s line (Err compile.Memory) after = Unit {0}

@@ -5,7 +5,7 @@ use Rattle.cv_base.specs.Scalars.{IsScalar, AreScalars}
 use Rattle.cv_base.specs.Items.{Begins}
 use Rattle.cv_base.specs.declared.endian.Endian.{Endian}
 use Rattle.cv_base.specs.declared.endian.Endian.TheVariants.{Big, Little}
-use Rattle.cv_block.specs.Spelled.{BytesOf}
+use Rattle.cv_block.specs.StatelessForms.{BytesOf}
 use Rattle.cv_block.specs.Units.{AreScalarsBelow}
 
 -- The units are sixteen characters, whose bytes begin a text.

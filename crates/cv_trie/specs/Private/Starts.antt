@@ -1,6 +1,6 @@
 -- One table of numbers for single bytes and for pairs.
 use Rattle.std.specs.Prelude.{◌≡◌, ℕ, ◌+◌, ◌<◌, ◌≤◌, List, length, slice_index}
-use Rattle.cv_lead.specs.Cuts.{second_of}
+use Rattle.cv_simd.specs.Splits.{second_byte}
 use Rattle.cv_trie.specs.Private.Twos.{row_of}
 
 -- A byte below 128 has a cell with its number in `ones`. Any other has its row.
@@ -12,4 +12,4 @@ pub record AreStarts (ones twos starts : List ℕ) : Type 0 where
 
 -- the number of the character at an index of a text, by its one or two bytes
 abbrev pub number_at : List ℕ → List ℕ → List ℕ → ℕ → ℕ
-number_at twos starts text place = slice_index twos (slice_index starts (slice_index text place) + second_of text place)
+number_at twos starts text at = slice_index twos (slice_index starts (slice_index text at) + second_byte text at)

@@ -1,7 +1,7 @@
 -- Windows of sixteen bytes of UTF-8 that are read at once.
 use Rattle.std.specs.Prelude.{◌≡◌, ℕ, ◌+◌, ◌-◌, ◌*◌, ◌/◌, ◌%◌, ◌≤◌, ◌<◌, ◌⊎◌, true, false, cond, nat_lt, nat_eq, List, get_or}
 use Rattle.std.specs.Int.{bit_at}
-use Rattle.cv_block.specs.Spelled.{IsSpelledAt}
+use Rattle.cv_block.specs.StatelessForms.{IsFormAt}
 use Rattle.cv_utf8.specs.Utf8.{utf8_bytes}
 use Rattle.cv_utf8.specs.Private.Utf8Bytes.{IsTail}
 use Rattle.cv_utf8.specs.Private.Utf8Short.{is_among, is_behind}
@@ -10,7 +10,7 @@ use Rattle.cv_utf8.specs.Private.Utf8Short.{is_among, is_behind}
 -- at this offset, and the next offset is after it.
 abbrev pub IsLane : List ℕ → ℕ → ℕ → ℕ → ℕ → ℕ → Type 0
 IsLane text at value beginning reached next =
-    ((beginning ≡ 0) × (next ≡ reached)) ⊎ ((beginning ≡ 1) × ((size : ℕ) × (next ≡ reached + size) × IsSpelledAt utf8_bytes text (at + reached) value size))
+    ((beginning ≡ 0) × (next ≡ reached)) ⊎ ((beginning ≡ 1) × ((size : ℕ) × (next ≡ reached + size) × IsFormAt utf8_bytes text (at + reached) value size))
 
 -- The characters that begin in sixteen lanes, as the bits of `begun` say, are one after the other at offset `at` of a
 -- text, and have `used` bytes together.

@@ -6,7 +6,7 @@ use Rattle.cv_block.proofs.ascii_runs.take_few.Goals as goal
 pub loop-n-init : goal.loop-n-init
 loop-n-init g c = record {
   within = omega arith;
-  place = rw mul-zero;
+  index = rw mul-zero;
   end = rw (mul-zero, add-zero);
   small = λ k h. absurd (omega arith);
   put = put_none _ _ _ _ c.args.at;
@@ -18,8 +18,8 @@ loop-n-preserved g c =
     let fits : unit_size g.To.Unit.form * c.loop-n.n + unit_size g.To.Unit.form ≤ unit_size g.To.Unit.form * c.args.most = unit_fits g.To.Unit.form c.loop-n.n c.args.most (omega arith) in
     record {
       within = omega arith;
-      place = omega (arith, unit_more g.From.Unit.form c.loop-n.n);
+      index = omega (arith, unit_more g.From.Unit.form c.loop-n.n);
       end = omega (arith, unit_more g.To.Unit.form c.loop-n.n);
-      small = run_more _ _ _ c.loop-n.n c.loop-n.used i.place i.small (c.is_below.ensures c.if-is_below.true);
-      put = rw add-one (put_more _ _ _ _ c.args.at c.loop-n.n c.loop-n.end c.character.result c.loop-n.out _ (omega arith) i.end (rw i.place at c.character.ensures.lowest) i.put c.write.ensures);
+      small = run_more _ _ _ c.loop-n.n c.loop-n.used i.index i.small (c.is_below.ensures c.if-is_below.true);
+      put = rw add-one (put_more _ _ _ _ c.args.at c.loop-n.n c.loop-n.end c.character.result c.loop-n.out _ (omega arith) i.end (rw i.index at c.character.ensures.lowest) i.put c.write.ensures);
     }

@@ -7,9 +7,9 @@ use Rattle.cv_block.proofs.ascii_runs.take_few.Given as goal
 abbrev pub invariant-loop-n : goal.invariant-loop-n
 invariant-loop-n g l = record {
   within : l.n ≤ l.most;
-  place : l.used ≡ unit_size g.From.Unit.form * l.n;
+  index : l.used ≡ unit_size g.From.Unit.form * l.n;
   end : l.end ≡ l.at + unit_size g.To.Unit.form * l.n;
-  small : IsRunBelow g.R.Repertoire.limit g.From.Unit.form l.rest l.n;
+  small : IsRunBelow g.R.CodeLimit.limit g.From.Unit.form l.rest l.n;
   put : l.out ≡ put_run g.From.Unit.form g.To.Unit.form l.rest l.fn.out l.at l.n;
 }
 

@@ -5,7 +5,7 @@ use Rattle.cv_block.proofs.unit_blocks.low_bytes.Given as goal
 
 abbrev pub invariant-loop-k : goal.invariant-loop-k
 invariant-loop-k g l = record {
-  place : l.place ≡ unit_size g.U.Unit.form * l.k;
+  index : l.index ≡ unit_size g.U.Unit.form * l.k;
   long : length l.low ≡ 16;
   bytes : take l.k l.low ≡ characters_in g.U.Unit.form l.units l.k;
 }

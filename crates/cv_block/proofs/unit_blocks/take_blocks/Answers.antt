@@ -8,7 +8,7 @@ use Rattle.cv_block.proofs.unit_blocks.take_blocks.Goals as goal
 pub loop-n-init : goal.loop-n-init
 loop-n-init g c = record {
   within = omega arith;
-  place = rw mul-zero;
+  index = rw mul-zero;
   end = rw (mul-zero, add-zero);
   small = λ k h. absurd (omega arith);
   put = put_none _ _ _ _ c.args.at;
@@ -23,8 +23,8 @@ loop-n-preserved g c =
     let run = rw (take_rest c.args.rest.now c.loop-n.used) at (rw c.if-are_blocks_below.true at c.are_blocks_below.ensures refl) in
     record {
       within = omega arith;
-      place = rw c.size.ensures (rw i.place (rw (mul-add (unit_size g.From.Unit.form) c.loop-n.n size) refl));
+      index = rw c.size.ensures (rw i.index (rw (mul-add (unit_size g.From.Unit.form) c.loop-n.n size) refl));
       end = omega (arith, wide, mul-add (unit_size g.To.Unit.form) c.loop-n.n size);
-      small = runs_join _ _ c.args.rest.now c.loop-n.used c.loop-n.n size i.place i.small (run_behind _ _ c.args.rest.now c.loop-n.used size run);
-      put = put_join g.From.Unit.form g.To.Unit.form c.args.rest.now c.args.out.now c.args.at c.loop-n.n size c.loop-n.used c.loop-n.end c.loop-n.out _ (omega (arith, more)) i.place i.end i.put (rw (take_rest c.args.rest.now c.loop-n.used) at c.write_blocks.ensures);
+      small = runs_join _ _ c.args.rest.now c.loop-n.used c.loop-n.n size i.index i.small (run_behind _ _ c.args.rest.now c.loop-n.used size run);
+      put = put_join g.From.Unit.form g.To.Unit.form c.args.rest.now c.args.out.now c.args.at c.loop-n.n size c.loop-n.used c.loop-n.end c.loop-n.out _ (omega (arith, more)) i.index i.end i.put (rw (take_rest c.args.rest.now c.loop-n.used) at c.write_blocks.ensures);
     }

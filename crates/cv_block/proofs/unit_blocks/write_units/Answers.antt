@@ -20,7 +20,7 @@ overflow_add-end g c = omega (arith, unit_fits g.To.Unit.form c.loop-unit._unit 
 
 pub loop-unit-init : goal.loop-unit-init
 loop-unit-init g c = record {
-  place = rw mul-zero;
+  index = rw mul-zero;
   end = rw (mul-zero, add-zero);
   put = put_none _ _ _ _ c.args.at;
 }
@@ -30,7 +30,7 @@ loop-unit-preserved g c =
     let i = c.loop-unit.invariant in
     let fits = unit_fits g.To.Unit.form c.loop-unit._unit c.args.n c.loop-unit-test.true in
     record {
-      place = omega (arith, unit_more g.From.Unit.form c.loop-unit._unit);
+      index = omega (arith, unit_more g.From.Unit.form c.loop-unit._unit);
       end = omega (arith, unit_more g.To.Unit.form c.loop-unit._unit);
-      put = rw add-one (put_more _ _ _ _ c.args.at c.loop-unit._unit c.loop-unit.end c.character.result c.loop-unit.out _ (omega arith) i.end (rw i.place at c.character.ensures.lowest) i.put c.write.ensures);
+      put = rw add-one (put_more _ _ _ _ c.args.at c.loop-unit._unit c.loop-unit.end c.character.result c.loop-unit.out _ (omega arith) i.end (rw i.index at c.character.ensures.lowest) i.put c.write.ensures);
     }

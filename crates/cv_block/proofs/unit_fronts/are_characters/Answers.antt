@@ -1,6 +1,6 @@
 use Rattle.std.proofs.Common.{drop}
 use Rattle.std.proofs.lemmas.List.{take_rest}
-use Rattle.cv_block.proofs.SpelledFronts.{units_spelled}
+use Rattle.cv_block.proofs.FormPrefixes.{units_spelled}
 use Rattle.cv_block.proofs.unit_fronts.are_characters.Goals as goal
 
 pub returns : goal.returns

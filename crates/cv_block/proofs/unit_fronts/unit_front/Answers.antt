@@ -1,6 +1,6 @@
 use Rattle.std.proofs.Common.{◌*◌, arith, refl}
 use Rattle.cv_base.specs.Units.{unit_size}
-use Rattle.cv_block.proofs.SpelledFronts.{none_spelled, front_more}
+use Rattle.cv_block.proofs.FormPrefixes.{none_spelled, front_more}
 use Rattle.cv_block.proofs.UnitBytes.{some_bytes}
 use Rattle.cv_block.proofs.unit_fronts.unit_front.Goals as goal
 

@@ -5,7 +5,7 @@ use Rattle.cv_block.proofs.unit_runs.numbers_of.Given as goal
 
 abbrev pub invariant-loop-k : goal.invariant-loop-k
 invariant-loop-k g l = record {
-  place : l.at ≡ unit_size g.U.Unit.form * l.k;
+  index : l.at ≡ unit_size g.U.Unit.form * l.k;
   long : length l.numbers ≡ 16;
   units : AreUnits g.U.Unit.form l.text l.numbers l.k;
 }

@@ -13,6 +13,6 @@ loop-k-preserved g c =
     let i = c.loop-k.invariant in
     let fits : size * (k + 1) ≤ size * 16 = mul-le-mul_left size (omega arith) in
     record {
-      place = omega (arith, c.size-place.ensures, mul-add size k 1);
-      stand = more_stand (unit_of form) c.args.values.now c.args.out.now c.args.at size k c.loop-k.place _ _ c.loop-k.out _ i.stand refl (omega arith) (length-unit_of form _) (omega arith) (omega (arith, fits, mul-add size k 1)) c.write.ensures;
+      index = omega (arith, c.size-index.ensures, mul-add size k 1);
+      stand = more_stand (unit_of form) c.args.values.now c.args.out.now c.args.at size k c.loop-k.index _ _ c.loop-k.out _ i.stand refl (omega arith) (length-unit_of form _) (omega arith) (omega (arith, fits, mul-add size k 1)) c.write.ensures;
     }

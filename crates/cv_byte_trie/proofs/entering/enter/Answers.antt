@@ -17,7 +17,7 @@ returns-in-Ok-clause-indexed c =
     let w = c.args.bytes.now in
     let d = c.args.depth in
     let g = c.in-Ok.ensures in
-    let place : c.len-place.result ≡ length entries = c.len-place.ensures ∙ c.args.entries.now.ok.0 in
+    let place : c.len-index.result ≡ length entries = c.len-index.ensures ∙ c.args.entries.now.ok.0 in
     let code : c.code_of-code.result ≡ end_code (length w) d (length entries) = c.code_of-code.ensures.value ∙ ap (end_code (length w) d) place in
     let sets : SetsEdge old new c.args.node (get_or w d 0) (end_code (length w) d (length entries)) = rw code at g.sets in
     subst (λ (x : List Entry). IsIndexed x new) (sym (c.in_ok-push.ensures.items ∙ ap (λ (x : Entry). entries ++ x ∷ []) c.new.ensures))
@@ -31,7 +31,7 @@ returns-in-Ok-clause-at c =
     let w = c.args.bytes.now in
     let d = c.args.depth in
     let g = c.in-Ok.ensures in
-    let place : c.len-place.result ≡ length entries = c.len-place.ensures ∙ c.args.entries.now.ok.0 in
+    let place : c.len-index.result ≡ length entries = c.len-index.ensures ∙ c.args.entries.now.ok.0 in
     let code : c.code_of-code.result ≡ end_code (length w) d (length entries) = c.code_of-code.ensures.value ∙ ap (end_code (length w) d) place in
     let sets : SetsEdge old new c.args.node (get_or w d 0) (end_code (length w) d (length entries)) = rw code at g.sets in
     subst (λ (x : List Entry). IsAt (edge_of new) (length new.nodes.items) x w d c.args.node) (sym (c.in_ok-push.ensures.items ∙ ap (λ (x : Entry). entries ++ x ∷ []) c.new.ensures))
@@ -40,8 +40,8 @@ returns-in-Ok-clause-at c =
 pub returns-in-Err-clause-indexed : goal.returns-in-Err-clause-indexed
 returns-in-Err-clause-indexed c =
     let entries = c.args.entries.now.items in
-    let place : c.len-place.result ≡ length entries = c.len-place.ensures ∙ c.args.entries.now.ok.0 in
-    let same : c.truncate.new.self.items ≡ entries = c.truncate.ensures.items ∙ ap (take c.len-place.result) c.in_ok-push.ensures.items ∙ rw place (take-append_seam entries (c.new.result ∷ [])) in
+    let place : c.len-index.result ≡ length entries = c.len-index.ensures ∙ c.args.entries.now.ok.0 in
+    let same : c.truncate.new.self.items ≡ entries = c.truncate.ensures.items ∙ ap (take c.len-index.result) c.in_ok-push.ensures.items ∙ rw place (take-append_seam entries (c.new.result ∷ [])) in
     indexed_unchanged entries c.truncate.new.self.items c.args.steps.now c.set.new.self c.requires.indexed same c.in-Err.ensures.err
 
 pub returns-in-Ok-clause-apart : goal.returns-in-Ok-clause-apart

@@ -4,7 +4,7 @@ use Rattle.cv_charmap.proofs.range.enter_range.Given as goal
 
 abbrev pub invariant-loop-i : goal.invariant-loop-i
 invariant-loop-i l = record {
-  entering : IsEntering l.initial.draft l.draft l.hex l.first l.bytes l.count l.i l.stops.items;
+  entering : IsEntering l.initial.pairs l.pairs l.start.hex l.start.first l.start.bytes.now l.count l.i l.found.items;
   near : l.i ≤ 2 ^ 33;
 }
 

@@ -1,5 +1,5 @@
 use Rattle.std.proofs.Common.{arith}
-use Rattle.cv_pack.proofs.Rows.{few_ones}
+use Rattle.cv_simd.proofs.TableRows.{few_ones}
 use Rattle.cv_utf8.proofs.Utf8Fours.{begin_packed}
 use Rattle.cv_direct.proofs.Putting.{put_front}
 use Rattle.cv_direct.proofs.middle.put_four.Goals as goal
@@ -9,6 +9,6 @@ returns-clause-few c = omega (arith, few_ones c.args.sizes c.requires.sizes)
 
 pub returns-clause-put : goal.returns-clause-put
 returns-clause-put c units long middle is marks =
-    let packed = c.packed_fours-bytes in
+    let packed = c.compress_triples-bytes in
     let front = begin_packed units c.args.fours packed.result c.args.sizes long middle is marks packed.ensures in
     put_front _ packed.result c.args.out.now c.args.at _ 16 (omega arith) c.requires.room (omega (arith, few_ones c.args.sizes c.requires.sizes)) (omega arith) front

@@ -5,9 +5,9 @@ use Rattle.cv_direct.specs.Private.Windows.{AreFirst}
 use Rattle.cv_direct.proofs.Parts.{converted_more, first_converted, whole_converted}
 use Rattle.cv_direct.proofs.mixed.convert_window.Goals as goal
 
-pub returns-then-n-eq-MANY-clause-converted : goal.returns-then-n-eq-MANY-clause-converted
-returns-then-n-eq-MANY-clause-converted g c =
-    let all = subst (λ (n : ℕ). AreScalarsBelow c.window-units.result n) c.if-n-eq-MANY.true c.count_characters-n.ensures.characters in
+pub returns-then-n-eq-LANES-clause-converted : goal.returns-then-n-eq-LANES-clause-converted
+returns-then-n-eq-LANES-clause-converted g c =
+    let all = subst (λ (n : ℕ). AreScalarsBelow c.window-units.result n) c.if-n-eq-LANES.true c.count_characters-n.ensures.characters in
     rw c.window_size-size.ensures.size (whole_converted g.S.Source.bytes_of g.T.Target.bytes_of c.args.text.now c.args.out.now c.args.at _ c.write_window.result c.write_window.new.out c.window-units.result (c.window-units.ensures.window all) c.write_window.ensures.put)
 
 pub returns-clause-converted : goal.returns-clause-converted

@@ -1,5 +1,5 @@
 use Rattle.std.proofs.Common.{arith, ◌≡◌, length}
-use Rattle.cv_pack.proofs.Rows.{few_ones}
+use Rattle.cv_simd.proofs.TableRows.{few_ones}
 use Rattle.cv_utf8.proofs.Utf8Pairs.{AreShort, begin_packed}
 use Rattle.cv_direct.proofs.Putting.{put_front}
 use Rattle.cv_direct.proofs.short.write_short.Goals as goal
@@ -13,6 +13,6 @@ returns-clause-put c =
     let long : length units ≡ 8 = omega arith in
     let short : AreShort units = λ k h. c.requires.short k (omega (arith, long, h)) in
     let twos = c.twos-twos in
-    let packed = c.packed_pairs-bytes in
+    let packed = c.compress_pairs-bytes in
     let front = begin_packed units c.pairs.result packed.result twos.result long short c.pairs.ensures twos.ensures.bits packed.ensures in
     put_front _ packed.result c.args.out.now c.args.at _ 16 (omega arith) c.requires.room (omega (arith, few_ones twos.result twos.ensures.few)) (omega arith) front

@@ -1,5 +1,5 @@
 use Rattle.std.proofs.Common.{arith, ap, get_or, sym, ℕ, ◌≡◌, ◌+◌, ◌∙◌}
-use Rattle.cv_byte_sets.specs.ByteSets.{is_in}
+use Rattle.cv_simd.specs.ByteClasses.{is_in}
 use Rattle.cv_utf7.specs.declared.direct_bytes.TheConstants.{STANDS}
 use Rattle.cv_utf7.proofs.DirectBytes.{stands_in}
 use Rattle.cv_utf7.proofs.direct_bytes.written_run.Goals as goal

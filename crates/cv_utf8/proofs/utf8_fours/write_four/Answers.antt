@@ -3,7 +3,7 @@ use Rattle.std.specs.Prelude.{count_ones}
 use Rattle.std.specs.List.{flat_map}
 use Rattle.cv_base.proofs.Front.{Begins-take}
 use Rattle.cv_block.proofs.FrontOfAWord.{front_stands}
-use Rattle.cv_pack.proofs.Rows.{few_ones}
+use Rattle.cv_simd.proofs.TableRows.{few_ones}
 use Rattle.cv_utf8.specs.Utf8.{utf8_bytes}
 use Rattle.cv_utf8.proofs.Utf8Fours.{AreMiddle, part_long, part_middle, begin_packed}
 use Rattle.cv_utf8.proofs.utf8_fours.write_four.Goals as goal
@@ -20,7 +20,7 @@ returns-clause-written c =
     let long = part_long c.args.characters.now numbers.result c.args.n c.requires.within numbers.ensures in
     let middle : AreMiddle numbers.result = λ k h. part_middle c.args.characters.now numbers.result c.args.n numbers.ensures c.requires.middle k (omega (arith, long, h)) in
     let sizes = c.sizes-sizes in
-    let packed = c.packed_fours in
+    let packed = c.compress_triples in
     let front = begin_packed numbers.result c.fours.result packed.result sizes.result long middle c.fours.ensures sizes.ensures.bits packed.ensures in
     let few = few_ones sizes.result sizes.ensures.few in
     let size : length (flat_map utf8_bytes numbers.result) ≡ 4 + count_ones sizes.result = omega (arith, ap length front, length-take (4 + count_ones sizes.result) packed.result, packed.type_inv, few) in

@@ -1,5 +1,5 @@
 use Rattle.std.proofs.Common.{arith, refl, ◌+◌, ◌*◌, ◌≡◌}
-use Rattle.cv_block.proofs.SpelledRuns.{written_more}
+use Rattle.cv_block.proofs.FormRuns.{written_more}
 use Rattle.cv_utf8.proofs.utf8_fours.write_middle.Goals as goal
 
 pub write_four-used-requires-clause-middle : goal.write_four-used-requires-clause-middle

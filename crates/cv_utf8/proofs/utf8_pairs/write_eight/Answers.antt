@@ -3,7 +3,7 @@ use Rattle.std.specs.Prelude.{count_ones}
 use Rattle.std.specs.List.{flat_map}
 use Rattle.cv_base.proofs.Front.{Begins-take}
 use Rattle.cv_block.proofs.FrontOfAWord.{front_stands}
-use Rattle.cv_pack.proofs.Rows.{few_ones}
+use Rattle.cv_simd.proofs.TableRows.{few_ones}
 use Rattle.cv_utf8.specs.Utf8.{utf8_bytes}
 use Rattle.cv_utf8.proofs.Utf8Pairs.{AreShort, part_long, part_short, begin_packed}
 use Rattle.cv_utf8.proofs.utf8_pairs.write_eight.Goals as goal
@@ -20,7 +20,7 @@ returns-clause-written c =
     let long = part_long c.args.characters.now numbers.result c.args.n c.requires.within numbers.ensures in
     let short : AreShort numbers.result = λ k h. part_short c.args.characters.now numbers.result c.args.n numbers.ensures c.requires.short k (omega (arith, long, h)) in
     let twos = c.twos-twos in
-    let packed = c.packed_pairs in
+    let packed = c.compress_pairs in
     let front = begin_packed numbers.result c.pairs.result packed.result twos.result long short c.pairs.ensures twos.ensures.bits packed.ensures in
     let few = few_ones twos.result twos.ensures.few in
     let size : length (flat_map utf8_bytes numbers.result) ≡ 8 + count_ones twos.result = omega (arith, ap length front, length-take (8 + count_ones twos.result) packed.result, packed.type_inv, few) in

@@ -1,5 +1,5 @@
 use Rattle.std.proofs.Common.{arith, refl, ◌+◌, ◌≡◌}
-use Rattle.cv_block.proofs.SpelledRuns.{written_more}
+use Rattle.cv_block.proofs.FormRuns.{written_more}
 use Rattle.cv_utf8.proofs.utf8_pairs.write_short.Goals as goal
 
 pub write_eight-second-requires-clause-short : goal.write_eight-second-requires-clause-short

@@ -2,7 +2,7 @@ use Rattle.std.proofs.Common.{◌≡◌, ◌∙◌, ◌<◌, ◌+◌, length, sy
 use Rattle.cv_byte_trie.specs.Tables.{node_at}
 use Rattle.cv_byte_trie.specs.declared.node.Edge.{Edge}
 use Rattle.cv_byte_trie.specs.declared.node.Node.TheVariants.{Few, Table}
-use Rattle.cv_byte_trie.proofs.Edges.{node_read, place_read, edge_found, edge_none}
+use Rattle.cv_byte_trie.proofs.Edges.{node_read, edge_read, edge_found, edge_none}
 use Rattle.cv_byte_trie.proofs.steps.Steps.edge.Goals as goal
 
 pub index-requires-in-Table : goal.index-requires-in-Table
@@ -27,7 +27,7 @@ returns-in-Some c =
     let f = c.in-Some.ensures in
     let k = c.in-Few.start + c.in-Some.at in
     let low : k < length t.edges.items = omega (arith, f.0) in
-    ap (λ (y : Edge). y.code) (place_read t.edges.items k c.index-in-Some.result.now low c.index-in-Some.ensures)
+    ap (λ (y : Edge). y.code) (edge_read t.edges.items k c.index-in-Some.result.now low c.index-in-Some.ensures)
     ∙ sym (edge_found t c.requires.sound c.args.node c.in-Few.size c.in-Few.start c.requires.low few c.args.byte (omega arith) c.in-Some.at f.0 f.1)
 
 pub returns-in-None : goal.returns-in-None

@@ -2,7 +2,7 @@ use Rattle.std.proofs.Common.{◌≡◌, ◌<◌, ◌+◌, ◌∙◌, ℕ, lengt
 use Rattle.std.proofs.lemmas.Bool.{cases_eq}
 use Rattle.cv_byte_trie.specs.Tables.{edge_in}
 use Rattle.cv_byte_trie.specs.declared.node.Edge.{Edge}
-use Rattle.cv_byte_trie.proofs.Edges.{place_read}
+use Rattle.cv_byte_trie.proofs.Edges.{edge_read}
 use Rattle.cv_byte_trie.proofs.steps.Steps.free_in.Goals as goal
 
 pub loop-at-preserved : goal.loop-at-preserved
@@ -11,7 +11,7 @@ loop-at-preserved c =
     let edges = c.args.self.now.edges.items in
     let k = c.args.start + l.at in
     let low : k < length edges = omega (arith, c.requires.within, c.loop-at-test.true) in
-    let own : c.index.result.now.byte ≡ (edge_in edges k).byte = ap (λ (y : Edge). y.byte) (place_read edges k c.index.result.now low c.index.ensures) in
+    let own : c.index.result.now.byte ≡ (edge_in edges k).byte = ap (λ (y : Edge). y.byte) (edge_read edges k c.index.result.now low c.index.ensures) in
     record {
       few = omega (arith, c.nearer-free.ensures.few, l.invariant.few);
       none = λ b j from to here. elim (cases_eq j l.at) [

@@ -2,7 +2,7 @@ use Rattle.std.proofs.Common.{◌≡◌, ◌+◌, ◌*◌, ◌/◌, ◌∙◌, �
 use Rattle.std.specs.Vec.{with_item}
 use Rattle.cv_byte_trie.specs.declared.node.Node.TheVariants.{Few, Table}
 use Rattle.cv_byte_trie.specs.declared.steps.Steps.{Steps}
-use Rattle.cv_byte_trie.proofs.Doubling.{new_table, not_root}
+use Rattle.cv_byte_trie.proofs.GrownBlocks.{new_table, not_root}
 use Rattle.cv_byte_trie.proofs.Keeping.{node_keeps}
 use Rattle.cv_byte_trie.proofs.steps.Steps.promote.Goals as goal
 

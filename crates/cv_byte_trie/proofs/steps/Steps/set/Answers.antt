@@ -4,18 +4,18 @@ use Rattle.cv_byte_trie.specs.Tables.{node_at}
 use Rattle.cv_byte_trie.specs.declared.node.Node.TheVariants.{Few}
 use Rattle.cv_byte_trie.specs.declared.steps.Steps.{Steps}
 use Rattle.cv_byte_trie.proofs.Edges.{node_read, lacks}
-use Rattle.cv_byte_trie.proofs.Keeping.{place_keeps}
-use Rattle.cv_byte_trie.proofs.Setting.{place_sets}
+use Rattle.cv_byte_trie.proofs.Keeping.{slot_keeps}
+use Rattle.cv_byte_trie.proofs.Setting.{slot_sets}
 use Rattle.cv_byte_trie.proofs.steps.Steps.set.Goals as goal
 
-pub double-requires-clause-lacks : goal.double-requires-clause-lacks
-double-requires-clause-lacks c =
+pub grow_block-requires-clause-lacks : goal.grow_block-requires-clause-lacks
+grow_block-requires-clause-lacks c =
     let t = c.args.self.now in
     let few : node_at t c.args.node ≡ Few c.in-Few.size c.in-Few.start = node_read t c.args.node c.index.result.now (Few c.in-Few.size c.in-Few.start) c.requires.low c.index.ensures c.in-Few.is in
     lacks t c.requires.sound c.args.node c.in-Few.size c.in-Few.start c.requires.low few c.args.byte (omega arith) c.requires.vacant
 
-pub stretch-requires-clause-lacks : goal.stretch-requires-clause-lacks
-stretch-requires-clause-lacks c =
+pub grow_in_place-requires-clause-lacks : goal.grow_in_place-requires-clause-lacks
+grow_in_place-requires-clause-lacks c =
     let t = c.args.self.now in
     let few : node_at t c.args.node ≡ Few c.in-Few.size c.in-Few.start = node_read t c.args.node c.index.result.now (Few c.in-Few.size c.in-Few.start) c.requires.low c.index.ensures c.in-Few.is in
     lacks t c.requires.sound c.args.node c.in-Few.size c.in-Few.start c.requires.low few c.args.byte (omega arith) c.requires.vacant
@@ -29,7 +29,7 @@ returns-in-Some-clause-sound c =
     let few : node_at t c.args.node ≡ Few size start = node_read t c.args.node c.index.result.now (Few size start) c.requires.low c.index.ensures c.in-Few.is in
     let none_has = lacks t c.requires.sound c.args.node size start c.requires.low few c.args.byte (omega arith) c.requires.vacant in
     let u : Steps = record { nodes = t.nodes; edges = with_item t.edges (start + c.in-Some.at) (record { byte = c.args.byte; code = c.args.code }); tables = t.tables } in
-    place_keeps t u c.requires.sound c.args.node c.args.byte c.args.code size start c.in-Some.at c.requires.low few f.0 (λ j l e. absurd (none_has j l e)) c.requires.leads refl refl refl
+    slot_keeps t u c.requires.sound c.args.node c.args.byte c.args.code size start c.in-Some.at c.requires.low few f.0 (λ j l e. absurd (none_has j l e)) c.requires.leads refl refl refl
 
 pub returns-in-Some-clause-sets : goal.returns-in-Some-clause-sets
 returns-in-Some-clause-sets c =
@@ -40,4 +40,4 @@ returns-in-Some-clause-sets c =
     let few : node_at t c.args.node ≡ Few size start = node_read t c.args.node c.index.result.now (Few size start) c.requires.low c.index.ensures c.in-Few.is in
     let none_has = lacks t c.requires.sound c.args.node size start c.requires.low few c.args.byte (omega arith) c.requires.vacant in
     let u : Steps = record { nodes = t.nodes; edges = with_item t.edges (start + c.in-Some.at) (record { byte = c.args.byte; code = c.args.code }); tables = t.tables } in
-    place_sets t u c.requires.sound c.args.node c.args.byte c.args.code size start c.in-Some.at c.requires.low (omega arith) few f.0 (λ j l e. absurd (none_has j l e)) (λ d l _ e. omega (arith, f.1)) refl refl refl
+    slot_sets t u c.requires.sound c.args.node c.args.byte c.args.code size start c.in-Some.at c.requires.low (omega arith) few f.0 (λ j l e. absurd (none_has j l e)) (λ d l _ e. omega (arith, f.1)) refl refl refl

@@ -1,6 +1,6 @@
 use Rattle.std.proofs.Common.{refl}
 use Rattle.cv_base.specs.declared.endian.Endian.TheVariants.{Big, Little}
-use Rattle.cv_block.proofs.SpelledFronts.{spelled_unchanged}
+use Rattle.cv_block.proofs.FormPrefixes.{spelled_unchanged}
 use Rattle.cv_wide.specs.Orders.{reads_in, writes_in}
 use Rattle.cv_wide.proofs.SpelledInOrder.{reads_spelled, writes_spelled}
 use Rattle.cv_wide.proofs.blocks.EncodingSchemeBlockCodec.unchanged.Goals as goal

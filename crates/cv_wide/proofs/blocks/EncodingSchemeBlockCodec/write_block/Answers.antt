@@ -1,4 +1,4 @@
-use Rattle.cv_block.proofs.SpelledBlocks.{spelled_written}
+use Rattle.cv_block.proofs.FormBlocks.{spelled_written}
 use Rattle.cv_wide.specs.Orders.{writes_in}
 use Rattle.cv_wide.proofs.AllWritten.{in_allowed}
 use Rattle.cv_wide.proofs.SpelledInOrder.{writes_spelled}
@@ -9,7 +9,7 @@ returns-in-Some-Big g c =
     let form = g.F.WideForm.form in
     let order = c.args.self.now.order in (
       in_allowed form order c.args._policy c.args.state c.args.characters.now,
-      spelled_written (writes_in form order) _ _ (writes_spelled form order c.args.state _ _ _ c.in-Some-Big.ensures c.in-Some-Big.field-0-is c.assert_form.ensures.be) c.args.characters.now c.args.out.now c.args.at _ _ c.write_spelled.ensures,
+      spelled_written (writes_in form order) _ _ (writes_spelled form order c.args.state _ _ _ c.in-Some-Big.ensures c.in-Some-Big.field-0-is c.assert_form.ensures.be) c.args.characters.now c.args.out.now c.args.at _ _ c.write_stateless.ensures,
     )
 
 pub returns-in-Some-Little : goal.returns-in-Some-Little
@@ -17,7 +17,7 @@ returns-in-Some-Little g c =
     let form = g.F.WideForm.form in
     let order = c.args.self.now.order in (
       in_allowed form order c.args._policy c.args.state c.args.characters.now,
-      spelled_written (writes_in form order) _ _ (writes_spelled form order c.args.state _ _ _ c.in-Some-Little.ensures c.in-Some-Little.field-0-is c.assert_form.ensures.le) c.args.characters.now c.args.out.now c.args.at _ _ c.write_spelled-in-Some-Little.ensures,
+      spelled_written (writes_in form order) _ _ (writes_spelled form order c.args.state _ _ _ c.in-Some-Little.ensures c.in-Some-Little.field-0-is c.assert_form.ensures.le) c.args.characters.now c.args.out.now c.args.at _ _ c.write_stateless-in-Some-Little.ensures,
     )
 
 pub returns-in-None : goal.returns-in-None

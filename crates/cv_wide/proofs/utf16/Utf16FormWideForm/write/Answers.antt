@@ -7,6 +7,6 @@ pub returns-then-value-ge65536 : goal.returns-then-value-ge65536
 returns-then-value-ge65536 g c =
     let is : c.value-value.result ≡ c.args.c = c.value-value.ensures.number in
     let above = rw is at c.if-value-ge65536.true in
-    let first : c.first_of.result ≡ high_unit c.args.c = c.first_of.ensures.high c.if-value-ge65536.true ∙ ap high_unit is in
-    let second : c.second_of.result ≡ low_unit c.args.c = c.second_of.ensures.low c.if-value-ge65536.true ∙ ap low_unit is in
-    units_put g.O.ByteOrder.endian c.args.c c.first_of.result c.second_of.result c.args.out.now c.write_two.new.out _ c.args.at above first second c.requires c.write_two.ensures c.write_two-then-value-ge65536.ensures
+    let first : c.lead_surrogate.result ≡ high_unit c.args.c = c.lead_surrogate.ensures.high c.if-value-ge65536.true ∙ ap high_unit is in
+    let second : c.trail_surrogate.result ≡ low_unit c.args.c = c.trail_surrogate.ensures.low c.if-value-ge65536.true ∙ ap low_unit is in
+    units_put g.O.ByteOrder.endian c.args.c c.lead_surrogate.result c.trail_surrogate.result c.args.out.now c.write_two.new.out _ c.args.at above first second c.requires c.write_two.ensures c.write_two-then-value-ge65536.ensures

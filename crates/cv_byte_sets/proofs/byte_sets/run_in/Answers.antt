@@ -1,9 +1,0 @@
-use Rattle.std.proofs.Common.{arith}
-use Rattle.cv_byte_sets.proofs.Lanes.{member_at, stop_at}
-use Rattle.cv_byte_sets.proofs.byte_sets.run_in.Goals as goal
-
-pub returns-clause-members : goal.returns-clause-members
-returns-clause-members c i l = member_at c.args.set c.args.bytes.now c.min-base.result c.args.from _ i c.sixteen_outside-stops.ensures.outside (omega arith) (omega arith) (c.run_at.ensures.clear i l)
-
-pub returns-clause-stop : goal.returns-clause-stop
-returns-clause-stop c l m = stop_at c.args.set c.args.bytes.now c.min-base.result c.args.from _ _ c.sixteen_outside-stops.ensures.outside (omega arith) (omega arith) c.run_at.ensures.set

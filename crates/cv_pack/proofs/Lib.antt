@@ -1,4 +1,0 @@
-pub mod Rows
-pub mod PackedNumbers
-pub mod PackedPairs
-pub mod PackedFours

@@ -3,8 +3,9 @@ ghost use Rattle.std.specs.Prelude.{◌≡◌, ◌≤◌, length, MatchOption};
 ghost use Rattle.cv_pivot.specs.Private.Steps.{TakesSome};
 
 use crate::outcome::States;
+use crate::pair::Pair;
 use crate::step::Took;
-use cv_base::{BlockCodec, Policy, Scalar};
+use cv_base::{BlockCodec, Scalar};
 
 /// How many characters a short block has at most.
 const SHORT_BLOCK: usize = 64;
@@ -85,10 +86,8 @@ impl BlockSize {
 /// under the policy.
 #[inline(always)]
 fn block<F: BlockCodec, T: BlockCodec>(
-    from: &F,
-    to: &T,
+    pair: Pair<'_, F, T>,
     buffer: &mut [Scalar],
-    policy: Policy,
     states: &mut States,
     rest: &[u8],
     out: &mut [u8],
@@ -97,16 +96,20 @@ fn block<F: BlockCodec, T: BlockCodec>(
     requires room { at ≤ length out.old }
     requires few { length buffer.old ≤ 256 }
     ensures { MatchOption result ((states.new ≡ states.old) × (out.new ≡ out.old)) (λ took.
-        TakesSome (F.reads from.now) (T.writes to.now) policy states.old rest.now
-        out.old at took states.new out.new) }
+        TakesSome (F.reads pair.entry.from.now) (T.writes pair.entry.to.now) pair.entry.policy
+        states.old rest.now out.old at took states.new out.new) }
 {
     let limit = buffer.len().min((out.len() - at) / MOST_BYTES);
-    let read = from.read_block(states.reading, rest, &mut buffer[..limit]);
+    let read = pair
+        .from
+        .read_block(states.reading, rest, &mut buffer[..limit]);
     if read.used == 0 {
         return None;
     }
     let characters = &buffer[..read.n];
-    let written = to.write_block(policy, states.writing, characters, out, at)?;
+    let written = pair
+        .to
+        .write_block(pair.policy, states.writing, characters, out, at)?;
     *states = States {
         reading: read.next,
         writing: written.next,
@@ -122,9 +125,7 @@ fn block<F: BlockCodec, T: BlockCodec>(
 /// entry.
 #[inline(always)]
 fn short_block<F: BlockCodec, T: BlockCodec>(
-    from: &F,
-    to: &T,
-    policy: Policy,
+    pair: Pair<'_, F, T>,
     states: &mut States,
     rest: &[u8],
     out: &mut [u8],
@@ -132,20 +133,18 @@ fn short_block<F: BlockCodec, T: BlockCodec>(
 ) -> Option<Took>
     requires room { at ≤ length out.old }
     ensures { MatchOption result ((states.new ≡ states.old) × (out.new ≡ out.old)) (λ took.
-        TakesSome (F.reads from.now) (T.writes to.now) policy states.old rest.now
-        out.old at took states.new out.new) }
+        TakesSome (F.reads pair.entry.from.now) (T.writes pair.entry.to.now) pair.entry.policy
+        states.old rest.now out.old at took states.new out.new) }
 {
     let mut buffer = [Scalar::substitute(); SHORT_BLOCK];
-    block(from, to, &mut buffer, policy, states, rest, out, at)
+    block(pair, &mut buffer, states, rest, out, at)
 }
 
 /// Takes up to `MOST_BLOCKS` long blocks in a row, if there is one, through one buffer, which is cleared once for all
 /// of them.
 #[inline(always)]
 fn long_blocks<F: BlockCodec, T: BlockCodec>(
-    from: &F,
-    to: &T,
-    policy: Policy,
+    pair: Pair<'_, F, T>,
     states: &mut States,
     rest: &[u8],
     out: &mut [u8],
@@ -153,17 +152,17 @@ fn long_blocks<F: BlockCodec, T: BlockCodec>(
 ) -> Option<Took>
     requires room { at ≤ length out.old }
     ensures { MatchOption result ((states.new ≡ states.old) × (out.new ≡ out.old)) (λ took.
-        TakesSome (F.reads from.now) (T.writes to.now) policy states.old rest.now
-        out.old at took states.new out.new) }
+        TakesSome (F.reads pair.entry.from.now) (T.writes pair.entry.to.now) pair.entry.policy
+        states.old rest.now out.old at took states.new out.new) }
 {
-    from.assert_valid();
+    pair.from.assert_valid();
     let mut buffer = [Scalar::substitute(); LONG_BLOCK];
     let mut blocks = 0;
     let mut taken = Took::nothing();
     while blocks < MOST_BLOCKS && rest.len() - taken.used >= LONG_BLOCK {
         let behind = &rest[taken.used..];
         let end = at + taken.wrote;
-        let Some(took) = block(from, to, &mut buffer, policy, states, behind, out, end) else {
+        let Some(took) = block(pair, &mut buffer, states, behind, out, end) else {
             break;
         };
         blocks += 1;
@@ -180,10 +179,8 @@ fn long_blocks<F: BlockCodec, T: BlockCodec>(
 /// Takes a block of the current size, or several, if there is one. Sets the size of the next.
 #[inline(always)]
 pub(crate) fn sized_block<F: BlockCodec, T: BlockCodec>(
-    from: &F,
-    to: &T,
+    pair: Pair<'_, F, T>,
     size: &mut BlockSize,
-    policy: Policy,
     states: &mut States,
     rest: &[u8],
     out: &mut [u8],
@@ -191,14 +188,14 @@ pub(crate) fn sized_block<F: BlockCodec, T: BlockCodec>(
 ) -> Option<Took>
     requires { at ≤ length out.old }
     ensures { MatchOption result ((states.new ≡ states.old) × (out.new ≡ out.old)) (λ took.
-        TakesSome (F.reads from.now) (T.writes to.now) policy states.old rest.now
-        out.old at took states.new out.new) }
+        TakesSome (F.reads pair.entry.from.now) (T.writes pair.entry.to.now) pair.entry.policy
+        states.old rest.now out.old at took states.new out.new) }
 {
     let took = match *size {
         BlockSize::Long | BlockSize::Alone if rest.len() >= LONG_BLOCK => {
-            long_blocks(from, to, policy, states, rest, out, at)
+            long_blocks(pair, states, rest, out, at)
         }
-        _ => short_block(from, to, policy, states, rest, out, at),
+        _ => short_block(pair, states, rest, out, at),
     };
     *size = BlockSize::behind(&took);
     took

@@ -6,8 +6,9 @@ ghost use Rattle.cv_pivot.specs.Private.Steps.{TakesOrStops, Finishes};
 
 use crate::encoding::Encoding;
 use crate::outcome::{Outcome, States, Stop};
+use crate::pair::Pair;
 use crate::step::{Step, Took};
-use cv_base::{Ascii, Codec, Item, Latin1, Placed, Policy, place_character};
+use cv_base::{Ascii, Codec, Item, Latin1, Placed, place_character};
 use cv_utf7::Utf7;
 use cv_utf8::Utf8;
 use cv_wide::{Utf16, Utf32};
@@ -20,20 +21,25 @@ pub(crate) const FEW_BYTES: usize = 12;
 #[inline(always)]
 #[tactic(auto, using(cv_base::proofs::AllWritten::none_allowed))]
 pub(crate) fn one_step<F: Codec, T: Codec>(
-    from: &F,
-    to: &T,
-    policy: Policy,
+    pair: Pair<'_, F, T>,
     states: &mut States,
     rest: &[u8],
     out: &mut [u8],
     at: usize,
 ) -> Step
     requires { at ≤ length out.old }
-    ensures { TakesOrStops (F.reads from.now) (T.writes to.now) policy states.old rest.now
-        out.old at result states.new out.new }
+    ensures { TakesOrStops (F.reads pair.entry.from.now) (T.writes pair.entry.to.now) pair.entry.policy
+        states.old rest.now out.old at result states.new out.new }
 {
-    match from.item(states.reading, rest) {
-        Item::Char { c, n, next } => match place_character(to, policy, states.writing, c, out, at) {
+    match pair.from.item(states.reading, rest) {
+        Item::Char { c, n, next } => match place_character(
+            pair.to,
+            pair.policy,
+            states.writing,
+            c,
+            out,
+            at,
+        ) {
             Placed::Wrote {
                 n: wrote,
                 count,
@@ -69,9 +75,7 @@ pub(crate) fn one_step<F: Codec, T: Codec>(
 /// its encoding.
 #[inline(always)]
 fn each_item<F: Codec, T: Codec>(
-    from: &F,
-    to: &T,
-    policy: Policy,
+    pair: Pair<'_, F, T>,
     states: &mut States,
     rest: &[u8],
     out: &mut [u8],
@@ -80,15 +84,15 @@ fn each_item<F: Codec, T: Codec>(
 ) -> Outcome
     requires room { at ≤ length out.old }
     requires few { count + length rest.now < 2 ^ 64 }
-    ensures { Finishes (F.reads from.now) (T.writes to.now) policy states.old rest.now
-        out.old at count result states.new out.new }
+    ensures { Finishes (F.reads pair.entry.from.now) (T.writes pair.entry.to.now) pair.entry.policy
+        states.old rest.now out.old at count result states.new out.new }
 {
-    from.assert_valid();
+    pair.from.assert_valid();
     let mut used = 0;
     let mut end = at;
     let mut lacking = count;
     loop {
-        match one_step(from, to, policy, states, &rest[used..], out, end) {
+        match one_step(pair, states, &rest[used..], out, end) {
             Step::Took(took) => {
                 used += took.used;
                 end += took.wrote;
@@ -117,9 +121,7 @@ fn each_item<F: Codec, T: Codec>(
 /// Converts the rest as `each_item` does, after dispatching on the target encoding.
 #[inline(always)]
 fn each_item_to<F: Codec>(
-    from: &F,
-    to: &Encoding,
-    policy: Policy,
+    pair: Pair<'_, F, Encoding>,
     states: &mut States,
     rest: &[u8],
     out: &mut [u8],
@@ -128,44 +130,46 @@ fn each_item_to<F: Codec>(
 ) -> Outcome
     requires room { at ≤ length out.old }
     requires few { count + length rest.now < 2 ^ 64 }
-    ensures { Finishes (F.reads from.now) (form_writes (form_of to.now)) policy states.old rest.now
-        out.old at count result states.new out.new }
+    ensures { Finishes (F.reads pair.entry.from.now) (form_writes (form_of pair.entry.to.now)) pair.entry.policy
+        states.old rest.now out.old at count result states.new out.new }
 {
+    let Pair { from, to, policy } = pair;
     match to {
-        Encoding::Ascii => each_item(from, &Ascii, policy, states, rest, out, at, count),
-        Encoding::Latin1 => each_item(from, &Latin1, policy, states, rest, out, at, count),
-        Encoding::Utf8 => each_item(from, &Utf8, policy, states, rest, out, at, count),
-        Encoding::Utf16(order) => each_item(
-            from,
-            &Utf16::new(*order),
-            policy,
-            states,
-            rest,
-            out,
-            at,
-            count,
-        ),
-        Encoding::Utf32(order) => each_item(
-            from,
-            &Utf32::new(*order),
-            policy,
-            states,
-            rest,
-            out,
-            at,
-            count,
-        ),
-        Encoding::Utf7 => each_item(from, &Utf7, policy, states, rest, out, at, count),
-        Encoding::Charmap(map) => each_item(from, &**map, policy, states, rest, out, at, count),
+        Encoding::Ascii => {
+            let to = &Ascii;
+            each_item(Pair { from, to, policy }, states, rest, out, at, count)
+        }
+        Encoding::Latin1 => {
+            let to = &Latin1;
+            each_item(Pair { from, to, policy }, states, rest, out, at, count)
+        }
+        Encoding::Utf8 => {
+            let to = &Utf8;
+            each_item(Pair { from, to, policy }, states, rest, out, at, count)
+        }
+        Encoding::Utf16(order) => {
+            let to = &Utf16::new(*order);
+            each_item(Pair { from, to, policy }, states, rest, out, at, count)
+        }
+        Encoding::Utf32(order) => {
+            let to = &Utf32::new(*order);
+            each_item(Pair { from, to, policy }, states, rest, out, at, count)
+        }
+        Encoding::Utf7 => {
+            let to = &Utf7;
+            each_item(Pair { from, to, policy }, states, rest, out, at, count)
+        }
+        Encoding::Charmap(map) => {
+            let to = &**map;
+            each_item(Pair { from, to, policy }, states, rest, out, at, count)
+        }
     }
 }
 
 /// Converts the rest of a text, if it is short. Kept out of line, so that the loop that calls it stays small.
 #[inline(never)]
 pub(crate) fn few_items(
-    from: &Encoding,
-    to: &Encoding,
-    policy: Policy,
+    pair: Pair<'_, Encoding, Encoding>,
     states: &mut States,
     rest: &[u8],
     out: &mut [u8],
@@ -174,34 +178,38 @@ pub(crate) fn few_items(
 ) -> Outcome
     requires room { at ≤ length out.old }
     requires few { count + length rest.now < 2 ^ 64 }
-    ensures { Finishes (form_reads (form_of from.now)) (form_writes (form_of to.now)) policy
-        states.old rest.now out.old at count result states.new out.new }
+    ensures { Finishes (form_reads (form_of pair.entry.from.now)) (form_writes (form_of pair.entry.to.now))
+        pair.entry.policy states.old rest.now out.old at count result states.new out.new }
 {
+    let Pair { from, to, policy } = pair;
     match from {
-        Encoding::Ascii => each_item_to(&Ascii, to, policy, states, rest, out, at, count),
-        Encoding::Latin1 => each_item_to(&Latin1, to, policy, states, rest, out, at, count),
-        Encoding::Utf8 => each_item_to(&Utf8, to, policy, states, rest, out, at, count),
-        Encoding::Utf16(order) => each_item_to(
-            &Utf16::new(*order),
-            to,
-            policy,
-            states,
-            rest,
-            out,
-            at,
-            count,
-        ),
-        Encoding::Utf32(order) => each_item_to(
-            &Utf32::new(*order),
-            to,
-            policy,
-            states,
-            rest,
-            out,
-            at,
-            count,
-        ),
-        Encoding::Utf7 => each_item_to(&Utf7, to, policy, states, rest, out, at, count),
-        Encoding::Charmap(map) => each_item_to(&**map, to, policy, states, rest, out, at, count),
+        Encoding::Ascii => {
+            let from = &Ascii;
+            each_item_to(Pair { from, to, policy }, states, rest, out, at, count)
+        }
+        Encoding::Latin1 => {
+            let from = &Latin1;
+            each_item_to(Pair { from, to, policy }, states, rest, out, at, count)
+        }
+        Encoding::Utf8 => {
+            let from = &Utf8;
+            each_item_to(Pair { from, to, policy }, states, rest, out, at, count)
+        }
+        Encoding::Utf16(order) => {
+            let from = &Utf16::new(*order);
+            each_item_to(Pair { from, to, policy }, states, rest, out, at, count)
+        }
+        Encoding::Utf32(order) => {
+            let from = &Utf32::new(*order);
+            each_item_to(Pair { from, to, policy }, states, rest, out, at, count)
+        }
+        Encoding::Utf7 => {
+            let from = &Utf7;
+            each_item_to(Pair { from, to, policy }, states, rest, out, at, count)
+        }
+        Encoding::Charmap(map) => {
+            let from = &**map;
+            each_item_to(Pair { from, to, policy }, states, rest, out, at, count)
+        }
     }
 }

@@ -29,7 +29,7 @@ ReadsAll reads s bytes_of rest = (characters : List ℕ) → AreScalars characte
 
 -- characters that were converted from one spelling to another
 pub converted_takes : (reads : ItemRelation) (writes : Writing) (policy : Policy) (from : States) (bytes_of bytes_to : BytesOf) (rest before : List ℕ) (at : ℕ) (run : Direct) (after : List ℕ) → ReadsAll reads from.reading bytes_of rest → WritesForm writes from.writing bytes_to → 0 < run.used
-    → IsConverted bytes_of bytes_to rest before at run after → TakesSome reads writes policy from rest before at (record { used = run.used; wrote = run.wrote; count = 0 }) from after
+    → IsConverted bytes_of bytes_to rest before at run after → TakesSome reads writes policy from rest before at (record { read = run.used; written = run.wrote; replaced = 0 }) from after
 converted_takes reads writes policy from bytes_of bytes_to rest before at run after r w some p =
     let characters : List ℕ = p.characters in
     let n : ℕ = length characters in
@@ -40,7 +40,7 @@ converted_takes reads writes policy from bytes_of bytes_to rest before at run af
 
 -- characters that were converted from a spelling
 pub spelled_takes : (reads : ItemRelation) (writes : Writing) (policy : Policy) (from : States) (bytes_of bytes_to : BytesOf) (rest before : List ℕ) (at : ℕ) (run : Direct) (after : List ℕ) → ReadsForm reads from.reading bytes_of → WritesForm writes from.writing bytes_to → 0 < run.used
-    → IsConverted bytes_of bytes_to rest before at run after → TakesSome reads writes policy from rest before at (record { used = run.used; wrote = run.wrote; count = 0 }) from after
+    → IsConverted bytes_of bytes_to rest before at run after → TakesSome reads writes policy from rest before at (record { read = run.used; written = run.wrote; replaced = 0 }) from after
 spelled_takes reads writes policy from bytes_of bytes_to rest before at run after r w some p =
     converted_takes reads writes policy from bytes_of bytes_to rest before at run after (λ characters scalars begins. scalars_read reads from.reading bytes_of r characters scalars) w some p
 
@@ -51,7 +51,7 @@ bytes_read (c ∷ characters) (b ∷ rest) p h = ((omega (arith, h.0, p 0), refl
 
 -- characters that were converted from the bytes of ISO-8859-1
 pub bytes_take : (writes : Writing) (policy : Policy) (from : States) (bytes_to : BytesOf) (rest before : List ℕ) (at : ℕ) (run : Direct) (after : List ℕ) → from.reading ≡ read.Start → ((k : ℕ) → get_or rest k 0 < 256) → WritesForm writes from.writing bytes_to → 0 < run.used
-    → IsConverted (λ c. c ∷ []) bytes_to rest before at run after → TakesSome (byte_reads 256) writes policy from rest before at (record { used = run.used; wrote = run.wrote; count = 0 }) from after
+    → IsConverted (λ c. c ∷ []) bytes_to rest before at run after → TakesSome (byte_reads 256) writes policy from rest before at (record { read = run.used; written = run.wrote; replaced = 0 }) from after
 bytes_take writes policy from bytes_to rest before at run after e p w some q =
     converted_takes (byte_reads 256) writes policy from (λ c. c ∷ []) bytes_to rest before at run after (λ characters scalars begins. subst (λ (s : ReadState). AreRead (byte_reads 256) s (λ c. c ∷ []) characters) (sym e) (bytes_read characters rest p begins)) w some q
 

@@ -4,7 +4,7 @@ ghost use Rattle.cv_pivot.specs.Private.Steps.{TakesSome};
 
 use crate::outcome::States;
 use crate::pair::Pair;
-use crate::step::Took;
+use crate::step::Progress;
 use cv_base::{BlockCodec, Scalar};
 
 /// How many characters a short block has at most.
@@ -63,8 +63,8 @@ impl BlockSize {
 
     /// Returns the size after a block, or after none.
     #[inline(always)]
-    fn behind(took: &Option<Took>) -> BlockSize {
-        match took {
+    fn behind(step: &Option<Progress>) -> BlockSize {
+        match step {
             Some(_) => BlockSize::Long,
             None => BlockSize::Short,
         }
@@ -92,12 +92,12 @@ fn block<F: BlockCodec, T: BlockCodec>(
     rest: &[u8],
     out: &mut [u8],
     at: usize,
-) -> Option<Took>
+) -> Option<Progress>
     requires room { at ≤ length out.old }
     requires few { length buffer.old ≤ 256 }
-    ensures { MatchOption result ((states.new ≡ states.old) × (out.new ≡ out.old)) (λ took.
+    ensures { MatchOption result ((states.new ≡ states.old) × (out.new ≡ out.old)) (λ step.
         TakesSome (F.reads pair.entry.from.now) (T.writes pair.entry.to.now) pair.entry.policy
-        states.old rest.now out.old at took states.new out.new) }
+        states.old rest.now out.old at step states.new out.new) }
 {
     let limit = buffer.len().min((out.len() - at) / MOST_BYTES);
     let read = pair
@@ -114,10 +114,10 @@ fn block<F: BlockCodec, T: BlockCodec>(
         reading: read.next,
         writing: written.next,
     };
-    Some(Took {
-        used: read.used,
-        wrote: written.wrote,
-        count: written.count,
+    Some(Progress {
+        read: read.used,
+        written: written.wrote,
+        replaced: written.count,
     })
 }
 
@@ -130,11 +130,11 @@ fn short_block<F: BlockCodec, T: BlockCodec>(
     rest: &[u8],
     out: &mut [u8],
     at: usize,
-) -> Option<Took>
+) -> Option<Progress>
     requires room { at ≤ length out.old }
-    ensures { MatchOption result ((states.new ≡ states.old) × (out.new ≡ out.old)) (λ took.
+    ensures { MatchOption result ((states.new ≡ states.old) × (out.new ≡ out.old)) (λ step.
         TakesSome (F.reads pair.entry.from.now) (T.writes pair.entry.to.now) pair.entry.policy
-        states.old rest.now out.old at took states.new out.new) }
+        states.old rest.now out.old at step states.new out.new) }
 {
     let mut buffer = [Scalar::substitute(); SHORT_BLOCK];
     block(pair, &mut buffer, states, rest, out, at)
@@ -149,31 +149,29 @@ fn long_blocks<F: BlockCodec, T: BlockCodec>(
     rest: &[u8],
     out: &mut [u8],
     at: usize,
-) -> Option<Took>
+) -> Option<Progress>
     requires room { at ≤ length out.old }
-    ensures { MatchOption result ((states.new ≡ states.old) × (out.new ≡ out.old)) (λ took.
+    ensures { MatchOption result ((states.new ≡ states.old) × (out.new ≡ out.old)) (λ step.
         TakesSome (F.reads pair.entry.from.now) (T.writes pair.entry.to.now) pair.entry.policy
-        states.old rest.now out.old at took states.new out.new) }
+        states.old rest.now out.old at step states.new out.new) }
 {
     pair.from.assert_valid();
     let mut buffer = [Scalar::substitute(); LONG_BLOCK];
     let mut blocks = 0;
-    let mut taken = Took::nothing();
-    while blocks < MOST_BLOCKS && rest.len() - taken.used >= LONG_BLOCK {
-        let behind = &rest[taken.used..];
-        let end = at + taken.wrote;
-        let Some(took) = block(pair, &mut buffer, states, behind, out, end) else {
+    let mut progress = Progress::start();
+    while blocks < MOST_BLOCKS && rest.len() - progress.read >= LONG_BLOCK {
+        let behind = &rest[progress.read..];
+        let end = at + progress.written;
+        let Some(step) = block(pair, &mut buffer, states, behind, out, end) else {
             break;
         };
         blocks += 1;
-        taken.used += took.used;
-        taken.wrote += took.wrote;
-        taken.count += took.count;
+        progress = progress.then(step);
     }
-    if taken.used == 0 {
+    if progress.read == 0 {
         return None;
     }
-    Some(taken)
+    Some(progress)
 }
 
 /// Takes a block of the current size, or several, if there is one. Sets the size of the next.
@@ -185,18 +183,18 @@ pub(crate) fn sized_block<F: BlockCodec, T: BlockCodec>(
     rest: &[u8],
     out: &mut [u8],
     at: usize,
-) -> Option<Took>
+) -> Option<Progress>
     requires { at ≤ length out.old }
-    ensures { MatchOption result ((states.new ≡ states.old) × (out.new ≡ out.old)) (λ took.
+    ensures { MatchOption result ((states.new ≡ states.old) × (out.new ≡ out.old)) (λ step.
         TakesSome (F.reads pair.entry.from.now) (T.writes pair.entry.to.now) pair.entry.policy
-        states.old rest.now out.old at took states.new out.new) }
+        states.old rest.now out.old at step states.new out.new) }
 {
-    let took = match *size {
+    let step = match *size {
         BlockSize::Long | BlockSize::Alone if rest.len() >= LONG_BLOCK => {
             long_blocks(pair, states, rest, out, at)
         }
         _ => short_block(pair, states, rest, out, at),
     };
-    *size = BlockSize::behind(&took);
-    took
+    *size = BlockSize::behind(&step);
+    step
 }

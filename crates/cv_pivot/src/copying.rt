@@ -5,7 +5,7 @@ ghost use Rattle.cv_pivot.specs.Private.Steps.{TakesSome};
 
 use crate::encoding::Encoding;
 use crate::outcome::States;
-use crate::step::Took;
+use crate::step::Progress;
 use cv_base::BlockCodec;
 
 /// Tells whether both are the same encoding, so that text is copied. It may return false even if they are: then the
@@ -42,11 +42,11 @@ pub(crate) fn copy_unchanged<C: BlockCodec>(
     rest: &[u8],
     out: &mut [u8],
     at: usize,
-) -> Option<Took>
+) -> Option<Progress>
     requires { at ≤ length out.old }
-    ensures { MatchOption result (out.new ≡ out.old) (λ took. (policy : Policy)
+    ensures { MatchOption result (out.new ≡ out.old) (λ step. (policy : Policy)
         → TakesSome (C.reads codec.now) (C.writes codec.now) policy states rest.now
-        out.old at took states out.new) }
+        out.old at step states out.new) }
 {
     let most = rest.len().min(out.len() - at);
     let n = codec.unchanged(states.reading, states.writing, &rest[..most]);
@@ -54,9 +54,9 @@ pub(crate) fn copy_unchanged<C: BlockCodec>(
         return None;
     }
     copy_front(rest, n, out, at);
-    Some(Took {
-        used: n,
-        wrote: n,
-        count: 0,
+    Some(Progress {
+        read: n,
+        written: n,
+        replaced: 0,
     })
 }

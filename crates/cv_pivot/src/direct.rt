@@ -15,7 +15,7 @@ use crate::blocks::BlockSize;
 use crate::copying::{copy_unchanged, may_copy};
 use crate::encoding::Encoding;
 use crate::outcome::States;
-use crate::step::Took;
+use crate::step::Progress;
 use crate::{from_utf8, from_utf32};
 use cv_base::{Endian, ReadState, WriteState};
 use cv_block::{BigEndian, ByteOrder, LittleEndian};
@@ -57,29 +57,35 @@ fn utf16_step<O: ByteOrder>(
     rest: &[u8],
     out: &mut [u8],
     at: usize,
-) -> Option<Took>
+) -> Option<Progress>
     requires room { at ≤ length out.old }
     requires kept { KeepsReading order states.reading O.endian }
     requires start { states.writing ≡ WriteState.Start }
-    ensures { MatchOption result (out.new ≡ out.old) (λ took. (policy : Policy)
+    ensures { MatchOption result (out.new ≡ out.old) (λ step. (policy : Policy)
         → TakesSome (reads_in utf16 order) utf8_writes policy states rest.now
-        out.old at took states out.new) }
+        out.old at step states out.new) }
 {
     let run = utf16_to_utf8::<O>(rest, out, at)?;
-    Some(Took {
-        used: run.used,
-        wrote: run.wrote,
-        count: 0,
+    Some(Progress {
+        read: run.used,
+        written: run.wrote,
+        replaced: 0,
     })
 }
 
 /// Converts from UTF-16 to UTF-8, if the states allow it and any characters are converted at once.
 #[inline(always)]
-fn from_utf16(order: Order, states: States, rest: &[u8], out: &mut [u8], at: usize) -> Option<Took>
+fn from_utf16(
+    order: Order,
+    states: States,
+    rest: &[u8],
+    out: &mut [u8],
+    at: usize,
+) -> Option<Progress>
     requires { at ≤ length out.old }
-    ensures { MatchOption result (out.new ≡ out.old) (λ took. (policy : Policy)
+    ensures { MatchOption result (out.new ≡ out.old) (λ step. (policy : Policy)
         → TakesSome (reads_in utf16 order) utf8_writes policy states rest.now
-        out.old at took states out.new) }
+        out.old at step states out.new) }
 {
     let WriteState::Start = states.writing else {
         return None;
@@ -92,11 +98,11 @@ fn from_utf16(order: Order, states: States, rest: &[u8], out: &mut [u8], at: usi
 
 /// Converts from ISO-8859-1 to UTF-8, if the states allow it and any characters are converted at once.
 #[inline(always)]
-fn from_latin1(states: States, rest: &[u8], out: &mut [u8], at: usize) -> Option<Took>
+fn from_latin1(states: States, rest: &[u8], out: &mut [u8], at: usize) -> Option<Progress>
     requires { at ≤ length out.old }
-    ensures { MatchOption result (out.new ≡ out.old) (λ took. (policy : Policy)
+    ensures { MatchOption result (out.new ≡ out.old) (λ step. (policy : Policy)
         → TakesSome (byte_reads 256) utf8_writes policy states rest.now
-        out.old at took states out.new) }
+        out.old at step states out.new) }
 {
     let ReadState::Start = states.reading else {
         return None;
@@ -105,10 +111,10 @@ fn from_latin1(states: States, rest: &[u8], out: &mut [u8], at: usize) -> Option
         return None;
     };
     let run = latin1_to_utf8(rest, out, at)?;
-    Some(Took {
-        used: run.used,
-        wrote: run.wrote,
-        count: 0,
+    Some(Progress {
+        read: run.used,
+        written: run.wrote,
+        replaced: 0,
     })
 }
 
@@ -121,19 +127,19 @@ fn swapped_step<O: ByteOrder, P: ByteOrder>(
     rest: &[u8],
     out: &mut [u8],
     at: usize,
-) -> Option<Took>
+) -> Option<Progress>
     requires room { at ≤ length out.old }
     requires reading { KeepsReading order states.reading O.endian }
     requires writing { KeepsWriting target states.writing P.endian }
-    ensures { MatchOption result (out.new ≡ out.old) (λ took. (policy : Policy)
+    ensures { MatchOption result (out.new ≡ out.old) (λ step. (policy : Policy)
         → TakesSome (reads_in utf16 order) (writes_in utf16 target) policy states rest.now
-        out.old at took states out.new) }
+        out.old at step states out.new) }
 {
     let run = utf16_swapped::<O, P>(rest, out, at)?;
-    Some(Took {
-        used: run.used,
-        wrote: run.wrote,
-        count: 0,
+    Some(Progress {
+        read: run.used,
+        written: run.wrote,
+        replaced: 0,
     })
 }
 
@@ -146,11 +152,11 @@ fn between_orders(
     rest: &[u8],
     out: &mut [u8],
     at: usize,
-) -> Option<Took>
+) -> Option<Progress>
     requires { at ≤ length out.old }
-    ensures { MatchOption result (out.new ≡ out.old) (λ took. (policy : Policy)
+    ensures { MatchOption result (out.new ≡ out.old) (λ step. (policy : Policy)
         → TakesSome (reads_in utf16 order) (writes_in utf16 target) policy states rest.now
-        out.old at took states out.new) }
+        out.old at step states out.new) }
 {
     let reading = kept_reading(order, states.reading)?;
     let writing = kept_writing(target, states.writing)?;
@@ -175,11 +181,11 @@ fn convert_directly(
     rest: &[u8],
     out: &mut [u8],
     at: usize,
-) -> Option<Took>
+) -> Option<Progress>
     requires { at ≤ length out.old }
-    ensures { MatchOption result (out.new ≡ out.old) (λ took. (policy : Policy)
+    ensures { MatchOption result (out.new ≡ out.old) (λ step. (policy : Policy)
         → TakesSome (form_reads (form_of from.now)) (form_writes (form_of to.now)) policy
-        states rest.now out.old at took states out.new) }
+        states rest.now out.old at step states out.new) }
 {
     match (from, to) {
         (Encoding::Utf16(order), Encoding::Utf8) => from_utf16(*order, states, rest, out, at),
@@ -265,11 +271,11 @@ pub(crate) fn take_at_once(
     rest: &[u8],
     out: &mut [u8],
     at: usize,
-) -> Option<Took>
+) -> Option<Progress>
     requires { at ≤ length out.old }
-    ensures { MatchOption result (out.new ≡ out.old) (λ took. (policy : Policy)
+    ensures { MatchOption result (out.new ≡ out.old) (λ step. (policy : Policy)
         → TakesSome (form_reads (form_of from.now)) (form_writes (form_of to.now)) policy
-        states rest.now out.old at took states out.new) }
+        states rest.now out.old at step states out.new) }
 {
     let same = may_copy(from, to);
     if same {

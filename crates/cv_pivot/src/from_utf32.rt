@@ -11,7 +11,7 @@ ghost use Rattle.cv_wide.specs.Utf32.{utf32};
 
 use crate::direct::{kept_reading, kept_writing};
 use crate::outcome::States;
-use crate::step::Took;
+use crate::step::Progress;
 use cv_base::{Endian, WriteState};
 use cv_block::{BigEndian, ByteOrder, LittleEndian};
 use cv_direct::{utf32_to_utf8, utf32_to_utf16};
@@ -25,19 +25,19 @@ fn utf8_step<O: ByteOrder>(
     rest: &[u8],
     out: &mut [u8],
     at: usize,
-) -> Option<Took>
+) -> Option<Progress>
     requires room { at ≤ length out.old }
     requires kept { KeepsReading order states.reading O.endian }
     requires start { states.writing ≡ WriteState.Start }
-    ensures { MatchOption result (out.new ≡ out.old) (λ took. (policy : Policy)
+    ensures { MatchOption result (out.new ≡ out.old) (λ step. (policy : Policy)
         → TakesSome (reads_in utf32 order) utf8_writes policy states rest.now
-        out.old at took states out.new) }
+        out.old at step states out.new) }
 {
     let run = utf32_to_utf8::<O>(rest, out, at)?;
-    Some(Took {
-        used: run.used,
-        wrote: run.wrote,
-        count: 0,
+    Some(Progress {
+        read: run.used,
+        written: run.wrote,
+        replaced: 0,
     })
 }
 
@@ -49,11 +49,11 @@ pub(crate) fn to_utf8(
     rest: &[u8],
     out: &mut [u8],
     at: usize,
-) -> Option<Took>
+) -> Option<Progress>
     requires { at ≤ length out.old }
-    ensures { MatchOption result (out.new ≡ out.old) (λ took. (policy : Policy)
+    ensures { MatchOption result (out.new ≡ out.old) (λ step. (policy : Policy)
         → TakesSome (reads_in utf32 order) utf8_writes policy states rest.now
-        out.old at took states out.new) }
+        out.old at step states out.new) }
 {
     let WriteState::Start = states.writing else {
         return None;
@@ -73,19 +73,19 @@ fn utf16_step<O: ByteOrder, P: ByteOrder>(
     rest: &[u8],
     out: &mut [u8],
     at: usize,
-) -> Option<Took>
+) -> Option<Progress>
     requires room { at ≤ length out.old }
     requires reading { KeepsReading order states.reading O.endian }
     requires writing { KeepsWriting target states.writing P.endian }
-    ensures { MatchOption result (out.new ≡ out.old) (λ took. (policy : Policy)
+    ensures { MatchOption result (out.new ≡ out.old) (λ step. (policy : Policy)
         → TakesSome (reads_in utf32 order) (writes_in utf16 target) policy states rest.now
-        out.old at took states out.new) }
+        out.old at step states out.new) }
 {
     let run = utf32_to_utf16::<O, P>(rest, out, at)?;
-    Some(Took {
-        used: run.used,
-        wrote: run.wrote,
-        count: 0,
+    Some(Progress {
+        read: run.used,
+        written: run.wrote,
+        replaced: 0,
     })
 }
 
@@ -98,11 +98,11 @@ pub(crate) fn to_utf16(
     rest: &[u8],
     out: &mut [u8],
     at: usize,
-) -> Option<Took>
+) -> Option<Progress>
     requires { at ≤ length out.old }
-    ensures { MatchOption result (out.new ≡ out.old) (λ took. (policy : Policy)
+    ensures { MatchOption result (out.new ≡ out.old) (λ step. (policy : Policy)
         → TakesSome (reads_in utf32 order) (writes_in utf16 target) policy states rest.now
-        out.old at took states out.new) }
+        out.old at step states out.new) }
 {
     let reading = kept_reading(order, states.reading)?;
     let writing = kept_writing(target, states.writing)?;

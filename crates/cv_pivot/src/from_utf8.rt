@@ -10,7 +10,7 @@ ghost use Rattle.cv_wide.specs.Utf16.{utf16};
 
 use crate::direct::kept_writing;
 use crate::outcome::States;
-use crate::step::Took;
+use crate::step::Progress;
 use cv_base::{Endian, ReadState};
 use cv_block::{BigEndian, ByteOrder, LittleEndian};
 use cv_direct::utf8_to_utf16;
@@ -24,19 +24,19 @@ fn utf16_step<P: ByteOrder>(
     rest: &[u8],
     out: &mut [u8],
     at: usize,
-) -> Option<Took>
+) -> Option<Progress>
     requires room { at ≤ length out.old }
     requires start { states.reading ≡ ReadState.Start }
     requires writing { KeepsWriting target states.writing P.endian }
-    ensures { MatchOption result (out.new ≡ out.old) (λ took. (policy : Policy)
+    ensures { MatchOption result (out.new ≡ out.old) (λ step. (policy : Policy)
         → TakesSome utf8_reads (writes_in utf16 target) policy states rest.now
-        out.old at took states out.new) }
+        out.old at step states out.new) }
 {
     let run = utf8_to_utf16::<P>(rest, out, at)?;
-    Some(Took {
-        used: run.used,
-        wrote: run.wrote,
-        count: 0,
+    Some(Progress {
+        read: run.used,
+        written: run.wrote,
+        replaced: 0,
     })
 }
 
@@ -48,11 +48,11 @@ pub(crate) fn to_utf16(
     rest: &[u8],
     out: &mut [u8],
     at: usize,
-) -> Option<Took>
+) -> Option<Progress>
     requires { at ≤ length out.old }
-    ensures { MatchOption result (out.new ≡ out.old) (λ took. (policy : Policy)
+    ensures { MatchOption result (out.new ≡ out.old) (λ step. (policy : Policy)
         → TakesSome utf8_reads (writes_in utf16 target) policy states rest.now
-        out.old at took states out.new) }
+        out.old at step states out.new) }
 {
     let ReadState::Start = states.reading else {
         return None;

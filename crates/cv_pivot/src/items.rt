@@ -1,13 +1,12 @@
 //! Items one by one.
-ghost use Rattle.std.specs.Prelude.{◌≤◌, ◌<◌, ◌+◌, ◌^◌, length};
-ghost use Rattle.cv_base.specs.declared.policy.Policy.{Policy};
+ghost use Rattle.std.specs.Prelude.{◌≤◌, length};
 ghost use Rattle.cv_pivot.specs.Encodings.{form_of, form_reads, form_writes};
-ghost use Rattle.cv_pivot.specs.Private.Steps.{TakesOrStops, Finishes};
+ghost use Rattle.cv_pivot.specs.Private.Steps.{Finishes, IsWithin, TakesOrStops};
 
 use crate::encoding::Encoding;
 use crate::outcome::{Outcome, States, Stop};
 use crate::pair::Pair;
-use crate::step::{Step, Took};
+use crate::step::Progress;
 use cv_base::{Ascii, Codec, Item, Latin1, Placed, place_character};
 use cv_utf7::Utf7;
 use cv_utf8::Utf8;
@@ -26,7 +25,7 @@ pub(crate) fn one_step<F: Codec, T: Codec>(
     rest: &[u8],
     out: &mut [u8],
     at: usize,
-) -> Step
+) -> Result<Progress, Stop>
     requires { at ≤ length out.old }
     ensures { TakesOrStops (F.reads pair.entry.from.now) (T.writes pair.entry.to.now) pair.entry.policy
         states.old rest.now out.old at result states.new out.new }
@@ -41,175 +40,153 @@ pub(crate) fn one_step<F: Codec, T: Codec>(
             at,
         ) {
             Placed::Wrote {
-                n: wrote,
+                n: written,
                 count,
                 next: then,
             } => {
                 states.reading = next;
                 states.writing = then;
-                Step::Took(Took {
-                    used: n,
-                    wrote,
-                    count,
+                Ok(Progress {
+                    read: n,
+                    written,
+                    replaced: count,
                 })
             }
-            Placed::NoRoom => Step::Stopped(Stop::TooBig),
-            Placed::Lacks => Step::Stopped(Stop::Lacking),
+            Placed::NoRoom => Err(Stop::TooBig),
+            Placed::Lacks => Err(Stop::Lacking),
         },
         Item::Shift { n, next } => {
             states.reading = next;
-            Step::Took(Took {
-                used: n,
-                wrote: 0,
-                count: 0,
+            Ok(Progress {
+                read: n,
+                written: 0,
+                replaced: 0,
             })
         }
-        Item::Incomplete => Step::Stopped(Stop::Incomplete),
-        Item::Ill => Step::Stopped(Stop::Ill),
-        Item::End => Step::Stopped(Stop::Done),
+        Item::Incomplete => Err(Stop::Incomplete),
+        Item::Ill => Err(Stop::Ill),
+        Item::End => Err(Stop::Done),
     }
 }
 
-/// Converts the rest of a text item by item, after the first `at` bytes of the output. `count` is for how many
-/// characters `?` was written already. Each pair of encodings has a loop of its own, so that no item is dispatched on
-/// its encoding.
+/// Converts what is left of a text item by item. Each pair of encodings has a loop of its own, so that no item is
+/// dispatched on its encoding.
 #[inline(always)]
 fn each_item<F: Codec, T: Codec>(
     pair: Pair<'_, F, T>,
     states: &mut States,
-    rest: &[u8],
+    start: Progress,
+    input: &[u8],
     out: &mut [u8],
-    at: usize,
-    count: usize,
 ) -> Outcome
-    requires room { at ≤ length out.old }
-    requires few { count + length rest.now < 2 ^ 64 }
-    ensures { Finishes (F.reads pair.entry.from.now) (T.writes pair.entry.to.now) pair.entry.policy
-        states.old rest.now out.old at count result states.new out.new }
+    requires { IsWithin start input.now out.old }
+    ensures { Finishes (F.reads pair.entry.from.now) (T.writes pair.entry.to.now) pair.entry.policy input.now
+        states.old start out.old result states.new out.new }
 {
     pair.from.assert_valid();
-    let mut used = 0;
-    let mut end = at;
-    let mut lacking = count;
-    loop {
-        match one_step(pair, states, &rest[used..], out, end) {
-            Step::Took(took) => {
-                used += took.used;
-                end += took.wrote;
-                lacking += took.count;
-                if used == rest.len() {
-                    return Outcome {
-                        left: 0,
-                        room_left: out.len() - end,
-                        count: lacking,
-                        stop: Stop::Done,
-                    };
+    let mut progress = start;
+    'items: loop {
+        let rest = &input[progress.read..];
+        match one_step(pair, states, rest, out, progress.written) {
+            Ok(step) => {
+                progress = progress.then(step);
+                if progress.read == input.len() {
+                    return progress.outcome(Stop::Done, input.len(), out.len());
                 }
             }
-            Step::Stopped(stop) => {
-                return Outcome {
-                    left: rest.len() - used,
-                    room_left: out.len() - end,
-                    count: lacking,
-                    stop,
-                };
-            }
+            Err(stop) => return progress.outcome(stop, input.len(), out.len()),
         }
     }
 }
 
-/// Converts the rest as `each_item` does, after dispatching on the target encoding.
+/// Converts what is left as `each_item` does, after dispatching on the target encoding.
 #[inline(always)]
 fn each_item_to<F: Codec>(
     pair: Pair<'_, F, Encoding>,
     states: &mut States,
-    rest: &[u8],
+    start: Progress,
+    input: &[u8],
     out: &mut [u8],
-    at: usize,
-    count: usize,
 ) -> Outcome
-    requires room { at ≤ length out.old }
-    requires few { count + length rest.now < 2 ^ 64 }
+    requires { IsWithin start input.now out.old }
     ensures { Finishes (F.reads pair.entry.from.now) (form_writes (form_of pair.entry.to.now)) pair.entry.policy
-        states.old rest.now out.old at count result states.new out.new }
+        input.now states.old start out.old result states.new out.new }
 {
     let Pair { from, to, policy } = pair;
     match to {
         Encoding::Ascii => {
             let to = &Ascii;
-            each_item(Pair { from, to, policy }, states, rest, out, at, count)
+            each_item(Pair { from, to, policy }, states, start, input, out)
         }
         Encoding::Latin1 => {
             let to = &Latin1;
-            each_item(Pair { from, to, policy }, states, rest, out, at, count)
+            each_item(Pair { from, to, policy }, states, start, input, out)
         }
         Encoding::Utf8 => {
             let to = &Utf8;
-            each_item(Pair { from, to, policy }, states, rest, out, at, count)
+            each_item(Pair { from, to, policy }, states, start, input, out)
         }
         Encoding::Utf16(order) => {
             let to = &Utf16::new(*order);
-            each_item(Pair { from, to, policy }, states, rest, out, at, count)
+            each_item(Pair { from, to, policy }, states, start, input, out)
         }
         Encoding::Utf32(order) => {
             let to = &Utf32::new(*order);
-            each_item(Pair { from, to, policy }, states, rest, out, at, count)
+            each_item(Pair { from, to, policy }, states, start, input, out)
         }
         Encoding::Utf7 => {
             let to = &Utf7;
-            each_item(Pair { from, to, policy }, states, rest, out, at, count)
+            each_item(Pair { from, to, policy }, states, start, input, out)
         }
         Encoding::Charmap(map) => {
             let to = &**map;
-            each_item(Pair { from, to, policy }, states, rest, out, at, count)
+            each_item(Pair { from, to, policy }, states, start, input, out)
         }
     }
 }
 
-/// Converts the rest of a text, if it is short. Kept out of line, so that the loop that calls it stays small.
+/// Converts what is left of a text, if it is short. Kept out of line, so that the loop that calls it stays small.
 #[inline(never)]
 pub(crate) fn few_items(
     pair: Pair<'_, Encoding, Encoding>,
     states: &mut States,
-    rest: &[u8],
+    start: Progress,
+    input: &[u8],
     out: &mut [u8],
-    at: usize,
-    count: usize,
 ) -> Outcome
-    requires room { at ≤ length out.old }
-    requires few { count + length rest.now < 2 ^ 64 }
+    requires { IsWithin start input.now out.old }
     ensures { Finishes (form_reads (form_of pair.entry.from.now)) (form_writes (form_of pair.entry.to.now))
-        pair.entry.policy states.old rest.now out.old at count result states.new out.new }
+        pair.entry.policy input.now states.old start out.old result states.new out.new }
 {
     let Pair { from, to, policy } = pair;
     match from {
         Encoding::Ascii => {
             let from = &Ascii;
-            each_item_to(Pair { from, to, policy }, states, rest, out, at, count)
+            each_item_to(Pair { from, to, policy }, states, start, input, out)
         }
         Encoding::Latin1 => {
             let from = &Latin1;
-            each_item_to(Pair { from, to, policy }, states, rest, out, at, count)
+            each_item_to(Pair { from, to, policy }, states, start, input, out)
         }
         Encoding::Utf8 => {
             let from = &Utf8;
-            each_item_to(Pair { from, to, policy }, states, rest, out, at, count)
+            each_item_to(Pair { from, to, policy }, states, start, input, out)
         }
         Encoding::Utf16(order) => {
             let from = &Utf16::new(*order);
-            each_item_to(Pair { from, to, policy }, states, rest, out, at, count)
+            each_item_to(Pair { from, to, policy }, states, start, input, out)
         }
         Encoding::Utf32(order) => {
             let from = &Utf32::new(*order);
-            each_item_to(Pair { from, to, policy }, states, rest, out, at, count)
+            each_item_to(Pair { from, to, policy }, states, start, input, out)
         }
         Encoding::Utf7 => {
             let from = &Utf7;
-            each_item_to(Pair { from, to, policy }, states, rest, out, at, count)
+            each_item_to(Pair { from, to, policy }, states, start, input, out)
         }
         Encoding::Charmap(map) => {
             let from = &**map;
-            each_item_to(Pair { from, to, policy }, states, rest, out, at, count)
+            each_item_to(Pair { from, to, policy }, states, start, input, out)
         }
     }
 }

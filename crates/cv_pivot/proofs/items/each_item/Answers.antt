@@ -1,63 +1,50 @@
-use Rattle.std.proofs.Common.{arith}
+use Rattle.std.proofs.Common.{ap, arith}
 use Rattle.std.proofs.lemmas.List.{drop_all}
 use Rattle.cv_base.proofs.Front.{rest_is}
-use Rattle.cv_pivot.proofs.Progress.{some_of_one, step_smaller}
-use Rattle.cv_pivot.proofs.SeveralSteps.{no_items, items_more, items_within, items_finish}
+use Rattle.cv_pivot.specs.declared.step.Progress.{Progress}
+use Rattle.cv_pivot.proofs.Progress.{some_of_one}
+use Rattle.cv_pivot.proofs.SeveralSteps.{reached_start, reached_more, finishes}
 use Rattle.cv_pivot.proofs.items.each_item.Goals as goal
 
-pub loop-took-init : goal.loop-took-init
-loop-took-init g c = no_items _ _ c.args.pair.policy c.args.states.now c.args.rest.now c.args.out.now c.args.at c.args.count
+pub items-init : goal.items-init
+items-init g c = reached_start _ _ c.args.pair.policy c.args.input.now c.args.states.now c.args.start _ c.requires
 
-pub slice_bounds-one_step-count : goal.slice_bounds-one_step-count
-slice_bounds-one_step-count g c = (items_within _ _ c.args.pair.policy c.assert_valid.ensures.readable _ _ _ _ _ _ _ _ _ _ c.requires.room c.loop-took.invariant).0
-
-pub slice_bounds-one_step-start : goal.slice_bounds-one_step-start
-slice_bounds-one_step-start g c = (items_within _ _ c.args.pair.policy c.assert_valid.ensures.readable _ _ _ _ _ _ _ _ _ _ c.requires.room c.loop-took.invariant).0
-
-pub overflow_add-used : goal.overflow_add-used
-overflow_add-used g c =
+pub then-progress-requires : goal.then-progress-requires
+then-progress-requires g c =
     let r = c.assert_valid.ensures.readable in
-    let h = rw (rest_is c.loop-took.used c.args.rest.now) at c.in-Took.ensures in
-    let next = items_more _ _ c.args.pair.policy r _ _ _ _ _ _ _ _ _ _ c.loop-took.invariant _ _ _ h in
-    let s = items_within _ _ c.args.pair.policy r _ _ _ _ _ _ _ _ _ _ c.requires.room next in
-    omega (arith, s.0)
+    let one = rw (rest_is c.items.progress.read c.args.input.now) at c.in-Ok.ensures in
+    let h = some_of_one _ _ c.args.pair.policy r _ _ _ _ _ _ _ one in
+    let next = reached_more _ _ c.args.pair.policy r _ _ _ _ _ _ _ c.items.invariant _ _ _ h in
+    let s = next.within in
+    record { read = omega (arith, s.0); written = omega (arith, s.1); replaced = omega (arith, s.0, s.2) }
 
-pub overflow_add-lacking : goal.overflow_add-lacking
-overflow_add-lacking g c =
+pub items-smaller : goal.items-smaller
+items-smaller g c =
     let r = c.assert_valid.ensures.readable in
-    let h = rw (rest_is c.loop-took.used c.args.rest.now) at c.in-Took.ensures in
-    let next = items_more _ _ c.args.pair.policy r _ _ _ _ _ _ _ _ _ _ c.loop-took.invariant _ _ _ h in
-    let s = items_within _ _ c.args.pair.policy r _ _ _ _ _ _ _ _ _ _ c.requires.room next in
-    omega (arith, s.0, s.2, c.requires.few)
+    let one = rw (rest_is c.items.progress.read c.args.input.now) at c.in-Ok.ensures in
+    let h = some_of_one _ _ c.args.pair.policy r _ _ _ _ _ _ _ one in
+    let next = reached_more _ _ c.args.pair.policy r _ _ _ _ _ _ _ c.items.invariant _ _ _ h in
+    omega (arith, ap (λ (x : Progress). x.read) c.then-progress.ensures, h.some, next.within.0)
 
-pub loop-took-smaller : goal.loop-took-smaller
-loop-took-smaller g c =
+pub items-preserved : goal.items-preserved
+items-preserved g c =
     let r = c.assert_valid.ensures.readable in
-    let within = (items_within _ _ c.args.pair.policy r _ _ _ _ _ _ _ _ _ _ c.requires.room c.loop-took.invariant).0 in
-    let h = some_of_one _ _ c.args.pair.policy r _ _ _ _ _ _ _ (rw (rest_is c.loop-took.used c.args.rest.now) at c.in-Took.ensures) in
-    let s = step_smaller _ _ c.args.pair.policy r c.args.rest.now _ _ _ _ _ _ _ within h in
-    omega (arith, s.0, s.1)
+    let one = rw (rest_is c.items.progress.read c.args.input.now) at c.in-Ok.ensures in
+    let h = some_of_one _ _ c.args.pair.policy r _ _ _ _ _ _ _ one in
+    rw c.then-progress.ensures (reached_more _ _ c.args.pair.policy r _ _ _ _ _ _ _ c.items.invariant _ _ _ h)
 
-pub loop-took-preserved : goal.loop-took-preserved
-loop-took-preserved g c =
+pub returns-then-progress-input : goal.returns-then-progress-input
+returns-then-progress-input g c =
     let r = c.assert_valid.ensures.readable in
-    let h = rw (rest_is c.loop-took.used c.args.rest.now) at c.in-Took.ensures in
-    items_more _ _ c.args.pair.policy r _ _ _ _ _ _ _ _ _ _ c.loop-took.invariant _ _ _ h
+    let one = rw (rest_is c.items.progress.read c.args.input.now) at c.in-Ok.ensures in
+    let h = some_of_one _ _ c.args.pair.policy r _ _ _ _ _ _ _ one in
+    let next = reached_more _ _ c.args.pair.policy r _ _ _ _ _ _ _ c.items.invariant _ _ _ h in
+    let all = rw (← c.then-progress.ensures) at next.advances in
+    let done = drop_all _ c.args.input.now (omega (arith, c.if-progress-input.true)) in
+    rw c.outcome.ensures (finishes _ _ c.args.pair.policy _ _ _ _ _ _ _ all _ done)
 
-pub returns-then-used-rest : goal.returns-then-used-rest
-returns-then-used-rest g c =
-    let r = c.assert_valid.ensures.readable in
-    let h = rw (rest_is c.loop-took.used c.args.rest.now) at c.in-Took.ensures in
-    let next = items_more _ _ c.args.pair.policy r _ _ _ _ _ _ _ _ _ _ c.loop-took.invariant _ _ _ h in
-    let s = items_within _ _ c.args.pair.policy r _ _ _ _ _ _ _ _ _ _ c.requires.room next in
-    items_finish _ _ c.args.pair.policy _ _ _ _ _ _ _ _ _ _ next _ (drop_all _ c.args.rest.now (omega arith)) _ _ (omega arith) (omega (arith, s.1))
-
-pub overflow_sub-result-in-Stopped : goal.overflow_sub-result-in-Stopped
-overflow_sub-result-in-Stopped g c = (items_within _ _ c.args.pair.policy c.assert_valid.ensures.readable _ _ _ _ _ _ _ _ _ _ c.requires.room c.loop-took.invariant).0
-
-pub returns-in-Stopped : goal.returns-in-Stopped
-returns-in-Stopped g c =
-    let r = c.assert_valid.ensures.readable in
-    let h = rw (rest_is c.loop-took.used c.args.rest.now) at c.in-Stopped.ensures in
-    let s = items_within _ _ c.args.pair.policy r _ _ _ _ _ _ _ _ _ _ c.requires.room c.loop-took.invariant in
-    rw (h.1, h.2) (items_finish _ _ c.args.pair.policy _ _ _ _ _ _ _ _ _ _ c.loop-took.invariant _ h.0 _ _ (omega (arith, s.0)) (omega (arith, s.1)))
+pub returns-in-Err : goal.returns-in-Err
+returns-in-Err g c =
+    let h = rw (rest_is c.items.progress.read c.args.input.now) at c.in-Err.ensures in
+    let all = c.items.invariant.advances in
+    rw (c.outcome-in-Err.ensures, h.1, h.2) (finishes _ _ c.args.pair.policy _ _ _ _ _ _ _ all _ h.0)

@@ -19,7 +19,8 @@ pub(crate) fn may_copy(from: &Encoding, to: &Encoding) -> bool
         (Encoding::Utf8, Encoding::Utf8) => true,
         (Encoding::Utf16(order), Encoding::Utf16(other)) => order == other,
         (Encoding::Utf32(order), Encoding::Utf32(other)) => order == other,
-        _ => false,
+        (Encoding::Latin1 | Encoding::Utf8 | Encoding::Utf16(_) | Encoding::Utf32(_), _) => false,
+        (Encoding::Ascii | Encoding::Utf7 | Encoding::Charmap(_), _) => false,
     }
 }
 
@@ -34,8 +35,8 @@ fn copy_front(rest: &[u8], n: usize, out: &mut [u8], at: usize)
 }
 
 /// Copies the items at the start of a text that are written unchanged, as far as there is room, if there are any. Every
-/// policy allows it.
-#[inline(always)]
+/// policy allows it. Kept out of line, so that the step that calls it stays small.
+#[inline(never)]
 pub(crate) fn copy_unchanged<C: BlockCodec>(
     codec: &C,
     states: States,

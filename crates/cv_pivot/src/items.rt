@@ -113,36 +113,7 @@ fn each_item_to<F: Codec>(
         input.now states.old start out.old result states.new out.new }
 {
     let Pair { from, to, policy } = pair;
-    match to {
-        Encoding::Ascii => {
-            let to = &Ascii;
-            each_item(Pair { from, to, policy }, states, start, input, out)
-        }
-        Encoding::Latin1 => {
-            let to = &Latin1;
-            each_item(Pair { from, to, policy }, states, start, input, out)
-        }
-        Encoding::Utf8 => {
-            let to = &Utf8;
-            each_item(Pair { from, to, policy }, states, start, input, out)
-        }
-        Encoding::Utf16(order) => {
-            let to = &Utf16::new(*order);
-            each_item(Pair { from, to, policy }, states, start, input, out)
-        }
-        Encoding::Utf32(order) => {
-            let to = &Utf32::new(*order);
-            each_item(Pair { from, to, policy }, states, start, input, out)
-        }
-        Encoding::Utf7 => {
-            let to = &Utf7;
-            each_item(Pair { from, to, policy }, states, start, input, out)
-        }
-        Encoding::Charmap(map) => {
-            let to = &**map;
-            each_item(Pair { from, to, policy }, states, start, input, out)
-        }
-    }
+    dispatch!(to, to => each_item(Pair { from, to, policy }, states, start, input, out))
 }
 
 /// Converts what is left of a text, if it is short. Kept out of line, so that the loop that calls it stays small.
@@ -159,34 +130,5 @@ pub(crate) fn few_items(
         pair.entry.policy input.now states.old start out.old result states.new out.new }
 {
     let Pair { from, to, policy } = pair;
-    match from {
-        Encoding::Ascii => {
-            let from = &Ascii;
-            each_item_to(Pair { from, to, policy }, states, start, input, out)
-        }
-        Encoding::Latin1 => {
-            let from = &Latin1;
-            each_item_to(Pair { from, to, policy }, states, start, input, out)
-        }
-        Encoding::Utf8 => {
-            let from = &Utf8;
-            each_item_to(Pair { from, to, policy }, states, start, input, out)
-        }
-        Encoding::Utf16(order) => {
-            let from = &Utf16::new(*order);
-            each_item_to(Pair { from, to, policy }, states, start, input, out)
-        }
-        Encoding::Utf32(order) => {
-            let from = &Utf32::new(*order);
-            each_item_to(Pair { from, to, policy }, states, start, input, out)
-        }
-        Encoding::Utf7 => {
-            let from = &Utf7;
-            each_item_to(Pair { from, to, policy }, states, start, input, out)
-        }
-        Encoding::Charmap(map) => {
-            let from = &**map;
-            each_item_to(Pair { from, to, policy }, states, start, input, out)
-        }
-    }
+    dispatch!(from, from => each_item_to(Pair { from, to, policy }, states, start, input, out))
 }

@@ -1,5 +1,5 @@
 -- What the loops read and write that convert without a buffer of characters.
-use Rattle.std.specs.Prelude.{◌≡◌, ℕ, [], ◌∷◌}
+use Rattle.std.specs.Prelude.{◌≡◌, [], ◌∷◌}
 use Rattle.cv_base.specs.declared.state.ReadState.{ReadState}
 use Rattle.cv_base.specs.declared.state.ReadState.TheVariants as reading
 use Rattle.cv_base.specs.declared.state.WriteState.{WriteState}

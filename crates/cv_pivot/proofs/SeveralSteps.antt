@@ -1,5 +1,5 @@
 -- Several steps one after the other.
-use Rattle.std.proofs.Common.{◌≡◌, ℕ, ◌+◌, ◌≤◌, List, [], ◌∷◌, ◌++◌, length, take, drop, refl, sym, ◌∙◌, ap, subst, arith}
+use Rattle.std.proofs.Common.{◌≡◌, ℕ, ◌+◌, ◌-◌, ◌≤◌, List, [], ◌∷◌, ◌++◌, length, take, drop, refl, sym, ◌∙◌, ap, subst, arith}
 use Rattle.std.proofs.Common.{length-append, length-drop, length-take, append_assoc, append-nil, add-zero, add_assoc, zero-add}
 use Rattle.std.proofs.Common.{take-append-drop, Ok, Err, Result}
 use Rattle.std.proofs.lemmas.List.{drop-drop}
@@ -18,7 +18,7 @@ use Rattle.cv_pivot.specs.Conversions.{Converts}
 use Rattle.cv_pivot.specs.Private.Steps.{nothing, plus, IsWithin, outcome_of, Takes, TakesSome, TakesOrStops}
 use Rattle.cv_pivot.specs.Private.Steps.{StridesOrStops, StepStops, Advances, Finishes}
 use Rattle.cv_base.proofs.AllWritten.{none_allowed}
-use Rattle.cv_base.proofs.Front.{stands_within}
+use Rattle.cv_base.proofs.Front.{rest_is, stands_within}
 use Rattle.cv_base.proofs.WrittenEach.{out_more}
 use Rattle.cv_base.proofs.ChainLaws.{used_bytes-append, read_state-append, output_of-append, IsChain-append}
 use Rattle.cv_pivot.proofs.Allowed.{followed_allowed}
@@ -28,9 +28,6 @@ no_chain : (reads : ItemRelation) → IsReadable reads → (s : ReadState) (text
     → IsChain reads s text chain → used_bytes chain ≡ 0 → chain ≡ []
 no_chain reads r s text [] p e = refl
 no_chain reads r s text (i ∷ chain) p e = absurd (omega (arith, e, stands_within reads r s text i p.0))
-
-plus-assoc : (a b c : Progress) → plus (plus a b) c ≡ plus a (plus b c)
-plus-assoc a b c = simp add_assoc
 
 module _ (reads : ItemRelation) (writes : Writing) (policy : Policy) where
   -- at first no item is taken
@@ -104,16 +101,9 @@ module _ (reads : ItemRelation) (writes : Writing) (policy : Policy) where
         rw (drop-drop p.step.read start.read text) there in
         record {
           step = plus p.step step;
-          ends = ap (λ (x : Progress). plus x step) p.ends ∙ plus-assoc start p.step step;
+          ends = ap (λ (x : Progress). plus x step) p.ends ∙ simp add_assoc;
           takes = takes_more from rest before start.written p.step now out p.takes step to after behind;
         }
-
-    -- if the next item stops the conversion, it finishes
-    pub finishes : (now : States) (progress : Progress) (out : List ℕ)
-        → Advances reads writes policy text from start before now progress out
-        → (stop : Stop) → StepStops reads writes policy now (drop progress.read text) out progress.written stop
-        → Finishes reads writes policy text from start before (outcome_of progress stop (length text) (length out)) now out
-    finishes now progress out p stop q = record { end = progress; advances = p; stops = q; outcome_is = refl }
 
     -- A conversion has advanced to this progress, which is within the text and the buffer.
     pub record Reached (now : States) (progress : Progress) (out : List ℕ) : Type 0 where
@@ -144,15 +134,16 @@ module _ (reads : ItemRelation) (writes : Writing) (policy : Policy) where
     pub reached_more : (text : List ℕ) (from : States) (start : Progress) (before : List ℕ)
         (now : States) (progress : Progress) (out : List ℕ) → Reached text from start before now progress out
         → (step : Progress) (to : States) (after : List ℕ)
-        → TakesSome reads writes policy now (drop progress.read text) out progress.written step to after
+        → TakesSome reads writes policy now (take (length text - progress.read) (drop progress.read text)) out
+        progress.written step to after
         → Reached text from start before to (plus progress step) after
-    reached_more text from start before now progress out p step to after q =
-        let rest = drop progress.read text in
-        let s = takes_within reads writes policy r now rest out progress.written step to after q.takes in
-        let read : progress.read + step.read ≤ length text =
-        omega (arith, s.0, length-drop progress.read text, p.within.0) in
+    reached_more text from start before now progress out p step to after h =
+        let q = rw (rest_is progress.read text) at h.takes in
+        let s = takes_within reads writes policy r now (drop progress.read text) out progress.written step to after q in
+        let left = length-drop progress.read text in
+        let read : progress.read + step.read ≤ length text = omega (arith, s.0, left, p.within.0) in
         record {
-          advances = advances_more text from start before now progress out p.advances step to after q.takes;
+          advances = advances_more text from start before now progress out p.advances step to after q;
           within = (read, omega (arith, s.1, s.3), omega (arith, s.2, p.within.2));
         }
 

@@ -119,16 +119,16 @@ fn each_item_to<F: Codec>(
 /// Converts what is left of a text, if it is short. Kept out of line, so that the loop that calls it stays small.
 #[inline(never)]
 pub(crate) fn few_items(
-    pair: Pair<'_, Encoding, Encoding>,
+    pair: &Pair<'_, Encoding, Encoding>,
     states: &mut States,
-    start: Progress,
+    start: &Progress,
     input: &[u8],
     out: &mut [u8],
 ) -> Outcome
-    requires { IsWithin start input.now out.old }
-    ensures { Finishes (form_reads (form_of pair.entry.from.now)) (form_writes (form_of pair.entry.to.now))
-        pair.entry.policy input.now states.old start out.old result states.new out.new }
+    requires { IsWithin start.now input.now out.old }
+    ensures { Finishes (form_reads (form_of pair.now.from.now)) (form_writes (form_of pair.now.to.now))
+        pair.now.policy input.now states.old start.now out.old result states.new out.new }
 {
-    let Pair { from, to, policy } = pair;
-    dispatch!(from, from => each_item_to(Pair { from, to, policy }, states, start, input, out))
+    let Pair { from, to, policy } = *pair;
+    dispatch!(from, from => each_item_to(Pair { from, to, policy }, states, *start, input, out))
 }

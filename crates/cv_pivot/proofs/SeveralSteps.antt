@@ -51,8 +51,7 @@ module _ (reads : ItemRelation) (writes : Writing) (policy : Policy) where
       → Takes reads writes policy from rest before at taken now out → (step : Progress) (to : States) (after : List ℕ)
       → Takes reads writes policy now (drop taken.read rest) out (at + taken.written) step to after
       → Takes reads writes policy from rest before at (plus taken step) to after
-  takes_more from rest before at taken now out p step to after q =
-      let o = output_of writes from.writing p.chain in
+  takes_more from rest before at taken now out p step to after q = let o = output_of writes from.writing p.chain in
       let v = output_of writes o.next q.chain in
       let new = p.chain ++ q.chain in
       let more : IsChain reads (read_state from.reading p.chain) (drop (used_bytes p.chain) rest) q.chain =
@@ -93,8 +92,7 @@ module _ (reads : ItemRelation) (writes : Writing) (policy : Policy) where
         → (step : Progress) (to : States) (after : List ℕ)
         → Takes reads writes policy now (drop progress.read text) out progress.written step to after
         → Advances reads writes policy text from start before to (plus progress step) after
-    advances_more now progress out p step to after q =
-        let rest = drop start.read text in
+    advances_more now progress out p step to after q = let rest = drop start.read text in
         let there = subst (λ (x : Progress). Takes reads writes policy now (drop x.read text) out x.written step to after)
         p.ends q in
         let behind : Takes reads writes policy now (drop p.step.read rest) out (start.written + p.step.written) step to after =
@@ -112,8 +110,7 @@ module _ (reads : ItemRelation) (writes : Writing) (policy : Policy) where
 
     -- at first it has reached its start
     pub reached_start : IsWithin start text before → Reached from start before
-    reached_start h =
-        let none = takes_none from (drop start.read text) before start.written h.1 in
+    reached_start h = let none = takes_none from (drop start.read text) before start.written h.1 in
         record { advances = record { step = nothing; ends = simp add-zero; takes = none }; within = h }
 
   module _ (r : IsReadable reads) where
@@ -152,8 +149,7 @@ module _ (reads : ItemRelation) (writes : Writing) (policy : Policy) where
         → Advances reads writes policy text from nothing before now progress out
         → (stop : Stop) → StepStops reads writes policy now (drop progress.read text) out progress.written stop
         → Converts reads writes policy from text before (outcome_of progress stop (length text) (length out)) now out
-    stopped text from before now progress out p stop q =
-        let e : progress ≡ p.step = p.ends ∙ simp zero-add in
+    stopped text from before now progress out p stop q = let e : progress ≡ p.step = p.ends ∙ simp zero-add in
         let whole : Takes reads writes policy from text before 0 progress now out =
         subst (λ (x : Progress). Takes reads writes policy from text before 0 x now out) (sym e) p.takes in
         takes_stopped reads writes policy r from text before progress now out whole stop q
@@ -164,8 +160,7 @@ module _ (reads : ItemRelation) (writes : Writing) (policy : Policy) where
         → (outcome : Outcome) (to : States) (after : List ℕ)
         → Finishes reads writes policy text now progress out outcome to after
         → Converts reads writes policy from text before outcome to after
-    finished text from before now progress out p outcome to after q =
-        let last = q.advances in
+    finished text from before now progress out p outcome to after q = let last = q.advances in
         let whole = advances_more text from nothing before now progress out p last.step to after last.takes in
         let to_end : Advances reads writes policy text from nothing before to q.end after =
         subst (λ (x : Progress). Advances reads writes policy text from nothing before to x after) (sym last.ends) whole in

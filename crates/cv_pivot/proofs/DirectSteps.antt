@@ -19,7 +19,7 @@ use Rattle.cv_utf8.specs.Utf8.{utf8_bytes}
 use Rattle.cv_utf8.proofs.Utf8Spelled.{utf8_reads_spelled}
 use Rattle.cv_pivot.specs.declared.outcome.States.{States}
 use Rattle.cv_pivot.specs.Encodings.{Form, form_reads, form_writes}
-use Rattle.cv_pivot.specs.Private.FastPaths.{IsReadAs, IsWrittenAs, read_bytes, written_bytes}
+use Rattle.cv_pivot.specs.Private.Steps.FastPaths.{IsReadAs, IsWrittenAs, read_bytes, written_bytes}
 use Rattle.cv_pivot.specs.Private.Steps.{TakesSome}
 use Rattle.cv_pivot.specs.declared.fast_path.ReadForm.{ReadForm}
 use Rattle.cv_pivot.specs.declared.fast_path.ReadForm.TheVariants as read_form

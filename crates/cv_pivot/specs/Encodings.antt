@@ -8,7 +8,8 @@ use Rattle.cv_base.specs.SingleBytes.{byte_reads, byte_writes}
 use Rattle.cv_base.specs.declared.state.WriteState.{WriteState}
 use Rattle.cv_wide.specs.Orders.{reads_in, writes_in}
 use Rattle.cv_utf8.specs.Utf8.{utf8_reads, utf8_writes}
-use Rattle.cv_wide.specs.{Utf16.utf16, Utf32.utf32}
+use Rattle.cv_wide.specs.Utf16.{utf16}
+use Rattle.cv_wide.specs.Utf32.{utf32}
 use Rattle.cv_utf7.specs.Utf7.{utf7_reads, utf7_writes, utf7_closes}
 use Rattle.cv_wide.specs.declared.order.Order.{Order}
 use Rattle.cv_wide.specs.declared.order.Order.TheVariants.{Be, Le, Marked}

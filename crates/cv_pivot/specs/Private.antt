@@ -1,3 +1,2 @@
 -- Definitions that only contracts of private functions cite.
-pub mod FastPaths
 pub mod Steps

@@ -2,7 +2,7 @@
 ghost use Rattle.std.specs.Prelude.{◌≡◌, ◌≤◌, ◌<◌, length, IfSome, MatchOption};
 ghost use Rattle.cv_direct.specs.Direct.{IsConverted};
 ghost use Rattle.cv_pivot.specs.Encodings.{form_of};
-ghost use Rattle.cv_pivot.specs.Private.FastPaths.{IsReadAs, IsWrittenAs, read_bytes, written_bytes};
+ghost use Rattle.cv_pivot.specs.Private.Steps.FastPaths.{IsReadAs, IsWrittenAs, read_bytes, written_bytes};
 ghost use Rattle.cv_wide.specs.Private.Kept.{KeepsReading, KeepsWriting};
 ghost use Rattle.cv_wide.specs.Utf32.{utf32};
 

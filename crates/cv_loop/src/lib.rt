@@ -12,6 +12,7 @@ mod held;
 pub mod laws;
 mod pushing;
 mod serving;
+mod session;
 mod spelling;
 mod std_ends;
 mod whole_bytes;

@@ -1,39 +1,18 @@
 //! Answers one batch.
 
-ghost use Rattle.std.specs.Prelude.{◌≡◌, ℕ, List, [], false, IfErr, OnErr, OnOk};
-ghost use Rattle.cv_frame.specs.Message.{Message};
+ghost use Rattle.std.specs.Prelude.{◌≡◌, false, IfErr, OnOk};
 ghost use Rattle.cv_loop.specs.Private.Draining.{Answered, Broken};
-ghost use Rattle.cv_loop.specs.Replying.{AppendsReplies};
 
 use crate::ends::Sink;
 use crate::engine::Engine;
 use crate::fault::ServeFault;
 use crate::pushing::push_all;
 use crate::session::Session;
-use cv_base::Memory;
 use cv_frame::Request;
-use cv_world::Replies;
 use std::alloc::Global;
 
-/// Answers requests. Their replies replace those that were in `replies`.
-fn reply_anew<R, E: Engine<R>>(
-    engine: &mut E,
-    rt: &R,
-    alloc: Global,
-    requests: &[Request],
-    replies: &mut Replies,
-) -> Result<(), Memory>
-    requires { E.ready engine.old }
-    ensures ready { E.ready engine.new }
-    ensures ok { OnOk result (AppendsReplies E.turn (E.tables engine.old) requests.now [] [] replies.new [] (E.tables engine.new)) }
-    ensures err { OnErr result ((later : List Message) × (missing : List ℕ)
-        × AppendsReplies E.turn (E.tables engine.old) requests.now later [] replies.new missing (E.tables engine.new)) }
-{
-    replies.clear();
-    engine.batch_into(rt, alloc, requests, replies)
-}
-
-/// Answers requests, writes the replies, and counts the bytes that were written.
+/// Answers requests, writes the replies, and counts the bytes that were written. The replies replace those that were in
+/// the session.
 pub fn answer<R, E: Engine<R>, W: Sink>(
     engine: &mut E,
     rt: &R,
@@ -56,7 +35,8 @@ pub fn answer<R, E: Engine<R>, W: Sink>(
     if requests.is_empty() {
         return Ok(());
     }
-    reply_anew(engine, rt, alloc, requests, &mut session.replies)?;
+    session.replies.clear();
+    engine.batch_into(rt, alloc, requests, &mut session.replies)?;
     let bytes = session.replies.as_slice();
     match push_all(writer, bytes) {
         Ok(()) => {

@@ -7,7 +7,7 @@ use crate::draining::drain;
 use crate::ends::{Sink, Source};
 use crate::engine::Engine;
 use crate::fault::ServeFault;
-use crate::held::Held;
+use crate::read_buffer::ReadBuffer;
 use crate::session::Session;
 use cv_world::Replies;
 use std::alloc::Global;
@@ -37,23 +37,23 @@ fn serve_stream<R, E: Engine<R>, S: Source, W: Sink>(
         (S.left reader.new) (S.pulls reader.new) max_reads }
     ensures ready { E.ready engine.new }
 {
-    let mut held = Held::new(alloc);
+    let mut buffer = ReadBuffer::new(alloc);
     let mut session = Session {
         replies: Replies::new(alloc),
         requests: 0,
         written: 0,
     };
     for _read in 0..max_reads {
-        if !held.read_more(reader, &mut session.replies)? {
-            if held.as_slice().is_empty() {
+        if !buffer.read_more(reader, &mut session.replies)? {
+            if buffer.as_slice().is_empty() {
                 let requests = session.requests;
                 return Ok(Served { requests });
             }
             return Err(ServeFault::TruncatedFrame);
         }
-        let bytes = held.as_slice();
+        let bytes = buffer.as_slice();
         let used = drain(engine, rt, alloc, writer, bytes, &mut session)?;
-        held.forget(used);
+        buffer.forget(used);
     }
     Err(ServeFault::TooManyReads)
 }

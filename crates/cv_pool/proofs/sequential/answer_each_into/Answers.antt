@@ -3,7 +3,7 @@ use Rattle.std.proofs.lemmas.List.{take_more}
 use Rattle.cv_frame.specs.Message.{Message}
 use Rattle.cv_world.specs.Requests.{turn}
 use Rattle.cv_loop.proofs.Replying.{appends_none, appends_push, no_more_ran}
-use Rattle.cv_pool.proofs.here.answer_each_into.Goals as goal
+use Rattle.cv_pool.proofs.sequential.answer_each_into.Goals as goal
 
 pub loop-request-init : goal.loop-request-init
 loop-request-init g c = appends_none turn _ _

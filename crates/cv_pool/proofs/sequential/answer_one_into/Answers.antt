@@ -7,7 +7,7 @@ use Rattle.cv_world.specs.Worlds.{world_tables}
 use Rattle.cv_pool.specs.Pools.{pool_tables}
 use Rattle.cv_pool.specs.declared.shard.Shard.{Shard}
 use Rattle.cv_pool.proofs.Shards.{shard_step, shard_stays}
-use Rattle.cv_pool.proofs.here.answer_one_into.Goals as goal
+use Rattle.cv_pool.proofs.sequential.answer_one_into.Goals as goal
 
 module _ {T E : Type 0} where
   -- the shard's step is the pool's

@@ -1,7 +1,7 @@
 use Rattle.std.proofs.Common.{ℕ, List, ◌++◌, take, ap, ◌∙◌, arith}
 use Rattle.std.specs.Prelude.{slice_range}
 use Rattle.cv_loop.proofs.Ranges.{range_lent, none_taken, some_taken, is_none}
-use Rattle.cv_loop.proofs.held.Held.read_more.Goals as goal
+use Rattle.cv_loop.proofs.read_buffer.ReadBuffer.read_more.Goals as goal
 
 pub returns-clause-bytes : goal.returns-clause-bytes
 returns-clause-bytes g c =

@@ -4,7 +4,7 @@ ghost use Rattle.std.specs.Prelude.{◌≡◌, ◌≤◌, ◌<◌, ◌+◌, ◌-
 ghost use Rattle.std.specs.Io.KnownBytes.{Consumes, IsAtEnd};
 ghost use Rattle.cv_loop.specs.Private.Buffers.{MakesRoom};
 ghost use Rattle.cv_loop.specs.Private.Draining.{ReadsMore};
-ghost use Rattle.cv_loop.specs.declared.held.TheConstants.{MOST_READ};
+ghost use Rattle.cv_loop.specs.declared.read_buffer.TheConstants.{MOST_READ};
 
 use crate::ends::Source;
 use crate::fault::ServeFault;
@@ -24,7 +24,7 @@ const FIRST_READ: usize = 4_096;
 /// buffer grows, it at least doubles. The bytes move to the start of the buffer only if at least as many before them
 /// have been answered. So the cost of reading is linear in the bytes and the reads, however the stream is cut.
 #[derive(Drop)]
-pub struct Held {
+pub struct ReadBuffer {
     buffer: Vec<u8>,
     start: usize,
     end: usize,
@@ -32,9 +32,9 @@ pub struct Held {
     room: usize,
 }
 
-impl Model for Held {
+impl Model for ReadBuffer {
     ghost use Rattle.std.specs.Prelude.{◌≤◌, ◌<◌, ℕ, List, vec_len, slice_range};
-    ghost use Rattle.cv_loop.specs.declared.held.TheConstants.{MOST_READ};
+    ghost use Rattle.cv_loop.specs.declared.read_buffer.TheConstants.{MOST_READ};
 
     ghost Value = { List ℕ };
 
@@ -44,13 +44,13 @@ impl Model for Held {
 }
 
 /// Moves `count` bytes from `start` on to the start of the buffer. The two ranges do not overlap, so it is one memcpy.
-fn move_to_front(buffer: &mut [u8], start: usize, count: usize)
+fn move_to_start(buffer: &mut [u8], start: usize, count: usize)
     requires apart { count ≤ start }
     requires within { start + count ≤ length buffer.old }
     ensures same { slice_range buffer.new 0 count ≡ slice_range buffer.old start (start + count) }
 {
-    let (front, back) = buffer.split_at_mut(start);
-    front[..count].copy_from_slice(&back[..count]);
+    let (before, after) = buffer.split_at_mut(start);
+    before[..count].copy_from_slice(&after[..count]);
 }
 
 /// Makes room for a read of `room` bytes after those that are held. If none are held and the buffer is large enough,
@@ -76,7 +76,7 @@ fn make_room(
         return Ok(());
     }
     if held <= *start && room <= buffer.len() - held {
-        move_to_front(buffer, *start, held);
+        move_to_start(buffer, *start, held);
         *start = 0;
         *end = held;
         return Ok(());
@@ -144,12 +144,12 @@ fn read_once<S: Source>(reader: &mut S, buf: &mut [u8]) -> Result<usize, ServeFa
     }
 }
 
-impl Held {
+impl ReadBuffer {
     /// Makes an empty buffer, and allocates nothing.
-    pub fn new(alloc: Global) -> Held
+    pub fn new(alloc: Global) -> ReadBuffer
         ensures { result ≡ [] }
     {
-        Held {
+        ReadBuffer {
             buffer: Vec::new(alloc),
             start: 0,
             end: 0,

@@ -1,6 +1,6 @@
 use Rattle.std.proofs.Common.{drop, length, ap, ◌∙◌, arith}
 use Rattle.cv_loop.proofs.Ranges.{range_forget}
-use Rattle.cv_loop.proofs.held.Held.forget.Goals as goal
+use Rattle.cv_loop.proofs.read_buffer.ReadBuffer.forget.Goals as goal
 
 pub returns : goal.returns
 returns c =

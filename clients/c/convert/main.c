@@ -16,9 +16,13 @@ static void log_line(void *context, const char *line) {
     *(int *)context |= strncmp(line, "charmap ", 8) == 0;
 }
 
-/* Why a conversion could not be opened. */
-static int complain_of_names(const struct settings *settings, iconvd_status status, int no_charmap) {
-    const char *why = status == ICONVD_UNSUPPORTED && no_charmap ? "there is no charmap" : iconvd_status_text(status);
+/* Why a conversion could not be opened. Both names may be known: nothing is left out of UTF-7, and it is not read for encodings with shifts. */
+static int complain_of_names(iconvd_pool *pool, const struct settings *settings, iconvd_status status, int no_charmap) {
+    const char *why = iconvd_status_text(status);
+    if (status == ICONVD_UNSUPPORTED && no_charmap)
+        why = "there is no charmap";
+    else if (status == ICONVD_UNSUPPORTED && iconvd_supports(pool, settings->from) && iconvd_supports(pool, settings->to))
+        why = "both encodings are known, but not this conversion with these options";
     return complain(exit_for(status), "from %s to %s: %s", settings->from, settings->to, why);
 }
 
@@ -43,7 +47,7 @@ static int run(const struct settings *settings, struct job *job) {
     if (status != ICONVD_OK)
         return complain(exit_for(status), "%s: %s", service, iconvd_status_text(status));
     status = iconvd_open(pool, settings->to, settings->from, settings->policy, &job->cd);
-    int result = status == ICONVD_OK ? convert(settings, job) : complain_of_names(settings, status, no_charmap);
+    int result = status == ICONVD_OK ? convert(settings, job) : complain_of_names(pool, settings, status, no_charmap);
     if (settings->stats)
         fprintf(stderr, "%llu bytes read, %llu bytes written, %llu characters replaced, %llu left out\n", job->read, job->written,
                 job->replaced, job->skipped);

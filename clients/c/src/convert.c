@@ -23,16 +23,11 @@ static size_t most_output(const struct pair *pair, size_t length) {
     return (length / encoding_least_bytes(pair->from) + 1) * most;
 }
 
-/* How long the pieces are into which a long input is cut. */
-static size_t piece_length(const struct pair *pair, size_t in_left) {
-    bool by_charmap = pair->from->kind == BUILTIN_COUNT || pair->to->kind == BUILTIN_COUNT;
-    return by_charmap || in_left > 2 * ONE_READ ? ONE_READ : in_left / PARTS + 1;
-}
-
 /* Cuts a long input into pieces that go under way together. 0: it cannot be cut, or the room may not be enough for two. */
 static size_t cut_into_batch(const struct iconvd_cd *cd, const struct progress *progress, struct batch *batch) {
     size_t in_left = progress->in_left, out_left = progress->out_left;
-    size_t piece = piece_length(&cd->pair, in_left);
+    bool by_charmap = cd->pair.from->kind == BUILTIN_COUNT || cd->pair.to->kind == BUILTIN_COUNT;
+    size_t piece = by_charmap || in_left > 2 * ONE_READ ? ONE_READ : in_left / PARTS + 1;
     size_t most = cd->ahead / piece < BATCH_PIECES ? cd->ahead / piece : BATCH_PIECES;
     const char *in = progress->in;
     batch->number = 0;

@@ -4,7 +4,7 @@ ghost use Rattle.cv_charmap.specs.Maps.{IsMap};
 ghost use Rattle.cv_trie.specs.Charmaps.{map_reads, map_writes, map_closes};
 
 use crate::ascii::{does_read_ascii, does_write_ascii};
-use crate::blocks::read_front;
+use crate::decoder::Decoder;
 use crate::firsts::firsts_of;
 use crate::items::next_item;
 use crate::longest::longest;
@@ -116,6 +116,20 @@ impl Charmap {
         })
     }
 
+    /// Returns what reads its bytes.
+    #[inline(always)]
+    fn decoder(&self) -> Decoder<'_>
+        ensures { result.trie.now.entries ≡ self.now.pairs }
+    {
+        Decoder {
+            trie: &self.trie,
+            singles: self.ones.as_slice(),
+            rows: self.twos.as_slice(),
+            row_offsets: self.starts.as_slice(),
+            blocks: &self.longs,
+        }
+    }
+
     /// Returns the name of the code set.
     pub fn name(&self) -> &[u8]
         ensures { result.now ≡ self.now.name }
@@ -190,15 +204,7 @@ impl BlockCodec for Charmap {
     #[tactic(auto, using(cv_base::proofs::BlockLaws::nothing_read))]
     fn read_block(&self, state: ReadState, input: &[u8], buffer: &mut [Scalar]) -> ReadBlock {
         match state {
-            ReadState::Start => read_front(
-                &self.trie,
-                &self.ones,
-                &self.twos,
-                &self.starts,
-                &self.longs,
-                input,
-                buffer,
-            ),
+            ReadState::Start => self.decoder().read_block(input, buffer),
             _ => ReadBlock::nothing(state),
         }
     }

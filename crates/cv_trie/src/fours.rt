@@ -6,14 +6,15 @@ ghost use Rattle.cv_base.specs.declared.state.ReadState.TheVariants as read;
 ghost use Rattle.cv_charmap.specs.Entries.{Pair};
 ghost use Rattle.cv_charmap.specs.Lists.{most_pairs};
 ghost use Rattle.cv_trie.specs.Charmaps.{map_reads};
-ghost use Rattle.cv_trie.specs.Private.Ones.{AreOnes, no_character};
+ghost use Rattle.cv_trie.specs.Private.Ones.{no_character};
 ghost use Rattle.cv_trie.specs.Private.Twos.{AreTwos, most_cells};
 ghost use Rattle.cv_trie.specs.Private.Fronts.{IsReadFront};
 
+use crate::decoder::Decoder;
 use crate::front::Front;
 use crate::ones::NO_CHARACTER;
 use cv_base::Scalar;
-use cv_byte_trie::{ByteTrie, Entry};
+use cv_byte_trie::Entry;
 use cv_pages::NOWHERE;
 use std::alloc::{AllocError, Global};
 
@@ -182,50 +183,45 @@ pub(crate) fn four_at(
     entry.character().value()
 }
 
-/// Reads characters of one and of four bytes after those that were read, up to the first that is in no table. As none
-/// has more than four bytes, the end of the text is tested once for all, so the last characters may be left.
-#[inline(never)]
-pub(crate) fn read_fours(
-    trie: &ByteTrie,
-    ones: &[u32],
-    twos: &[u32],
-    cells: &[u32],
-    input: &[u8],
-    buffer: &mut [Scalar],
-    front: Front,
-) -> Front
-    requires read { IsReadFront trie.now.entries input.now front buffer.old }
-    requires long { length ones.now ≡ 256 }
-    requires ones { AreOnes trie.now.entries ones.now 256 }
-    requires twos { AreTwos trie.now.entries ones.now twos.now }
-    ensures read { IsReadFront trie.now.entries input.now result buffer.new }
-    ensures on { front.n ≤ result.n }
-{
-    let entries = trie.entries();
-    let mut n = front.n;
-    let mut used = front.used;
-    let most = n + (buffer.len() - n).min((input.len() - used) / 4);
-    while n < most {
-        let first = ones[input[used] as usize];
-        if first < NO_CHARACTER {
-            buffer[n] = Scalar::known(first);
+impl Decoder<'_> {
+    /// Reads characters of one and of four bytes after those that were read, up to the first that is in no table. As
+    /// none has more than four bytes, the end of the text is tested once for all, so the last characters may be left.
+    #[inline(never)]
+    pub(crate) fn read_fours(&self, input: &[u8], buffer: &mut [Scalar], front: Front) -> Front
+        requires read { IsReadFront self.now.trie.now.entries input.now front buffer.old }
+        requires rows { 0 < length self.now.rows.now }
+        ensures read { IsReadFront self.now.trie.now.entries input.now result buffer.new }
+        ensures on { front.n ≤ result.n }
+    {
+        let entries = self.trie.entries();
+        let singles = self.singles;
+        let rows = self.rows;
+        let cells = self.blocks.fours();
+        let mut n = front.n;
+        let mut used = front.used;
+        let most = n + (buffer.len() - n).min((input.len() - used) / 4);
+        while n < most {
+            let first = singles[input[used] as usize];
+            if first < NO_CHARACTER {
+                buffer[n] = Scalar::known(first);
+                n += 1;
+                used += 1;
+                continue;
+            }
+            let second = input[used + 1] as usize;
+            let number = rows[first as usize + second - NO_CHARACTER as usize];
+            if number <= NO_CHARACTER {
+                break;
+            }
+            let cell = cell_of(number, input[used + 2], input[used + 3]);
+            let character = four_at(entries, cells, cell, input, used);
+            if character >= NO_CHARACTER {
+                break;
+            }
+            buffer[n] = Scalar::known(character);
             n += 1;
-            used += 1;
-            continue;
+            used += 4;
         }
-        let second = input[used + 1] as usize;
-        let number = twos[first as usize + second - NO_CHARACTER as usize];
-        if number <= NO_CHARACTER {
-            break;
-        }
-        let cell = cell_of(number, input[used + 2], input[used + 3]);
-        let character = four_at(entries, cells, cell, input, used);
-        if character >= NO_CHARACTER {
-            break;
-        }
-        buffer[n] = Scalar::known(character);
-        n += 1;
-        used += 4;
+        Front { n, used }
     }
-    Front { n, used }
 }

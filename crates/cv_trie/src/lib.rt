@@ -2,8 +2,8 @@
 #![tactic(auto)]
 
 mod ascii;
-mod blocks;
 mod charmap;
+mod decoder;
 mod firsts;
 mod fours;
 mod front;

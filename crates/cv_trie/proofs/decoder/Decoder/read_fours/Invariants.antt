@@ -1,10 +1,10 @@
 use Rattle.std.proofs.Common.{◌≤◌, ◌+◌, ◌*◌, ◌-◌, length}
 use Rattle.cv_trie.specs.Private.Fronts.{IsReadFront}
-use Rattle.cv_trie.proofs.fours.read_fours.Given as goal
+use Rattle.cv_trie.proofs.decoder.Decoder.read_fours.Given as goal
 
 abbrev pub invariant-loop-n : goal.invariant-loop-n
 invariant-loop-n l = record {
-  read : IsReadFront l.trie.entries l.input (record { n = l.n; used = l.used }) l.buffer;
+  read : IsReadFront l.self.trie.now.entries l.input (record { n = l.n; used = l.used }) l.buffer;
   on : l.fn.front.n ≤ l.n;
   few : l.most ≤ length l.buffer;
   rest : l.used + 4 * (l.most - l.n) ≤ length l.input;

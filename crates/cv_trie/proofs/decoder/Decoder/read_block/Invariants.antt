@@ -1,10 +1,10 @@
 use Rattle.std.proofs.Common.{◌≡◌, ◌-◌, length}
 use Rattle.cv_trie.specs.Private.Fronts.{IsReadFront}
-use Rattle.cv_trie.proofs.blocks.read_front.Given as goal
+use Rattle.cv_trie.proofs.decoder.Decoder.read_block.Given as goal
 
 abbrev pub invariant-loop-front : goal.invariant-loop-front
 invariant-loop-front l = record {
-  read : IsReadFront l.trie.entries l.input l.front l.buffer;
+  read : IsReadFront l.self.trie.now.entries l.input l.front l.buffer;
   size : length l.buffer ≡ length l.fn.buffer;
 }
 

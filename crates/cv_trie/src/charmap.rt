@@ -5,6 +5,7 @@ ghost use Rattle.cv_trie.specs.Charmaps.{map_reads, map_writes, map_closes};
 
 use crate::ascii::{does_read_ascii, does_write_ascii};
 use crate::decoder::Decoder;
+use crate::encoder::Encoder;
 use crate::firsts::firsts_of;
 use crate::items::next_item;
 use crate::longest::longest;
@@ -12,7 +13,6 @@ use crate::longs::Longs;
 use crate::ones::ones_of;
 use crate::starts::starts_of;
 use crate::twos::twos_of;
-use crate::writing::{put_character, write_run};
 use cv_base::{
     AsciiForm, BlockCodec, Codec, Item, Memory, Piece, Policy, Put, ReadBlock, ReadState, Scalar,
     WriteState, WrittenBlock, write_each,
@@ -45,6 +45,8 @@ pub struct Charmap {
     longs: Longs,
     /// For each character the index of its first pair.
     pages: Pages,
+    /// The index of the first pair of `?`.
+    substitute: u32,
     /// How many bytes the longest pair has.
     most: usize,
     /// Whether each ASCII byte is read as its character.
@@ -61,8 +63,9 @@ impl Model for Charmap {
 
     ghost view = { λ m. record { name = m.name.items; pairs = m.trie.entries } };
 
-    ghost invariant = { λ m. IsCompiled m.trie.entries m.ones.items m.twos.items m.starts.items m.pages.tops.items m.pages.cells.items
-        m.pages.shorts.bytes.items m.pages.shorts.sizes.items m.most m.reads_ascii m.writes_ascii };
+    ghost invariant = { λ m. IsCompiled m.trie.entries m.ones.items m.twos.items m.starts.items
+        m.pages.tops.items m.pages.cells.items m.pages.shorts.bytes.items m.pages.shorts.sizes.items
+        m.substitute m.most m.reads_ascii m.writes_ascii };
 }
 
 /// Returns the rows if eight characters at once or tables of longer strings need them, or else an empty table.
@@ -99,6 +102,7 @@ impl Charmap {
         let starts = starts_of(alloc, trie.entries(), &firsts, &ones, &mut twos)?;
         let twos = needed(alloc, twos, &starts, &longs);
         let pages = Pages::of(alloc, trie.entries())?;
+        let substitute = pages.place(0x3F);
         let most = longest(trie.entries());
         let reads_ascii = does_read_ascii(&trie);
         let writes_ascii = does_write_ascii(&pages, trie.entries());
@@ -110,6 +114,7 @@ impl Charmap {
             starts,
             longs,
             pages,
+            substitute,
             most,
             reads_ascii,
             writes_ascii,
@@ -127,6 +132,18 @@ impl Charmap {
             rows: self.twos.as_slice(),
             row_offsets: self.starts.as_slice(),
             blocks: &self.longs,
+        }
+    }
+
+    /// Returns what writes its characters.
+    #[inline(always)]
+    fn encoder(&self) -> Encoder<'_>
+        ensures { result.entries.now ≡ self.now.pairs }
+    {
+        Encoder {
+            pages: &self.pages,
+            entries: self.trie.entries(),
+            substitute: self.substitute,
         }
     }
 
@@ -173,8 +190,8 @@ impl Codec for Charmap {
         next_item(&self.trie, state, input)
     }
 
-    fn put_at(&self, state: WriteState, c: Scalar, out: &mut [u8], at: usize) -> Put {
-        put_character(&self.pages, self.trie.entries(), state, c, out, at)
+    fn put_at(&self, _state: WriteState, c: Scalar, out: &mut [u8], at: usize) -> Put {
+        self.encoder().put_character(c, out, at)
     }
 
     fn close(&self, _state: WriteState) -> Piece {
@@ -218,14 +235,7 @@ impl BlockCodec for Charmap {
         at: usize,
     ) -> Option<WrittenBlock> {
         match (state, policy) {
-            (WriteState::Start, _) => write_run(
-                &self.pages,
-                self.trie.entries(),
-                policy,
-                characters,
-                out,
-                at,
-            ),
+            (WriteState::Start, _) => self.encoder().write_block(policy, characters, out, at),
             (_, Policy::Substitute) => Some(write_each(self, state, characters, out, at)),
             (_, Policy::Strict) => None,
         }

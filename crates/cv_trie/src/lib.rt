@@ -4,6 +4,7 @@
 mod ascii;
 mod charmap;
 mod decoder;
+mod encoder;
 mod firsts;
 mod fours;
 mod front;

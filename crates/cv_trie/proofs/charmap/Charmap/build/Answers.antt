@@ -58,6 +58,7 @@ invariant_of-result c =
           (subst (λ (x : List ℕ). AreStarts x rest starts) second (c.in_ok-starts.ensures.starts some));
       names = subst (λ (x : List Entry). AreFirst pages.tops.items pages.cells.items x) c.entries-5.ensures.value c.in_ok-pages.ensures.names;
       shorts = subst (λ (x : List Entry). AreShorts pages.cells.items pages.shorts.bytes.items pages.shorts.sizes.items x) c.entries-5.ensures.value c.in_ok-pages.ensures.shorts;
+      is_substitute = c.place-substitute.ensures;
       sizes = subst (λ (x : List Entry). HaveAtMost c.longest-most.result x) c.entries-6.ensures.value c.longest-most.ensures;
       reads_ascii = c.does_read_ascii-reads_ascii.ensures;
       writes_ascii = subst (λ (x : List Entry). IsTrue c.does_write_ascii-writes_ascii.result → WritesAscii (map_writes x) write.Start Byte) c.entries-7.ensures.value c.does_write_ascii-writes_ascii.ensures;

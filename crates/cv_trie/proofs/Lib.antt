@@ -3,6 +3,7 @@ pub mod MapItems
 pub mod Following
 pub mod OneByte
 pub mod TwoBytes
+pub mod RowBlocks
 pub mod DecoderFacts
 pub mod EightAtOnce
 pub mod FourBytes

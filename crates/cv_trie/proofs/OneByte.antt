@@ -48,10 +48,3 @@ ones_more pairs ones n v low p q b h l = elim (cases_lt b n) [
       let e : get_or (slice_set ones n v) b 0 ≡ v = rw same (rw get_or-set_same refl) in
       rw (e, same) (q (rw e at l)))
 ]
-
--- one more byte gets no number above that for no character
-pub plain_more : (ones : List ℕ) (n v : ℕ) → n < length ones → ((b : ℕ) → b < 256 → get_or ones b 0 ≤ no_character) → v ≤ no_character → (b : ℕ) → b < 256 → get_or (slice_set ones n v) b 0 ≤ no_character
-plain_more ones n v low p q b l = elim (cases_eq b n) [
-  | inl same ↦ rw same (rw get_or-set_same q)
-  | inr ne ↦ rw get_or-set_other (p b l)
-]

@@ -10,9 +10,9 @@ use crate::firsts::firsts_of;
 use crate::items::next_item;
 use crate::longest::longest;
 use crate::longs::Longs;
-use crate::ones::ones_of;
+use crate::rows::Rows;
+use crate::singles::Singles;
 use crate::starts::starts_of;
-use crate::twos::twos_of;
 use cv_base::{
     AsciiForm, BlockCodec, Codec, Item, Memory, Piece, Policy, Put, ReadBlock, ReadState, Scalar,
     WriteState, WrittenBlock, write_each,
@@ -95,21 +95,21 @@ impl Charmap {
         ensures { IfOk result (λ m. m ≡ pairs) }
     {
         let (name, trie) = pairs.into_parts();
-        let mut ones = ones_of(alloc, &trie)?;
         let firsts = firsts_of(trie.entries());
-        let mut twos = twos_of(alloc, trie.entries(), &firsts, &mut ones)?;
-        let longs = Longs::of(alloc, trie.entries(), &ones, &mut twos)?;
-        let starts = starts_of(alloc, trie.entries(), &firsts, &ones, &mut twos)?;
-        let twos = needed(alloc, twos, &starts, &longs);
+        let singles = Singles::of(alloc, &trie, &firsts)?;
+        let mut rows = Rows::of(alloc, &trie, &singles)?;
+        let longs = Longs::of(alloc, trie.entries(), &singles, &mut rows)?;
+        let starts = starts_of(alloc, &firsts, &singles, &mut rows)?;
+        let twos = needed(alloc, rows.cells, &starts, &longs);
         let pages = Pages::of(alloc, trie.entries())?;
         let substitute = pages.place(0x3F);
-        let most = longest(trie.entries());
+        let most = longest(&trie);
         let reads_ascii = does_read_ascii(&trie);
         let writes_ascii = does_write_ascii(&pages, trie.entries());
         Ok(Charmap {
             name,
             trie,
-            ones,
+            ones: singles.cells,
             twos,
             starts,
             longs,

@@ -1,6 +1,4 @@
 //! How many strings begin with each byte. It affects speed and memory alone.
-ghost use Rattle.std.specs.Prelude.{◌<◌};
-
 use cv_byte_trie::Entry;
 
 /// A byte gets a row if at least this many strings of two or of four bytes begin with it. A row takes a kilobyte. So a
@@ -38,9 +36,8 @@ pub(crate) fn firsts_of(entries: &[Entry]) -> Firsts {
 impl Firsts {
     /// Tells whether enough strings begin with a byte for it to have a row.
     #[inline(always)]
-    pub(crate) fn are_many(&self, byte: usize) -> bool
-        requires { byte < 256 }
-    {
+    pub(crate) fn are_many(&self, byte: u8) -> bool {
+        let byte = byte as usize;
         self.others[byte] >= DENSE || self.threes[byte] >= DENSE_THREES
     }
 

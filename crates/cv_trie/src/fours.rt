@@ -1,18 +1,18 @@
 //! Characters of four bytes.
-ghost use Rattle.std.specs.Prelude.{◌≡◌, ◌≤◌, ◌<◌, ◌+◌, ℕ, IsTrue, List, length, drop, slice_index, Some};
+ghost use Rattle.std.specs.Prelude.{◌≡◌, ◌≤◌, ◌<◌, ◌+◌, ℕ, IsTrue, length, drop, slice_index, Some};
 ghost use Rattle.cv_base.specs.Scalars.{IsScalar};
 ghost use Rattle.cv_base.specs.Items.{taken, Stands};
 ghost use Rattle.cv_base.specs.declared.state.ReadState.TheVariants as read;
-ghost use Rattle.cv_charmap.specs.Entries.{Pair};
-ghost use Rattle.cv_charmap.specs.Lists.{most_pairs};
 ghost use Rattle.cv_trie.specs.Charmaps.{map_reads};
 ghost use Rattle.cv_trie.specs.Private.Ones.{no_character};
-ghost use Rattle.cv_trie.specs.Private.Twos.{AreTwos, most_cells};
+ghost use Rattle.cv_trie.specs.Private.Twos.{AddsNoCharacter};
 ghost use Rattle.cv_trie.specs.Private.Fronts.{IsReadFront};
 
 use crate::decoder::Decoder;
 use crate::front::Front;
 use crate::ones::NO_CHARACTER;
+use crate::rows::Rows;
+use crate::singles::Singles;
 use cv_base::Scalar;
 use cv_byte_trie::Entry;
 use cv_pages::NOWHERE;
@@ -27,14 +27,12 @@ const DENSE: u32 = 512;
 
 /// Returns the index in the rows of the first two bytes of a string of four. It is 0 if the first byte has no row, or
 /// the string has another size.
-fn front_of(ones: &[u32], entry: &Entry) -> usize
-    requires { length ones.now ≡ 256 }
-{
+fn front_of(singles: &Singles, entry: &Entry) -> usize {
     let bytes = entry.bytes();
     if bytes.len() != 4 {
         return 0;
     }
-    let number = ones[bytes[0] as usize];
+    let number = singles.cells[bytes[0] as usize];
     if number <= NO_CHARACTER {
         return 0;
     }
@@ -43,18 +41,16 @@ fn front_of(ones: &[u32], entry: &Entry) -> usize
 
 /// Counts in the rows how many strings of four bytes begin with each two bytes, up to `DENSE`. The cell of two bytes
 /// that are no character has `NO_CHARACTER` plus the count.
-fn count_fronts(entries: &[Entry], ones: &[u32], twos: &mut [u32])
-    requires long { length ones.now ≡ 256 }
-    ensures size { length twos.new ≡ length twos.old }
-    ensures twos { (pairs : List Pair) → AreTwos pairs ones.now twos.old
-        → AreTwos pairs ones.now twos.new }
+#[tactic(auto, using(crate::proofs::RowBlocks::adds_none_set))]
+fn count_fronts(entries: &[Entry], singles: &Singles, rows: &mut Rows)
+    ensures { AddsNoCharacter rows.old.cells.items rows.new.cells.items }
 {
     for place in 0..entries.len() {
-        let front = front_of(ones, &entries[place]);
-        if front > 0 && front < twos.len() {
-            let count = twos[front];
+        let front = front_of(singles, &entries[place]);
+        if front > 0 && front < rows.cells.len() {
+            let count = rows.cells[front];
             if count >= NO_CHARACTER && count < NO_CHARACTER + DENSE {
-                twos[front] = count + 1;
+                rows.cells[front] = count + 1;
             }
         }
     }
@@ -62,20 +58,18 @@ fn count_fronts(entries: &[Entry], ones: &[u32], twos: &mut [u32])
 
 /// Gives a block to each two bytes with which enough strings begin: their cell in the rows says where the block begins.
 /// Other counts are cleared. Returns how many cells the blocks have together.
-fn number_blocks(_ones: &[u32], twos: &mut [u32]) -> u32
-    requires few { length twos.old ≤ most_cells }
-    ensures size { length twos.new ≡ length twos.old }
-    ensures twos { (pairs : List Pair) → AreTwos pairs _ones.now twos.old
-        → AreTwos pairs _ones.now twos.new }
+#[tactic(auto, using(crate::proofs::RowBlocks::adds_none_set))]
+fn number_blocks(rows: &mut Rows) -> u32
+    ensures { AddsNoCharacter rows.old.cells.items rows.new.cells.items }
 {
     let mut size = 0;
-    for front in 0..twos.len() {
-        let count = twos[front];
+    for front in 0..rows.cells.len() {
+        let count = rows.cells[front];
         if count == NO_CHARACTER + DENSE {
-            twos[front] = NO_CHARACTER + 1 + size;
+            rows.cells[front] = NO_CHARACTER + 1 + size;
             size += BLOCK;
         } else if count > NO_CHARACTER {
-            twos[front] = NO_CHARACTER;
+            rows.cells[front] = NO_CHARACTER;
         }
     }
     size
@@ -94,21 +88,18 @@ pub(crate) fn cell_of(number: u32, third: u8, fourth: u8) -> usize
 fn fill_blocks(
     alloc: Global,
     entries: &[Entry],
-    ones: &[u32],
-    twos: &[u32],
+    singles: &Singles,
+    rows: &Rows,
     size: u32,
-) -> Result<Vec<u32>, AllocError>
-    requires few { length entries.now ≤ most_pairs }
-    requires long { length ones.now ≡ 256 }
-{
+) -> Result<Vec<u32>, AllocError> {
     let mut cells = vec![in alloc; NOWHERE; size as usize]?;
     for place in 0..entries.len() {
         let entry = &entries[place];
-        let front = front_of(ones, entry);
-        if front > 0 && front < twos.len() && twos[front] > NO_CHARACTER {
+        let front = front_of(singles, entry);
+        if front > 0 && front < rows.cells.len() && rows.cells[front] > NO_CHARACTER {
             let bytes = entry.padded();
-            let cell = cell_of(twos[front], bytes[2], bytes[3]);
-            if cell < cells.len() {
+            let cell = cell_of(rows.cells[front], bytes[2], bytes[3]);
+            if cell < cells.len() && place < NOWHERE as usize {
                 cells[cell] = place as u32;
             }
         }
@@ -119,22 +110,18 @@ fn fill_blocks(
 /// Returns the indices of entries of four bytes, in blocks by their first two bytes, if the first byte has a row. The
 /// rows then say where each block begins. An index is a guess, since fourth bytes with the same last four bits share a
 /// cell: readers have to compare the entry's bytes.
+#[tactic(auto, using(crate::proofs::RowBlocks::adds_none_twice))]
 pub(crate) fn fours_of(
     alloc: Global,
     entries: &[Entry],
-    ones: &[u32],
-    twos: &mut [u32],
+    singles: &Singles,
+    rows: &mut Rows,
 ) -> Result<Vec<u32>, AllocError>
-    requires few { length entries.now ≤ most_pairs }
-    requires long { length ones.now ≡ 256 }
-    requires cells { length twos.old ≤ most_cells }
-    ensures size { length twos.new ≡ length twos.old }
-    ensures twos { (pairs : List Pair) → AreTwos pairs ones.now twos.old
-        → AreTwos pairs ones.now twos.new }
+    ensures { AddsNoCharacter rows.old.cells.items rows.new.cells.items }
 {
-    count_fronts(entries, ones, twos);
-    let size = number_blocks(ones, twos);
-    fill_blocks(alloc, entries, ones, twos, size)
+    count_fronts(entries, singles, rows);
+    let size = number_blocks(rows);
+    fill_blocks(alloc, entries, singles, rows, size)
 }
 
 /// Tells whether a text has the first `size` of these bytes at an index.

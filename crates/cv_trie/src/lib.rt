@@ -16,9 +16,10 @@ mod longs;
 mod mixed;
 mod ones;
 mod reading;
+mod rows;
+mod singles;
 mod starts;
 mod threes;
-mod twos;
 mod windows;
 mod writing;
 

@@ -1,14 +1,14 @@
 //! Characters of more than two bytes.
-ghost use Rattle.std.specs.Prelude.{◌≡◌, ◌≤◌, ◌<◌, ◌+◌, ◌-◌, ◌*◌, ◌^◌, min, List, length, drop, vec_capacity};
-ghost use Rattle.cv_charmap.specs.Entries.{Pair};
-ghost use Rattle.cv_charmap.specs.Lists.{most_pairs};
+ghost use Rattle.std.specs.Prelude.{◌≡◌, ◌≤◌, ◌<◌, ◌+◌, ◌-◌, ◌*◌, ◌^◌, min, length, drop, vec_capacity};
 ghost use Rattle.cv_trie.specs.Private.Ones.{no_character};
-ghost use Rattle.cv_trie.specs.Private.Twos.{AreTwos, most_cells};
+ghost use Rattle.cv_trie.specs.Private.Twos.{AddsNoCharacter};
 ghost use Rattle.cv_trie.specs.Private.Longs.{IsLong};
 
 use crate::fours::{cell_of, four_at, fours_of};
 use crate::ones::NO_CHARACTER;
 use crate::reading::follow;
+use crate::rows::Rows;
+use crate::singles::Singles;
 use crate::threes::{THREES, three_at, threes_of};
 use cv_byte_trie::{ByteTrie, Entry, NONE};
 use std::alloc::{AllocError, Global};
@@ -62,21 +62,17 @@ impl Longs {
     }
 
     /// Makes the blocks of entries. The rows then say where each block begins.
+    #[tactic(auto, using(crate::proofs::RowBlocks::adds_none_twice))]
     pub(crate) fn of(
         alloc: Global,
         entries: &[Entry],
-        ones: &[u32],
-        twos: &mut [u32],
+        singles: &Singles,
+        rows: &mut Rows,
     ) -> Result<Longs, AllocError>
-        requires few { length entries.now ≤ most_pairs }
-        requires long { length ones.now ≡ 256 }
-        requires cells { length twos.old ≤ most_cells }
-        ensures size { length twos.new ≡ length twos.old }
-        ensures twos { (pairs : List Pair) → AreTwos pairs ones.now twos.old
-            → AreTwos pairs ones.now twos.new }
+        ensures { AddsNoCharacter rows.old.cells.items rows.new.cells.items }
     {
-        let fours = fours_of(alloc, entries, ones, twos)?;
-        let threes = threes_of(alloc, entries, ones, twos)?;
+        let fours = fours_of(alloc, entries, singles, rows)?;
+        let threes = threes_of(alloc, entries, singles, rows)?;
         Ok(Longs { threes, fours })
     }
 }

@@ -1,55 +1,16 @@
 //! Bytes that are characters by themselves.
-ghost use Rattle.std.specs.Prelude.{◌≡◌, ◌≤◌, ◌<◌, ◌+◌, ℕ, length, slice_index, unwrap_or, IfOk, IfSome};
-ghost use Rattle.cv_byte_trie.specs.Entries.{AreEntries, character_at};
-ghost use Rattle.cv_byte_trie.specs.Tries.{tails};
-ghost use Rattle.cv_trie.specs.Private.Ones.{AreOnes, no_character};
+ghost use Rattle.std.specs.Prelude.{◌≡◌, ◌≤◌, ◌<◌, ◌+◌, ℕ, length, slice_index, unwrap_or, IfSome};
 ghost use Rattle.cv_trie.specs.Private.Fronts.{IsReadFront};
 
 use crate::decoder::Decoder;
 use crate::front::Front;
 use cv_base::Scalar;
-use cv_byte_trie::{ByteTrie, Entry, TAIL};
 use cv_pages::{MANY, joined};
-use std::alloc::{AllocError, Global};
 
 /// The number for no character, as is each number above it. It is a bit that no character has, so that the joined bits
 /// of several numbers tell whether one of them is none. It is the lowest such bit, so that an address can subtract it
 /// at no cost.
 pub(crate) const NO_CHARACTER: u32 = 0x0020_0000;
-
-/// Returns the character that a byte is by itself, by the code to which the byte leads from the root, or
-/// `NO_CHARACTER`.
-fn one_of(entries: &[Entry], code: u32) -> u32
-    requires entries { AreEntries entries.now }
-    requires low { code < tails → code < length entries.now }
-    ensures least { result ≤ no_character }
-    ensures leaf { result < no_character → code < tails }
-    ensures character { result < no_character → result ≡ character_at entries.now code }
-{
-    if code < TAIL {
-        entries[code as usize].character().value()
-    } else {
-        NO_CHARACTER
-    }
-}
-
-/// Returns for each byte the character that it is by itself, or `NO_CHARACTER`.
-pub(crate) fn ones_of(alloc: Global, trie: &ByteTrie) -> Result<Vec<u32>, AllocError>
-    ensures long { IfOk result (λ ones. length ones.items ≡ 256) }
-    ensures ones { IfOk result (λ ones. AreOnes trie.now.entries ones.items 256) }
-    ensures plain { IfOk result (λ ones.
-        (b : ℕ) → b < 256 → slice_index ones.items b ≤ no_character) }
-{
-    trie.assert_leads();
-    let root = trie.root();
-    let entries = trie.entries();
-    let mut ones = vec![in alloc; NO_CHARACTER; 256]?;
-    for byte in 0..256 {
-        let code = root[byte];
-        ones[byte] = one_of(entries, code);
-    }
-    Ok(ones)
-}
 
 impl Decoder<'_> {
     /// Returns the cells of eight bytes. None is tested, so that there is no branch.

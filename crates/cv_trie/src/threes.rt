@@ -1,16 +1,16 @@
 //! Characters of three bytes.
-ghost use Rattle.std.specs.Prelude.{◌≡◌, ◌≤◌, ◌<◌, ◌+◌, List, length, drop, Some};
+ghost use Rattle.std.specs.Prelude.{◌≡◌, ◌≤◌, ◌<◌, ◌+◌, length, drop, Some};
 ghost use Rattle.cv_base.specs.Scalars.{IsScalar};
 ghost use Rattle.cv_base.specs.Items.{taken, Stands};
 ghost use Rattle.cv_base.specs.declared.state.ReadState.TheVariants as read;
-ghost use Rattle.cv_charmap.specs.Entries.{Pair};
-ghost use Rattle.cv_charmap.specs.Lists.{most_pairs};
 ghost use Rattle.cv_trie.specs.Charmaps.{map_reads};
 ghost use Rattle.cv_trie.specs.Private.Ones.{no_character};
-ghost use Rattle.cv_trie.specs.Private.Twos.{AreTwos, most_cells};
+ghost use Rattle.cv_trie.specs.Private.Twos.{AddsNoCharacter};
 
 use crate::fours::are_there;
 use crate::ones::NO_CHARACTER;
+use crate::rows::Rows;
+use crate::singles::Singles;
 use cv_byte_trie::Entry;
 use std::alloc::{AllocError, Global};
 
@@ -80,14 +80,12 @@ impl Span {
 
 /// Returns the index in the rows of the first two bytes of a string of three. It is 0 if the first byte has no row, or
 /// the string has another size.
-fn front_of(ones: &[u32], entry: &Entry) -> usize
-    requires { length ones.now ≡ 256 }
-{
+fn front_of(singles: &Singles, entry: &Entry) -> usize {
     let bytes = entry.bytes();
     if bytes.len() != 3 {
         return 0;
     }
-    let number = ones[bytes[0] as usize];
+    let number = singles.cells[bytes[0] as usize];
     if number <= NO_CHARACTER {
         return 0;
     }
@@ -96,16 +94,14 @@ fn front_of(ones: &[u32], entry: &Entry) -> usize
 
 /// Counts in the rows the strings of three bytes that begin with each two bytes, unless these have a block for four
 /// bytes.
-fn count_fronts(entries: &[Entry], ones: &[u32], twos: &mut [u32])
-    requires long { length ones.now ≡ 256 }
-    ensures size { length twos.new ≡ length twos.old }
-    ensures twos { (pairs : List Pair) → AreTwos pairs ones.now twos.old
-        → AreTwos pairs ones.now twos.new }
+#[tactic(auto, using(crate::proofs::RowBlocks::adds_none_set))]
+fn count_fronts(entries: &[Entry], singles: &Singles, rows: &mut Rows)
+    ensures { AddsNoCharacter rows.old.cells.items rows.new.cells.items }
 {
     for place in 0..entries.len() {
-        let front = front_of(ones, &entries[place]);
-        if front > 0 && front < twos.len() {
-            let number = twos[front];
+        let front = front_of(singles, &entries[place]);
+        if front > 0 && front < rows.cells.len() {
+            let number = rows.cells[front];
             let third = entries[place].padded()[2];
             if number == NO_CHARACTER {
                 let first = Span {
@@ -113,9 +109,9 @@ fn count_fronts(entries: &[Entry], ones: &[u32], twos: &mut [u32])
                     low: third,
                     high: third,
                 };
-                twos[front] = first.number();
+                rows.cells[front] = first.number();
             } else if number > THREES {
-                twos[front] = Span::of(number).with(third).number();
+                rows.cells[front] = Span::of(number).with(third).number();
             }
         }
     }
@@ -123,19 +119,17 @@ fn count_fronts(entries: &[Entry], ones: &[u32], twos: &mut [u32])
 
 /// Gives a block to each two bytes with which enough strings begin: their cell in the rows says where the block's cell
 /// for the third byte 0 would be. Returns how many cells the blocks have together.
-fn number_blocks(_ones: &[u32], twos: &mut [u32]) -> u32
-    requires few { length twos.old ≤ most_cells }
-    ensures size { length twos.new ≡ length twos.old }
-    ensures twos { (pairs : List Pair) → AreTwos pairs _ones.now twos.old
-        → AreTwos pairs _ones.now twos.new }
+#[tactic(auto, using(crate::proofs::RowBlocks::adds_none_set))]
+fn number_blocks(rows: &mut Rows) -> u32
+    ensures { AddsNoCharacter rows.old.cells.items rows.new.cells.items }
 {
     let mut size = 0;
-    for front in 0..twos.len() {
-        let number = twos[front];
+    for front in 0..rows.cells.len() {
+        let number = rows.cells[front];
         if number > THREES {
             let span = Span::of(number);
             let cells = span.cells();
-            twos[front] = if cells > 0 {
+            rows.cells[front] = if cells > 0 {
                 BASE + size - span.low as u32
             } else {
                 NO_CHARACTER
@@ -157,19 +151,16 @@ fn cell_of(number: u32, third: u8) -> usize {
 fn fill_blocks(
     alloc: Global,
     entries: &[Entry],
-    ones: &[u32],
-    twos: &[u32],
+    singles: &Singles,
+    rows: &Rows,
     size: u32,
-) -> Result<Vec<u16>, AllocError>
-    requires few { length entries.now ≤ most_pairs }
-    requires long { length ones.now ≡ 256 }
-{
+) -> Result<Vec<u16>, AllocError> {
     let mut cells = vec![in alloc; NO_PLACE; size as usize]?;
     for place in 0..entries.len() {
         let entry = &entries[place];
-        let front = front_of(ones, entry);
-        if front > 0 && front < twos.len() && twos[front] > THREES {
-            let cell = cell_of(twos[front], entry.padded()[2]);
+        let front = front_of(singles, entry);
+        if front > 0 && front < rows.cells.len() && rows.cells[front] > THREES {
+            let cell = cell_of(rows.cells[front], entry.padded()[2]);
             if cell < cells.len() && place < NO_PLACE as usize {
                 cells[cell] = place as u16;
             }
@@ -181,22 +172,18 @@ fn fill_blocks(
 /// Returns the indices of entries of three bytes, in blocks by their first two bytes, if the first byte has a row and
 /// the two have no block for four bytes. The rows then say where each block begins. Readers have to compare the entry's
 /// bytes.
+#[tactic(auto, using(crate::proofs::RowBlocks::adds_none_twice))]
 pub(crate) fn threes_of(
     alloc: Global,
     entries: &[Entry],
-    ones: &[u32],
-    twos: &mut [u32],
+    singles: &Singles,
+    rows: &mut Rows,
 ) -> Result<Vec<u16>, AllocError>
-    requires few { length entries.now ≤ most_pairs }
-    requires long { length ones.now ≡ 256 }
-    requires cells { length twos.old ≤ most_cells }
-    ensures size { length twos.new ≡ length twos.old }
-    ensures twos { (pairs : List Pair) → AreTwos pairs ones.now twos.old
-        → AreTwos pairs ones.now twos.new }
+    ensures { AddsNoCharacter rows.old.cells.items rows.new.cells.items }
 {
-    count_fronts(entries, ones, twos);
-    let size = number_blocks(ones, twos);
-    fill_blocks(alloc, entries, ones, twos, size)
+    count_fronts(entries, singles, rows);
+    let size = number_blocks(rows);
+    fill_blocks(alloc, entries, singles, rows, size)
 }
 
 /// Returns the character of the entry that a cell names, if its three bytes are at an index of a text, or else

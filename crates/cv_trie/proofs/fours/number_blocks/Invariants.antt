@@ -1,11 +1,9 @@
-use Rattle.std.proofs.Common.{◌≡◌, ◌≤◌, ◌*◌, List, length}
-use Rattle.cv_charmap.specs.Entries.{Pair}
-use Rattle.cv_trie.specs.Private.Twos.{AreTwos}
+use Rattle.std.proofs.Common.{◌≤◌, ◌*◌}
+use Rattle.cv_trie.specs.Private.Twos.{AddsNoCharacter}
 use Rattle.cv_trie.proofs.fours.number_blocks.Given as goal
 
 abbrev pub invariant-loop-front : goal.invariant-loop-front
 invariant-loop-front l = record {
-  size : length l.twos ≡ length l.fn.twos;
   few : l.size ≤ l.front * 4096;
-  twos : (pairs : List Pair) → AreTwos pairs l._ones l.fn.twos → AreTwos pairs l._ones l.twos;
+  adds : AddsNoCharacter l.fn.rows.cells.items l.rows.cells.items;
 }

@@ -27,7 +27,7 @@ returns-clause-starts c = λ some. (
     let i = c.loop-byte.invariant in
     record {
       long = i.long;
-      within = λ b low. omega (arith, i.single b low (omega arith), c.put_singles.ensures.size, c.put_singles.ensures.twos.within b (omega arith));
+      within = λ b low. omega (arith, i.single b low (omega arith), c.put_singles.ensures.size);
       single = λ b low. rw (i.single b low (omega arith)) (c.put_singles.ensures.singles b low);
       first = λ b least h. i.first b least (omega arith);
     })

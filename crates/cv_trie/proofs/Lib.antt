@@ -6,8 +6,7 @@ pub mod TwoBytes
 pub mod RowBlocks
 pub mod DecoderFacts
 pub mod EightAtOnce
-pub mod FourBytes
-pub mod ThreeBytes
+pub mod KeyBytes
 pub mod FirstWritten
 pub mod Written
 pub mod ReadyBytes

@@ -1,5 +1,5 @@
 -- Blocks for longer strings, whose numbers are put into the rows of pairs.
-use Rattle.std.proofs.Common.{◌≡◌, ◌≢◌, ℕ, ◌+◌, ◌<◌, ◌≤◌, List, length, get_or, slice_set, get_or-set_other, get_or-set_same, refl, ◌∙◌, arith, inl, inr}
+use Rattle.std.proofs.Common.{◌≡◌, ◌≢◌, ℕ, ◌+◌, ◌<◌, List, length, get_or, slice_set, get_or-set_other, get_or-set_same, refl, sym, ap, ◌∙◌, arith, inl, inr}
 use Rattle.std.proofs.lemmas.Bool.{cases_eq}
 use Rattle.std.proofs.lemmas.List.{length-set}
 use Rattle.cv_charmap.specs.Entries.{Pair}
@@ -10,14 +10,18 @@ use Rattle.cv_trie.specs.Private.Twos.{row_of, two_at, AreTwos, AddsNoCharacter}
 pub adds_none : (rows : List ℕ) → AddsNoCharacter rows rows
 adds_none rows = record { size = refl; cells = λ k some. refl }
 
--- one more cell gets a number that is no character
-pub adds_none_set : (before rows : List ℕ) (k v : ℕ) → AddsNoCharacter before rows → no_character ≤ v
-    → k < length rows → AddsNoCharacter before (slice_set rows k v)
+-- one more cell gets a number that is no character, or that it had before
+pub adds_none_set : (before rows : List ℕ) (k v : ℕ) → AddsNoCharacter before rows
+    → (v < no_character → v ≡ get_or rows k 0) → k < length rows → AddsNoCharacter before (slice_set rows k v)
 adds_none_set before rows k v a none low = record {
   size = length-set rows k v ∙ a.size;
   cells = λ j some. elim (cases_eq j k) [
-    | inl same ↦ absurd (
-        let e : get_or (slice_set rows k v) j 0 ≡ v = rw same (get_or-set_same rows k v 0 low) in omega arith)
+    | inl same ↦ (
+        let e : get_or (slice_set rows k v) j 0 ≡ v = rw same (get_or-set_same rows k v 0 low) in
+        let less : v < no_character = rw e at some in
+        let there : get_or rows k 0 < no_character = rw (none less) at less in
+        let here : get_or rows j 0 ≡ get_or before j 0 = rw same (a.cells k there) in
+        e ∙ none less ∙ ap (λ (i : ℕ). get_or rows i 0) (sym same) ∙ here)
     | inr ne ↦ (
         let e : get_or (slice_set rows k v) j 0 ≡ get_or rows j 0 = get_or-set_other rows k j v 0 ne in
         e ∙ a.cells j (rw e at some))

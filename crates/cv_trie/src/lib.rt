@@ -10,6 +10,7 @@ mod fours;
 mod front;
 mod front_writing;
 mod items;
+mod keys;
 pub mod laws;
 mod longest;
 mod longs;

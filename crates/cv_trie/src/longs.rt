@@ -4,12 +4,13 @@ ghost use Rattle.cv_trie.specs.Private.Ones.{no_character};
 ghost use Rattle.cv_trie.specs.Private.Twos.{AddsNoCharacter};
 ghost use Rattle.cv_trie.specs.Private.Longs.{IsLong};
 
-use crate::fours::{cell_of, four_at, fours_of};
+use crate::fours::FourBytes;
+use crate::keys::{blocks_of, character_at};
 use crate::ones::NO_CHARACTER;
 use crate::reading::follow;
 use crate::rows::Rows;
 use crate::singles::Singles;
-use crate::threes::{THREES, three_at, threes_of};
+use crate::threes::{THREES, ThreeBytes};
 use cv_byte_trie::{ByteTrie, Entry, NONE};
 use std::alloc::{AllocError, Global};
 
@@ -21,8 +22,8 @@ const CELL: usize = 4;
 /// The indices of entries of three and of four bytes, in blocks by their first two bytes. Each is a guess.
 #[derive(Debug, Drop)]
 pub(crate) struct Longs {
-    threes: Vec<u16>,
-    fours: Vec<u32>,
+    threes: Vec<ThreeBytes>,
+    fours: Vec<FourBytes>,
 }
 
 /// The character at an index of a text.
@@ -57,7 +58,7 @@ impl Longs {
 
     /// Returns the cells for entries of four bytes.
     #[inline(always)]
-    pub(crate) fn fours(&self) -> &[u32] {
+    pub(crate) fn fours(&self) -> &[FourBytes] {
         self.fours.as_slice()
     }
 
@@ -71,8 +72,8 @@ impl Longs {
     ) -> Result<Longs, AllocError>
         ensures { AddsNoCharacter rows.old.cells.items rows.new.cells.items }
     {
-        let fours = fours_of(alloc, entries, singles, rows)?;
-        let threes = threes_of(alloc, entries, singles, rows)?;
+        let fours = blocks_of(alloc, entries, singles, rows)?;
+        let threes = blocks_of(alloc, entries, singles, rows)?;
         Ok(Longs { threes, fours })
     }
 }
@@ -113,10 +114,9 @@ pub(crate) fn tabled_at(
         return NO_LONG;
     }
     if number > THREES {
-        let character = three_at(trie.entries(), &longs.threes, number, input, used);
+        let character = character_at(trie.entries(), &longs.threes, number, input, used);
         return Long { character, size: 3 };
     }
-    let cell = cell_of(number, input[used + 2], input[used + 3]);
-    let character = four_at(trie.entries(), &longs.fours, cell, input, used);
+    let character = character_at(trie.entries(), &longs.fours, number, input, used);
     Long { character, size: 4 }
 }

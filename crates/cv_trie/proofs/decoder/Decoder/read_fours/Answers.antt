@@ -35,9 +35,9 @@ loop-n-preserved c =
     let text = c.args.input.now in
     let n = c.loop-n.n in
     let used = c.loop-n.used in
-    let character = c.four_at-character.result in
+    let character = c.character_at-character.result in
     let stands = rw c.entries-entries.ensures.value
-    at (c.four_at-character.ensures.stands (omega (arith, c.if-character-ge-NO_CHARACTER.false))) in
+    at (c.character_at-character.ensures.stands (omega (arith, c.if-character-ge-NO_CHARACTER.false))) in
     record {
       read = rw c.known-in-loop-n.ensures (front_more c.args.self.now.trie.now.entries text c.loop-n.buffer n used 4
           character i.read (omega arith) stands (omega (arith, length-drop used text)));

@@ -1,5 +1,0 @@
-use Rattle.cv_trie.specs.Private.Twos.{AddsNoCharacter}
-use Rattle.cv_trie.proofs.fours.count_fronts.Given as goal
-
-abbrev pub invariant-loop-place : goal.invariant-loop-place
-invariant-loop-place l = AddsNoCharacter l.fn.rows.cells.items l.rows.cells.items

@@ -4,15 +4,15 @@ ghost use Rattle.cv_charmap.specs.Maps.{IsMap};
 ghost use Rattle.cv_trie.specs.Charmaps.{map_reads, map_writes, map_closes};
 
 use crate::ascii::{does_read_ascii, does_write_ascii};
+use crate::blocks::Blocks;
 use crate::decoder::Decoder;
 use crate::encoder::Encoder;
 use crate::firsts::firsts_of;
 use crate::items::next_item;
 use crate::longest::longest;
-use crate::longs::Longs;
+use crate::row_offsets::row_offsets_of;
 use crate::rows::Rows;
 use crate::singles::Singles;
-use crate::starts::starts_of;
 use cv_base::{
     AsciiForm, BlockCodec, Codec, Item, Memory, Piece, Policy, Put, ReadBlock, ReadState, Scalar,
     WriteState, WrittenBlock, write_each,
@@ -23,7 +23,7 @@ use cv_pages::Pages;
 use std::alloc::Global;
 use std::marker::Model;
 
-/// How many bytes a cell of `ones`, `twos` or `starts` takes.
+/// How many bytes a cell of `singles`, `rows` or `row_offsets` takes.
 const CELL: usize = 4;
 
 /// A compiled charmap, which reads and writes texts. Contracts see its name and its list of pairs.
@@ -32,17 +32,17 @@ pub struct Charmap {
     name: Vec<u8>,
     /// The pairs, found by their bytes.
     trie: ByteTrie,
-    /// For each byte the character that it is by itself, or `NO_CHARACTER` plus the index of its row in `twos`.
-    ones: Vec<u32>,
+    /// For each byte the character that it is by itself, or `NO_CHARACTER` plus the index of its row.
+    singles: Vec<u32>,
     /// Rows of 256 cells, one for each second byte, for bytes with which many strings begin. A cell has the character
-    /// of the two bytes, or says where in `longs` the block of longer strings is. After the rows are 128 cells for
-    /// single bytes. It is empty if neither `starts` nor `longs` needs it.
-    twos: Vec<u32>,
-    /// For each byte the index in `twos` of its row, or of its own cell if it is below 128. It is empty if eight
+    /// of the two bytes, or says where in `blocks` that of longer strings is. After the rows are 128 cells for single
+    /// bytes. It is empty if neither `row_offsets` nor `blocks` needs it.
+    rows: Vec<u32>,
+    /// For each byte the index in `rows` of its row, or of its own cell if it is below 128. It is empty if eight
     /// characters at once are not to be tried.
-    starts: Vec<u32>,
+    row_offsets: Vec<u32>,
     /// Guesses at the indices of entries of three and of four bytes, in blocks by the first two bytes.
-    longs: Longs,
+    blocks: Blocks,
     /// For each character the index of its first pair.
     pages: Pages,
     /// The index of the first pair of `?`.
@@ -63,29 +63,29 @@ impl Model for Charmap {
 
     ghost view = { λ m. record { name = m.name.items; pairs = m.trie.entries } };
 
-    ghost invariant = { λ m. IsCompiled m.trie.entries m.ones.items m.twos.items m.starts.items
+    ghost invariant = { λ m. IsCompiled m.trie.entries m.singles.items m.rows.items m.row_offsets.items
         m.pages.tops.items m.pages.cells.items m.pages.shorts.bytes.items m.pages.shorts.sizes.items
         m.substitute m.most m.reads_ascii m.writes_ascii };
 }
 
 /// Returns the rows if eight characters at once or tables of longer strings need them, or else an empty table.
-fn needed(alloc: Global, twos: Vec<u32>, starts: &[u32], longs: &Longs) -> Vec<u32>
-    ensures same { 0 < length result.items → result.items ≡ twos.items }
-    ensures starts { 0 < length starts.now → result.items ≡ twos.items }
+fn needed(alloc: Global, rows: Vec<u32>, row_offsets: &[u32], blocks: &Blocks) -> Vec<u32>
+    ensures same { 0 < length result.items → result.items ≡ rows.items }
+    ensures offsets { 0 < length row_offsets.now → result.items ≡ rows.items }
 {
-    if starts.is_empty() && longs.is_empty() {
+    if row_offsets.is_empty() && blocks.is_empty() {
         return Vec::new(alloc);
     }
-    twos
+    rows
 }
 
 /// Returns how many bytes the tables of single bytes and of pairs take, with the spare capacity.
-fn cells_size(ones: &Vec<u32>, twos: &Vec<u32>, starts: &Vec<u32>) -> usize
-    ensures { result ≡ min (4 * min (min (vec_capacity ones.now + vec_capacity starts.now) (2 ^ 64 - 1)
-        + vec_capacity twos.now) (2 ^ 64 - 1)) (2 ^ 64 - 1) }
+fn cells_size(singles: &Vec<u32>, rows: &Vec<u32>, row_offsets: &Vec<u32>) -> usize
+    ensures { result ≡ min (4 * min (min (vec_capacity singles.now + vec_capacity row_offsets.now) (2 ^ 64 - 1)
+        + vec_capacity rows.now) (2 ^ 64 - 1)) (2 ^ 64 - 1) }
 {
-    let bytes = ones.capacity().saturating_add(starts.capacity());
-    bytes.saturating_add(twos.capacity()).saturating_mul(CELL)
+    let bytes = singles.capacity().saturating_add(row_offsets.capacity());
+    bytes.saturating_add(rows.capacity()).saturating_mul(CELL)
 }
 
 impl Charmap {
@@ -98,9 +98,9 @@ impl Charmap {
         let firsts = firsts_of(trie.entries());
         let singles = Singles::of(alloc, &trie, &firsts)?;
         let mut rows = Rows::of(alloc, &trie, &singles)?;
-        let longs = Longs::of(alloc, trie.entries(), &singles, &mut rows)?;
-        let starts = starts_of(alloc, &firsts, &singles, &mut rows)?;
-        let twos = needed(alloc, rows.cells, &starts, &longs);
+        let blocks = Blocks::of(alloc, trie.entries(), &singles, &mut rows)?;
+        let row_offsets = row_offsets_of(alloc, &firsts, &singles, &mut rows)?;
+        let rows = needed(alloc, rows.cells, &row_offsets, &blocks);
         let pages = Pages::of(alloc, trie.entries())?;
         let substitute = pages.place(0x3F);
         let most = longest(&trie);
@@ -109,10 +109,10 @@ impl Charmap {
         Ok(Charmap {
             name,
             trie,
-            ones: singles.cells,
-            twos,
-            starts,
-            longs,
+            singles: singles.cells,
+            rows,
+            row_offsets,
+            blocks,
             pages,
             substitute,
             most,
@@ -128,10 +128,10 @@ impl Charmap {
     {
         Decoder {
             trie: &self.trie,
-            singles: self.ones.as_slice(),
-            rows: self.twos.as_slice(),
-            row_offsets: self.starts.as_slice(),
-            blocks: &self.longs,
+            singles: self.singles.as_slice(),
+            rows: self.rows.as_slice(),
+            row_offsets: self.row_offsets.as_slice(),
+            blocks: &self.blocks,
         }
     }
 
@@ -167,8 +167,8 @@ impl Charmap {
     pub fn size(&self) -> usize
         ensures { 16 * length self.now.pairs ≤ result }
     {
-        let found = self.trie.size().saturating_add(self.longs.size());
-        let cells = cells_size(&self.ones, &self.twos, &self.starts);
+        let found = self.trie.size().saturating_add(self.blocks.size());
+        let cells = cells_size(&self.singles, &self.rows, &self.row_offsets);
         let written = self.pages.size().saturating_add(self.name.capacity());
         found.saturating_add(cells).saturating_add(written)
     }

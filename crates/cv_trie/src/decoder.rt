@@ -7,8 +7,8 @@ ghost use Rattle.cv_trie.specs.Private.Ones.{AreOnes};
 ghost use Rattle.cv_trie.specs.Private.Twos.{AreTwos, row_of};
 ghost use Rattle.cv_trie.specs.Private.Starts.{AreStarts};
 
+use crate::blocks::Blocks;
 use crate::front::Front;
-use crate::longs::Longs;
 use crate::ones::NO_CHARACTER;
 use crate::reading::read_longer;
 use cv_base::{ReadBlock, ReadState, Scalar};
@@ -26,7 +26,7 @@ pub(crate) struct Decoder<'a> {
     /// For each byte the index of its row, or of its own cell, if eight characters at once are to be tried.
     pub(crate) row_offsets: &'a [u32],
     /// The blocks of longer strings.
-    pub(crate) blocks: &'a Longs,
+    pub(crate) blocks: &'a Blocks,
     ghost long: { length singles.now ≡ 256 },
     ghost within: { 0 < length rows.now → (b : ℕ) → b < 256 → row_of singles.now b + 384 ≤ length rows.now },
     ghost singles_are: { ∥ AreOnes trie.now.entries singles.now 256 ∥₁ },

@@ -3,7 +3,7 @@ use cv_byte_trie::Entry;
 
 /// A byte gets a row if at least this many strings of two or of four bytes begin with it. A row takes a kilobyte. So a
 /// map grows by at most 32 bytes for each of its pairs, by the row that all other bytes share, by the cells for single
-/// bytes, and by what `starts` takes.
+/// bytes, and by what `row_offsets` takes.
 const DENSE: u16 = 32;
 
 /// A byte also gets a row if at least this many strings of three bytes begin with it. Without a row these are read as

@@ -2,6 +2,7 @@
 #![tactic(auto)]
 
 mod ascii;
+mod blocks;
 mod charmap;
 mod decoder;
 mod encoder;
@@ -13,13 +14,12 @@ mod items;
 mod keys;
 pub mod laws;
 mod longest;
-mod longs;
 mod mixed;
 mod ones;
 mod reading;
+mod row_offsets;
 mod rows;
 mod singles;
-mod starts;
 mod threes;
 mod windows;
 mod writing;

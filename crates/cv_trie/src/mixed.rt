@@ -2,9 +2,9 @@
 ghost use Rattle.std.specs.Prelude.{◌≤◌, ◌<◌, length};
 ghost use Rattle.cv_trie.specs.Private.Fronts.{IsReadFront};
 
+use crate::blocks::{followed_at, tabled_at};
 use crate::decoder::Decoder;
 use crate::front::Front;
-use crate::longs::{followed_at, tabled_at};
 use crate::ones::NO_CHARACTER;
 use crate::reading::read_longer;
 use cv_base::Scalar;

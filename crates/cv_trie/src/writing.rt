@@ -22,6 +22,7 @@ fn put_bytes(out: &mut [u8], at: usize, bytes: &[u8])
 impl Encoder<'_> {
     /// Writes a character at an index of a slice. It reports if the charmap lacks the character, or if the slice has no
     /// room for its bytes.
+    #[inline(always)]
     pub(crate) fn put_character(&self, c: Scalar, out: &mut [u8], at: usize) -> Put
         requires { at ≤ length out.old }
         ensures { PutsAt (map_writes self.now.entries.now WriteState.Start c) out.old at result out.new }

@@ -20,18 +20,18 @@ invariant_of-result c =
     let ones = singles.cells.items in
     let first = c.in_ok-rows.rows.cells.items in
     let second = c.of-3.new.rows.cells.items in
-    let rest = c.starts_of.new.rows.cells.items in
-    let twos = c.needed-twos.result.items in
-    let starts = c.in_ok-starts.starts.items in
+    let rest = c.row_offsets_of.new.rows.cells.items in
+    let twos = c.needed-rows.result.items in
+    let starts = c.in_ok-row_offsets.row_offsets.items in
     let pages = c.in_ok-pages.pages in
     let ascii = c.does_write_ascii-writes_ascii in
-    let kept : 0 < length twos → twos ≡ rest = c.needed-twos.ensures.same in
-    let needs : 0 < length starts → twos ≡ rest = rw c.deref.ensures.value at c.needed-twos.ensures.starts in
+    let kept : 0 < length twos → twos ≡ rest = c.needed-rows.ensures.same in
+    let needs : 0 < length starts → twos ≡ rest = rw c.deref.ensures.value at c.needed-rows.ensures.offsets in
     let held : 0 < length twos → AreTwos pairs ones rest = λ some. (
     let e = kept some in
-    let more : 0 < length first = omega (arith, some, ap length e, c.of-3.ensures.size, c.starts_of.ensures.size) in
+    let more : 0 < length first = omega (arith, some, ap length e, c.of-3.ensures.size, c.row_offsets_of.ensures.size) in
     let doubles = c.in_ok-rows.ensures more in
-    c.starts_of.ensures.rows pairs (twos_stay pairs ones first second c.of-3.ensures doubles)) in
+    c.row_offsets_of.ensures.rows pairs (twos_stay pairs ones first second c.of-3.ensures doubles)) in
     let names = λ (x : List Entry). AreFirst pages.tops.items pages.cells.items x in
     let shorts =
     λ (x : List Entry). AreShorts pages.cells.items pages.shorts.bytes.items pages.shorts.sizes.items x in
@@ -41,7 +41,7 @@ invariant_of-result c =
       long = singles.long;
       singles = c.in_ok-singles.ensures;
       doubles = λ some. subst (λ (x : List ℕ). AreTwos pairs ones x) (sym (kept some)) (held some);
-      begins = λ some. subst (λ (x : List ℕ). AreStarts ones x starts) (sym (needs some)) (c.in_ok-starts.ensures.starts some);
+      begins = λ some. subst (λ (x : List ℕ). AreStarts ones x starts) (sym (needs some)) (c.in_ok-row_offsets.ensures.offsets some);
       names = subst names c.entries-3.ensures.value c.in_ok-pages.ensures.names;
       shorts = subst shorts c.entries-3.ensures.value c.in_ok-pages.ensures.shorts;
       is_substitute = c.place-substitute.ensures;

@@ -23,7 +23,8 @@ returns-then-place c =
     let e = c.args.self.now in
     let place = place_of e.pages.now.tops.items e.pages.now.cells.items in
     let is = rw c.value.ensures.number at c.place-place.ensures in
-    let lacks = writes_nothing e.entries.now place e.names c.args.c c.place-place.result is c.if-place.true write.Start in
+    let none = c.if-place.true in
+    let lacks = writes_nothing e.entries.now place e.names c.args.c c.place-place.result is none write.Start in
     put_by _ _ c.args.out.now c.args.out.now c.args.at put.Lacks lacks refl
 
 pub returns-then-bytes-out : goal.returns-then-bytes-out

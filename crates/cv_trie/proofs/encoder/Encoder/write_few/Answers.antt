@@ -21,10 +21,10 @@ loop-k-preserved c =
     let entry = c.index-entries-place.result in
     let e : bytes_at entries place ≡ entry.0 = entry_bytes entries place entry chose.low c.index-entries-place.is in
     record {
-      written = written_more (map_writes entries) c.args.characters.now c.loop-k.front c.put_entry-used.new.front entry.0 k
-          c.loop-k.used c.loop-k.count c.choose-place.result.1 c.index-characters-k.result c.put_entry-used.result i.written
-          (omega (arith, c.loop-k-test.true, c.requires.within)) c.index-characters-k.is (rw e at chose.written) put.size
-          put.stand;
+      written = written_more (map_writes entries) c.args.characters.now c.loop-k.front c.put_entry-used.new.front
+          entry.0 k c.loop-k.used c.loop-k.count c.choose-place.result.1 c.index-characters-k.result
+          c.put_entry-used.result i.written (omega (arith, c.loop-k-test.true, c.requires.within))
+          c.index-characters-k.is (rw e at chose.written) put.size put.stand;
       short = omega (arith, i.short, put.few);
       few = omega (arith, i.few, chose.few);
       long = put.long ∙ i.long;

@@ -36,7 +36,8 @@ loop-k-preserved c =
     let at : ℕ = before.n + c.loop-k.k in
     let character : ℕ = get_or characters at 0 in
     let inside : at < length characters = omega (arith, c.requires.within, c.loop-k-test.true) in
-    let read = c.index-characters-before.is ∙ get_or_default_zero characters at c.index-characters-before.result inside in
+    let read = c.index-characters-before.is
+    ∙ get_or_default_zero characters at c.index-characters-before.result inside in
     let value : c.value.result ≡ character = c.value.ensures.number ∙ read in
     let cell : c.low_cell-cell.result ≡ cell_of tops character = rw value at c.low_cell-cell.ensures.is in
     let size : c.put-used.result ≡ get_or sizes (cell_of tops character) no_size = rw cell at put.size in

@@ -2,7 +2,7 @@ use Rattle.std.proofs.Common.{◌≡◌, ◌≢◌, ℕ, ◌+◌, ◌-◌, ◌<�
 use Rattle.std.proofs.lemmas.Grind.{get_or_default_zero}
 use Rattle.std.proofs.lemmas.List.{length-set}
 use Rattle.cv_trie.proofs.EightAtOnce.{rows_kept}
-use Rattle.cv_trie.proofs.starts.put_singles.Goals as goal
+use Rattle.cv_trie.proofs.row_offsets.put_singles.Goals as goal
 
 pub loop-byte-preserved : goal.loop-byte-preserved
 loop-byte-preserved c =

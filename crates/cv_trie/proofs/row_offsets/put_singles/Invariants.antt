@@ -1,7 +1,7 @@
 use Rattle.std.proofs.Common.{◌≡◌, ℕ, ◌+◌, ◌<◌, List, get_or, length}
 use Rattle.cv_charmap.specs.Entries.{Pair}
 use Rattle.cv_trie.specs.Private.Twos.{AreTwos}
-use Rattle.cv_trie.proofs.starts.put_singles.Given as goal
+use Rattle.cv_trie.proofs.row_offsets.put_singles.Given as goal
 
 abbrev pub invariant-loop-byte : goal.invariant-loop-byte
 invariant-loop-byte l = record {

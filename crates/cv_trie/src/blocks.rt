@@ -21,7 +21,7 @@ const CELL: usize = 4;
 
 /// The indices of entries of three and of four bytes, in blocks by their first two bytes. Each is a guess.
 #[derive(Debug, Drop)]
-pub(crate) struct Longs {
+pub(crate) struct Blocks {
     threes: Vec<ThreeBytes>,
     fours: Vec<FourBytes>,
 }
@@ -41,7 +41,7 @@ const NO_LONG: Long = Long {
     size: 0,
 };
 
-impl Longs {
+impl Blocks {
     /// Returns how many bytes the cells take, with the spare capacity.
     pub(crate) fn size(&self) -> usize
         ensures { result ≡ min (min (2 * vec_capacity self.now.threes) (2 ^ 64 - 1)
@@ -69,12 +69,12 @@ impl Longs {
         entries: &[Entry],
         singles: &Singles,
         rows: &mut Rows,
-    ) -> Result<Longs, AllocError>
+    ) -> Result<Blocks, AllocError>
         ensures { AddsNoCharacter rows.old.cells.items rows.new.cells.items }
     {
         let fours = blocks_of(alloc, entries, singles, rows)?;
         let threes = blocks_of(alloc, entries, singles, rows)?;
-        Ok(Longs { threes, fours })
+        Ok(Blocks { threes, fours })
     }
 }
 
@@ -101,7 +101,7 @@ pub(crate) fn followed_at(trie: &ByteTrie, input: &[u8], used: usize) -> Long
 #[inline(always)]
 pub(crate) fn tabled_at(
     trie: &ByteTrie,
-    longs: &Longs,
+    blocks: &Blocks,
     number: u32,
     input: &[u8],
     used: usize,
@@ -114,9 +114,9 @@ pub(crate) fn tabled_at(
         return NO_LONG;
     }
     if number > THREES {
-        let character = character_at(trie.entries(), &longs.threes, number, input, used);
+        let character = character_at(trie.entries(), &blocks.threes, number, input, used);
         return Long { character, size: 3 };
     }
-    let character = character_at(trie.entries(), &longs.fours, number, input, used);
+    let character = character_at(trie.entries(), &blocks.fours, number, input, used);
     Long { character, size: 4 }
 }

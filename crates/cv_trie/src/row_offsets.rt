@@ -27,7 +27,7 @@ fn put_singles(singles: &Singles, rows: &mut Rows)
 }
 
 /// Returns the index of a byte's own cell if it is below 128, or else that of its row.
-fn start_of(singles: &Singles, rows: &Rows, byte: u8) -> u32
+fn offset_of(singles: &Singles, rows: &Rows, byte: u8) -> u32
     ensures single { byte < 128 → result ≡ length rows.now.cells.items - 128 + byte }
     ensures first { 128 ≤ byte → result ≡ row_of singles.now.cells.items byte }
 {
@@ -40,7 +40,7 @@ fn start_of(singles: &Singles, rows: &Rows, byte: u8) -> u32
 
 /// Returns for each byte below 128 the index of its own cell, and for any other the index of its row. The table is
 /// empty if no byte has a row, or if eight characters at once are not to be tried.
-pub(crate) fn starts_of(
+pub(crate) fn row_offsets_of(
     alloc: Global,
     firsts: &Firsts,
     singles: &Singles,
@@ -49,16 +49,16 @@ pub(crate) fn starts_of(
     ensures size { length rows.new.cells.items ≡ length rows.old.cells.items }
     ensures rows { (pairs : List Pair) → AreTwos pairs singles.now.cells.items rows.old.cells.items
         → AreTwos pairs singles.now.cells.items rows.new.cells.items }
-    ensures starts { IfOk result (λ starts. 0 < length starts.items
-        → AreStarts singles.now.cells.items rows.new.cells.items starts.items) }
+    ensures offsets { IfOk result (λ offsets. 0 < length offsets.items
+        → AreStarts singles.now.cells.items rows.new.cells.items offsets.items) }
 {
     if rows.cells.len() < SINGLES || !firsts.try_eight() {
         return Ok(Vec::new(alloc));
     }
     put_singles(singles, rows);
-    let mut starts = vec![in alloc; 0; 256]?;
+    let mut offsets = vec![in alloc; 0; 256]?;
     for byte in 0..256 {
-        starts[byte] = start_of(singles, rows, byte as u8);
+        offsets[byte] = offset_of(singles, rows, byte as u8);
     }
-    Ok(starts)
+    Ok(offsets)
 }

@@ -2,7 +2,7 @@ use Rattle.std.proofs.Common.{◌≡◌, ◌<◌, List, sym, subst, ◌∙◌, l
 use Rattle.cv_byte_trie.specs.Entries.{Entry, character_at}
 use Rattle.cv_byte_trie.proofs.ReadEntries.{entry_character}
 use Rattle.cv_trie.proofs.Following.{followed_stands}
-use Rattle.cv_trie.proofs.longs.followed_at.Goals as goal
+use Rattle.cv_trie.proofs.blocks.followed_at.Goals as goal
 
 pub returns : goal.returns
 returns c = λ _. (

@@ -7,7 +7,7 @@ use Rattle.std.proofs.lemmas.Bool.{cases_Bool, cases_eq, false≢true}
 use Rattle.std.proofs.lemmas.Slice.Eq.{bytes_eq-Decides}
 use Rattle.std.specs.Str.{bytes_eq}
 use Rattle.cv_charmap.specs.Entries.{Pair}
-use Rattle.cv_trie.specs.Private.Ones.{no_character, AreOnes}
+use Rattle.cv_trie.specs.Private.Ones.{AreOnes}
 use Rattle.cv_trie.specs.Private.Twos.{two_at, AreTwos}
 
 -- a pair, by its parts

@@ -1,5 +1,6 @@
 -- Characters of three and of four bytes: an entry is guessed, and its bytes are compared.
-use Rattle.std.proofs.Common.{◌≡◌, ℕ, zero, suc, ◌<◌, ◌≤◌, ◌+◌, List, [], ◌∷◌, length, take, drop, get_or, refl, sym, subst, ◌∙◌, ap, arith, Some}
+use Rattle.std.proofs.Common.{◌≡◌, ℕ, zero, suc, ◌<◌, ◌≤◌, ◌+◌, List, [], ◌∷◌, length, take, drop, get_or, refl, sym}
+use Rattle.std.proofs.Common.{subst, ◌∙◌, ap, arith, Some}
 use Rattle.std.proofs.Math.Seq.{drop-cons}
 use Rattle.cv_base.specs.Items.{taken, Begins, Stands}
 use Rattle.cv_base.specs.declared.state.ReadState.TheVariants as read

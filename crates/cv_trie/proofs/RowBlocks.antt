@@ -1,5 +1,6 @@
 -- Blocks for longer strings, whose numbers are put into the rows of pairs.
-use Rattle.std.proofs.Common.{◌≡◌, ◌≢◌, ℕ, ◌+◌, ◌<◌, List, length, get_or, slice_set, get_or-set_other, get_or-set_same, refl, sym, ap, ◌∙◌, arith, inl, inr}
+use Rattle.std.proofs.Common.{◌≡◌, ℕ, ◌+◌, ◌<◌, List, length, get_or, slice_set, get_or-set_other}
+use Rattle.std.proofs.Common.{get_or-set_same, refl, sym, ap, ◌∙◌, inl, inr}
 use Rattle.std.proofs.lemmas.Bool.{cases_eq}
 use Rattle.std.proofs.lemmas.List.{length-set}
 use Rattle.cv_charmap.specs.Entries.{Pair}

@@ -9,7 +9,7 @@ use Rattle.cv_base.specs.Items.{taken, Stands}
 use Rattle.cv_base.specs.declared.state.ReadState.TheVariants as read
 use Rattle.cv_byte_trie.specs.Entries.{Entry, AreEntries, bytes_at, character_at}
 use Rattle.cv_trie.specs.Charmaps.{map_reads}
-use Rattle.cv_trie.specs.Private.Ones.{no_character, AreOnes}
+use Rattle.cv_trie.specs.Private.Ones.{no_character}
 use Rattle.cv_trie.specs.Private.Twos.{IsTwo, row_of, two_at, AreRows, IsCell, AreTwos}
 use Rattle.cv_trie.specs.Private.Fronts.{IsReadFront}
 use Rattle.cv_trie.proofs.MapLaws.{holds_place}

@@ -23,7 +23,8 @@ pub record HaveAtMost (most : ℕ) (pairs : List Pair) : Type 0 where
 -- The list is a charmap's. The numbers of single bytes in `ones`, and those of two bytes in the rows `twos` if there
 -- are any, are their characters or none. If there are `starts`, each byte has its cell or row in them. The pages name
 -- the first pair of each character, and nothing else. The bytes that they keep ready are those of these pairs. The
--- substitute is the index of the first pair of `?`. A flag that is set says that ASCII is read as itself, or written so.
+-- substitute is the index of the first pair of `?`. A flag that is set says that ASCII is read as itself, or is written
+-- so.
 pub record IsCompiled (pairs : List Pair) (ones twos starts tops cells : List ℕ) (ready : List (List ℕ))
     (lengths : List ℕ) (substitute most : ℕ) (reads writes : Bool) : Type 0 where
   pub map : IsMap pairs

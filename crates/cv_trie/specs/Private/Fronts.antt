@@ -12,7 +12,8 @@ use Rattle.cv_trie.specs.declared.front.Written.{Written}
 
 -- Characters were read from the start of a text into the start of a buffer.
 pub record IsReadFront (pairs : List Pair) (text : List ℕ) (front : Front) (buffer : List ℕ) : Type 0 where
-  pub block : IsReadBlock (map_reads pairs) read.Start text (record { n = front.n; used = front.used; next = read.Start }) buffer
+  pub block : IsReadBlock (map_reads pairs) read.Start text
+      (record { n = front.n; used = front.used; next = read.Start }) buffer
   pub within : front.used ≤ length text
 
 -- A buffer begins with what is written for characters.

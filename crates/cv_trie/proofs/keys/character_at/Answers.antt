@@ -10,5 +10,6 @@ returns-clause-stands g c = λ _. (
     let own = c.padded-bytes.result.now in
     let n : ℕ = g.C.KeyCell.KEY in
     let character : c.value.result ≡ entry.1 = c.value.ensures.number ∙ c.character.ensures in
-    rw character (key_stands c.args.entries.now entry _ own text used n (omega arith) c.index-entries-place.is (omega arith)
-    (omega arith) c.padded-bytes.ensures.bytes (omega arith) (λ k low. c.loop-k.invariant k (omega arith))))
+    rw character (key_stands c.args.entries.now entry _ own text used n (omega arith) c.index-entries-place.is
+    (omega arith) (omega arith) c.padded-bytes.ensures.bytes (omega arith)
+    (λ k low. c.loop-k.invariant k (omega arith))))

@@ -1,4 +1,5 @@
-use Rattle.std.proofs.Common.{◌≡◌, ◌≢◌, ℕ, ◌+◌, ◌-◌, ◌<◌, ◌∙◌, get_or, slice_set, get_or-set_other, get_or-set_same, below_more, length, arith}
+use Rattle.std.proofs.Common.{◌≡◌, ◌≢◌, ℕ, ◌+◌, ◌-◌, ◌<◌, ◌∙◌, get_or, slice_set, get_or-set_other, get_or-set_same}
+use Rattle.std.proofs.Common.{below_more, length, arith}
 use Rattle.std.proofs.lemmas.Grind.{get_or_default_zero}
 use Rattle.std.proofs.lemmas.List.{length-set}
 use Rattle.cv_trie.proofs.EightAtOnce.{rows_kept}

@@ -9,7 +9,8 @@ loop-byte-preserved c =
     let offsets = c.loop-byte.offsets.items in
     let byte = c.loop-byte.byte in
     let v = c.offset_of.result in
-    let here : get_or (slice_set offsets byte v) byte 0 ≡ v = get_or-set_same offsets byte v 0 (omega (arith, i.long)) in
+    let inside = get_or-set_same offsets byte v 0 in
+    let here : get_or (slice_set offsets byte v) byte 0 ≡ v = inside (omega (arith, i.long)) in
     record {
       long = length-set offsets byte v ∙ i.long;
       single = λ b low h. elim (cases_eq b byte) [

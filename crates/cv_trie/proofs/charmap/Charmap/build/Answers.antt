@@ -1,4 +1,4 @@
-use Rattle.std.proofs.Common.{◌≡◌, ◌∙◌, ℕ, ◌<◌, List, arith, length, sym, subst, ap}
+use Rattle.std.proofs.Common.{◌≡◌, ℕ, ◌<◌, List, arith, length, sym, subst, ap}
 use Rattle.std.specs.Prelude.{IsTrue}
 use Rattle.cv_base.specs.Ascii.{WritesAscii}
 use Rattle.cv_base.specs.declared.ascii_form.AsciiForm.TheVariants.{Byte}
@@ -28,8 +28,8 @@ invariant_of-result c =
     let kept : 0 < length twos → twos ≡ rest = c.needed-rows.ensures.same in
     let needs : 0 < length starts → twos ≡ rest = rw c.deref.ensures.value at c.needed-rows.ensures.offsets in
     let held : 0 < length twos → AreTwos pairs ones rest = λ some. (
-    let e = kept some in
-    let more : 0 < length first = omega (arith, some, ap length e, c.of-3.ensures.size, c.row_offsets_of.ensures.size) in
+    let e = ap length (kept some) in
+    let more : 0 < length first = omega (arith, some, e, c.of-3.ensures.size, c.row_offsets_of.ensures.size) in
     let doubles = c.in_ok-rows.ensures more in
     c.row_offsets_of.ensures.rows pairs (twos_stay pairs ones first second c.of-3.ensures doubles)) in
     let names = λ (x : List Entry). AreFirst pages.tops.items pages.cells.items x in
@@ -41,7 +41,8 @@ invariant_of-result c =
       long = singles.long;
       singles = c.in_ok-singles.ensures;
       doubles = λ some. subst (λ (x : List ℕ). AreTwos pairs ones x) (sym (kept some)) (held some);
-      begins = λ some. subst (λ (x : List ℕ). AreStarts ones x starts) (sym (needs some)) (c.in_ok-row_offsets.ensures.offsets some);
+      begins = λ some. subst (λ (x : List ℕ). AreStarts ones x starts) (sym (needs some))
+          (c.in_ok-row_offsets.ensures.offsets some);
       names = subst names c.entries-3.ensures.value c.in_ok-pages.ensures.names;
       shorts = subst shorts c.entries-3.ensures.value c.in_ok-pages.ensures.shorts;
       is_substitute = c.place-substitute.ensures;

@@ -1,5 +1,3 @@
-use Rattle.std.proofs.Common.{ap}
-use Rattle.cv_charmap.specs.Meaning.{Charmap}
 use Rattle.cv_trie.proofs.charmap.Charmap.decoder.Goals as goal
 
 pub invariant_of-result : goal.invariant_of-result

@@ -2,7 +2,6 @@ use Rattle.std.proofs.Common.{◌≡◌, ◌+◌, ◌<◌, ◌∙◌, length, ar
 use Rattle.cv_simd.specs.Splits.{start_of}
 use Rattle.cv_simd.proofs.SplitStarts.{start_first, start_le}
 use Rattle.cv_trie.specs.Private.Ones.{no_character}
-use Rattle.cv_trie.specs.Private.Twos.{AreTwos}
 use Rattle.cv_trie.specs.Private.Starts.{number_at}
 use Rattle.cv_trie.proofs.DecoderFacts.{are_ones, are_twos}
 use Rattle.cv_trie.proofs.EightAtOnce.{number_scalar, window_more}

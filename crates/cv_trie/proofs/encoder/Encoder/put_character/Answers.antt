@@ -8,7 +8,6 @@ use Rattle.cv_byte_trie.specs.Entries.{bytes_at}
 use Rattle.cv_byte_trie.proofs.ReadEntries.{entry_bytes}
 use Rattle.cv_pages.specs.Paging.{place_of}
 use Rattle.cv_pages.proofs.FirstPlaces.{place_low}
-use Rattle.cv_trie.specs.Charmaps.{map_writes}
 use Rattle.cv_trie.proofs.FirstWritten.{writes_place, writes_nothing}
 use Rattle.cv_trie.proofs.encoder.Encoder.put_character.Goals as goal
 

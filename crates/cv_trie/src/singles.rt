@@ -32,7 +32,8 @@ fn single_of(trie: &ByteTrie, byte: u8) -> u32
     let entries = trie.entries();
     let code = trie.step(0, byte);
     if code < TAIL {
-        entries[code as usize].character().value()
+        let character = entries[code as usize].character();
+        character.value()
     } else {
         NO_CHARACTER
     }

@@ -26,5 +26,5 @@ returns-then-code-lt-TAIL-clause-one c = λ _. (
     let leaf = root_leaf entries step _ trie byte code (omega arith) c.step-code.ensures c.if-code-lt-TAIL.true in
     let there = subst (λ (x : List Entry). code < length x → character_at x code ≡ entry.1) same
     (λ l. entry_character c.entries-entries.result.now code entry l c.index-entries-code.is) in
-    let is = c.value.ensures.number ∙ c.character.ensures ∙ sym (there leaf.0) in
+    let is = c.value.ensures.number ∙ c.character-character.ensures ∙ sym (there leaf.0) in
     one_led entries a step _ trie byte code c.value.result (omega arith) c.step-code.ensures c.if-code-lt-TAIL.true is)

@@ -1,5 +1,7 @@
 //! Compiled charmaps.
 ghost use Rattle.std.specs.Prelude.{◌≡◌, ◌≤◌, ◌<◌, ◌+◌, ◌-◌, ◌*◌, ◌^◌, min, length, vec_capacity, IfOk};
+ghost use Rattle.cv_base.specs.Blocks.{MayWriteBlock};
+ghost use Rattle.cv_base.specs.declared.state.WriteState.{WriteState};
 ghost use Rattle.cv_charmap.specs.Maps.{IsMap};
 ghost use Rattle.cv_trie.specs.Charmaps.{map_reads, map_writes, map_closes};
 
@@ -147,6 +149,31 @@ impl Charmap {
         }
     }
 
+    /// Writes at most 256 characters at an index of a slice, with `?` for each that the charmap lacks. If there is such
+    /// a character and the policy does not allow it, it returns `None` and the slice stays as it was. Few characters
+    /// are written through a small buffer, which costs less to zero. What writes them is made here, so that its fields
+    /// stay in registers.
+    #[inline(never)]
+    fn write_run(
+        &self,
+        policy: Policy,
+        characters: &[Scalar],
+        out: &mut [u8],
+        at: usize,
+    ) -> Option<WrittenBlock>
+        requires few { length characters.now ≤ 256 }
+        requires room { at + 8 * length characters.now ≤ length out.old }
+        ensures { MayWriteBlock policy (map_writes self.now.pairs) WriteState.Start characters.now
+            out.old at result out.new }
+    {
+        let encoder = self.encoder();
+        if characters.len() <= 64 {
+            encoder.write_by::<512>(policy, characters, out, at)
+        } else {
+            encoder.write_by::<2048>(policy, characters, out, at)
+        }
+    }
+
     /// Returns the name of the code set.
     pub fn name(&self) -> &[u8]
         ensures { result.now ≡ self.now.name }
@@ -235,7 +262,7 @@ impl BlockCodec for Charmap {
         at: usize,
     ) -> Option<WrittenBlock> {
         match (state, policy) {
-            (WriteState::Start, _) => self.encoder().write_block(policy, characters, out, at),
+            (WriteState::Start, _) => self.write_run(policy, characters, out, at),
             (_, Policy::Substitute) => Some(write_each(self, state, characters, out, at)),
             (_, Policy::Strict) => None,
         }

@@ -101,9 +101,12 @@ fn number_blocks<C: KeyCell>(rows: &mut Rows) -> u32
 {
     let mut size = 0;
     for index in 0..rows.cells.len() {
-        let block = C::block(rows.cells[index], size);
-        rows.cells[index] = block.number;
-        size += block.cells;
+        let number = rows.cells[index];
+        if number > NO_CHARACTER {
+            let block = C::block(number, size);
+            rows.cells[index] = block.number;
+            size += block.cells;
+        }
     }
     size
 }

@@ -45,7 +45,7 @@ impl Encoder<'_> {
 
     /// Writes characters through a buffer of `BYTES` bytes, which is zeroed first.
     #[inline(always)]
-    fn write_by<const BYTES: usize>(
+    pub(crate) fn write_by<const BYTES: usize>(
         &self,
         policy: Policy,
         characters: &[Scalar],
@@ -69,28 +69,5 @@ impl Encoder<'_> {
             count,
             next: WriteState::Start,
         })
-    }
-
-    /// Writes at most 256 characters at an index of a slice, with `?` for each that the charmap lacks. If there is such
-    /// a character and the policy does not allow it, it returns `None` and the slice stays as it was. Few characters
-    /// are written through a small buffer, which costs less to zero.
-    #[inline(never)]
-    pub(crate) fn write_block(
-        &self,
-        policy: Policy,
-        characters: &[Scalar],
-        out: &mut [u8],
-        at: usize,
-    ) -> Option<WrittenBlock>
-        requires few { length characters.now ≤ 256 }
-        requires room { at + 8 * length characters.now ≤ length out.old }
-        ensures { MayWriteBlock policy (map_writes self.now.entries.now) WriteState.Start
-            characters.now out.old at result out.new }
-    {
-        if characters.len() <= 64 {
-            self.write_by::<512>(policy, characters, out, at)
-        } else {
-            self.write_by::<2048>(policy, characters, out, at)
-        }
     }
 }

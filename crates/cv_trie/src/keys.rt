@@ -150,6 +150,23 @@ pub(crate) fn blocks_of<C: KeyCell>(
     fill_blocks(alloc, entries, singles, rows, size)
 }
 
+/// Tells whether a text has these bytes of an entry at an index. LLVM compares them all at once.
+#[inline(always)]
+fn are_there<C: KeyCell>(bytes: &[u8; 8], input: &[u8], used: usize) -> bool
+    requires long { length bytes.now ≡ 8 }
+    requires within { used + 4 ≤ length input.now }
+    ensures { IsTrue result → (k : ℕ) → k < C.KEY
+        → slice_index bytes.now k ≡ slice_index input.now (used + k) }
+{
+    C::assert_key();
+    for k in 0..C::KEY {
+        if bytes[k] != input[used + k] {
+            return false;
+        }
+    }
+    true
+}
+
 /// Returns the character of the entry that a cell names, if its bytes are at an index of a text, or else
 /// `NO_CHARACTER`. The number is that of the first two bytes in the rows.
 #[inline(always)]
@@ -176,14 +193,8 @@ pub(crate) fn character_at<C: KeyCell>(
         return NO_CHARACTER;
     }
     let entry = &entries[place];
-    if entry.len() != C::KEY {
+    if entry.len() != C::KEY || !are_there::<C>(entry.padded(), input, used) {
         return NO_CHARACTER;
-    }
-    let bytes = entry.padded();
-    for k in 0..C::KEY {
-        if bytes[k] != input[used + k] {
-            return NO_CHARACTER;
-        }
     }
     entry.character().value()
 }

@@ -1,4 +1,4 @@
-use Rattle.std.proofs.Common.{◌≡◌, ◌∙◌, ℕ, arith}
+use Rattle.std.proofs.Common.{◌≡◌, ◌∙◌, ℕ, refl, arith}
 use Rattle.cv_trie.proofs.KeyBytes.{key_stands}
 use Rattle.cv_trie.proofs.keys.character_at.Goals as goal
 
@@ -7,9 +7,9 @@ returns-clause-stands g c = λ _. (
     let entry = c.index-entries-place.result in
     let text = c.args.input.now in
     let used = c.args.used in
-    let own = c.padded-bytes.result.now in
+    let own = c.padded.result.now in
     let n : ℕ = g.C.KeyCell.KEY in
+    let same = c.if-not-are_there.ensures refl in
     let character : c.value.result ≡ entry.1 = c.value.ensures.number ∙ c.character.ensures in
     rw character (key_stands c.args.entries.now entry _ own text used n (omega arith) c.index-entries-place.is
-    (omega arith) (omega arith) c.padded-bytes.ensures.bytes (omega arith)
-    (λ k low. c.loop-k.invariant k (omega arith))))
+    (omega arith) (omega arith) c.padded.ensures.bytes (omega arith) same))

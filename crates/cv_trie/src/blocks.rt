@@ -5,7 +5,7 @@ ghost use Rattle.cv_trie.specs.Private.Twos.{AddsNoCharacter};
 ghost use Rattle.cv_trie.specs.Private.Longs.{IsLong};
 
 use crate::fours::FourBytes;
-use crate::keys::{blocks_of, character_at};
+use crate::keys::{KeyCell, blocks_of, character_at};
 use crate::ones::NO_CHARACTER;
 use crate::reading::follow;
 use crate::rows::Rows;
@@ -114,9 +114,12 @@ pub(crate) fn tabled_at(
         return NO_LONG;
     }
     if number > THREES {
-        let character = character_at(trie.entries(), &blocks.threes, number, input, used);
+        let entries = trie.entries();
+        let cell = ThreeBytes::index(number, input[used + 2], 0);
+        let character = character_at(entries, &blocks.threes, cell, input, used);
         return Long { character, size: 3 };
     }
-    let character = character_at(trie.entries(), &blocks.fours, number, input, used);
+    let cell = FourBytes::index(number, input[used + 2], input[used + 3]);
+    let character = character_at(trie.entries(), &blocks.fours, cell, input, used);
     Long { character, size: 4 }
 }

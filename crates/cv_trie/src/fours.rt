@@ -106,7 +106,8 @@ impl Decoder<'_> {
             if number <= NO_CHARACTER {
                 break;
             }
-            let character = character_at(entries, cells, number, input, used);
+            let cell = FourBytes::index(number, input[used + 2], input[used + 3]);
+            let character = character_at(entries, cells, cell, input, used);
             if character >= NO_CHARACTER {
                 break;
             }

@@ -168,23 +168,22 @@ fn are_there<C: KeyCell>(bytes: &[u8; 8], input: &[u8], used: usize) -> bool
 }
 
 /// Returns the character of the entry that a cell names, if its bytes are at an index of a text, or else
-/// `NO_CHARACTER`. The number is that of the first two bytes in the rows.
+/// `NO_CHARACTER`. There may be no such cell. Its index is made by the callers, so that LLVM moves nothing before the
+/// test which of two tables has it.
 #[inline(always)]
 pub(crate) fn character_at<C: KeyCell>(
     entries: &[Entry],
     cells: &[C],
-    number: u32,
+    cell: usize,
     input: &[u8],
     used: usize,
 ) -> u32
-    requires number { no_character < number }
-    requires within { used + 4 ≤ length input.now }
+    requires { used + 4 ≤ length input.now }
     ensures scalar { result < no_character → IsScalar result }
     ensures stands { result < no_character → Stands (map_reads entries.now) read.Start
         (drop used input.now) (taken C.KEY (Some result) read.Start) }
 {
     C::assert_key();
-    let cell = C::index(number, input[used + 2], input[used + 3]);
     if cell >= cells.len() {
         return NO_CHARACTER;
     }

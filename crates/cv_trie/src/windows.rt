@@ -8,8 +8,8 @@ use crate::decoder::Decoder;
 use crate::front::Front;
 use crate::ones::NO_CHARACTER;
 use cv_base::Scalar;
-use cv_simd::{SPLIT_WINDOW, split_double_bytes};
 use cv_pages::{MANY, joined};
+use cv_simd::{SPLIT_WINDOW, split_double_bytes};
 
 /// Eight characters of a text, each of one or two bytes.
 #[derive(Clone, Copy, Debug)]

@@ -1,11 +1,11 @@
 -- Two runs of the same requests give the same replies up to the first failed allocation in either.
-use Rattle.std.proofs.Common.{◌≡◌, ◌≢◌, ℕ, List, [], ◌∷◌, ◌++◌, refl, sym, ap, subst, ◌∙◌, arith}
+use Rattle.std.proofs.Common.{◌≡◌, ℕ, List, [], ◌∷◌, ◌++◌, refl, sym, ap, subst, ◌∙◌, arith}
 use Rattle.std.specs.List.{AllByRecursion}
 use Rattle.std.proofs.lemmas.List.{append-nil}
 use Rattle.cv_frame.specs.Cut.{messages_of, IsCut}
 use Rattle.cv_frame.specs.Message.{Message, joined, FitsFrame}
 use Rattle.cv_frame.proofs.Cuts.{cut_only, front_short}
-use Rattle.cv_machine.specs.Machine.{Turn, IsOneAnswer, Event, requests, reply_to, replies_of, tables_after, IsRun, BeginsAnswer, NoneLacks, no_memory}
+use Rattle.cv_machine.specs.Machine.{Turn, IsOneAnswer, Event, requests, reply_to, replies_of, tables_after, IsRun, NoneLacks, no_memory}
 use Rattle.cv_loop.specs.Laws.{FirstServed}
 
 -- joined frames are cut into these frames again

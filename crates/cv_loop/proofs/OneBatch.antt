@@ -7,7 +7,7 @@ use Rattle.cv_frame.specs.Message.{Message}
 use Rattle.cv_machine.specs.Machine.{Turn, Progress}
 use Rattle.cv_loop.specs.Serving.{counted}
 use Rattle.cv_loop.specs.Replying.{AppendsReplies}
-use Rattle.cv_loop.specs.Private.Draining.{Broken, Answered}
+use Rattle.cv_loop.specs.Private.Draining.{Broken}
 use Rattle.cv_loop.specs.declared.fault.ServeFault.TheVariants as fault
 
 module _ {Table : Type 0} {turn : Turn Table} where
@@ -24,9 +24,10 @@ module _ {Table : Type 0} {turn : Turn Table} where
   }
 
   -- an allocation for the batch or its replies failed
-  pub no_replies : (s new : ℕ → Table) (h : Option (List ℕ)) (asked later : List Message) (before : ℕ) (failed : Bool) (bytes missing : List ℕ)
-      → AppendsReplies turn s asked later [] bytes missing new → failed ≡ false → Broken turn s h h asked new before fault.Memory failed
-  no_replies s new h asked later before failed bytes missing p works = record {
+  pub no_replies : (s new : ℕ → Table) (h : Option (List ℕ)) (asked later : List Message) (before : ℕ) (failed : Bool)
+      (old bytes missing : List ℕ)
+      → AppendsReplies turn s asked later old bytes missing new → failed ≡ false → Broken turn s h h asked new before fault.Memory failed
+  no_replies s new h asked later before failed old bytes missing p works = record {
     later = later;
     written = [];
     unwritten = p.more ++ missing;
@@ -35,11 +36,13 @@ module _ {Table : Type 0} {turn : Turn Table} where
   }
 
   -- the sink failed or took no byte
-  pub no_write : (s new : ℕ → Table) (h h' : Option (List ℕ)) (asked : List Message) (before n count : ℕ) (failed : Bool) (replies bytes : List ℕ)
-      → AppendsReplies turn s asked [] [] replies [] new → bytes ≡ replies → n ≤ length bytes → Appends h h' (take n bytes) → count ≡ counted (before + n)
-      → failed ≡ true → Broken turn s h h' asked new before (fault.Write count) failed
-  no_write s new h h' asked before n count failed replies bytes p is within took counts has =
-      let all : p.more ≡ bytes = sym (is ∙ p.appends) in
+  pub no_write : (s new : ℕ → Table) (h h' : Option (List ℕ)) (asked : List Message) (before n count : ℕ) (failed : Bool)
+      (old replies bytes : List ℕ)
+      → AppendsReplies turn s asked [] old replies [] new → old ≡ [] → bytes ≡ replies → n ≤ length bytes
+      → Appends h h' (take n bytes) → count ≡ counted (before + n) → failed ≡ true
+      → Broken turn s h h' asked new before (fault.Write count) failed
+  no_write s new h h' asked before n count failed old replies bytes p none is within took counts has =
+      let all : p.more ≡ bytes = sym (is ∙ p.appends ∙ ap (λ (x : List ℕ). x ++ p.more) none) in
       record {
         later = [];
         written = take n bytes;
@@ -49,16 +52,4 @@ module _ {Table : Type 0} {turn : Turn Table} where
           ran = rewritten s new asked [] p.more [] (take n bytes) (drop n bytes) p.ran (append-nil p.more ∙ all ∙ sym (take-append-drop n bytes));
         };
         why = (counts ∙ ap (λ (k : ℕ). counted (before + k)) (omega (arith, length-take n bytes)), has);
-      }
-
-  -- all was written
-  pub all_written : (s new : ℕ → Table) (h h' : Option (List ℕ)) (asked : List Message) (before after : ℕ) (replies bytes : List ℕ)
-      → AppendsReplies turn s asked [] [] replies [] new → bytes ≡ replies → Appends h h' bytes → after ≡ counted (before + length bytes)
-      → Answered turn s h h' asked new before after
-  all_written s new h h' asked before after replies bytes p is took counts =
-      let all : p.more ≡ bytes = sym (is ∙ p.appends) in
-      record {
-        written = bytes;
-        wrote = record { took = took; ran = rewritten s new asked [] p.more [] bytes [] p.ran (ap (λ (x : List ℕ). x ++ []) all) };
-        counts = counts;
       }

@@ -1,5 +1,5 @@
 -- For every stream something is served: a request that may run out of memory has another outcome too, and each outcome fits a frame.
-use Rattle.std.proofs.Common.{◌≡◌, ◌≢◌, ◌⊎◌, inl, inr, ℕ, ◌+◌, ◌<◌, ◌≤◌, Bool, true, false, List, [], ◌∷◌, ◌++◌, length, nat_lt, ◌==◌, Option, Some, None, refl, sym, ap, subst, ◌∙◌, lit<, arith}
+use Rattle.std.proofs.Common.{◌≡◌, ◌⊎◌, inl, inr, ℕ, ◌<◌, ◌≤◌, Bool, true, false, List, [], ◌∷◌, ◌++◌, length, nat_lt, ◌==◌, Option, Some, None, refl, sym, ap, subst, lit<, arith}
 use Rattle.std.specs.Prelude.{if◌then◌else◌}
 use Rattle.std.specs.List.{AllByRecursion, list_any}
 use Rattle.std.proofs.lemmas.Bool.{cases_eq, ltb-false}
@@ -9,16 +9,16 @@ use Rattle.cv_caller.specs.Results.{is_taken, is_full}
 use Rattle.cv_caller.specs.Tables.{Table, Named, Descriptor, form_in, named_of, place_of, least_place, least_free, descriptor_at, uses}
 use Rattle.cv_cache.specs.Compiled.{Compiled, Read, Faulty, Lacking}
 use Rattle.cv_charmap.specs.Meaning.{Charmap}
-use Rattle.cv_frame.specs.Cut.{messages_of, IsBytes, OneCut}
+use Rattle.cv_frame.specs.Cut.{messages_of, OneCut}
 use Rattle.cv_frame.specs.Message.{Message, joined, FitsFrame}
 use Rattle.cv_frame.specs.Sizes.{most_body}
 use Rattle.cv_frame.specs.Status.{status_number}
 use Rattle.cv_frame.specs.declared.status.Status.{Status}
 use Rattle.cv_frame.specs.declared.status.Status.TheVariants as status
-use Rattle.cv_machine.specs.Machine.{Outcome, Event, When, IsRun, IsServed, NoneLacks, requests, replies_of, tables_after, no_memory}
+use Rattle.cv_machine.specs.Machine.{Outcome, Event, When, IsRun, NoneLacks, requests, replies_of, tables_after, no_memory}
 use Rattle.cv_pivot.specs.Encodings.{form_closes}
 use Rattle.cv_world.specs.Actions.{Action, Put, DropMap, Open, Conv, Reset, Close, Bye, Part, Bad}
-use Rattle.cv_world.specs.Answers.{answer_code, answer_status, answer_body, most_room}
+use Rattle.cv_world.specs.Answers.{answer_status, answer_body, most_room}
 use Rattle.cv_world.specs.Laws.{IsSound, KeepsTables, NeverLacksAlone}
 use Rattle.cv_world.specs.Requests.{turn}
 use Rattle.cv_world.specs.Turn.{Does, Holds, Puts, Parts, Drops, Binds, Opens, IsConversion, Convs, Restarts, Resets, Closes, Acts}

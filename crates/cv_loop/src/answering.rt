@@ -1,66 +1,46 @@
 //! Answers one batch.
 
-ghost use Rattle.std.specs.Prelude.{◌≡◌, ℕ, List, [], false, IfErr, OnErr, OnOk};
-ghost use Rattle.cv_frame.specs.Message.{Message};
+ghost use Rattle.std.specs.Prelude.{◌≡◌, false, IfErr, OnOk};
 ghost use Rattle.cv_loop.specs.Private.Draining.{Answered, Broken};
-ghost use Rattle.cv_loop.specs.Replying.{AppendsReplies};
 
 use crate::ends::Sink;
 use crate::engine::Engine;
 use crate::fault::ServeFault;
 use crate::pushing::push_all;
-use cv_base::Memory;
+use crate::session::Session;
 use cv_frame::Request;
-use cv_world::Replies;
 use std::alloc::Global;
 
-/// Answers requests. Their replies replace those that were in `replies`.
-fn reply_anew<R, E: Engine<R>>(
-    engine: &mut E,
-    rt: &R,
-    alloc: Global,
-    requests: &[Request],
-    replies: &mut Replies,
-) -> Result<(), Memory>
-    requires { E.ready engine.old }
-    ensures ready { E.ready engine.new }
-    ensures ok { OnOk result (AppendsReplies E.turn (E.tables engine.old) requests.now [] [] replies.new [] (E.tables engine.new)) }
-    ensures err { OnErr result ((later : List Message) × (missing : List ℕ)
-        × AppendsReplies E.turn (E.tables engine.old) requests.now later [] replies.new missing (E.tables engine.new)) }
-{
-    replies.clear();
-    engine.batch_into(rt, alloc, requests, replies)
-}
-
-/// Answers requests, and writes the replies. `written` counts the bytes that were written for the stream. `replies` is
-/// a buffer that is reused from batch to batch, so that its memory is not allocated anew for each.
+/// Answers requests, writes the replies, and counts the bytes that were written. The replies replace those that were in
+/// the session.
 pub fn answer<R, E: Engine<R>, W: Sink>(
     engine: &mut E,
     rt: &R,
     alloc: Global,
     writer: &mut W,
     requests: &[Request],
-    replies: &mut Replies,
-    written: &mut u64,
+    session: &mut Session,
 ) -> Result<(), ServeFault>
     requires ready { E.ready engine.old }
     requires works { W.has_failed writer.old ≡ false }
     ensures ready { E.ready engine.new }
     ensures ok { OnOk result (Answered E.turn (E.tables engine.old) (W.held writer.old) (W.held writer.new) requests.now
-        (E.tables engine.new) written.old written.new) }
+        (E.tables engine.new) session.old.written session.new.written) }
+    ensures requests { session.new.requests ≡ session.old.requests }
     ensures works { OnOk result (W.has_failed writer.new ≡ false) }
     ensures err { IfErr result (λ f. Broken E.turn (E.tables engine.old) (W.held writer.old) (W.held writer.new) requests.now
-        (E.tables engine.new) written.old f (W.has_failed writer.new)) }
+        (E.tables engine.new) session.old.written f (W.has_failed writer.new)) }
 {
-    let before = *written;
+    let before = session.written;
     if requests.is_empty() {
         return Ok(());
     }
-    reply_anew(engine, rt, alloc, requests, replies)?;
-    let bytes = replies.as_slice();
+    session.replies.clear();
+    engine.batch_into(rt, alloc, requests, &mut session.replies)?;
+    let bytes = session.replies.as_slice();
     match push_all(writer, bytes) {
         Ok(()) => {
-            *written = before.saturating_add(bytes.len() as u64);
+            session.written = before.saturating_add(bytes.len() as u64);
             Ok(())
         }
         Err(n) => {

@@ -10,80 +10,63 @@ use crate::batch::{End, next_batch};
 use crate::ends::Sink;
 use crate::engine::Engine;
 use crate::fault::ServeFault;
-use cv_world::Replies;
+use crate::session::Session;
 use std::alloc::Global;
 
-/// How much of a stream was served. The counts saturate.
-#[derive(Clone, Copy, Debug)]
-pub struct Counts {
-    pub requests: u64,
-    /// How many bytes were written.
-    pub written: u64,
-}
-
-/// Answers the batch at the start of the bytes, and returns its length in bytes and why it ended. `replies` is a reused
-/// buffer.
+/// Answers the batch at the start of the bytes, and returns its length in bytes and why it ended.
 fn drain_batch<R, E: Engine<R>, W: Sink>(
     engine: &mut E,
     rt: &R,
     alloc: Global,
     writer: &mut W,
     bytes: &[u8],
-    replies: &mut Replies,
-    counts: &mut Counts,
+    session: &mut Session,
 ) -> Result<(usize, End), ServeFault>
     requires ready { E.ready engine.old }
     requires works { W.has_failed writer.old ≡ false }
     ensures ready { E.ready engine.new }
     ensures ok { IfOk result (λ r. Drained E.turn (E.tables engine.old) (W.held writer.old) (W.held writer.new) bytes.now r.0
-        (E.tables engine.new) counts.old.written counts.new.written counts.old.requests counts.new.requests) }
+        (E.tables engine.new) session.old.written session.new.written
+        session.old.requests session.new.requests) }
     ensures works { OnOk result (W.has_failed writer.new ≡ false) }
-    ensures cleared { OnOk result (replies.new ≡ []) }
+    ensures cleared { OnOk result (session.new.replies ≡ []) }
     ensures end { IfOk result (λ r. EndsBatch r.1 r.0 (drop r.0 bytes.now)) }
     ensures err { IfErr result (λ f. Stopped E.turn f (E.tables engine.old) (W.held writer.old) (W.held writer.new) bytes.now
-        (E.tables engine.new) counts.old.written (W.has_failed writer.new)) }
+        (E.tables engine.new) session.old.written (W.has_failed writer.new)) }
 {
     let batch = next_batch(alloc, bytes, engine.uploads_at_once())?;
     let n = batch.requests.len() as u64;
-    answer(
-        engine,
-        rt,
-        alloc,
-        writer,
-        &batch.requests,
-        replies,
-        &mut counts.written,
-    )?;
+    answer(engine, rt, alloc, writer, &batch.requests, session)?;
     // Memory that the batch reserved and did not need is freed before the next read, which may wait.
-    replies.clear();
-    counts.requests = counts.requests.saturating_add(n);
+    session.replies.clear();
+    session.requests = session.requests.saturating_add(n);
     Ok((batch.used, batch.end))
 }
 
-/// Answers all whole frames at the start of the bytes, and returns their length in bytes. `replies` is a reused buffer.
+/// Answers all whole frames at the start of the bytes, and returns their length in bytes.
 pub fn drain<R, E: Engine<R>, W: Sink>(
     engine: &mut E,
     rt: &R,
     alloc: Global,
     writer: &mut W,
     bytes: &[u8],
-    replies: &mut Replies,
-    counts: &mut Counts,
+    session: &mut Session,
 ) -> Result<usize, ServeFault>
     requires ready { E.ready engine.old }
     requires works { W.has_failed writer.old ≡ false }
     ensures ready { E.ready engine.new }
     ensures ok { IfOk result (λ used. Drained E.turn (E.tables engine.old) (W.held writer.old) (W.held writer.new) bytes.now used
-        (E.tables engine.new) counts.old.written counts.new.written counts.old.requests counts.new.requests) }
+        (E.tables engine.new) session.old.written session.new.written
+        session.old.requests session.new.requests) }
     ensures works { OnOk result (W.has_failed writer.new ≡ false) }
-    ensures cleared { OnOk result (replies.new ≡ []) }
+    ensures cleared { OnOk result (session.new.replies ≡ []) }
     ensures end { IfOk result (λ used. front_of (drop used bytes.now) ≡ front.Partial) }
     ensures err { IfErr result (λ f. Stopped E.turn f (E.tables engine.old) (W.held writer.old) (W.held writer.new) bytes.now
-        (E.tables engine.new) counts.old.written (W.has_failed writer.new)) }
+        (E.tables engine.new) session.old.written (W.has_failed writer.new)) }
 {
     let mut used = 0;
     loop {
-        let (n, end) = drain_batch(engine, rt, alloc, writer, &bytes[used..], replies, counts)?;
+        let (n, end) = drain_batch(engine, rt, alloc, writer, &bytes[used..], session)?;
         used += n;
         match end {
             End::More => {}

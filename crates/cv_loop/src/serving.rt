@@ -3,11 +3,12 @@
 ghost use Rattle.std.specs.Prelude.{◌≡◌, ℕ, List, false};
 ghost use Rattle.cv_loop.specs.Serving.{Serving, Gave, Took, IsHeadline, EndsSay, ending_of};
 
-use crate::draining::{Counts, drain};
+use crate::draining::drain;
 use crate::ends::{Sink, Source};
 use crate::engine::Engine;
 use crate::fault::ServeFault;
-use crate::held::Held;
+use crate::read_buffer::ReadBuffer;
+use crate::session::Session;
 use cv_world::Replies;
 use std::alloc::Global;
 
@@ -36,23 +37,23 @@ fn serve_stream<R, E: Engine<R>, S: Source, W: Sink>(
         (S.left reader.new) (S.pulls reader.new) max_reads }
     ensures ready { E.ready engine.new }
 {
-    let mut held = Held::new(alloc);
-    let mut replies = Replies::new(alloc);
-    let mut counts = Counts {
+    let mut buffer = ReadBuffer::new(alloc);
+    let mut session = Session {
+        replies: Replies::new(alloc),
         requests: 0,
         written: 0,
     };
     for _read in 0..max_reads {
-        if !held.read_more(reader, &mut replies)? {
-            if held.as_slice().is_empty() {
-                let requests = counts.requests;
+        if !buffer.read_more(reader, &mut session.replies)? {
+            if buffer.as_slice().is_empty() {
+                let requests = session.requests;
                 return Ok(Served { requests });
             }
             return Err(ServeFault::TruncatedFrame);
         }
-        let bytes = held.as_slice();
-        let used = drain(engine, rt, alloc, writer, bytes, &mut replies, &mut counts)?;
-        held.forget(used);
+        let bytes = buffer.as_slice();
+        let used = drain(engine, rt, alloc, writer, bytes, &mut session)?;
+        buffer.forget(used);
     }
     Err(ServeFault::TooManyReads)
 }

@@ -18,7 +18,7 @@ use Rattle.cv_base.proofs.Front.{Begins-front, Begins-back, Begins-length}
 use Rattle.cv_pivot.specs.declared.outcome.States.{States}
 use Rattle.cv_base.specs.Chains.{IsChain, used_bytes, read_state, characters_of, Output, output, output_of, output_for}
 use Rattle.cv_block.specs.AsciiRuns.{units_of, IsRunBelow, characters_in}
-use Rattle.cv_pivot.specs.Private.Steps.{TakesSome, took_units}
+use Rattle.cv_pivot.specs.Private.Steps.{TakesSome, run_progress}
 use Rattle.cv_base.proofs.AllWritten.{none_allowed}
 use Rattle.cv_base.proofs.ChainLaws.{output_of_characters}
 use Rattle.cv_block.proofs.UnitBytes.{length-unit_of, some_bytes}
@@ -59,29 +59,31 @@ run_characters s form (c ∷ characters) = ap (λ (x : List ℕ). c ∷ x) (run_
 pub run_takes : (limit : ℕ) (reads : ItemRelation) (writes : Writing) (policy : Policy) (from : States) (rest before : List ℕ) (at : ℕ) (form : AsciiForm) (characters bytes : List ℕ) (after : List ℕ) → ReadsBelow limit reads from.reading form → output_for writes from.writing characters ≡ output bytes 0 from.writing → AreBelow limit characters
     → Begins (units_of form characters) rest → 0 < length (units_of form characters) → at + length bytes ≤ length before
     → after ≡ take at before ++ bytes ++ drop (at + length bytes) before
-    → TakesSome reads writes policy from rest before at (record { used = length (units_of form characters); wrote = length bytes; count = 0 }) from after
+    → TakesSome reads writes policy from rest before at (record { read = length (units_of form characters); written = length bytes; replaced = 0 }) from after
 run_takes limit reads writes policy from rest before at form characters bytes after r w small front some fits put =
     let items = run_items from.reading form characters in
     let o : output_of writes from.writing items ≡ output bytes 0 from.writing = output_of_characters writes from.writing items ∙ ap (output_for writes from.writing) (run_characters from.reading form characters) ∙ w in
     record {
-      chain = items;
-      is_chain = run_chain limit reads from.reading form r characters rest small front;
-      allowed = none_allowed policy (output_of writes from.writing items) (ap (λ x. x.count) o);
       some = some;
-      uses = sym (run_used from.reading form characters);
-      reading = sym (run_state from.reading form characters);
-      counts = sym (ap (λ x. x.count) o);
-      writing = sym (ap (λ x. x.next) o);
-      writes_bytes = sym (ap (λ x. length x.bytes) o);
-      fits = fits;
-      out = put ∙ ap (λ (x : Output). take at before ++ x.bytes ++ drop (at + length bytes) before) (sym o);
+      takes = record {
+        chain = items;
+        is_chain = run_chain limit reads from.reading form r characters rest small front;
+        allowed = none_allowed policy (output_of writes from.writing items) (ap (λ x. x.count) o);
+        uses = sym (run_used from.reading form characters);
+        reading = sym (run_state from.reading form characters);
+        counts = sym (ap (λ x. x.count) o);
+        writing = sym (ap (λ x. x.next) o);
+        writes_bytes = sym (ap (λ x. length x.bytes) o);
+        fits = fits;
+        out = put ∙ ap (λ (x : Output). take at before ++ x.bytes ++ drop (at + length bytes) before) (sym o);
+      };
     }
 
 -- a run of units whose characters were put in another form is a chain
 pub units_take : (limit : ℕ) → limit ≤ 0x100 → (reads : ItemRelation) (writes : Writing) (policy : Policy) (from : States) (rest before : List ℕ) (at n : ℕ) (form target : AsciiForm) (after : List ℕ) → ReadsBelow limit reads from.reading form → WritesBelow limit writes from.writing target
     → 0 < n → unit_size form * n ≤ length rest → at + unit_size target * n ≤ length before → IsRunBelow limit form rest n
     → after ≡ take at before ++ units_of target (characters_in form rest n) ++ drop (at + unit_size target * n) before
-    → TakesSome reads writes policy from rest before at (record { used = unit_size form * n; wrote = unit_size target * n; count = 0 }) from after
+    → TakesSome reads writes policy from rest before at (record { read = unit_size form * n; written = unit_size target * n; replaced = 0 }) from after
 units_take limit few reads writes policy from rest before at n form target after r w some within fits small put =
     let characters = characters_in form rest n in
     let a : length (units_of form characters) ≡ unit_size form * n = length-run form form rest n in
@@ -94,7 +96,7 @@ units_take limit few reads writes policy from rest before at n form target after
 pub units_taken : (limit : ℕ) → limit ≤ 0x100 → (reads : ItemRelation) (writes : Writing) (from : States) (rest before : List ℕ) (at : ℕ) (form target : AsciiForm) (after : List ℕ) (n : ℕ) → ReadsBelow limit reads from.reading form → WritesBelow limit writes from.writing target
     → unit_size form * n ≤ length rest → at + unit_size target * n ≤ length before → IsRunBelow limit form rest n → (n ≡ 0 → after ≡ before)
     → after ≡ take at before ++ units_of target (characters_in form rest n) ++ drop (at + unit_size target * n) before
-    → MatchOption (took_units form target n) (after ≡ before) (λ took. (policy : Policy) → TakesSome reads writes policy from rest before at took from after)
+    → MatchOption (run_progress form target n) (after ≡ before) (λ step. (policy : Policy) → TakesSome reads writes policy from rest before at step from after)
 units_taken limit few reads writes from rest before at form target after zero r w within fits small none put = none refl
 units_taken limit few reads writes from rest before at form target after (suc n) r w within fits small none put =
     λ policy. units_take limit few reads writes policy from rest before at (suc n) form target after r w (omega arith) within fits small put
@@ -116,7 +118,7 @@ nothing_put (b ∷ bytes) before at after p = absurd (omega (arith, p.wrote))
 
 -- the result of a run that is written as bytes, if there is one
 pub bytes_taken : (reads : ItemRelation) (writes : Writing) (from : States) (rest before : List ℕ) (at : ℕ) (form : AsciiForm) (n : ℕ) (after : List ℕ) → ReadsAscii reads from.reading form → IsWrittenRun writes from.writing form rest before at n after
-    → MatchOption (took_units form Byte n) (after ≡ before) (λ took. (policy : Policy) → TakesSome reads writes policy from rest before at took from after)
+    → MatchOption (run_progress form Byte n) (after ≡ before) (λ step. (policy : Policy) → TakesSome reads writes policy from rest before at step from after)
 bytes_taken reads writes from rest before at form zero after r p = nothing_put p.characters before at after p.put
 bytes_taken reads writes from rest before at form (suc n) after r p =
     λ policy.

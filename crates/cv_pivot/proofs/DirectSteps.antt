@@ -1,64 +1,78 @@
 -- Converting directly is a step.
-use Rattle.std.proofs.Common.{◌≡◌, ℕ, ◌<◌, List, [], ◌∷◌, length, get_or, refl, sym, subst, arith, suc}
+use Rattle.std.proofs.Common.{ℕ, ◌<◌, List, [], ◌∷◌, length, get_or, refl, sym, arith, suc}
 use Rattle.std.specs.List.{flat_map}
 use Rattle.std.proofs.lemmas.List.{take_all}
 use Rattle.cv_base.specs.Items.{ItemRelation, Begins}
-use Rattle.cv_base.specs.Codecs.{Writing}
 use Rattle.cv_base.specs.Scalars.{AreScalars}
 use Rattle.cv_base.specs.SingleBytes.{byte_reads}
 use Rattle.cv_base.specs.declared.policy.Policy.{Policy}
 use Rattle.cv_base.specs.declared.state.ReadState.{ReadState}
 use Rattle.cv_base.specs.declared.state.ReadState.TheVariants as read
 use Rattle.cv_base.specs.declared.state.WriteState.{WriteState}
-use Rattle.cv_base.specs.declared.state.WriteState.TheVariants as write
 use Rattle.cv_base.proofs.AllWritten.{none_allowed}
 use Rattle.cv_base.proofs.BlockLaws.{AreRead, read_block_of}
 use Rattle.cv_block.specs.StatelessForms.{BytesOf}
-use Rattle.cv_block.proofs.FormBlocks.{ReadsForm, WritesForm, scalars_read, spelled_written}
+use Rattle.cv_block.proofs.FormBlocks.{WritesForm, scalars_read, spelled_written}
 use Rattle.cv_direct.specs.Direct.{IsConverted}
 use Rattle.cv_direct.specs.declared.direct.Direct.{Direct}
-use Rattle.cv_utf8.specs.Utf8.{utf8_bytes, utf8_reads, utf8_writes}
+use Rattle.cv_utf8.specs.Utf8.{utf8_bytes}
 use Rattle.cv_utf8.proofs.Utf8Spelled.{utf8_reads_spelled}
 use Rattle.cv_pivot.specs.declared.outcome.States.{States}
+use Rattle.cv_pivot.specs.Encodings.{Form, form_reads, form_writes}
+use Rattle.cv_pivot.specs.Private.Steps.FastPaths.{IsReadAs, IsWrittenAs, read_bytes, written_bytes}
 use Rattle.cv_pivot.specs.Private.Steps.{TakesSome}
+use Rattle.cv_pivot.specs.declared.fast_path.ReadForm.{ReadForm}
+use Rattle.cv_pivot.specs.declared.fast_path.ReadForm.TheVariants as read_form
+use Rattle.cv_pivot.specs.declared.fast_path.WrittenForm.{WrittenForm}
+use Rattle.cv_pivot.specs.declared.fast_path.WrittenForm.TheVariants as written_form
+use Rattle.cv_wide.specs.Utf16.{utf16}
+use Rattle.cv_wide.specs.Utf32.{utf32}
 use Rattle.cv_pivot.proofs.BlockSteps.{block_takes}
 
 -- In this state characters at the start of a text read as they are spelled.
 abbrev ReadsAll : ItemRelation → ReadState → BytesOf → List ℕ → Type 0
 ReadsAll reads s bytes_of rest = (characters : List ℕ) → AreScalars characters → Begins (flat_map bytes_of characters) rest → AreRead reads s bytes_of characters
 
--- characters that were converted from one spelling to another
-pub converted_takes : (reads : ItemRelation) (writes : Writing) (policy : Policy) (from : States) (bytes_of bytes_to : BytesOf) (rest before : List ℕ) (at : ℕ) (run : Direct) (after : List ℕ) → ReadsAll reads from.reading bytes_of rest → WritesForm writes from.writing bytes_to → 0 < run.used
-    → IsConverted bytes_of bytes_to rest before at run after → TakesSome reads writes policy from rest before at (record { used = run.used; wrote = run.wrote; count = 0 }) from after
-converted_takes reads writes policy from bytes_of bytes_to rest before at run after r w some p =
-    let characters : List ℕ = p.characters in
-    let n : ℕ = length characters in
-    let whole = take_all n characters (omega arith) in
-    let block = read_block_of reads from.reading bytes_of rest characters characters n run.used (r characters p.scalars p.begins) p.begins p.uses whole (omega arith) in
-    let written = spelled_written writes from.writing bytes_to w characters before at (record { wrote = run.wrote; count = 0; next = from.writing }) after (record { bytes = p.put; counts = refl; next = refl }) in
-    block_takes reads writes policy from rest before at _ characters characters _ after block some (sym whole) (none_allowed policy _ (sym written.counts)) written
-
--- characters that were converted from a spelling
-pub spelled_takes : (reads : ItemRelation) (writes : Writing) (policy : Policy) (from : States) (bytes_of bytes_to : BytesOf) (rest before : List ℕ) (at : ℕ) (run : Direct) (after : List ℕ) → ReadsForm reads from.reading bytes_of → WritesForm writes from.writing bytes_to → 0 < run.used
-    → IsConverted bytes_of bytes_to rest before at run after → TakesSome reads writes policy from rest before at (record { used = run.used; wrote = run.wrote; count = 0 }) from after
-spelled_takes reads writes policy from bytes_of bytes_to rest before at run after r w some p =
-    converted_takes reads writes policy from bytes_of bytes_to rest before at run after (λ characters scalars begins. scalars_read reads from.reading bytes_of r characters scalars) w some p
-
 bytes_read : (characters rest : List ℕ) → ((k : ℕ) → get_or rest k 0 < 256) → Begins (flat_map (λ c. c ∷ []) characters) rest → AreRead (byte_reads 256) read.Start (λ c. c ∷ []) characters
 bytes_read [] rest p h = tt
 bytes_read (c ∷ characters) [] p h = absurd h
 bytes_read (c ∷ characters) (b ∷ rest) p h = ((omega (arith, h.0, p 0), refl), bytes_read characters rest (λ k. p (suc k)) h.1)
 
--- characters that were converted from the bytes of ISO-8859-1
-pub bytes_take : (writes : Writing) (policy : Policy) (from : States) (bytes_to : BytesOf) (rest before : List ℕ) (at : ℕ) (run : Direct) (after : List ℕ) → from.reading ≡ read.Start → ((k : ℕ) → get_or rest k 0 < 256) → WritesForm writes from.writing bytes_to → 0 < run.used
-    → IsConverted (λ c. c ∷ []) bytes_to rest before at run after → TakesSome (byte_reads 256) writes policy from rest before at (record { used = run.used; wrote = run.wrote; count = 0 }) from after
-bytes_take writes policy from bytes_to rest before at run after e p w some q =
-    converted_takes (byte_reads 256) writes policy from (λ c. c ∷ []) bytes_to rest before at run after (λ characters scalars begins. subst (λ (s : ReadState). AreRead (byte_reads 256) s (λ c. c ∷ []) characters) (sym e) (bytes_read characters rest p begins)) w some q
+reads_all : (form : ReadForm) (from : Form) (s : ReadState) → IsReadAs form from s
+    → (rest : List ℕ) → ((k : ℕ) → get_or rest k 0 < 256) → ReadsAll (form_reads from) s (read_bytes form) rest
+reads_all read_form.Latin1 from s p rest b = λ characters scalars begins.
+    rw (p.0, p.1) (bytes_read characters rest b begins)
+reads_all read_form.Utf8 from s p rest b = λ characters scalars begins.
+    scalars_read (form_reads from) s utf8_bytes (rw (p.0, p.1) utf8_reads_spelled) characters scalars
+reads_all (read_form.Utf16 endian) from s p rest b = λ characters scalars begins.
+    scalars_read (form_reads from) s (utf16 endian) (rw p.1 (p.2 utf16)) characters scalars
+reads_all (read_form.Utf32 endian) from s p rest b = λ characters scalars begins.
+    scalars_read (form_reads from) s (utf32 endian) (rw p.1 (p.2 utf32)) characters scalars
 
--- UTF-8 is written by its spelling at the start
-pub utf8_spelled : (t : WriteState) → t ≡ write.Start → WritesForm utf8_writes t utf8_bytes
-utf8_spelled t e = subst (λ (s : WriteState). WritesForm utf8_writes s utf8_bytes) (sym e) (λ c. refl)
+writes_all : (form : WrittenForm) (to : Form) (t : WriteState) → IsWrittenAs form to t
+    → WritesForm (form_writes to) t (written_bytes form)
+writes_all written_form.Utf8 to t p = rw (p.0, p.1) (λ c. refl)
+writes_all (written_form.Utf16 endian) to t p = rw p.1 (p.2 utf16)
 
--- UTF-8 is read by its spelling at the start
-pub utf8_read : (s : ReadState) → s ≡ read.Start → ReadsForm utf8_reads s utf8_bytes
-utf8_read s e = subst (λ (t : ReadState). ReadsForm utf8_reads t utf8_bytes) (sym e) utf8_reads_spelled
+-- what a loop converted that reads and writes these encodings' forms
+pub fast_takes : (form : ReadForm) (target : WrittenForm) (from to : Form) (policy : Policy) (states : States)
+    → IsReadAs form from states.reading → IsWrittenAs target to states.writing
+    → (rest before : List ℕ) (at : ℕ) (run : Direct) (after : List ℕ) → ((k : ℕ) → get_or rest k 0 < 256)
+    → 0 < run.used → IsConverted (read_bytes form) (written_bytes target) rest before at run after
+    → TakesSome (form_reads from) (form_writes to) policy states rest before at
+    (record { read = run.used; written = run.wrote; replaced = 0 }) states after
+fast_takes form target from to policy states r w rest before at run after b some p =
+    let characters : List ℕ = p.characters in
+    let n : ℕ = length characters in
+    let whole = take_all n characters (omega arith) in
+    let bytes_of = read_bytes form in
+    let are_read = reads_all form from states.reading r rest b characters p.scalars p.begins in
+    let block = read_block_of (form_reads from) states.reading bytes_of rest characters characters n run.used are_read
+    p.begins p.uses whole (omega arith) in
+    let written = spelled_written (form_writes to) states.writing (written_bytes target)
+    (writes_all target to states.writing w) characters before at
+    (record { wrote = run.wrote; count = 0; next = states.writing }) after
+    (record { bytes = p.put; counts = refl; next = refl }) in
+    let allowed = none_allowed policy _ (sym written.counts) in
+    block_takes (form_reads from) (form_writes to) policy states rest before at _ characters characters _ after block some
+    (sym whole) allowed written

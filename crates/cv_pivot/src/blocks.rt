@@ -3,8 +3,9 @@ ghost use Rattle.std.specs.Prelude.{◌≡◌, ◌≤◌, length, MatchOption};
 ghost use Rattle.cv_pivot.specs.Private.Steps.{TakesSome};
 
 use crate::outcome::States;
-use crate::step::Took;
-use cv_base::{BlockCodec, Policy, Scalar};
+use crate::pair::Pair;
+use crate::step::Progress;
+use cv_base::{BlockCodec, Scalar};
 
 /// How many characters a short block has at most.
 const SHORT_BLOCK: usize = 64;
@@ -62,8 +63,8 @@ impl BlockSize {
 
     /// Returns the size after a block, or after none.
     #[inline(always)]
-    fn behind(took: &Option<Took>) -> BlockSize {
-        match took {
+    fn behind(step: &Option<Progress>) -> BlockSize {
+        match step {
             Some(_) => BlockSize::Long,
             None => BlockSize::Short,
         }
@@ -85,36 +86,38 @@ impl BlockSize {
 /// under the policy.
 #[inline(always)]
 fn block<F: BlockCodec, T: BlockCodec>(
-    from: &F,
-    to: &T,
+    pair: Pair<'_, F, T>,
     buffer: &mut [Scalar],
-    policy: Policy,
     states: &mut States,
     rest: &[u8],
     out: &mut [u8],
     at: usize,
-) -> Option<Took>
+) -> Option<Progress>
     requires room { at ≤ length out.old }
     requires few { length buffer.old ≤ 256 }
-    ensures { MatchOption result ((states.new ≡ states.old) × (out.new ≡ out.old)) (λ took.
-        TakesSome (F.reads from.now) (T.writes to.now) policy states.old rest.now
-        out.old at took states.new out.new) }
+    ensures { MatchOption result ((states.new ≡ states.old) × (out.new ≡ out.old)) (λ step.
+        TakesSome (F.reads pair.entry.from.now) (T.writes pair.entry.to.now) pair.entry.policy
+        states.old rest.now out.old at step states.new out.new) }
 {
     let limit = buffer.len().min((out.len() - at) / MOST_BYTES);
-    let read = from.read_block(states.reading, rest, &mut buffer[..limit]);
+    let read = pair
+        .from
+        .read_block(states.reading, rest, &mut buffer[..limit]);
     if read.used == 0 {
         return None;
     }
     let characters = &buffer[..read.n];
-    let written = to.write_block(policy, states.writing, characters, out, at)?;
+    let written = pair
+        .to
+        .write_block(pair.policy, states.writing, characters, out, at)?;
     *states = States {
         reading: read.next,
         writing: written.next,
     };
-    Some(Took {
-        used: read.used,
-        wrote: written.wrote,
-        count: written.count,
+    Some(Progress {
+        read: read.used,
+        written: written.wrote,
+        replaced: written.count,
     })
 }
 
@@ -122,84 +125,76 @@ fn block<F: BlockCodec, T: BlockCodec>(
 /// entry.
 #[inline(always)]
 fn short_block<F: BlockCodec, T: BlockCodec>(
-    from: &F,
-    to: &T,
-    policy: Policy,
+    pair: Pair<'_, F, T>,
     states: &mut States,
     rest: &[u8],
     out: &mut [u8],
     at: usize,
-) -> Option<Took>
+) -> Option<Progress>
     requires room { at ≤ length out.old }
-    ensures { MatchOption result ((states.new ≡ states.old) × (out.new ≡ out.old)) (λ took.
-        TakesSome (F.reads from.now) (T.writes to.now) policy states.old rest.now
-        out.old at took states.new out.new) }
+    ensures { MatchOption result ((states.new ≡ states.old) × (out.new ≡ out.old)) (λ step.
+        TakesSome (F.reads pair.entry.from.now) (T.writes pair.entry.to.now) pair.entry.policy
+        states.old rest.now out.old at step states.new out.new) }
 {
     let mut buffer = [Scalar::substitute(); SHORT_BLOCK];
-    block(from, to, &mut buffer, policy, states, rest, out, at)
+    block(pair, &mut buffer, states, rest, out, at)
 }
 
 /// Takes up to `MOST_BLOCKS` long blocks in a row, if there is one, through one buffer, which is cleared once for all
 /// of them.
 #[inline(always)]
 fn long_blocks<F: BlockCodec, T: BlockCodec>(
-    from: &F,
-    to: &T,
-    policy: Policy,
+    pair: Pair<'_, F, T>,
     states: &mut States,
     rest: &[u8],
     out: &mut [u8],
     at: usize,
-) -> Option<Took>
+) -> Option<Progress>
     requires room { at ≤ length out.old }
-    ensures { MatchOption result ((states.new ≡ states.old) × (out.new ≡ out.old)) (λ took.
-        TakesSome (F.reads from.now) (T.writes to.now) policy states.old rest.now
-        out.old at took states.new out.new) }
+    ensures { MatchOption result ((states.new ≡ states.old) × (out.new ≡ out.old)) (λ step.
+        TakesSome (F.reads pair.entry.from.now) (T.writes pair.entry.to.now) pair.entry.policy
+        states.old rest.now out.old at step states.new out.new) }
 {
-    from.assert_valid();
+    pair.from.assert_valid();
     let mut buffer = [Scalar::substitute(); LONG_BLOCK];
     let mut blocks = 0;
-    let mut taken = Took::nothing();
-    while blocks < MOST_BLOCKS && rest.len() - taken.used >= LONG_BLOCK {
-        let behind = &rest[taken.used..];
-        let end = at + taken.wrote;
-        let Some(took) = block(from, to, &mut buffer, policy, states, behind, out, end) else {
+    let mut progress = Progress::start();
+    while blocks < MOST_BLOCKS && rest.len() - progress.read >= LONG_BLOCK {
+        let behind = &rest[progress.read..];
+        let end = at + progress.written;
+        let Some(step) = block(pair, &mut buffer, states, behind, out, end) else {
             break;
         };
         blocks += 1;
-        taken.used += took.used;
-        taken.wrote += took.wrote;
-        taken.count += took.count;
+        progress = progress.then(step);
     }
-    if taken.used == 0 {
+    if progress.read == 0 {
         return None;
     }
-    Some(taken)
+    Some(progress)
 }
 
 /// Takes a block of the current size, or several, if there is one. Sets the size of the next.
 #[inline(always)]
 pub(crate) fn sized_block<F: BlockCodec, T: BlockCodec>(
-    from: &F,
-    to: &T,
+    pair: Pair<'_, F, T>,
     size: &mut BlockSize,
-    policy: Policy,
     states: &mut States,
     rest: &[u8],
     out: &mut [u8],
     at: usize,
-) -> Option<Took>
+) -> Option<Progress>
     requires { at ≤ length out.old }
-    ensures { MatchOption result ((states.new ≡ states.old) × (out.new ≡ out.old)) (λ took.
-        TakesSome (F.reads from.now) (T.writes to.now) policy states.old rest.now
-        out.old at took states.new out.new) }
+    ensures { MatchOption result ((states.new ≡ states.old) × (out.new ≡ out.old)) (λ step.
+        TakesSome (F.reads pair.entry.from.now) (T.writes pair.entry.to.now) pair.entry.policy
+        states.old rest.now out.old at step states.new out.new) }
 {
-    let took = match *size {
+    let step = match *size {
         BlockSize::Long | BlockSize::Alone if rest.len() >= LONG_BLOCK => {
-            long_blocks(from, to, policy, states, rest, out, at)
+            long_blocks(pair, states, rest, out, at)
         }
-        _ => short_block(from, to, policy, states, rest, out, at),
+        _ => short_block(pair, states, rest, out, at),
     };
-    *size = BlockSize::behind(&took);
-    took
+    *size = BlockSize::behind(&step);
+    step
 }

@@ -6,6 +6,7 @@ ghost use Rattle.cv_pivot.specs.Encodings.{form_of, form_reads, form_writes, for
 use crate::convert::run;
 use crate::encoding::Encoding;
 use crate::outcome::{Outcome, States, TooBig};
+use crate::pair::Pair;
 use cv_base::{Codec, Piece, Policy};
 
 /// A conversion from one encoding to another. It keeps its states from one call to the next.
@@ -44,14 +45,12 @@ impl Conversion {
         ensures size { length out.new ≡ length out.old }
     {
         self.from.assert_valid();
-        run(
-            &self.from,
-            &self.to,
-            self.policy,
-            &mut self.states,
-            input,
-            out,
-        )
+        let pair = Pair {
+            from: &self.from,
+            to: &self.to,
+            policy: self.policy,
+        };
+        run(pair, &mut self.states, input, out)
     }
 
     /// Returns an upper bound of how many bytes any input of at most `len` bytes is written as, in any states.

@@ -5,7 +5,7 @@ ghost use Rattle.cv_pivot.specs.Private.Steps.{TakesSome};
 
 use crate::encoding::Encoding;
 use crate::outcome::States;
-use crate::step::Took;
+use crate::step::Progress;
 use cv_base::BlockCodec;
 
 /// Tells whether both are the same encoding, so that text is copied. It may return false even if they are: then the
@@ -19,7 +19,8 @@ pub(crate) fn may_copy(from: &Encoding, to: &Encoding) -> bool
         (Encoding::Utf8, Encoding::Utf8) => true,
         (Encoding::Utf16(order), Encoding::Utf16(other)) => order == other,
         (Encoding::Utf32(order), Encoding::Utf32(other)) => order == other,
-        _ => false,
+        (Encoding::Latin1 | Encoding::Utf8 | Encoding::Utf16(_) | Encoding::Utf32(_), _) => false,
+        (Encoding::Ascii | Encoding::Utf7 | Encoding::Charmap(_), _) => false,
     }
 }
 
@@ -34,19 +35,19 @@ fn copy_front(rest: &[u8], n: usize, out: &mut [u8], at: usize)
 }
 
 /// Copies the items at the start of a text that are written unchanged, as far as there is room, if there are any. Every
-/// policy allows it.
-#[inline(always)]
+/// policy allows it. Kept out of line, so that the step that calls it stays small.
+#[inline(never)]
 pub(crate) fn copy_unchanged<C: BlockCodec>(
     codec: &C,
     states: States,
     rest: &[u8],
     out: &mut [u8],
     at: usize,
-) -> Option<Took>
+) -> Option<Progress>
     requires { at ≤ length out.old }
-    ensures { MatchOption result (out.new ≡ out.old) (λ took. (policy : Policy)
+    ensures { MatchOption result (out.new ≡ out.old) (λ step. (policy : Policy)
         → TakesSome (C.reads codec.now) (C.writes codec.now) policy states rest.now
-        out.old at took states out.new) }
+        out.old at step states out.new) }
 {
     let most = rest.len().min(out.len() - at);
     let n = codec.unchanged(states.reading, states.writing, &rest[..most]);
@@ -54,9 +55,9 @@ pub(crate) fn copy_unchanged<C: BlockCodec>(
         return None;
     }
     copy_front(rest, n, out, at);
-    Some(Took {
-        used: n,
-        wrote: n,
-        count: 0,
+    Some(Progress {
+        read: n,
+        written: n,
+        replaced: 0,
     })
 }

@@ -106,90 +106,34 @@ impl Codec for Encoding {
     }
 
     fn item(&self, state: ReadState, input: &[u8]) -> Item {
-        match self {
-            Encoding::Ascii => Ascii.item(state, input),
-            Encoding::Latin1 => Latin1.item(state, input),
-            Encoding::Utf8 => Utf8.item(state, input),
-            Encoding::Utf16(order) => Utf16::new(*order).item(state, input),
-            Encoding::Utf32(order) => Utf32::new(*order).item(state, input),
-            Encoding::Utf7 => Utf7.item(state, input),
-            Encoding::Charmap(map) => map.item(state, input),
-        }
+        dispatch!(self, codec => codec.item(state, input))
     }
 
     fn put_at(&self, state: WriteState, c: Scalar, out: &mut [u8], at: usize) -> Put {
-        match self {
-            Encoding::Ascii => Ascii.put_at(state, c, out, at),
-            Encoding::Latin1 => Latin1.put_at(state, c, out, at),
-            Encoding::Utf8 => Utf8.put_at(state, c, out, at),
-            Encoding::Utf16(order) => Utf16::new(*order).put_at(state, c, out, at),
-            Encoding::Utf32(order) => Utf32::new(*order).put_at(state, c, out, at),
-            Encoding::Utf7 => Utf7.put_at(state, c, out, at),
-            Encoding::Charmap(map) => map.put_at(state, c, out, at),
-        }
+        dispatch!(self, codec => codec.put_at(state, c, out, at))
     }
 
     fn close(&self, state: WriteState) -> Piece {
-        match self {
-            Encoding::Ascii => Ascii.close(state),
-            Encoding::Latin1 => Latin1.close(state),
-            Encoding::Utf8 => Utf8.close(state),
-            Encoding::Utf16(order) => Utf16::new(*order).close(state),
-            Encoding::Utf32(order) => Utf32::new(*order).close(state),
-            Encoding::Utf7 => Utf7.close(state),
-            Encoding::Charmap(map) => map.close(state),
-        }
+        dispatch!(self, codec => codec.close(state))
     }
 
     fn most_bytes(&self) -> usize {
-        match self {
-            Encoding::Ascii => Ascii.most_bytes(),
-            Encoding::Latin1 => Latin1.most_bytes(),
-            Encoding::Utf8 => Utf8.most_bytes(),
-            Encoding::Utf16(order) => Utf16::new(*order).most_bytes(),
-            Encoding::Utf32(order) => Utf32::new(*order).most_bytes(),
-            Encoding::Utf7 => Utf7.most_bytes(),
-            Encoding::Charmap(map) => map.most_bytes(),
-        }
+        dispatch!(self, codec => codec.most_bytes())
     }
 
     fn reads_ascii(&self, state: ReadState) -> Option<AsciiForm> {
-        match self {
-            Encoding::Ascii => Ascii.reads_ascii(state),
-            Encoding::Latin1 => Latin1.reads_ascii(state),
-            Encoding::Utf8 => Utf8.reads_ascii(state),
-            Encoding::Utf16(order) => Utf16::new(*order).reads_ascii(state),
-            Encoding::Utf32(order) => Utf32::new(*order).reads_ascii(state),
-            Encoding::Utf7 => Utf7.reads_ascii(state),
-            Encoding::Charmap(map) => map.reads_ascii(state),
-        }
+        dispatch!(self, codec => codec.reads_ascii(state))
     }
 
     fn writes_ascii(&self, state: WriteState) -> Option<AsciiForm> {
-        match self {
-            Encoding::Ascii => Ascii.writes_ascii(state),
-            Encoding::Latin1 => Latin1.writes_ascii(state),
-            Encoding::Utf8 => Utf8.writes_ascii(state),
-            Encoding::Utf16(order) => Utf16::new(*order).writes_ascii(state),
-            Encoding::Utf32(order) => Utf32::new(*order).writes_ascii(state),
-            Encoding::Utf7 => Utf7.writes_ascii(state),
-            Encoding::Charmap(map) => map.writes_ascii(state),
-        }
+        dispatch!(self, codec => codec.writes_ascii(state))
     }
 }
 
 impl BlockCodec for Encoding {
     #[inline(always)]
     fn read_block(&self, state: ReadState, input: &[u8], buffer: &mut [Scalar]) -> ReadBlock {
-        match self {
-            Encoding::Ascii => Ascii.read_block(state, input, buffer),
-            Encoding::Latin1 => Latin1.read_block(state, input, buffer),
-            Encoding::Utf8 => Utf8.read_block(state, input, buffer),
-            Encoding::Utf16(order) => Utf16::new(*order).read_block(state, input, buffer),
-            Encoding::Utf32(order) => Utf32::new(*order).read_block(state, input, buffer),
-            Encoding::Utf7 => Utf7.read_block(state, input, buffer),
-            Encoding::Charmap(map) => map.read_block(state, input, buffer),
-        }
+        dispatch!(self, codec => codec.read_block(state, input, buffer))
     }
 
     #[inline(always)]
@@ -201,31 +145,11 @@ impl BlockCodec for Encoding {
         out: &mut [u8],
         at: usize,
     ) -> Option<WrittenBlock> {
-        match self {
-            Encoding::Ascii => Ascii.write_block(policy, state, characters, out, at),
-            Encoding::Latin1 => Latin1.write_block(policy, state, characters, out, at),
-            Encoding::Utf8 => Utf8.write_block(policy, state, characters, out, at),
-            Encoding::Utf16(order) => Utf16::new(*order).write_block(
-                policy, state, characters, out, at,
-            ),
-            Encoding::Utf32(order) => Utf32::new(*order).write_block(
-                policy, state, characters, out, at,
-            ),
-            Encoding::Utf7 => Utf7.write_block(policy, state, characters, out, at),
-            Encoding::Charmap(map) => map.write_block(policy, state, characters, out, at),
-        }
+        dispatch!(self, codec => codec.write_block(policy, state, characters, out, at))
     }
 
     fn unchanged(&self, reading: ReadState, writing: WriteState, input: &[u8]) -> usize {
-        match self {
-            Encoding::Ascii => Ascii.unchanged(reading, writing, input),
-            Encoding::Latin1 => Latin1.unchanged(reading, writing, input),
-            Encoding::Utf8 => Utf8.unchanged(reading, writing, input),
-            Encoding::Utf16(order) => Utf16::new(*order).unchanged(reading, writing, input),
-            Encoding::Utf32(order) => Utf32::new(*order).unchanged(reading, writing, input),
-            Encoding::Utf7 => Utf7.unchanged(reading, writing, input),
-            Encoding::Charmap(map) => map.unchanged(reading, writing, input),
-        }
+        dispatch!(self, codec => codec.unchanged(reading, writing, input))
     }
 
     #[inline(never)]
@@ -237,42 +161,14 @@ impl BlockCodec for Encoding {
         out: &mut [u8],
         at: usize,
     ) -> usize {
-        match self {
-            Encoding::Ascii => Ascii.write_ascii_run(state, form, text, out, at),
-            Encoding::Latin1 => Latin1.write_ascii_run(state, form, text, out, at),
-            Encoding::Utf8 => Utf8.write_ascii_run(state, form, text, out, at),
-            Encoding::Utf16(order) => {
-                Utf16::new(*order).write_ascii_run(state, form, text, out, at)
-            }
-            Encoding::Utf32(order) => {
-                Utf32::new(*order).write_ascii_run(state, form, text, out, at)
-            }
-            Encoding::Utf7 => Utf7.write_ascii_run(state, form, text, out, at),
-            Encoding::Charmap(map) => map.write_ascii_run(state, form, text, out, at),
-        }
+        dispatch!(self, codec => codec.write_ascii_run(state, form, text, out, at))
     }
 
     fn reads_latin(&self, state: ReadState) -> Option<AsciiForm> {
-        match self {
-            Encoding::Ascii => Ascii.reads_latin(state),
-            Encoding::Latin1 => Latin1.reads_latin(state),
-            Encoding::Utf8 => Utf8.reads_latin(state),
-            Encoding::Utf16(order) => Utf16::new(*order).reads_latin(state),
-            Encoding::Utf32(order) => Utf32::new(*order).reads_latin(state),
-            Encoding::Utf7 => Utf7.reads_latin(state),
-            Encoding::Charmap(map) => map.reads_latin(state),
-        }
+        dispatch!(self, codec => codec.reads_latin(state))
     }
 
     fn writes_latin(&self, state: WriteState) -> Option<AsciiForm> {
-        match self {
-            Encoding::Ascii => Ascii.writes_latin(state),
-            Encoding::Latin1 => Latin1.writes_latin(state),
-            Encoding::Utf8 => Utf8.writes_latin(state),
-            Encoding::Utf16(order) => Utf16::new(*order).writes_latin(state),
-            Encoding::Utf32(order) => Utf32::new(*order).writes_latin(state),
-            Encoding::Utf7 => Utf7.writes_latin(state),
-            Encoding::Charmap(map) => map.writes_latin(state),
-        }
+        dispatch!(self, codec => codec.writes_latin(state))
     }
 }

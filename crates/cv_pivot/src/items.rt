@@ -1,13 +1,13 @@
 //! Items one by one.
-ghost use Rattle.std.specs.Prelude.{◌≤◌, ◌<◌, ◌+◌, ◌^◌, length};
-ghost use Rattle.cv_base.specs.declared.policy.Policy.{Policy};
+ghost use Rattle.std.specs.Prelude.{◌≤◌, length};
 ghost use Rattle.cv_pivot.specs.Encodings.{form_of, form_reads, form_writes};
-ghost use Rattle.cv_pivot.specs.Private.Steps.{TakesOrStops, Finishes};
+ghost use Rattle.cv_pivot.specs.Private.Steps.{Finishes, IsWithin, TakesOrStops};
 
 use crate::encoding::Encoding;
 use crate::outcome::{Outcome, States, Stop};
-use crate::step::{Step, Took};
-use cv_base::{Ascii, Codec, Item, Latin1, Placed, Policy, place_character};
+use crate::pair::Pair;
+use crate::step::Progress;
+use cv_base::{Ascii, Codec, Item, Latin1, Placed, place_character};
 use cv_utf7::Utf7;
 use cv_utf8::Utf8;
 use cv_wide::{Utf16, Utf32};
@@ -20,188 +20,115 @@ pub(crate) const FEW_BYTES: usize = 12;
 #[inline(always)]
 #[tactic(auto, using(cv_base::proofs::AllWritten::none_allowed))]
 pub(crate) fn one_step<F: Codec, T: Codec>(
-    from: &F,
-    to: &T,
-    policy: Policy,
+    pair: Pair<'_, F, T>,
     states: &mut States,
     rest: &[u8],
     out: &mut [u8],
     at: usize,
-) -> Step
+) -> Result<Progress, Stop>
     requires { at ≤ length out.old }
-    ensures { TakesOrStops (F.reads from.now) (T.writes to.now) policy states.old rest.now
-        out.old at result states.new out.new }
+    ensures { TakesOrStops (F.reads pair.entry.from.now) (T.writes pair.entry.to.now) pair.entry.policy
+        states.old rest.now out.old at result states.new out.new }
 {
-    match from.item(states.reading, rest) {
-        Item::Char { c, n, next } => match place_character(to, policy, states.writing, c, out, at) {
+    match pair.from.item(states.reading, rest) {
+        Item::Char { c, n, next } => match place_character(
+            pair.to,
+            pair.policy,
+            states.writing,
+            c,
+            out,
+            at,
+        ) {
             Placed::Wrote {
-                n: wrote,
+                n: written,
                 count,
                 next: then,
             } => {
                 states.reading = next;
                 states.writing = then;
-                Step::Took(Took {
-                    used: n,
-                    wrote,
-                    count,
+                Ok(Progress {
+                    read: n,
+                    written,
+                    replaced: count,
                 })
             }
-            Placed::NoRoom => Step::Stopped(Stop::TooBig),
-            Placed::Lacks => Step::Stopped(Stop::Lacking),
+            Placed::NoRoom => Err(Stop::TooBig),
+            Placed::Lacks => Err(Stop::Lacking),
         },
         Item::Shift { n, next } => {
             states.reading = next;
-            Step::Took(Took {
-                used: n,
-                wrote: 0,
-                count: 0,
+            Ok(Progress {
+                read: n,
+                written: 0,
+                replaced: 0,
             })
         }
-        Item::Incomplete => Step::Stopped(Stop::Incomplete),
-        Item::Ill => Step::Stopped(Stop::Ill),
-        Item::End => Step::Stopped(Stop::Done),
+        Item::Incomplete => Err(Stop::Incomplete),
+        Item::Ill => Err(Stop::Ill),
+        Item::End => Err(Stop::Done),
     }
 }
 
-/// Converts the rest of a text item by item, after the first `at` bytes of the output. `count` is for how many
-/// characters `?` was written already. Each pair of encodings has a loop of its own, so that no item is dispatched on
-/// its encoding.
+/// Converts what is left of a text item by item. Each pair of encodings has a loop of its own, so that no item is
+/// dispatched on its encoding.
 #[inline(always)]
 fn each_item<F: Codec, T: Codec>(
-    from: &F,
-    to: &T,
-    policy: Policy,
+    pair: Pair<'_, F, T>,
     states: &mut States,
-    rest: &[u8],
+    start: Progress,
+    input: &[u8],
     out: &mut [u8],
-    at: usize,
-    count: usize,
 ) -> Outcome
-    requires room { at ≤ length out.old }
-    requires few { count + length rest.now < 2 ^ 64 }
-    ensures { Finishes (F.reads from.now) (T.writes to.now) policy states.old rest.now
-        out.old at count result states.new out.new }
+    requires { IsWithin start input.now out.old }
+    ensures { Finishes (F.reads pair.entry.from.now) (T.writes pair.entry.to.now) pair.entry.policy input.now
+        states.old start out.old result states.new out.new }
 {
-    from.assert_valid();
-    let mut used = 0;
-    let mut end = at;
-    let mut lacking = count;
-    loop {
-        match one_step(from, to, policy, states, &rest[used..], out, end) {
-            Step::Took(took) => {
-                used += took.used;
-                end += took.wrote;
-                lacking += took.count;
-                if used == rest.len() {
-                    return Outcome {
-                        left: 0,
-                        room_left: out.len() - end,
-                        count: lacking,
-                        stop: Stop::Done,
-                    };
+    pair.from.assert_valid();
+    let mut progress = start;
+    'items: loop {
+        let rest = &input[progress.read..];
+        match one_step(pair, states, rest, out, progress.written) {
+            Ok(step) => {
+                progress = progress.then(step);
+                if progress.read == input.len() {
+                    return progress.outcome(Stop::Done, input.len(), out.len());
                 }
             }
-            Step::Stopped(stop) => {
-                return Outcome {
-                    left: rest.len() - used,
-                    room_left: out.len() - end,
-                    count: lacking,
-                    stop,
-                };
-            }
+            Err(stop) => return progress.outcome(stop, input.len(), out.len()),
         }
     }
 }
 
-/// Converts the rest as `each_item` does, after dispatching on the target encoding.
+/// Converts what is left as `each_item` does, after dispatching on the target encoding.
 #[inline(always)]
 fn each_item_to<F: Codec>(
-    from: &F,
-    to: &Encoding,
-    policy: Policy,
+    pair: Pair<'_, F, Encoding>,
     states: &mut States,
-    rest: &[u8],
+    start: Progress,
+    input: &[u8],
     out: &mut [u8],
-    at: usize,
-    count: usize,
 ) -> Outcome
-    requires room { at ≤ length out.old }
-    requires few { count + length rest.now < 2 ^ 64 }
-    ensures { Finishes (F.reads from.now) (form_writes (form_of to.now)) policy states.old rest.now
-        out.old at count result states.new out.new }
+    requires { IsWithin start input.now out.old }
+    ensures { Finishes (F.reads pair.entry.from.now) (form_writes (form_of pair.entry.to.now)) pair.entry.policy
+        input.now states.old start out.old result states.new out.new }
 {
-    match to {
-        Encoding::Ascii => each_item(from, &Ascii, policy, states, rest, out, at, count),
-        Encoding::Latin1 => each_item(from, &Latin1, policy, states, rest, out, at, count),
-        Encoding::Utf8 => each_item(from, &Utf8, policy, states, rest, out, at, count),
-        Encoding::Utf16(order) => each_item(
-            from,
-            &Utf16::new(*order),
-            policy,
-            states,
-            rest,
-            out,
-            at,
-            count,
-        ),
-        Encoding::Utf32(order) => each_item(
-            from,
-            &Utf32::new(*order),
-            policy,
-            states,
-            rest,
-            out,
-            at,
-            count,
-        ),
-        Encoding::Utf7 => each_item(from, &Utf7, policy, states, rest, out, at, count),
-        Encoding::Charmap(map) => each_item(from, &**map, policy, states, rest, out, at, count),
-    }
+    let Pair { from, to, policy } = pair;
+    dispatch!(to, to => each_item(Pair { from, to, policy }, states, start, input, out))
 }
 
-/// Converts the rest of a text, if it is short. Kept out of line, so that the loop that calls it stays small.
+/// Converts what is left of a text, if it is short. Kept out of line, so that the loop that calls it stays small.
 #[inline(never)]
 pub(crate) fn few_items(
-    from: &Encoding,
-    to: &Encoding,
-    policy: Policy,
+    pair: &Pair<'_, Encoding, Encoding>,
     states: &mut States,
-    rest: &[u8],
+    start: &Progress,
+    input: &[u8],
     out: &mut [u8],
-    at: usize,
-    count: usize,
 ) -> Outcome
-    requires room { at ≤ length out.old }
-    requires few { count + length rest.now < 2 ^ 64 }
-    ensures { Finishes (form_reads (form_of from.now)) (form_writes (form_of to.now)) policy
-        states.old rest.now out.old at count result states.new out.new }
+    requires { IsWithin start.now input.now out.old }
+    ensures { Finishes (form_reads (form_of pair.now.from.now)) (form_writes (form_of pair.now.to.now))
+        pair.now.policy input.now states.old start.now out.old result states.new out.new }
 {
-    match from {
-        Encoding::Ascii => each_item_to(&Ascii, to, policy, states, rest, out, at, count),
-        Encoding::Latin1 => each_item_to(&Latin1, to, policy, states, rest, out, at, count),
-        Encoding::Utf8 => each_item_to(&Utf8, to, policy, states, rest, out, at, count),
-        Encoding::Utf16(order) => each_item_to(
-            &Utf16::new(*order),
-            to,
-            policy,
-            states,
-            rest,
-            out,
-            at,
-            count,
-        ),
-        Encoding::Utf32(order) => each_item_to(
-            &Utf32::new(*order),
-            to,
-            policy,
-            states,
-            rest,
-            out,
-            at,
-            count,
-        ),
-        Encoding::Utf7 => each_item_to(&Utf7, to, policy, states, rest, out, at, count),
-        Encoding::Charmap(map) => each_item_to(&**map, to, policy, states, rest, out, at, count),
-    }
+    let Pair { from, to, policy } = *pair;
+    dispatch!(from, from => each_item_to(Pair { from, to, policy }, states, *start, input, out))
 }

@@ -3,9 +3,10 @@ pub mod MapItems
 pub mod Following
 pub mod OneByte
 pub mod TwoBytes
+pub mod RowBlocks
+pub mod DecoderFacts
 pub mod EightAtOnce
-pub mod FourBytes
-pub mod ThreeBytes
+pub mod KeyBytes
 pub mod FirstWritten
 pub mod Written
 pub mod ReadyBytes

@@ -2,7 +2,7 @@
 use Rattle.std.proofs.Common.{◌≡◌, ◌≢◌, ℕ, ◌+◌, ◌<◌, ◌≤◌, List, [], ◌∷◌, length, drop, get_or, slice_set, get_or-set_other, get_or-set_same, refl, sym, subst, ◌∙◌, ap, arith, inl, inr, suc, Some}
 use Rattle.std.specs.Prelude.{Contains}
 use Rattle.std.proofs.Math.Seq.{drop-cons}
-use Rattle.std.proofs.lemmas.Bool.{cases_lt, cases_eq}
+use Rattle.std.proofs.lemmas.Bool.{cases_lt}
 use Rattle.std.proofs.lemmas.List.{length-drop}
 use Rattle.cv_base.specs.Items.{taken, Stands}
 use Rattle.cv_base.specs.declared.state.ReadState.TheVariants as read
@@ -47,11 +47,4 @@ ones_more pairs ones n v low p q b h l = elim (cases_lt b n) [
       let same : b ≡ n = omega arith in
       let e : get_or (slice_set ones n v) b 0 ≡ v = rw same (rw get_or-set_same refl) in
       rw (e, same) (q (rw e at l)))
-]
-
--- one more byte gets no number above that for no character
-pub plain_more : (ones : List ℕ) (n v : ℕ) → n < length ones → ((b : ℕ) → b < 256 → get_or ones b 0 ≤ no_character) → v ≤ no_character → (b : ℕ) → b < 256 → get_or (slice_set ones n v) b 0 ≤ no_character
-plain_more ones n v low p q b l = elim (cases_eq b n) [
-  | inl same ↦ rw same (rw get_or-set_same q)
-  | inr ne ↦ rw get_or-set_other (p b l)
 ]

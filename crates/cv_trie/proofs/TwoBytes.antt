@@ -9,7 +9,7 @@ use Rattle.cv_base.specs.Items.{taken, Stands}
 use Rattle.cv_base.specs.declared.state.ReadState.TheVariants as read
 use Rattle.cv_byte_trie.specs.Entries.{Entry, AreEntries, bytes_at, character_at}
 use Rattle.cv_trie.specs.Charmaps.{map_reads}
-use Rattle.cv_trie.specs.Private.Ones.{no_character, AreOnes}
+use Rattle.cv_trie.specs.Private.Ones.{no_character}
 use Rattle.cv_trie.specs.Private.Twos.{IsTwo, row_of, two_at, AreRows, IsCell, AreTwos}
 use Rattle.cv_trie.specs.Private.Fronts.{IsReadFront}
 use Rattle.cv_trie.proofs.MapLaws.{holds_place}
@@ -18,7 +18,7 @@ use Rattle.cv_trie.proofs.Following.{front_more}
 -- ---- numbering rows
 
 -- one more byte, which has no row
-pub rows_same : (ones : List ℕ) (n size : ℕ) → AreRows ones n size → get_or ones n 0 ≤ no_character → AreRows ones (n + 1) size
+rows_same : (ones : List ℕ) (n size : ℕ) → AreRows ones n size → get_or ones n 0 ≤ no_character → AreRows ones (n + 1) size
 rows_same ones n size r none =
     let zero_row : row_of ones n ≡ 0 = omega arith in
     record {
@@ -62,6 +62,29 @@ rows_more ones n size v r low is =
       ];
     }
 
+-- rows go by the bytes that are numbered, and by no other
+rows_agree : (ones after : List ℕ) (n size : ℕ) → ((b : ℕ) → b < n → row_of after b ≡ row_of ones b)
+    → AreRows ones n size → AreRows after n size
+rows_agree ones after n size same r = record {
+  some = r.some;
+  within = λ b l. (let e = same b l in let w = r.within b l in omega arith);
+  behind = λ b l some. (let e = same b l in let w = r.behind b l (omega arith) in omega arith);
+  apart = λ a b less l some. (
+      let e = same b l in
+      let f = same a (omega arith) in
+      let w = r.apart a b less l (omega arith) in
+      omega arith);
+}
+
+-- one more byte gets a number, and has no row
+pub rows_none : (ones : List ℕ) (n size v : ℕ) → AreRows ones n size → n < length ones → v ≤ no_character
+    → AreRows (slice_set ones n v) (n + 1) size
+rows_none ones n size v r low none =
+    let there : get_or (slice_set ones n v) n 0 ≡ v = get_or-set_same ones n v 0 low in
+    let other : (b : ℕ) → b < n → row_of (slice_set ones n v) b ≡ row_of ones b = λ b lower. (
+    let ne : b ≢ n = omega arith in ap (λ (x : ℕ). x - no_character) (get_or-set_other ones n b v 0 ne)) in
+    rows_same (slice_set ones n v) n size (rows_agree ones (slice_set ones n v) n size other r) (omega arith)
+
 -- an index in a byte's own row is in that of no other
 rows_own : (ones : List ℕ) (size a b c d : ℕ) → AreRows ones 256 size → a < 256 → b < 256 → c < 256 → d < 256 → 0 < row_of ones b → row_of ones a + c ≡ row_of ones b + d → a ≡ b
 rows_own ones size a b c d r la lb lc ld some e = elim (cases_lt a b) [
@@ -75,15 +98,6 @@ rows_own ones size a b c d r la lb lc ld some e = elim (cases_lt a b) [
         let w = r.apart b a less la above in
         omega arith)
   ]
-]
-
--- a byte that gets a row is no character by itself
-pub ones_kept : (pairs : List Entry) (ones : List ℕ) (n v : ℕ) → n < length ones → no_character ≤ v → AreOnes pairs ones 256 → AreOnes pairs (slice_set ones n v) 256
-ones_kept pairs ones n v low none p b byte l = elim (cases_eq b n) [
-  | inl same ↦ absurd (let e : get_or (slice_set ones n v) b 0 ≡ v = rw same (get_or-set_same ones n v 0 low) in omega arith)
-  | inr ne ↦ (
-      let e : get_or (slice_set ones n v) b 0 ≡ get_or ones b 0 = get_or-set_other ones n b v 0 ne in
-      rw e (p b byte (rw e at l)))
 ]
 
 -- ---- filling rows

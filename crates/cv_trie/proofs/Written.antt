@@ -48,3 +48,14 @@ written_more writes characters buffer after w k used count m c size s low is e n
       counts = rw all (ap (λ (x : ℕ). x + m) s.counts);
       next = rw all refl;
     }
+
+-- what was written stays if the buffer changes behind it
+pub written_same : (writes : Writing) (characters before after : List ℕ) (used count : ℕ)
+    → take used after ≡ take used before → IsWrittenFront writes characters before used count
+    → IsWrittenFront writes characters after used count
+written_same writes characters before after used count same w = record {
+  bytes = same ∙ w.bytes;
+  uses = w.uses;
+  counts = w.counts;
+  next = w.next;
+}

@@ -1,75 +1,125 @@
-//! Reading by blocks.
-ghost use Rattle.std.specs.Prelude.{◌≡◌, ◌<◌, length};
-ghost use Rattle.cv_base.specs.Blocks.{IsReadBlock};
-ghost use Rattle.cv_base.specs.declared.state.ReadState.{ReadState};
-ghost use Rattle.cv_trie.specs.Charmaps.{map_reads};
-ghost use Rattle.cv_trie.specs.Private.Ones.{AreOnes};
-ghost use Rattle.cv_trie.specs.Private.Twos.{AreTwos};
-ghost use Rattle.cv_trie.specs.Private.Starts.{AreStarts};
+//! Characters of more than two bytes.
+ghost use Rattle.std.specs.Prelude.{◌≡◌, ◌≤◌, ◌<◌, ◌+◌, ◌-◌, ◌*◌, ◌^◌, min, length, drop, vec_capacity};
+ghost use Rattle.cv_trie.specs.Private.Ones.{no_character};
+ghost use Rattle.cv_trie.specs.Private.Twos.{AddsNoCharacter};
+ghost use Rattle.cv_trie.specs.Private.Longs.{IsLong};
 
-use crate::fours::read_fours;
-use crate::front::Front;
-use crate::longs::Longs;
-use crate::mixed::read_mixed;
-use crate::ones::{NO_CHARACTER, read_ones};
-use crate::reading::read_longer;
-use crate::windows::read_windows;
-use cv_base::{ReadBlock, ReadState, Scalar};
-use cv_byte_trie::ByteTrie;
-use cv_pages::MANY;
+use crate::fours::FourBytes;
+use crate::keys::{KeyCell, blocks_of, character_at};
+use crate::ones::NO_CHARACTER;
+use crate::reading::follow;
+use crate::rows::Rows;
+use crate::singles::Singles;
+use crate::threes::{THREES, ThreeBytes};
+use cv_byte_trie::{ByteTrie, Entry, NONE};
+use std::alloc::{AllocError, Global};
 
-/// Reads characters from the start of a text into a buffer. It follows bytes through the trie only if no table has the
-/// next character. If eight characters at once were read and fewer than eight cells of the buffer are left, these stay
-/// empty: one by one they would take longer than as part of the next eight.
+/// How many bytes a cell for strings of three bytes takes, and one for strings of four.
+const SMALL_CELL: usize = 2;
+
+const CELL: usize = 4;
+
+/// The indices of entries of three and of four bytes, in blocks by their first two bytes. Each is a guess.
+#[derive(Debug, Drop)]
+pub(crate) struct Blocks {
+    threes: Vec<ThreeBytes>,
+    fours: Vec<FourBytes>,
+}
+
+/// The character at an index of a text.
+#[derive(Clone, Copy, Debug)]
+pub(crate) struct Long {
+    /// The character, or `NO_CHARACTER` if none was found.
+    pub(crate) character: u32,
+    /// How many bytes it has.
+    pub(crate) size: usize,
+}
+
+/// No character.
+const NO_LONG: Long = Long {
+    character: NO_CHARACTER,
+    size: 0,
+};
+
+impl Blocks {
+    /// Returns how many bytes the cells take, with the spare capacity.
+    pub(crate) fn size(&self) -> usize
+        ensures { result ≡ min (min (2 * vec_capacity self.now.threes) (2 ^ 64 - 1)
+            + min (4 * vec_capacity self.now.fours) (2 ^ 64 - 1)) (2 ^ 64 - 1) }
+    {
+        let threes = self.threes.capacity().saturating_mul(SMALL_CELL);
+        threes.saturating_add(self.fours.capacity().saturating_mul(CELL))
+    }
+
+    /// Tells whether there are no cells.
+    pub(crate) fn is_empty(&self) -> bool {
+        self.threes.is_empty() && self.fours.is_empty()
+    }
+
+    /// Returns the cells for entries of four bytes.
+    #[inline(always)]
+    pub(crate) fn fours(&self) -> &[FourBytes] {
+        self.fours.as_slice()
+    }
+
+    /// Makes the blocks of entries. The rows then say where each block begins.
+    #[tactic(auto, using(crate::proofs::RowBlocks::adds_none_twice))]
+    pub(crate) fn of(
+        alloc: Global,
+        entries: &[Entry],
+        singles: &Singles,
+        rows: &mut Rows,
+    ) -> Result<Blocks, AllocError>
+        ensures { AddsNoCharacter rows.old.cells.items rows.new.cells.items }
+    {
+        let fours = blocks_of(alloc, entries, singles, rows)?;
+        let threes = blocks_of(alloc, entries, singles, rows)?;
+        Ok(Blocks { threes, fours })
+    }
+}
+
+/// Returns the character at an index of a text, found by following its bytes through the trie.
 #[inline(never)]
-pub(crate) fn read_front(
-    trie: &ByteTrie,
-    ones: &[u32],
-    twos: &[u32],
-    starts: &[u32],
-    longs: &Longs,
-    input: &[u8],
-    buffer: &mut [Scalar],
-) -> ReadBlock
-    requires long { length ones.now ≡ 256 }
-    requires ones { AreOnes trie.now.entries ones.now 256 }
-    requires twos { 0 < length twos.now → AreTwos trie.now.entries ones.now twos.now }
-    requires starts { 0 < length starts.now → AreStarts ones.now twos.now starts.now }
-    ensures block { IsReadBlock (map_reads trie.now.entries) ReadState.Start input.now
-        result buffer.new }
-    ensures size { length buffer.new ≡ length buffer.old }
+pub(crate) fn followed_at(trie: &ByteTrie, input: &[u8], used: usize) -> Long
+    requires within { used < length input.now }
+    ensures { result.character < no_character
+        → IsLong trie.now.entries (drop used input.now) result.size result.character }
 {
-    let mut front = Front { n: 0, used: 0 };
-    let windows = !twos.is_empty() && !starts.is_empty();
-    while front.n < buffer.len() && front.used < input.len() {
-        let before = front.n;
-        if windows {
-            front = read_windows(trie, ones, twos, starts, input, buffer, front);
-            if front.n > before && buffer.len() - front.n < MANY {
-                break;
-            }
-        }
-        if ones[input[front.used] as usize] < NO_CHARACTER {
-            front = read_ones(trie, ones, input, buffer, front);
-        }
-        if !twos.is_empty() {
-            let fours = longs.fours();
-            if !fours.is_empty() {
-                front = read_fours(trie, ones, twos, fours, input, buffer, front);
-            }
-            front = read_mixed(trie, ones, twos, longs, input, buffer, front);
-        }
-        // Otherwise `read_mixed` has already followed the bytes that are next.
-        if front.n == before && (twos.is_empty() || input.len() - front.used < 2) {
-            front = read_longer(trie, input, buffer, front);
-        }
-        if front.n == before {
-            break;
-        }
+    let followed = follow(trie, trie.root(), input, used);
+    if followed.code >= NONE {
+        return NO_LONG;
     }
-    ReadBlock {
-        n: front.n,
-        used: front.used,
-        next: ReadState::Start,
+    let entries = trie.entries();
+    Long {
+        character: entries[followed.code as usize].character().value(),
+        size: followed.size,
     }
+}
+
+/// Returns the character of three or four bytes at an index of a text, if a table has it and at least four bytes are
+/// left. The number in the rows for the first two bytes says where to look.
+#[inline(always)]
+pub(crate) fn tabled_at(
+    trie: &ByteTrie,
+    blocks: &Blocks,
+    number: u32,
+    input: &[u8],
+    used: usize,
+) -> Long
+    requires within { used < length input.now }
+    ensures { result.character < no_character
+        → IsLong trie.now.entries (drop used input.now) result.size result.character }
+{
+    if number <= NO_CHARACTER || input.len() - used < 4 {
+        return NO_LONG;
+    }
+    if number > THREES {
+        let entries = trie.entries();
+        let cell = ThreeBytes::index(number, input[used + 2], 0);
+        let character = character_at(entries, &blocks.threes, cell, input, used);
+        return Long { character, size: 3 };
+    }
+    let cell = FourBytes::index(number, input[used + 2], input[used + 3]);
+    let character = character_at(trie.entries(), &blocks.fours, cell, input, used);
+    Long { character, size: 4 }
 }

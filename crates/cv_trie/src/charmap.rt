@@ -1,18 +1,20 @@
 //! Compiled charmaps.
 ghost use Rattle.std.specs.Prelude.{◌≡◌, ◌≤◌, ◌<◌, ◌+◌, ◌-◌, ◌*◌, ◌^◌, min, length, vec_capacity, IfOk};
+ghost use Rattle.cv_base.specs.Blocks.{MayWriteBlock};
+ghost use Rattle.cv_base.specs.declared.state.WriteState.{WriteState};
 ghost use Rattle.cv_charmap.specs.Maps.{IsMap};
 ghost use Rattle.cv_trie.specs.Charmaps.{map_reads, map_writes, map_closes};
 
 use crate::ascii::{does_read_ascii, does_write_ascii};
-use crate::blocks::read_front;
+use crate::blocks::Blocks;
+use crate::decoder::Decoder;
+use crate::encoder::Encoder;
 use crate::firsts::firsts_of;
 use crate::items::next_item;
 use crate::longest::longest;
-use crate::longs::Longs;
-use crate::ones::ones_of;
-use crate::starts::starts_of;
-use crate::twos::twos_of;
-use crate::writing::{put_character, write_run};
+use crate::row_offsets::row_offsets_of;
+use crate::rows::Rows;
+use crate::singles::Singles;
 use cv_base::{
     AsciiForm, BlockCodec, Codec, Item, Memory, Piece, Policy, Put, ReadBlock, ReadState, Scalar,
     WriteState, WrittenBlock, write_each,
@@ -23,7 +25,7 @@ use cv_pages::Pages;
 use std::alloc::Global;
 use std::marker::Model;
 
-/// How many bytes a cell of `ones`, `twos` or `starts` takes.
+/// How many bytes a cell of `singles`, `rows` or `row_offsets` takes.
 const CELL: usize = 4;
 
 /// A compiled charmap, which reads and writes texts. Contracts see its name and its list of pairs.
@@ -32,19 +34,21 @@ pub struct Charmap {
     name: Vec<u8>,
     /// The pairs, found by their bytes.
     trie: ByteTrie,
-    /// For each byte the character that it is by itself, or `NO_CHARACTER` plus the index of its row in `twos`.
-    ones: Vec<u32>,
+    /// For each byte the character that it is by itself, or `NO_CHARACTER` plus the index of its row.
+    singles: Vec<u32>,
     /// Rows of 256 cells, one for each second byte, for bytes with which many strings begin. A cell has the character
-    /// of the two bytes, or says where in `longs` the block of longer strings is. After the rows are 128 cells for
-    /// single bytes. It is empty if neither `starts` nor `longs` needs it.
-    twos: Vec<u32>,
-    /// For each byte the index in `twos` of its row, or of its own cell if it is below 128. It is empty if eight
+    /// of the two bytes, or says where in `blocks` that of longer strings is. After the rows are 128 cells for single
+    /// bytes. It is empty if neither `row_offsets` nor `blocks` needs it.
+    rows: Vec<u32>,
+    /// For each byte the index in `rows` of its row, or of its own cell if it is below 128. It is empty if eight
     /// characters at once are not to be tried.
-    starts: Vec<u32>,
+    row_offsets: Vec<u32>,
     /// Guesses at the indices of entries of three and of four bytes, in blocks by the first two bytes.
-    longs: Longs,
+    blocks: Blocks,
     /// For each character the index of its first pair.
     pages: Pages,
+    /// The index of the first pair of `?`.
+    substitute: u32,
     /// How many bytes the longest pair has.
     most: usize,
     /// Whether each ASCII byte is read as its character.
@@ -61,28 +65,29 @@ impl Model for Charmap {
 
     ghost view = { λ m. record { name = m.name.items; pairs = m.trie.entries } };
 
-    ghost invariant = { λ m. IsCompiled m.trie.entries m.ones.items m.twos.items m.starts.items m.pages.tops.items m.pages.cells.items
-        m.pages.shorts.bytes.items m.pages.shorts.sizes.items m.most m.reads_ascii m.writes_ascii };
+    ghost invariant = { λ m. IsCompiled m.trie.entries m.singles.items m.rows.items m.row_offsets.items
+        m.pages.tops.items m.pages.cells.items m.pages.shorts.bytes.items m.pages.shorts.sizes.items
+        m.substitute m.most m.reads_ascii m.writes_ascii };
 }
 
 /// Returns the rows if eight characters at once or tables of longer strings need them, or else an empty table.
-fn needed(alloc: Global, twos: Vec<u32>, starts: &[u32], longs: &Longs) -> Vec<u32>
-    ensures same { 0 < length result.items → result.items ≡ twos.items }
-    ensures starts { 0 < length starts.now → result.items ≡ twos.items }
+fn needed(alloc: Global, rows: Vec<u32>, row_offsets: &[u32], blocks: &Blocks) -> Vec<u32>
+    ensures same { 0 < length result.items → result.items ≡ rows.items }
+    ensures offsets { 0 < length row_offsets.now → result.items ≡ rows.items }
 {
-    if starts.is_empty() && longs.is_empty() {
+    if row_offsets.is_empty() && blocks.is_empty() {
         return Vec::new(alloc);
     }
-    twos
+    rows
 }
 
 /// Returns how many bytes the tables of single bytes and of pairs take, with the spare capacity.
-fn cells_size(ones: &Vec<u32>, twos: &Vec<u32>, starts: &Vec<u32>) -> usize
-    ensures { result ≡ min (4 * min (min (vec_capacity ones.now + vec_capacity starts.now) (2 ^ 64 - 1)
-        + vec_capacity twos.now) (2 ^ 64 - 1)) (2 ^ 64 - 1) }
+fn cells_size(singles: &Vec<u32>, rows: &Vec<u32>, row_offsets: &Vec<u32>) -> usize
+    ensures { result ≡ min (4 * min (min (vec_capacity singles.now + vec_capacity row_offsets.now) (2 ^ 64 - 1)
+        + vec_capacity rows.now) (2 ^ 64 - 1)) (2 ^ 64 - 1) }
 {
-    let bytes = ones.capacity().saturating_add(starts.capacity());
-    bytes.saturating_add(twos.capacity()).saturating_mul(CELL)
+    let bytes = singles.capacity().saturating_add(row_offsets.capacity());
+    bytes.saturating_add(rows.capacity()).saturating_mul(CELL)
 }
 
 impl Charmap {
@@ -92,28 +97,81 @@ impl Charmap {
         ensures { IfOk result (λ m. m ≡ pairs) }
     {
         let (name, trie) = pairs.into_parts();
-        let mut ones = ones_of(alloc, &trie)?;
         let firsts = firsts_of(trie.entries());
-        let mut twos = twos_of(alloc, trie.entries(), &firsts, &mut ones)?;
-        let longs = Longs::of(alloc, trie.entries(), &ones, &mut twos)?;
-        let starts = starts_of(alloc, trie.entries(), &firsts, &ones, &mut twos)?;
-        let twos = needed(alloc, twos, &starts, &longs);
+        let singles = Singles::of(alloc, &trie, &firsts)?;
+        let mut rows = Rows::of(alloc, &trie, &singles)?;
+        let blocks = Blocks::of(alloc, trie.entries(), &singles, &mut rows)?;
+        let row_offsets = row_offsets_of(alloc, &firsts, &singles, &mut rows)?;
+        let rows = needed(alloc, rows.cells, &row_offsets, &blocks);
         let pages = Pages::of(alloc, trie.entries())?;
-        let most = longest(trie.entries());
+        let substitute = pages.place(0x3F);
+        let most = longest(&trie);
         let reads_ascii = does_read_ascii(&trie);
         let writes_ascii = does_write_ascii(&pages, trie.entries());
         Ok(Charmap {
             name,
             trie,
-            ones,
-            twos,
-            starts,
-            longs,
+            singles: singles.cells,
+            rows,
+            row_offsets,
+            blocks,
             pages,
+            substitute,
             most,
             reads_ascii,
             writes_ascii,
         })
+    }
+
+    /// Returns what reads its bytes.
+    #[inline(always)]
+    fn decoder(&self) -> Decoder<'_>
+        ensures { result.trie.now.entries ≡ self.now.pairs }
+    {
+        Decoder {
+            trie: &self.trie,
+            singles: self.singles.as_slice(),
+            rows: self.rows.as_slice(),
+            row_offsets: self.row_offsets.as_slice(),
+            blocks: &self.blocks,
+        }
+    }
+
+    /// Returns what writes its characters.
+    #[inline(always)]
+    fn encoder(&self) -> Encoder<'_>
+        ensures { result.entries.now ≡ self.now.pairs }
+    {
+        Encoder {
+            pages: &self.pages,
+            entries: self.trie.entries(),
+            substitute: self.substitute,
+        }
+    }
+
+    /// Writes at most 256 characters at an index of a slice, with `?` for each that the charmap lacks. If there is such
+    /// a character and the policy does not allow it, it returns `None` and the slice stays as it was. Few characters
+    /// are written through a small buffer, which costs less to zero. What writes them is made here, so that its fields
+    /// stay in registers.
+    #[inline(never)]
+    fn write_run(
+        &self,
+        policy: Policy,
+        characters: &[Scalar],
+        out: &mut [u8],
+        at: usize,
+    ) -> Option<WrittenBlock>
+        requires few { length characters.now ≤ 256 }
+        requires room { at + 8 * length characters.now ≤ length out.old }
+        ensures { MayWriteBlock policy (map_writes self.now.pairs) WriteState.Start characters.now
+            out.old at result out.new }
+    {
+        let encoder = self.encoder();
+        if characters.len() <= 64 {
+            encoder.write_by::<512>(policy, characters, out, at)
+        } else {
+            encoder.write_by::<2048>(policy, characters, out, at)
+        }
     }
 
     /// Returns the name of the code set.
@@ -136,8 +194,8 @@ impl Charmap {
     pub fn size(&self) -> usize
         ensures { 16 * length self.now.pairs ≤ result }
     {
-        let found = self.trie.size().saturating_add(self.longs.size());
-        let cells = cells_size(&self.ones, &self.twos, &self.starts);
+        let found = self.trie.size().saturating_add(self.blocks.size());
+        let cells = cells_size(&self.singles, &self.rows, &self.row_offsets);
         let written = self.pages.size().saturating_add(self.name.capacity());
         found.saturating_add(cells).saturating_add(written)
     }
@@ -159,8 +217,8 @@ impl Codec for Charmap {
         next_item(&self.trie, state, input)
     }
 
-    fn put_at(&self, state: WriteState, c: Scalar, out: &mut [u8], at: usize) -> Put {
-        put_character(&self.pages, self.trie.entries(), state, c, out, at)
+    fn put_at(&self, _state: WriteState, c: Scalar, out: &mut [u8], at: usize) -> Put {
+        self.encoder().put_character(c, out, at)
     }
 
     fn close(&self, _state: WriteState) -> Piece {
@@ -190,15 +248,7 @@ impl BlockCodec for Charmap {
     #[tactic(auto, using(cv_base::proofs::BlockLaws::nothing_read))]
     fn read_block(&self, state: ReadState, input: &[u8], buffer: &mut [Scalar]) -> ReadBlock {
         match state {
-            ReadState::Start => read_front(
-                &self.trie,
-                &self.ones,
-                &self.twos,
-                &self.starts,
-                &self.longs,
-                input,
-                buffer,
-            ),
+            ReadState::Start => self.decoder().read_block(input, buffer),
             _ => ReadBlock::nothing(state),
         }
     }
@@ -212,14 +262,7 @@ impl BlockCodec for Charmap {
         at: usize,
     ) -> Option<WrittenBlock> {
         match (state, policy) {
-            (WriteState::Start, _) => write_run(
-                &self.pages,
-                self.trie.entries(),
-                policy,
-                characters,
-                out,
-                at,
-            ),
+            (WriteState::Start, _) => self.write_run(policy, characters, out, at),
             (_, Policy::Substitute) => Some(write_each(self, state, characters, out, at)),
             (_, Policy::Strict) => None,
         }

@@ -1,11 +1,9 @@
 //! How many strings begin with each byte. It affects speed and memory alone.
-ghost use Rattle.std.specs.Prelude.{◌<◌};
-
 use cv_byte_trie::Entry;
 
 /// A byte gets a row if at least this many strings of two or of four bytes begin with it. A row takes a kilobyte. So a
 /// map grows by at most 32 bytes for each of its pairs, by the row that all other bytes share, by the cells for single
-/// bytes, and by what `starts` takes.
+/// bytes, and by what `row_offsets` takes.
 const DENSE: u16 = 32;
 
 /// A byte also gets a row if at least this many strings of three bytes begin with it. Without a row these are read as
@@ -38,9 +36,8 @@ pub(crate) fn firsts_of(entries: &[Entry]) -> Firsts {
 impl Firsts {
     /// Tells whether enough strings begin with a byte for it to have a row.
     #[inline(always)]
-    pub(crate) fn are_many(&self, byte: usize) -> bool
-        requires { byte < 256 }
-    {
+    pub(crate) fn are_many(&self, byte: u8) -> bool {
+        let byte = byte as usize;
         self.others[byte] >= DENSE || self.threes[byte] >= DENSE_THREES
     }
 

@@ -1,21 +1,13 @@
-//! Characters of four bytes.
-ghost use Rattle.std.specs.Prelude.{◌≡◌, ◌≤◌, ◌<◌, ◌+◌, ℕ, IsTrue, List, length, drop, slice_index, Some};
-ghost use Rattle.cv_base.specs.Scalars.{IsScalar};
-ghost use Rattle.cv_base.specs.Items.{taken, Stands};
-ghost use Rattle.cv_base.specs.declared.state.ReadState.TheVariants as read;
-ghost use Rattle.cv_charmap.specs.Entries.{Pair};
-ghost use Rattle.cv_charmap.specs.Lists.{most_pairs};
-ghost use Rattle.cv_trie.specs.Charmaps.{map_reads};
-ghost use Rattle.cv_trie.specs.Private.Ones.{AreOnes, no_character};
-ghost use Rattle.cv_trie.specs.Private.Twos.{AreTwos, most_cells};
+//! Blocks for characters of four bytes, and reading these one after another.
+ghost use Rattle.std.specs.Prelude.{◌≤◌, ◌<◌, length};
 ghost use Rattle.cv_trie.specs.Private.Fronts.{IsReadFront};
 
+use crate::decoder::Decoder;
 use crate::front::Front;
+use crate::keys::{Block, KeyCell, character_at};
 use crate::ones::NO_CHARACTER;
 use cv_base::Scalar;
-use cv_byte_trie::{ByteTrie, Entry};
 use cv_pages::NOWHERE;
-use std::alloc::{AllocError, Global};
 
 /// How many cells a block has: 16 for each third byte, one for each value of the last four bits of the fourth.
 const BLOCK: u32 = 4096;
@@ -24,208 +16,105 @@ const BLOCK: u32 = 4096;
 /// grows by at most 32 bytes for each of its pairs.
 const DENSE: u32 = 512;
 
-/// Returns the index in the rows of the first two bytes of a string of four. It is 0 if the first byte has no row, or
-/// the string has another size.
-fn front_of(ones: &[u32], entry: &Entry) -> usize
-    requires { length ones.now ≡ 256 }
-{
-    let bytes = entry.bytes();
-    if bytes.len() != 4 {
-        return 0;
-    }
-    let number = ones[bytes[0] as usize];
-    if number <= NO_CHARACTER {
-        return 0;
-    }
-    (number - NO_CHARACTER) as usize + bytes[1] as usize
-}
+/// The index of an entry of four bytes. Fourth bytes with the same last four bits share a cell.
+#[derive(Clone, Copy, Debug)]
+pub(crate) struct FourBytes(u32);
 
-/// Counts in the rows how many strings of four bytes begin with each two bytes, up to `DENSE`. The cell of two bytes
-/// that are no character has `NO_CHARACTER` plus the count.
-fn count_fronts(entries: &[Entry], ones: &[u32], twos: &mut [u32])
-    requires long { length ones.now ≡ 256 }
-    ensures size { length twos.new ≡ length twos.old }
-    ensures twos { (pairs : List Pair) → AreTwos pairs ones.now twos.old
-        → AreTwos pairs ones.now twos.new }
-{
-    for place in 0..entries.len() {
-        let front = front_of(ones, &entries[place]);
-        if front > 0 && front < twos.len() {
-            let count = twos[front];
-            if count >= NO_CHARACTER && count < NO_CHARACTER + DENSE {
-                twos[front] = count + 1;
+impl KeyCell for FourBytes {
+    ghost KEY = { 4 };
+
+    const KEY: usize = 4;
+
+    #[inline(always)]
+    fn assert_key() {}
+
+    fn none() -> Self {
+        FourBytes(NOWHERE)
+    }
+
+    fn of(place: usize) -> Self {
+        FourBytes(place.min(NOWHERE as usize) as u32)
+    }
+
+    #[inline(always)]
+    fn place(self) -> usize {
+        self.0 as usize
+    }
+
+    /// Counts them up to `DENSE`. Two bytes that are no character have `NO_CHARACTER` plus the count.
+    fn counted(number: u32, _third: u8) -> u32 {
+        if number >= NO_CHARACTER && number < NO_CHARACTER + DENSE {
+            number + 1
+        } else {
+            number
+        }
+    }
+
+    /// The number says where the block begins. Other counts are cleared.
+    fn block(number: u32, size: u32) -> Block {
+        if number == NO_CHARACTER + DENSE {
+            Block {
+                number: NO_CHARACTER + 1 + size,
+                cells: BLOCK,
+            }
+        } else {
+            Block {
+                number: number.min(NO_CHARACTER),
+                cells: 0,
             }
         }
     }
-}
 
-/// Gives a block to each two bytes with which enough strings begin: their cell in the rows says where the block begins.
-/// Other counts are cleared. Returns how many cells the blocks have together.
-fn number_blocks(_ones: &[u32], twos: &mut [u32]) -> u32
-    requires few { length twos.old ≤ most_cells }
-    ensures size { length twos.new ≡ length twos.old }
-    ensures twos { (pairs : List Pair) → AreTwos pairs _ones.now twos.old
-        → AreTwos pairs _ones.now twos.new }
-{
-    let mut size = 0;
-    for front in 0..twos.len() {
-        let count = twos[front];
-        if count == NO_CHARACTER + DENSE {
-            twos[front] = NO_CHARACTER + 1 + size;
-            size += BLOCK;
-        } else if count > NO_CHARACTER {
-            twos[front] = NO_CHARACTER;
-        }
+    #[inline(always)]
+    fn has_block(number: u32) -> bool {
+        number > NO_CHARACTER
     }
-    size
+
+    #[inline(always)]
+    fn index(number: u32, third: u8, fourth: u8) -> usize {
+        number as usize + third as usize * 16 + (fourth & 15) as usize - (NO_CHARACTER as usize + 1)
+    }
 }
 
-/// Returns the index of the cell for the last two of four bytes, in the block of the first two, which have this number
-/// in the rows.
-#[inline(always)]
-pub(crate) fn cell_of(number: u32, third: u8, fourth: u8) -> usize
-    requires { no_character < number }
-{
-    number as usize + third as usize * 16 + (fourth & 15) as usize - (NO_CHARACTER as usize + 1)
-}
-
-/// Makes the cells of the blocks, with the indices of entries. If two entries have the same cell, it has the later one.
-fn fill_blocks(
-    alloc: Global,
-    entries: &[Entry],
-    ones: &[u32],
-    twos: &[u32],
-    size: u32,
-) -> Result<Vec<u32>, AllocError>
-    requires few { length entries.now ≤ most_pairs }
-    requires long { length ones.now ≡ 256 }
-{
-    let mut cells = vec![in alloc; NOWHERE; size as usize]?;
-    for place in 0..entries.len() {
-        let entry = &entries[place];
-        let front = front_of(ones, entry);
-        if front > 0 && front < twos.len() && twos[front] > NO_CHARACTER {
-            let bytes = entry.padded();
-            let cell = cell_of(twos[front], bytes[2], bytes[3]);
-            if cell < cells.len() {
-                cells[cell] = place as u32;
+impl Decoder<'_> {
+    /// Reads characters of one and of four bytes after those that were read, up to the first that is in no table. As
+    /// none has more than four bytes, the end of the text is tested once for all, so the last characters may be left.
+    #[inline(never)]
+    pub(crate) fn read_fours(&self, input: &[u8], buffer: &mut [Scalar], front: Front) -> Front
+        requires read { IsReadFront self.now.trie.now.entries input.now front buffer.old }
+        requires rows { 0 < length self.now.rows.now }
+        ensures read { IsReadFront self.now.trie.now.entries input.now result buffer.new }
+        ensures on { front.n ≤ result.n }
+    {
+        let entries = self.trie.entries();
+        let singles = self.singles;
+        let rows = self.rows;
+        let cells = self.blocks.fours();
+        let mut n = front.n;
+        let mut used = front.used;
+        let most = n + (buffer.len() - n).min((input.len() - used) / 4);
+        while n < most {
+            let first = singles[input[used] as usize];
+            if first < NO_CHARACTER {
+                buffer[n] = Scalar::known(first);
+                n += 1;
+                used += 1;
+                continue;
             }
-        }
-    }
-    Ok(cells)
-}
-
-/// Returns the indices of entries of four bytes, in blocks by their first two bytes, if the first byte has a row. The
-/// rows then say where each block begins. An index is a guess, since fourth bytes with the same last four bits share a
-/// cell: readers have to compare the entry's bytes.
-pub(crate) fn fours_of(
-    alloc: Global,
-    entries: &[Entry],
-    ones: &[u32],
-    twos: &mut [u32],
-) -> Result<Vec<u32>, AllocError>
-    requires few { length entries.now ≤ most_pairs }
-    requires long { length ones.now ≡ 256 }
-    requires cells { length twos.old ≤ most_cells }
-    ensures size { length twos.new ≡ length twos.old }
-    ensures twos { (pairs : List Pair) → AreTwos pairs ones.now twos.old
-        → AreTwos pairs ones.now twos.new }
-{
-    count_fronts(entries, ones, twos);
-    let size = number_blocks(ones, twos);
-    fill_blocks(alloc, entries, ones, twos, size)
-}
-
-/// Tells whether a text has the first `size` of these bytes at an index.
-#[inline(always)]
-pub(crate) fn are_there(own: &[u8; 8], input: &[u8], used: usize, size: usize) -> bool
-    requires long { length own.now ≡ 8 }
-    requires few { size ≤ 8 }
-    requires within { used + size ≤ length input.now }
-    ensures { IsTrue result → (k : ℕ) → k < size
-        → slice_index own.now k ≡ slice_index input.now (used + k) }
-{
-    for k in 0..size {
-        if own[k] != input[used + k] {
-            return false;
-        }
-    }
-    true
-}
-
-/// Returns the character of the entry that a cell names, if its four bytes are at an index of a text, or else
-/// `NO_CHARACTER`.
-#[inline(always)]
-pub(crate) fn four_at(
-    entries: &[Entry],
-    cells: &[u32],
-    cell: usize,
-    input: &[u8],
-    used: usize,
-) -> u32
-    requires within { used + 4 ≤ length input.now }
-    ensures scalar { result < no_character → IsScalar result }
-    ensures stands { result < no_character → Stands (map_reads entries.now) read.Start
-        (drop used input.now) (taken 4 (Some result) read.Start) }
-{
-    if cell >= cells.len() {
-        return NO_CHARACTER;
-    }
-    let place = cells[cell] as usize;
-    if place >= entries.len() {
-        return NO_CHARACTER;
-    }
-    let entry = &entries[place];
-    if entry.len() != 4 || !are_there(entry.padded(), input, used, 4) {
-        return NO_CHARACTER;
-    }
-    entry.character().value()
-}
-
-/// Reads characters of one and of four bytes after those that were read, up to the first that is in no table. As none
-/// has more than four bytes, the end of the text is tested once for all, so the last characters may be left.
-#[inline(never)]
-pub(crate) fn read_fours(
-    trie: &ByteTrie,
-    ones: &[u32],
-    twos: &[u32],
-    cells: &[u32],
-    input: &[u8],
-    buffer: &mut [Scalar],
-    front: Front,
-) -> Front
-    requires read { IsReadFront trie.now.entries input.now front buffer.old }
-    requires long { length ones.now ≡ 256 }
-    requires ones { AreOnes trie.now.entries ones.now 256 }
-    requires twos { AreTwos trie.now.entries ones.now twos.now }
-    ensures read { IsReadFront trie.now.entries input.now result buffer.new }
-    ensures on { front.n ≤ result.n }
-{
-    let entries = trie.entries();
-    let mut n = front.n;
-    let mut used = front.used;
-    let most = n + (buffer.len() - n).min((input.len() - used) / 4);
-    while n < most {
-        let first = ones[input[used] as usize];
-        if first < NO_CHARACTER {
-            buffer[n] = Scalar::known(first);
+            let second = input[used + 1] as usize;
+            let number = rows[first as usize + second - NO_CHARACTER as usize];
+            if number <= NO_CHARACTER {
+                break;
+            }
+            let cell = FourBytes::index(number, input[used + 2], input[used + 3]);
+            let character = character_at(entries, cells, cell, input, used);
+            if character >= NO_CHARACTER {
+                break;
+            }
+            buffer[n] = Scalar::known(character);
             n += 1;
-            used += 1;
-            continue;
+            used += 4;
         }
-        let second = input[used + 1] as usize;
-        let number = twos[first as usize + second - NO_CHARACTER as usize];
-        if number <= NO_CHARACTER {
-            break;
-        }
-        let cell = cell_of(number, input[used + 2], input[used + 3]);
-        let character = four_at(entries, cells, cell, input, used);
-        if character >= NO_CHARACTER {
-            break;
-        }
-        buffer[n] = Scalar::known(character);
-        n += 1;
-        used += 4;
+        Front { n, used }
     }
-    Front { n, used }
 }

@@ -4,20 +4,23 @@
 mod ascii;
 mod blocks;
 mod charmap;
+mod decoder;
+mod encoder;
 mod firsts;
 mod fours;
 mod front;
 mod front_writing;
 mod items;
+mod keys;
 pub mod laws;
 mod longest;
-mod longs;
 mod mixed;
 mod ones;
 mod reading;
-mod starts;
+mod row_offsets;
+mod rows;
+mod singles;
 mod threes;
-mod twos;
 mod windows;
 mod writing;
 

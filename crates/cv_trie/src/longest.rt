@@ -1,14 +1,13 @@
 //! The length of the longest byte string.
-ghost use Rattle.cv_byte_trie.specs.Entries.{AreEntries};
 ghost use Rattle.cv_trie.specs.Private.Compiled.{HaveAtMost};
 
-use cv_byte_trie::Entry;
+use cv_byte_trie::ByteTrie;
 
 /// Returns how many bytes the longest entry has, or 0 if there are no entries.
-pub(crate) fn longest(entries: &[Entry]) -> usize
-    requires { AreEntries entries.now }
-    ensures { HaveAtMost result entries.now }
+pub(crate) fn longest(trie: &ByteTrie) -> usize
+    ensures { HaveAtMost result trie.now.entries }
 {
+    let entries = trie.entries();
     let mut most = 0;
     for place in 0..entries.len() {
         most = most.max(entries[place].len());

@@ -1,82 +1,76 @@
 //! Characters of any size, one after another.
-ghost use Rattle.std.specs.Prelude.{◌≡◌, ◌≤◌, ◌<◌, length};
-ghost use Rattle.cv_trie.specs.Private.Ones.{AreOnes};
-ghost use Rattle.cv_trie.specs.Private.Twos.{AreTwos};
+ghost use Rattle.std.specs.Prelude.{◌≤◌, ◌<◌, length};
 ghost use Rattle.cv_trie.specs.Private.Fronts.{IsReadFront};
 
+use crate::blocks::{followed_at, tabled_at};
+use crate::decoder::Decoder;
 use crate::front::Front;
-use crate::longs::{Longs, followed_at, tabled_at};
 use crate::ones::NO_CHARACTER;
 use crate::reading::read_longer;
 use cv_base::Scalar;
-use cv_byte_trie::ByteTrie;
 
 /// How many characters of one or two bytes are read after a longer one, before eight at once are tried again. It
 /// affects speed alone.
 const AT_ONCE: usize = 32;
 
-/// Reads characters after those that were read, up to bytes that are none, or up to `AT_ONCE` characters of one and of
-/// two bytes after a longer one. If two characters are in no table, with only single bytes between them, the trie alone
-/// reads the next. Kept out of line, so that its loop has the registers.
-#[inline(never)]
-pub(crate) fn read_mixed(
-    trie: &ByteTrie,
-    ones: &[u32],
-    twos: &[u32],
-    longs: &Longs,
-    input: &[u8],
-    buffer: &mut [Scalar],
-    front: Front,
-) -> Front
-    requires read { IsReadFront trie.now.entries input.now front buffer.old }
-    requires long { length ones.now ≡ 256 }
-    requires ones { AreOnes trie.now.entries ones.now 256 }
-    requires twos { AreTwos trie.now.entries ones.now twos.now }
-    ensures read { IsReadFront trie.now.entries input.now result buffer.new }
-    ensures on { front.n ≤ result.n }
-{
-    let mut n = front.n;
-    let mut used = front.used;
-    let mut most = buffer.len();
-    // The number of bytes read less that of characters read, as it was after the last character that was followed.
-    // Single bytes leave the difference as it is.
-    let mut followed = usize::MAX;
-    while n < most && input.len() - used >= 2 {
-        let first = ones[input[used] as usize];
-        if first < NO_CHARACTER {
-            buffer[n] = Scalar::known(first);
+impl Decoder<'_> {
+    /// Reads characters after those that were read, up to bytes that are none, or up to `AT_ONCE` characters of one and
+    /// of two bytes after a longer one. If two characters are in no table, with only single bytes between them, the
+    /// trie alone reads the next. Kept out of line, so that its loop has the registers.
+    #[inline(never)]
+    pub(crate) fn read_mixed(&self, input: &[u8], buffer: &mut [Scalar], front: Front) -> Front
+        requires read { IsReadFront self.now.trie.now.entries input.now front buffer.old }
+        requires rows { 0 < length self.now.rows.now }
+        ensures read { IsReadFront self.now.trie.now.entries input.now result buffer.new }
+        ensures on { front.n ≤ result.n }
+    {
+        let trie = self.trie;
+        let singles = self.singles;
+        let rows = self.rows;
+        let blocks = self.blocks;
+        let mut n = front.n;
+        let mut used = front.used;
+        let mut most = buffer.len();
+        // The number of bytes read less that of characters read, as it was after the last character that was followed.
+        // Single bytes leave the difference as it is.
+        let mut followed = usize::MAX;
+        while n < most && input.len() - used >= 2 {
+            let first = singles[input[used] as usize];
+            if first < NO_CHARACTER {
+                buffer[n] = Scalar::known(first);
+                n += 1;
+                used += 1;
+                continue;
+            }
+            let second = input[used + 1] as usize;
+            let number = rows[first as usize + second - NO_CHARACTER as usize];
+            if number < NO_CHARACTER {
+                buffer[n] = Scalar::known(number);
+                n += 1;
+                used += 2;
+                continue;
+            }
+            let tabled = tabled_at(trie, blocks, number, input, used);
+            if tabled.character < NO_CHARACTER {
+                buffer[n] = Scalar::known(tabled.character);
+                n += 1;
+                used += tabled.size;
+                most = n + AT_ONCE.min(buffer.len() - n);
+                continue;
+            }
+            if followed == used.saturating_sub(n) {
+                return read_longer(trie, input, buffer, Front { n, used });
+            }
+            let long = followed_at(trie, input, used);
+            if long.character >= NO_CHARACTER {
+                break;
+            }
+            buffer[n] = Scalar::known(long.character);
             n += 1;
-            used += 1;
-            continue;
-        }
-        let second = input[used + 1] as usize;
-        let number = twos[first as usize + second - NO_CHARACTER as usize];
-        if number < NO_CHARACTER {
-            buffer[n] = Scalar::known(number);
-            n += 1;
-            used += 2;
-            continue;
-        }
-        let tabled = tabled_at(trie, longs, number, input, used);
-        if tabled.character < NO_CHARACTER {
-            buffer[n] = Scalar::known(tabled.character);
-            n += 1;
-            used += tabled.size;
+            used += long.size;
+            followed = used.saturating_sub(n);
             most = n + AT_ONCE.min(buffer.len() - n);
-            continue;
         }
-        if followed == used.saturating_sub(n) {
-            return read_longer(trie, input, buffer, Front { n, used });
-        }
-        let long = followed_at(trie, input, used);
-        if long.character >= NO_CHARACTER {
-            break;
-        }
-        buffer[n] = Scalar::known(long.character);
-        n += 1;
-        used += long.size;
-        followed = used.saturating_sub(n);
-        most = n + AT_ONCE.min(buffer.len() - n);
+        Front { n, used }
     }
-    Front { n, used }
 }

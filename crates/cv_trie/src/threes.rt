@@ -1,18 +1,8 @@
-//! Characters of three bytes.
-ghost use Rattle.std.specs.Prelude.{◌≡◌, ◌≤◌, ◌<◌, ◌+◌, List, length, drop, Some};
-ghost use Rattle.cv_base.specs.Scalars.{IsScalar};
-ghost use Rattle.cv_base.specs.Items.{taken, Stands};
-ghost use Rattle.cv_base.specs.declared.state.ReadState.TheVariants as read;
-ghost use Rattle.cv_charmap.specs.Entries.{Pair};
-ghost use Rattle.cv_charmap.specs.Lists.{most_pairs};
-ghost use Rattle.cv_trie.specs.Charmaps.{map_reads};
-ghost use Rattle.cv_trie.specs.Private.Ones.{no_character};
-ghost use Rattle.cv_trie.specs.Private.Twos.{AreTwos, most_cells};
+//! Blocks for characters of three bytes.
+ghost use Rattle.std.specs.Prelude.{◌≤◌};
 
-use crate::fours::are_there;
+use crate::keys::{Block, KeyCell};
 use crate::ones::NO_CHARACTER;
-use cv_byte_trie::Entry;
-use std::alloc::{AllocError, Global};
 
 /// Numbers in the rows above this one are for two bytes that have a block for strings of three. All numbers of blocks
 /// for four bytes are below it.
@@ -24,10 +14,6 @@ const BASE: u32 = 0x8000_0000;
 
 /// Two bytes get a block only if at least this many strings of three bytes begin with them.
 const DENSE: u32 = 32;
-
-/// The number for no entry. An entry with this index or a higher one is in no cell, since a cell has 16 bits. So a map
-/// grows by at most three bytes for each string.
-const NO_PLACE: u16 = u16::MAX;
 
 /// What the strings of three bytes have that begin with the same two: how many they are, up to 255, and their lowest
 /// and highest third byte. While they are counted, the cell of the two bytes has it as a number.
@@ -45,6 +31,15 @@ impl Span {
             count: (number / 0x1_0000 % 0x100) as u8,
             low: (number / 0x100 % 0x100) as u8,
             high: (number % 0x100) as u8,
+        }
+    }
+
+    /// Returns the span of one string.
+    fn one(third: u8) -> Span {
+        Span {
+            count: 1,
+            low: third,
+            high: third,
         }
     }
 
@@ -78,153 +73,66 @@ impl Span {
     }
 }
 
-/// Returns the index in the rows of the first two bytes of a string of three. It is 0 if the first byte has no row, or
-/// the string has another size.
-fn front_of(ones: &[u32], entry: &Entry) -> usize
-    requires { length ones.now ≡ 256 }
-{
-    let bytes = entry.bytes();
-    if bytes.len() != 3 {
-        return 0;
-    }
-    let number = ones[bytes[0] as usize];
-    if number <= NO_CHARACTER {
-        return 0;
-    }
-    (number - NO_CHARACTER) as usize + bytes[1] as usize
-}
+/// The index of an entry of three bytes. An entry with the highest index or a higher one is in no cell. So a map grows
+/// by at most three bytes for each string.
+#[derive(Clone, Copy, Debug)]
+pub(crate) struct ThreeBytes(u16);
 
-/// Counts in the rows the strings of three bytes that begin with each two bytes, unless these have a block for four
-/// bytes.
-fn count_fronts(entries: &[Entry], ones: &[u32], twos: &mut [u32])
-    requires long { length ones.now ≡ 256 }
-    ensures size { length twos.new ≡ length twos.old }
-    ensures twos { (pairs : List Pair) → AreTwos pairs ones.now twos.old
-        → AreTwos pairs ones.now twos.new }
-{
-    for place in 0..entries.len() {
-        let front = front_of(ones, &entries[place]);
-        if front > 0 && front < twos.len() {
-            let number = twos[front];
-            let third = entries[place].padded()[2];
-            if number == NO_CHARACTER {
-                let first = Span {
-                    count: 1,
-                    low: third,
-                    high: third,
-                };
-                twos[front] = first.number();
-            } else if number > THREES {
-                twos[front] = Span::of(number).with(third).number();
-            }
+impl KeyCell for ThreeBytes {
+    ghost KEY = { 3 };
+
+    const KEY: usize = 3;
+
+    #[inline(always)]
+    fn assert_key() {}
+
+    fn none() -> Self {
+        ThreeBytes(u16::MAX)
+    }
+
+    fn of(place: usize) -> Self {
+        ThreeBytes(place.min(u16::MAX as usize) as u16)
+    }
+
+    #[inline(always)]
+    fn place(self) -> usize {
+        self.0 as usize
+    }
+
+    /// Counts them as a span, unless the two bytes have a block for four bytes.
+    fn counted(number: u32, third: u8) -> u32 {
+        if number == NO_CHARACTER {
+            Span::one(third).number()
+        } else if number > THREES {
+            Span::of(number).with(third).number()
+        } else {
+            number
         }
     }
-}
 
-/// Gives a block to each two bytes with which enough strings begin: their cell in the rows says where the block's cell
-/// for the third byte 0 would be. Returns how many cells the blocks have together.
-fn number_blocks(_ones: &[u32], twos: &mut [u32]) -> u32
-    requires few { length twos.old ≤ most_cells }
-    ensures size { length twos.new ≡ length twos.old }
-    ensures twos { (pairs : List Pair) → AreTwos pairs _ones.now twos.old
-        → AreTwos pairs _ones.now twos.new }
-{
-    let mut size = 0;
-    for front in 0..twos.len() {
-        let number = twos[front];
-        if number > THREES {
-            let span = Span::of(number);
-            let cells = span.cells();
-            twos[front] = if cells > 0 {
-                BASE + size - span.low as u32
-            } else {
-                NO_CHARACTER
-            };
-            size += cells;
+    /// The number says where the block's cell for the third byte 0 would be.
+    fn block(number: u32, size: u32) -> Block {
+        if number <= THREES {
+            return Block { number, cells: 0 };
         }
+        let span = Span::of(number);
+        let cells = span.cells();
+        let number = if cells > 0 {
+            BASE + size - span.low as u32
+        } else {
+            NO_CHARACTER
+        };
+        Block { number, cells }
     }
-    size
-}
 
-/// Returns the index of the cell for the last of three bytes, in the block of the first two. If their block does not
-/// reach so far, it is in another block or past all cells.
-#[inline(always)]
-fn cell_of(number: u32, third: u8) -> usize {
-    (number as usize + third as usize) & (BASE as usize - 1)
-}
+    #[inline(always)]
+    fn has_block(number: u32) -> bool {
+        number > THREES
+    }
 
-/// Makes the cells of the blocks, with the indices of entries.
-fn fill_blocks(
-    alloc: Global,
-    entries: &[Entry],
-    ones: &[u32],
-    twos: &[u32],
-    size: u32,
-) -> Result<Vec<u16>, AllocError>
-    requires few { length entries.now ≤ most_pairs }
-    requires long { length ones.now ≡ 256 }
-{
-    let mut cells = vec![in alloc; NO_PLACE; size as usize]?;
-    for place in 0..entries.len() {
-        let entry = &entries[place];
-        let front = front_of(ones, entry);
-        if front > 0 && front < twos.len() && twos[front] > THREES {
-            let cell = cell_of(twos[front], entry.padded()[2]);
-            if cell < cells.len() && place < NO_PLACE as usize {
-                cells[cell] = place as u16;
-            }
-        }
+    /// If the block of the two bytes does not reach so far, the cell is in another block or past all cells.
+    #[inline(always)]
+    fn index(number: u32, third: u8, _fourth: u8) -> usize {
+        (number as usize + third as usize) & (BASE as usize - 1)
     }
-    Ok(cells)
-}
-
-/// Returns the indices of entries of three bytes, in blocks by their first two bytes, if the first byte has a row and
-/// the two have no block for four bytes. The rows then say where each block begins. Readers have to compare the entry's
-/// bytes.
-pub(crate) fn threes_of(
-    alloc: Global,
-    entries: &[Entry],
-    ones: &[u32],
-    twos: &mut [u32],
-) -> Result<Vec<u16>, AllocError>
-    requires few { length entries.now ≤ most_pairs }
-    requires long { length ones.now ≡ 256 }
-    requires cells { length twos.old ≤ most_cells }
-    ensures size { length twos.new ≡ length twos.old }
-    ensures twos { (pairs : List Pair) → AreTwos pairs ones.now twos.old
-        → AreTwos pairs ones.now twos.new }
-{
-    count_fronts(entries, ones, twos);
-    let size = number_blocks(ones, twos);
-    fill_blocks(alloc, entries, ones, twos, size)
-}
-
-/// Returns the character of the entry that a cell names, if its three bytes are at an index of a text, or else
-/// `NO_CHARACTER`. The number is that of the first two bytes.
-#[inline(always)]
-pub(crate) fn three_at(
-    entries: &[Entry],
-    cells: &[u16],
-    number: u32,
-    input: &[u8],
-    used: usize,
-) -> u32
-    requires within { used + 3 ≤ length input.now }
-    ensures scalar { result < no_character → IsScalar result }
-    ensures stands { result < no_character → Stands (map_reads entries.now) read.Start
-        (drop used input.now) (taken 3 (Some result) read.Start) }
-{
-    let cell = cell_of(number, input[used + 2]);
-    if cell >= cells.len() {
-        return NO_CHARACTER;
-    }
-    let place = cells[cell] as usize;
-    if place >= entries.len() {
-        return NO_CHARACTER;
-    }
-    let entry = &entries[place];
-    if entry.len() != 3 || !are_there(entry.padded(), input, used, 3) {
-        return NO_CHARACTER;
-    }
-    entry.character().value()
 }

@@ -3,15 +3,12 @@ ghost use Rattle.std.specs.Prelude.{◌≤◌, ◌+◌, ◌*◌, length};
 ghost use Rattle.cv_base.specs.Places.{IsPut, PutsAt};
 ghost use Rattle.cv_base.specs.Blocks.{MayWriteBlock};
 ghost use Rattle.cv_base.specs.declared.state.WriteState.{WriteState};
-ghost use Rattle.cv_charmap.specs.Maps.{IsMap};
-ghost use Rattle.cv_pages.specs.Paging.{AreFirst};
-ghost use Rattle.cv_pages.specs.Shorts.{AreShorts};
 ghost use Rattle.cv_trie.specs.Charmaps.{map_writes};
 
-use crate::front_writing::{Written, write_front};
+use crate::encoder::Encoder;
+use crate::front::Written;
 use cv_base::{Policy, Put, Scalar, WriteState, WrittenBlock};
-use cv_byte_trie::Entry;
-use cv_pages::{NOWHERE, Pages};
+use cv_pages::NOWHERE;
 
 /// Copies bytes to an index of a slice.
 fn put_bytes(out: &mut [u8], at: usize, bytes: &[u8])
@@ -22,92 +19,55 @@ fn put_bytes(out: &mut [u8], at: usize, bytes: &[u8])
     out[at..at + n].copy_from_slice(bytes);
 }
 
-/// Writes a character at an index of a slice, in every state in the same way. It reports if the charmap lacks the
-/// character, or if the slice has no room for its bytes.
-pub(crate) fn put_character(
-    pages: &Pages,
-    entries: &[Entry],
-    _state: WriteState,
-    c: Scalar,
-    out: &mut [u8],
-    at: usize,
-) -> Put
-    requires names { AreFirst pages.now.tops.items pages.now.cells.items entries.now }
-    requires within { at ≤ length out.old }
-    ensures { PutsAt (map_writes entries.now _state c) out.old at result out.new }
-{
-    let place = pages.place(c.value());
-    if place == NOWHERE {
-        return Put::Lacks;
+impl Encoder<'_> {
+    /// Writes a character at an index of a slice. It reports if the charmap lacks the character, or if the slice has no
+    /// room for its bytes.
+    #[inline(always)]
+    pub(crate) fn put_character(&self, c: Scalar, out: &mut [u8], at: usize) -> Put
+        requires { at ≤ length out.old }
+        ensures { PutsAt (map_writes self.now.entries.now WriteState.Start c) out.old at result out.new }
+    {
+        let place = self.pages.place(c.value());
+        if place == NOWHERE {
+            return Put::Lacks;
+        }
+        let entries = self.entries;
+        let bytes = entries[place as usize].bytes();
+        if bytes.len() > out.len() - at {
+            return Put::NoRoom;
+        }
+        put_bytes(out, at, bytes);
+        Put::Wrote {
+            n: bytes.len(),
+            next: WriteState::Start,
+        }
     }
-    let bytes = entries[place as usize].bytes();
-    if bytes.len() > out.len() - at {
-        return Put::NoRoom;
-    }
-    put_bytes(out, at, bytes);
-    Put::Wrote {
-        n: bytes.len(),
-        next: WriteState::Start,
-    }
-}
 
-/// Writes characters through a buffer of `BYTES` bytes, which is zeroed first.
-#[inline(always)]
-fn write_by<const BYTES: usize>(
-    pages: &Pages,
-    entries: &[Entry],
-    policy: Policy,
-    characters: &[Scalar],
-    out: &mut [u8],
-    at: usize,
-) -> Option<WrittenBlock>
-    requires map { IsMap entries.now }
-    requires names { AreFirst pages.now.tops.items pages.now.cells.items entries.now }
-    requires shorts { AreShorts pages.now.cells.items pages.now.shorts.bytes.items
-        pages.now.shorts.sizes.items entries.now }
-    requires few { 8 * length characters.now ≤ BYTES }
-    requires small { BYTES ≤ 2048 }
-    requires room { at + 8 * length characters.now ≤ length out.old }
-    ensures { MayWriteBlock policy (map_writes entries.now) WriteState.Start characters.now
-        out.old at result out.new }
-{
-    let mut front = [0u8; BYTES];
-    let Written { used, count } = write_front(pages, entries, characters, &mut front);
-    if !policy.allows(count) {
-        return None;
-    }
-    put_bytes(out, at, &front[..used]);
-    Some(WrittenBlock {
-        wrote: used,
-        count,
-        next: WriteState::Start,
-    })
-}
-
-/// Writes at most 256 characters at an index of a slice, with `?` for each that the charmap lacks. If there is such a
-/// character and the policy does not allow it, it returns `None` and the slice stays as it was. Few characters are
-/// written through a small buffer, which costs less to zero.
-#[inline(never)]
-pub(crate) fn write_run(
-    pages: &Pages,
-    entries: &[Entry],
-    policy: Policy,
-    characters: &[Scalar],
-    out: &mut [u8],
-    at: usize,
-) -> Option<WrittenBlock>
-    requires map { IsMap entries.now }
-    requires names { AreFirst pages.now.tops.items pages.now.cells.items entries.now }
-    requires shorts { AreShorts pages.now.cells.items pages.now.shorts.bytes.items
-        pages.now.shorts.sizes.items entries.now }
-    requires few { length characters.now ≤ 256 }
-    requires room { at + 8 * length characters.now ≤ length out.old }
-    ensures { MayWriteBlock policy (map_writes entries.now) WriteState.Start characters.now
-        out.old at result out.new }
-{
-    if characters.len() <= 64 {
-        write_by::<512>(pages, entries, policy, characters, out, at)
-    } else {
-        write_by::<2048>(pages, entries, policy, characters, out, at)
+    /// Writes characters through a buffer of `BYTES` bytes, which is zeroed first.
+    #[inline(always)]
+    pub(crate) fn write_by<const BYTES: usize>(
+        &self,
+        policy: Policy,
+        characters: &[Scalar],
+        out: &mut [u8],
+        at: usize,
+    ) -> Option<WrittenBlock>
+        requires few { 8 * length characters.now ≤ BYTES }
+        requires small { BYTES ≤ 2048 }
+        requires room { at + 8 * length characters.now ≤ length out.old }
+        ensures { MayWriteBlock policy (map_writes self.now.entries.now) WriteState.Start
+            characters.now out.old at result out.new }
+    {
+        let mut front = [0u8; BYTES];
+        let Written { used, count, .. } = self.write_front(characters, &mut front);
+        if !policy.allows(count) {
+            return None;
+        }
+        put_bytes(out, at, &front[..used]);
+        Some(WrittenBlock {
+            wrote: used,
+            count,
+            next: WriteState::Start,
+        })
     }
 }

@@ -42,4 +42,10 @@ pub record IsCell (ones bytes : List ℕ) (cell : ℕ) : Type 0 where
 -- unless it is that for no character or above.
 pub record AreTwos (pairs : List Pair) (ones twos : List ℕ) : Type 0 where
   pub within : (b : ℕ) → b < 256 → row_of ones b + 384 ≤ length twos
-  pub each : (b c : ℕ) → b < 256 → c < 256 → two_at ones twos b c < no_character → IsTwo pairs b c (two_at ones twos b c)
+  pub each : (b c : ℕ) → b < 256 → c < 256 → two_at ones twos b c < no_character
+      → IsTwo pairs b c (two_at ones twos b c)
+
+-- Cells are changed, but no cell has a character that it did not have before.
+pub record AddsNoCharacter (before after : List ℕ) : Type 0 where
+  pub size : length after ≡ length before
+  pub cells : (k : ℕ) → slice_index after k < no_character → slice_index after k ≡ slice_index before k

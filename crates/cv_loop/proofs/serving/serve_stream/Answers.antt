@@ -15,7 +15,7 @@ loop-read-init g c = record {
   reads = c.requires.fresh_reader.1;
   writes = c.requires.fresh_writer;
   ready = c.requires.ready;
-  stands = rw c.new-held.ensures (Standing-none _ _ _);
+  stands = rw c.new-buffer.ensures (Standing-none _ _ _);
 }
 
 pub returns-in_err-read_more : goal.returns-in_err-read_more
@@ -56,7 +56,7 @@ pub returns-then-not-branch : goal.returns-then-not-branch
 returns-then-not-branch g c =
     let b = c.in_ok-read_more.ensures.bytes in
     let e = at_the_end _ _ _ _ _ _ c.if-not-branch.true b.2 in
-    let some : c.loop-read.held ≢ [] = λ (h : c.loop-read.held ≡ []). let len : length c.read_more.new.self ≡ 0 = ap length (e.1 ∙ h) in grind (arith, nat_tests, len) in
+    let some : c.loop-read.buffer ≢ [] = λ (h : c.loop-read.buffer ≡ []). let len : length c.read_more.new.self ≡ 0 = ap length (e.1 ∙ h) in grind (arith, nat_tests, len) in
     record {
       serves = Serving-truncated _ _ _ _ _ _ _ _ b.0 _ _ _ _ _ c.loop-read.invariant.stands b.1 e.0 some;
       ends = record {

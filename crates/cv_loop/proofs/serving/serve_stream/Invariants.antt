@@ -11,5 +11,5 @@ invariant-loop-read g l = record {
   writes : g.W.Sink.has_failed l.writer ≡ false;
   ready : g.E.Engine.ready l.engine;
   stands : Standing g.E.Machine.turn (g.E.Machine.tables l.fn.engine) (g.E.Machine.tables l.engine) (g.S.Source.left l.fn.reader) (g.S.Source.left l.reader)
-      (g.W.Sink.held l.fn.writer) (g.W.Sink.held l.writer) l.held l.counts.requests l.counts.written l._read;
+      (g.W.Sink.held l.fn.writer) (g.W.Sink.held l.writer) l.buffer l.session.requests l.session.written l._read;
 }

@@ -1,29 +1,37 @@
-use Rattle.std.proofs.Common.{arith, inr}
+use Rattle.std.proofs.Common.{◌∙◌, arith}
 use Rattle.cv_base.proofs.Front.{rest_is}
-use Rattle.cv_pivot.proofs.Progress.{step_smaller}
-use Rattle.cv_pivot.proofs.SeveralSteps.{any_then_some, any_within}
+use Rattle.cv_pivot.proofs.Progress.{takes_within}
+use Rattle.cv_pivot.proofs.SeveralSteps.{takes_more, takes_none, takes_nothing}
 use Rattle.cv_pivot.proofs.blocks.long_blocks.Goals as goal
+use Rattle.cv_pivot.proofs.blocks.long_blocks.Goals.{then-loop-blocks-test+else-rest-progress-ge-LONG_BLOCK}
+use Rattle.cv_pivot.proofs.blocks.long_blocks.Goals.{else-loop-blocks-test}
+use Rattle.cv_pivot.proofs.blocks.long_blocks.Goals.{then-loop-blocks-test+then-rest-progress-ge-LONG_BLOCK+in_default}
+
+pub loop-blocks-init : goal.loop-blocks-init
+loop-blocks-init g c = let a = c.args in
+    rw c.start-progress.ensures (takes_none _ _ a.pair.policy a.states.now a.rest.now a.out.now a.at c.requires.room)
 
 pub overflow_sub-rest : goal.overflow_sub-rest
-overflow_sub-rest g c = (any_within _ _ c.args.policy c.assert_valid.ensures.readable _ _ _ _ _ _ _ c.requires.room c.loop-blocks.invariant).0
+overflow_sub-rest g c = let r = c.assert_valid.ensures.readable in
+    (takes_within _ _ c.args.pair.policy r _ _ _ _ _ _ _ c.loop-blocks.invariant).0
 
-pub overflow_add-taken : goal.overflow_add-taken
-overflow_add-taken g c =
-    let r = c.assert_valid.ensures.readable in
-    let within = (any_within _ _ c.args.policy r _ _ _ _ _ _ _ c.requires.room c.loop-blocks.invariant).0 in
-    let h = rw (rest_is c.loop-blocks.taken.used c.args.rest.now) at c.in-Some.ensures in
-    let s = step_smaller _ _ c.args.policy r c.args.rest.now _ _ _ _ _ _ _ within h in
-    omega (arith, s.1)
-
-pub overflow_add-taken-in-loop-blocks-2 : goal.overflow_add-taken-in-loop-blocks-2
-overflow_add-taken-in-loop-blocks-2 g c =
-    let r = c.assert_valid.ensures.readable in
-    let h = rw (rest_is c.loop-blocks.taken.used c.args.rest.now) at c.in-Some.ensures in
-    let next = any_then_some _ _ c.args.policy _ _ _ _ _ _ _ c.loop-blocks.invariant _ _ _ h in
-    let s = any_within _ _ c.args.policy r _ _ _ _ _ _ _ c.requires.room (inr next) in
-    omega (arith, s.0, s.2)
+pub then-progress-requires : goal.then-progress-requires
+then-progress-requires g c = let h = rw (rest_is c.loop-blocks.progress.read c.args.rest.now) at c.in-Some.ensures in
+    let next = takes_more _ _ c.args.pair.policy _ _ _ _ _ _ _ c.loop-blocks.invariant _ _ _ h.takes in
+    let s = takes_within _ _ c.args.pair.policy c.assert_valid.ensures.readable _ _ _ _ _ _ _ next in
+    record { read = omega (arith, s.0); written = omega (arith, s.1); replaced = omega (arith, s.0, s.2) }
 
 pub loop-blocks-preserved : goal.loop-blocks-preserved
-loop-blocks-preserved g c =
-    let h = rw (rest_is c.loop-blocks.taken.used c.args.rest.now) at c.in-Some.ensures in
-    inr (any_then_some _ _ c.args.policy _ _ _ _ _ _ _ c.loop-blocks.invariant _ _ _ h)
+loop-blocks-preserved g c = let h = rw (rest_is c.loop-blocks.progress.read c.args.rest.now) at c.in-Some.ensures in
+    rw c.then-progress.ensures (takes_more _ _ c.args.pair.policy _ _ _ _ _ _ _ c.loop-blocks.invariant _ _ _ h.takes)
+
+pub returns-then-progress-eq0 : goal.returns-then-progress-eq0
+returns-then-progress-eq0 g c = let r = c.assert_valid.ensures.readable in
+    let none = c.if-progress-eq0.true in
+    let h = takes_nothing _ _ c.args.pair.policy r _ _ _ _ _ _ _ c.loop-blocks.invariant none in
+    elim c.loop-blocks-test.branch [
+      | then-loop-blocks-test+else-rest-progress-ge-LONG_BLOCK w ↦ (w.states-is ∙ h.0, w.out-is ∙ h.1)
+      | else-loop-blocks-test w ↦ (w.states-is ∙ h.0, w.out-is ∙ h.1)
+      | then-loop-blocks-test+then-rest-progress-ge-LONG_BLOCK+in_default w ↦
+          (w.states-is ∙ w.in_default.ensures.0 ∙ h.0, w.out-is ∙ w.in_default.ensures.1 ∙ h.1)
+    ]

@@ -1,9 +1,11 @@
 use Rattle.std.proofs.Common.{◌-◌, length}
-use Rattle.cv_pivot.proofs.SeveralSteps.{ItemsSoFar}
+use Rattle.cv_pivot.proofs.SeveralSteps.{Reached}
 use Rattle.cv_pivot.proofs.items.each_item.Given as goal
 
-abbrev pub invariant-loop-took : goal.invariant-loop-took
-invariant-loop-took g l = ItemsSoFar (g.F.Codec.reads l.from) (g.T.Codec.writes l.to) l.policy l.fn.states l.rest l.fn.out l.at l.count l.used l.end l.lacking l.states l.out
+abbrev pub invariant-items : goal.invariant-items
+invariant-items g l =
+    Reached (g.F.Codec.reads l.pair.from.now) (g.T.Codec.writes l.pair.to.now) l.pair.policy l.input l.fn.states
+    l.fn.start l.fn.out l.states l.progress l.out
 
-abbrev pub decreases-loop-took : goal.decreases-loop-took
-decreases-loop-took g l = length l.rest - l.used
+abbrev pub decreases-items : goal.decreases-items
+decreases-items g l = length l.input - l.progress.read

@@ -7,8 +7,8 @@ decreases-answer_from g l = 4 * length l.shards.now
 abbrev pub decreases-answer_at_once : goal.decreases-answer_at_once
 decreases-answer_at_once g l = 4 * (length l.low.now + length l.high.now) - 1
 
-abbrev pub decreases-answer_at_once-front : goal.decreases-answer_at_once-front
-decreases-answer_at_once-front g l = 4 * length l.low.now + 1
+abbrev pub decreases-answer_at_once-answer_low : goal.decreases-answer_at_once-answer_low
+decreases-answer_at_once-answer_low g l = 4 * length l.low.now + 1
 
-abbrev pub decreases-answer_at_once-back : goal.decreases-answer_at_once-back
-decreases-answer_at_once-back g l = 4 * length l.high.now + 1
+abbrev pub decreases-answer_at_once-answer_high : goal.decreases-answer_at_once-answer_high
+decreases-answer_at_once-answer_high g l = 4 * length l.high.now + 1

@@ -41,11 +41,11 @@ pub returns-clause-err : goal.returns-clause-err
 returns-clause-err g c =
     let lent = c.as_mut_slice-shards.ensures in
     let items = c.args.self.now.shards.items in
-    let new = c.answer_here_into.new.shards in
-    let back = given_back _ new _ _ c.answer_here_into.auto.shards lent.len lent.value in
-    let so = subst (λ (ws : List Shard). OnErr c.answer_here_into.result ((later : List Message) × (missing : List ℕ)
-    × AppendsReplies turn (pool_tables ws) c.args.requests.now later c.args.replies.now c.answer_here_into.new.replies missing (pool_tables new)))
-    lent.value c.answer_here_into.ensures.err in
-    subst (λ (ws : List Shard). OnErr c.answer_here_into.result ((later : List Message) × (missing : List ℕ)
-    × AppendsReplies turn (pool_tables items) c.args.requests.now later c.args.replies.now c.answer_here_into.new.replies missing (pool_tables ws)))
+    let new = c.answer_sequentially_into.new.shards in
+    let back = given_back _ new _ _ c.answer_sequentially_into.auto.shards lent.len lent.value in
+    let so = subst (λ (ws : List Shard). OnErr c.answer_sequentially_into.result ((later : List Message) × (missing : List ℕ)
+    × AppendsReplies turn (pool_tables ws) c.args.requests.now later c.args.replies.now c.answer_sequentially_into.new.replies missing (pool_tables new)))
+    lent.value c.answer_sequentially_into.ensures.err in
+    subst (λ (ws : List Shard). OnErr c.answer_sequentially_into.result ((later : List Message) × (missing : List ℕ)
+    × AppendsReplies turn (pool_tables items) c.args.requests.now later c.args.replies.now c.answer_sequentially_into.new.replies missing (pool_tables ws)))
     (sym back) so

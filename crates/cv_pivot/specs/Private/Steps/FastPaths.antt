@@ -1,0 +1,41 @@
+-- What the loops read and write that convert without a buffer of characters.
+use Rattle.std.specs.Prelude.{◌≡◌, [], ◌∷◌}
+use Rattle.cv_base.specs.declared.state.ReadState.{ReadState}
+use Rattle.cv_base.specs.declared.state.ReadState.TheVariants as reading
+use Rattle.cv_base.specs.declared.state.WriteState.{WriteState}
+use Rattle.cv_base.specs.declared.state.WriteState.TheVariants as writing
+use Rattle.cv_block.specs.StatelessForms.{BytesOf}
+use Rattle.cv_utf8.specs.Utf8.{utf8_bytes}
+use Rattle.cv_wide.specs.declared.order.Order.{Order}
+use Rattle.cv_wide.specs.Private.Kept.{KeepsReading, KeepsWriting}
+use Rattle.cv_wide.specs.Utf16.{utf16}
+use Rattle.cv_wide.specs.Utf32.{utf32}
+use Rattle.cv_pivot.specs.Encodings.{Form, Own, Latin1, Utf8, Utf16, Utf32}
+use Rattle.cv_pivot.specs.declared.fast_path.ReadForm.{ReadForm}
+use Rattle.cv_pivot.specs.declared.fast_path.ReadForm.TheVariants as read
+use Rattle.cv_pivot.specs.declared.fast_path.WrittenForm.{WrittenForm}
+use Rattle.cv_pivot.specs.declared.fast_path.WrittenForm.TheVariants as written
+
+-- the bytes of a character in a form that is read
+abbrev pub read_bytes : ReadForm → BytesOf
+read_bytes read.Latin1 = λ c. c ∷ []
+read_bytes read.Utf8 = utf8_bytes
+read_bytes (read.Utf16 endian) = utf16 endian
+read_bytes (read.Utf32 endian) = utf32 endian
+
+-- the bytes of a character in a form that is written
+abbrev pub written_bytes : WrittenForm → BytesOf
+written_bytes written.Utf8 = utf8_bytes
+written_bytes (written.Utf16 endian) = utf16 endian
+
+-- In this state an encoding is read in this form, and the state stays.
+abbrev pub IsReadAs : ReadForm → Form → ReadState → Type 0
+IsReadAs read.Latin1 form s = (form ≡ Own Latin1) × (s ≡ reading.Start)
+IsReadAs read.Utf8 form s = (form ≡ Own Utf8) × (s ≡ reading.Start)
+IsReadAs (read.Utf16 endian) form s = (order : Order) × (form ≡ Own (Utf16 order)) × KeepsReading order s endian
+IsReadAs (read.Utf32 endian) form s = (order : Order) × (form ≡ Own (Utf32 order)) × KeepsReading order s endian
+
+-- In this state an encoding is written in this form, and the state stays.
+abbrev pub IsWrittenAs : WrittenForm → Form → WriteState → Type 0
+IsWrittenAs written.Utf8 form t = (form ≡ Own Utf8) × (t ≡ writing.Start)
+IsWrittenAs (written.Utf16 endian) form t = (order : Order) × (form ≡ Own (Utf16 order)) × KeepsWriting order t endian

@@ -1,0 +1,226 @@
+//! Loops that convert from one encoding to another without a buffer of characters in between.
+ghost use Rattle.std.specs.Prelude.{◌≡◌, ◌≤◌, ◌<◌, length, IfSome, MatchOption};
+ghost use Rattle.cv_direct.specs.Direct.{IsConverted};
+ghost use Rattle.cv_pivot.specs.Encodings.{form_of};
+ghost use Rattle.cv_pivot.specs.Private.Steps.FastPaths.{IsReadAs, IsWrittenAs, read_bytes, written_bytes};
+ghost use Rattle.cv_wide.specs.Private.Kept.{KeepsReading, KeepsWriting};
+ghost use Rattle.cv_wide.specs.Utf32.{utf32};
+
+use crate::blocks::BlockSize;
+use crate::encoding::Encoding;
+use crate::outcome::States;
+use cv_base::{Endian, ReadState, WriteState};
+use cv_block::{BigEndian, ByteOrder, LittleEndian};
+use cv_direct::{
+    Direct, begins_with_fours, latin1_to_utf8, utf8_to_utf16, utf16_swapped, utf16_to_utf8,
+    utf32_to_utf8, utf32_to_utf16,
+};
+use cv_wide::Order;
+
+/// Returns the byte order in which units are read, if reading does not leave this state.
+#[inline(always)]
+fn kept_reading(order: Order, state: ReadState) -> Option<Endian>
+    ensures { IfSome result (λ endian. KeepsReading order state endian) }
+{
+    match (order, state) {
+        (Order::Be, ReadState::Start) => Some(Endian::Big),
+        (Order::Le, ReadState::Start) => Some(Endian::Little),
+        (Order::Marked, ReadState::Big) => Some(Endian::Big),
+        (Order::Marked, ReadState::Little) => Some(Endian::Little),
+        (Order::Be | Order::Le, ReadState::Big | ReadState::Little) => None,
+        (Order::Marked, ReadState::Start) | (_, ReadState::Shifted(_)) => None,
+    }
+}
+
+/// Returns the byte order in which units are written, if writing does not leave this state.
+#[inline(always)]
+fn kept_writing(order: Order, state: WriteState) -> Option<Endian>
+    ensures { IfSome result (λ endian. KeepsWriting order state endian) }
+{
+    match (order, state) {
+        (Order::Be, WriteState::Start) => Some(Endian::Big),
+        (Order::Le, WriteState::Start) => Some(Endian::Little),
+        (Order::Marked, WriteState::Marked) => Some(Endian::Big),
+        (Order::Be | Order::Le, WriteState::Marked) => None,
+        (Order::Marked, WriteState::Start) | (_, WriteState::Shifted(_)) => None,
+    }
+}
+
+/// The form of the characters that a loop reads.
+#[derive(Clone, Copy)]
+pub(crate) enum ReadForm {
+    Latin1,
+    Utf8,
+    Utf16(Endian),
+    Utf32(Endian),
+}
+
+/// The form of the characters that a loop writes.
+#[derive(Clone, Copy)]
+pub(crate) enum WrittenForm {
+    Utf8,
+    Utf16(Endian),
+}
+
+impl ReadForm {
+    /// Returns the form in which a loop reads the encoding, if reading does not leave this state.
+    #[inline(always)]
+    fn of(from: &Encoding, state: ReadState) -> Option<ReadForm>
+        ensures { IfSome result (λ form. IsReadAs form (form_of from.now) state) }
+    {
+        match from {
+            Encoding::Latin1 => match state {
+                ReadState::Start => Some(ReadForm::Latin1),
+                ReadState::Big | ReadState::Little | ReadState::Shifted(_) => None,
+            },
+            Encoding::Utf8 => match state {
+                ReadState::Start => Some(ReadForm::Utf8),
+                ReadState::Big | ReadState::Little | ReadState::Shifted(_) => None,
+            },
+            Encoding::Utf16(order) => Some(ReadForm::Utf16(kept_reading(*order, state)?)),
+            Encoding::Utf32(order) => Some(ReadForm::Utf32(kept_reading(*order, state)?)),
+            Encoding::Ascii | Encoding::Utf7 | Encoding::Charmap(_) => None,
+        }
+    }
+}
+
+impl WrittenForm {
+    /// Returns the form in which a loop writes the encoding, if writing does not leave this state.
+    #[inline(always)]
+    fn of(to: &Encoding, state: WriteState) -> Option<WrittenForm>
+        ensures { IfSome result (λ form. IsWrittenAs form (form_of to.now) state) }
+    {
+        match to {
+            Encoding::Utf8 => match state {
+                WriteState::Start => Some(WrittenForm::Utf8),
+                WriteState::Marked | WriteState::Shifted(_) => None,
+            },
+            Encoding::Utf16(order) => Some(WrittenForm::Utf16(kept_writing(*order, state)?)),
+            Encoding::Ascii | Encoding::Latin1 | Encoding::Utf32(_) => None,
+            Encoding::Utf7 | Encoding::Charmap(_) => None,
+        }
+    }
+}
+
+/// A text of UTF-8 with fewer bytes goes by blocks, which cost less for a few characters.
+pub(crate) const MIN_INPUT_UTF8: usize = 128;
+
+/// A text of UTF-16 or ISO-8859-1 with fewer bytes goes by blocks.
+const MIN_INPUT_UTF16: usize = 256;
+
+/// A text of UTF-32 with fewer bytes goes by blocks. As many characters have twice the bytes of UTF-16.
+const MIN_INPUT_UTF32: usize = 512;
+
+/// With less room only a few windows are written, and a step of them may cost more than it saves.
+pub(crate) const MIN_ROOM: usize = 256;
+
+/// Converts from UTF-32 in a byte order, if the loop takes any characters.
+#[inline(always)]
+fn from_utf32<O: ByteOrder>(
+    to: WrittenForm,
+    rest: &[u8],
+    out: &mut [u8],
+    at: usize,
+) -> Option<Direct>
+    requires { at ≤ length out.old }
+    ensures some { IfSome result (λ run. 0 < run.used) }
+    ensures run { MatchOption result (out.new ≡ out.old) (λ run.
+        IsConverted (utf32 O.endian) (written_bytes to) rest.now out.old at run out.new) }
+{
+    match to {
+        WrittenForm::Utf8 => utf32_to_utf8::<O>(rest, out, at),
+        WrittenForm::Utf16(Endian::Big) => utf32_to_utf16::<O, BigEndian>(rest, out, at),
+        WrittenForm::Utf16(Endian::Little) => utf32_to_utf16::<O, LittleEndian>(rest, out, at),
+    }
+}
+
+/// A loop that converts without a buffer: the forms that it reads and writes. A new loop is an arm of `run`, and what
+/// it reads and writes an arm of `ReadForm::of` or `WrittenForm::of`.
+#[derive(Clone, Copy)]
+pub(crate) struct FastPath {
+    from: ReadForm,
+    to: WrittenForm,
+}
+
+impl FastPath {
+    /// Returns the loop from one encoding to another, if in these states each character has bytes of its own in both.
+    #[inline(always)]
+    pub(crate) fn choose(from: &Encoding, to: &Encoding, states: States) -> Option<FastPath>
+        ensures { IfSome result (λ path. IsReadAs path.from (form_of from.now) states.reading
+            × IsWrittenAs path.to (form_of to.now) states.writing) }
+    {
+        let from = ReadForm::of(from, states.reading)?;
+        let to = WrittenForm::of(to, states.writing)?;
+        Some(FastPath { from, to })
+    }
+
+    /// Returns how many bytes a text has at least for which the loop is tried. It affects speed only.
+    #[inline(always)]
+    fn least_input(self) -> usize {
+        match self.from {
+            ReadForm::Utf8 => MIN_INPUT_UTF8,
+            ReadForm::Latin1 | ReadForm::Utf16(_) => MIN_INPUT_UTF16,
+            ReadForm::Utf32(_) => MIN_INPUT_UTF32,
+        }
+    }
+
+    /// Tells whether the loop is likely to take much of a text. It affects speed only. After a block of UTF-32 it is
+    /// not: such a text likely has many characters from U+10000 on, which go by blocks as fast.
+    #[inline(always)]
+    pub(crate) fn suits(self, size: BlockSize, rest: &[u8]) -> bool {
+        rest.len() >= self.least_input()
+            && match self.from {
+                ReadForm::Latin1 | ReadForm::Utf16(_) => true,
+                ReadForm::Utf8 => !begins_with_fours(rest),
+                ReadForm::Utf32(_) => size.is_short(),
+            }
+    }
+
+    /// Returns the size of the next block after the loop took `used` bytes. It affects speed only.
+    #[inline(always)]
+    pub(crate) fn size_after(self, size: BlockSize, used: usize) -> BlockSize {
+        match (self.from, self.to) {
+            (ReadForm::Utf16(_), WrittenForm::Utf8) | (ReadForm::Utf32(_), _) => {
+                BlockSize::behind_windows(used, self.least_input())
+            }
+            (ReadForm::Latin1 | ReadForm::Utf8, _) | (ReadForm::Utf16(_), WrittenForm::Utf16(_)) =>
+                { size.behind_many(used) }
+        }
+    }
+
+    /// Converts the characters at the start of a text, if there is such a loop and it takes any. Kept out of line, so
+    /// that the step that calls it stays small.
+    #[inline(never)]
+    pub(crate) fn run(self, rest: &[u8], out: &mut [u8], at: usize) -> Option<Direct>
+        requires { at ≤ length out.old }
+        ensures some { IfSome result (λ run. 0 < run.used) }
+        ensures run { MatchOption result (out.new ≡ out.old) (λ run.
+            IsConverted (read_bytes self.from) (written_bytes self.to) rest.now out.old at run out.new) }
+    {
+        match (self.from, self.to) {
+            (ReadForm::Latin1, WrittenForm::Utf8) => latin1_to_utf8(rest, out, at),
+            (ReadForm::Utf8, WrittenForm::Utf16(Endian::Big)) => {
+                utf8_to_utf16::<BigEndian>(rest, out, at)
+            }
+            (ReadForm::Utf8, WrittenForm::Utf16(Endian::Little)) => {
+                utf8_to_utf16::<LittleEndian>(rest, out, at)
+            }
+            (ReadForm::Utf16(Endian::Big), WrittenForm::Utf8) => {
+                utf16_to_utf8::<BigEndian>(rest, out, at)
+            }
+            (ReadForm::Utf16(Endian::Little), WrittenForm::Utf8) => {
+                utf16_to_utf8::<LittleEndian>(rest, out, at)
+            }
+            (ReadForm::Utf16(Endian::Big), WrittenForm::Utf16(Endian::Little)) => {
+                utf16_swapped::<BigEndian, LittleEndian>(rest, out, at)
+            }
+            (ReadForm::Utf16(Endian::Little), WrittenForm::Utf16(Endian::Big)) => {
+                utf16_swapped::<LittleEndian, BigEndian>(rest, out, at)
+            }
+            (ReadForm::Utf32(Endian::Big), to) => from_utf32::<BigEndian>(to, rest, out, at),
+            (ReadForm::Utf32(Endian::Little), to) => from_utf32::<LittleEndian>(to, rest, out, at),
+            (ReadForm::Latin1, WrittenForm::Utf16(_)) | (ReadForm::Utf8, WrittenForm::Utf8) => None,
+            (ReadForm::Utf16(_), WrittenForm::Utf16(_)) => None,
+        }
+    }
+}

@@ -7,14 +7,14 @@ use Rattle.cv_frame.specs.Message.{Message, joined, spelling}
 use Rattle.cv_machine.proofs.Runs.{Progress-none, Progress-then, all-append}
 use Rattle.cv_frame.specs.Cut.{front_of}
 use Rattle.cv_frame.specs.declared.reading.Frame.TheVariants as front
-use Rattle.cv_loop.specs.Serving.{counted}
+use Rattle.cv_loop.specs.Serving.{saturated}
 use Rattle.cv_loop.specs.Private.Draining.{Broken, BreaksOff, Answered, Drained, Stops, Stopped}
 use Rattle.cv_loop.specs.declared.fault.ServeFault.{ServeFault}
 use Rattle.cv_loop.specs.declared.fault.ServeFault.TheVariants as fault
 use Rattle.cv_machine.specs.Machine.{Turn}
 
 -- counting in two steps is counting the sum
-pub counted-add : (a b c : ℕ) → counted (counted (a + b) + c) ≡ counted (a + (b + c))
+pub counted-add : (a b c : ℕ) → saturated (saturated (a + b) + c) ≡ saturated (a + (b + c))
 counted-add a b c = omega arith
 
 module _ {Table : Type 0} {turn : Turn Table} where
@@ -33,11 +33,11 @@ module _ {Table : Type 0} {turn : Turn Table} where
       took = Appends-trans h i j p.written q.written p.wrote.took q.wrote.took;
       ran = Progress-then turn s t u asked more [] p.written q.written [] p.wrote.ran q.wrote.ran;
     };
-    counts = q.counts ∙ ap (λ (n : ℕ). counted (n + length q.written)) p.counts ∙ counted-add a (length p.written) (length q.written)
-        ∙ ap (λ (n : ℕ). counted (a + n)) (sym (length-append p.written q.written));
+    counts = q.counts ∙ ap (λ (n : ℕ). saturated (n + length q.written)) p.counts ∙ counted-add a (length p.written) (length q.written)
+        ∙ ap (λ (n : ℕ). saturated (a + n)) (sym (length-append p.written q.written));
   }
 
-BreaksOff-then : (f : ServeFault) (a b : ℕ) (failed : Bool) → counted a ≡ counted b → BreaksOff f a failed → BreaksOff f b failed
+BreaksOff-then : (f : ServeFault) (a b : ℕ) (failed : Bool) → saturated a ≡ saturated b → BreaksOff f a failed → BreaksOff f b failed
 BreaksOff-then (fault.Write n) a b failed e w = (w.0 ∙ e, w.1)
 BreaksOff-then fault.Memory a b failed e w = w
 BreaksOff-then fault.TruncatedFrame a b failed e w = w
@@ -57,7 +57,7 @@ module _ {Table : Type 0} {turn : Turn Table} where
       ran = Progress-then turn s t u asked more q.later p.written q.written q.unwritten p.wrote.ran q.wrote.ran;
     };
     why = BreaksOff-then f _ _ failed
-        (ap (λ (n : ℕ). counted (n + length q.written)) p.counts ∙ counted-add a (length p.written) (length q.written) ∙ ap (λ (n : ℕ). counted (a + n)) (sym (length-append p.written q.written)))
+        (ap (λ (n : ℕ). saturated (n + length q.written)) p.counts ∙ counted-add a (length p.written) (length q.written) ∙ ap (λ (n : ℕ). saturated (a + n)) (sym (length-append p.written q.written)))
         q.why;
   }
 
@@ -82,8 +82,8 @@ module _ {Table : Type 0} {turn : Turn Table} where
     front = front_then bytes rest (drop (used + more) bytes) p.asked q.asked (p.front ∙ ap (λ (x : List ℕ). joined p.asked ++ x) (sym is))
         (q.front ∙ ap (λ (x : List ℕ). joined q.asked ++ x) (ap (λ (x : List ℕ). drop more x) is ∙ drop-drop more used bytes));
     answered = Answered-then s t u h i j p.asked q.asked a b c p.answered q.answered;
-    counts = q.counts ∙ ap (λ (n : ℕ). counted (n + length q.asked)) p.counts ∙ counted-add k (length p.asked) (length q.asked)
-        ∙ ap (λ (n : ℕ). counted (k + n)) (sym (length-append p.asked q.asked));
+    counts = q.counts ∙ ap (λ (n : ℕ). saturated (n + length q.asked)) p.counts ∙ counted-add k (length p.asked) (length q.asked)
+        ∙ ap (λ (n : ℕ). saturated (k + n)) (sym (length-append p.asked q.asked));
   }
 
   Stops-then : (f : ServeFault) (s t u : ℕ → Table) (h i j : Option (List ℕ)) (asked more : List Message) (rest : List ℕ) (a b : ℕ) (failed : Bool)

@@ -5,7 +5,7 @@ use Rattle.std.proofs.KnownBytes.{Appends-nil}
 use Rattle.std.specs.Io.KnownBytes.{Appends}
 use Rattle.cv_frame.specs.Message.{Message}
 use Rattle.cv_machine.specs.Machine.{Turn, Progress}
-use Rattle.cv_loop.specs.Serving.{counted}
+use Rattle.cv_loop.specs.Serving.{saturated}
 use Rattle.cv_loop.specs.Replying.{AppendsReplies}
 use Rattle.cv_loop.specs.Private.Draining.{Broken}
 use Rattle.cv_loop.specs.declared.fault.ServeFault.TheVariants as fault
@@ -39,7 +39,7 @@ module _ {Table : Type 0} {turn : Turn Table} where
   pub no_write : (s new : ℕ → Table) (h h' : Option (List ℕ)) (asked : List Message) (before n count : ℕ) (failed : Bool)
       (old replies bytes : List ℕ)
       → AppendsReplies turn s asked [] old replies [] new → old ≡ [] → bytes ≡ replies → n ≤ length bytes
-      → Appends h h' (take n bytes) → count ≡ counted (before + n) → failed ≡ true
+      → Appends h h' (take n bytes) → count ≡ saturated (before + n) → failed ≡ true
       → Broken turn s h h' asked new before (fault.Write count) failed
   no_write s new h h' asked before n count failed old replies bytes p none is within took counts has =
       let all : p.more ≡ bytes = sym (is ∙ p.appends ∙ ap (λ (x : List ℕ). x ++ p.more) none) in
@@ -51,5 +51,5 @@ module _ {Table : Type 0} {turn : Turn Table} where
           took = took;
           ran = rewritten s new asked [] p.more [] (take n bytes) (drop n bytes) p.ran (append-nil p.more ∙ all ∙ sym (take-append-drop n bytes));
         };
-        why = (counts ∙ ap (λ (k : ℕ). counted (before + k)) (omega (arith, length-take n bytes)), has);
+        why = (counts ∙ ap (λ (k : ℕ). saturated (before + k)) (omega (arith, length-take n bytes)), has);
       }

@@ -10,7 +10,7 @@ use Rattle.cv_frame.specs.declared.reading.Frame.TheVariants as at_front
 use Rattle.cv_machine.specs.Machine.{Turn, Progress}
 use Rattle.cv_machine.proofs.Runs.{Progress-later, all-append}
 use Rattle.cv_frame.proofs.Cuts.{cut_only, cut-joined, front_short}
-use Rattle.cv_loop.specs.Serving.{Serving, EndsWhere, IsAll, counted, ending_of, met_the_end, read_failed, write_failed}
+use Rattle.cv_loop.specs.Serving.{Serving, EndsWhere, IsAll, saturated, ending_of, met_the_end, read_failed, write_failed}
 use Rattle.cv_loop.specs.Private.Draining.{Broken, Answered, Drained, Stopped, ReadsMore}
 use Rattle.cv_loop.specs.declared.serving.Served.{Served}
 use Rattle.cv_loop.specs.declared.fault.ServeFault.{ServeFault}
@@ -25,7 +25,7 @@ pub record Standing {Table : Type 0} (turn : Turn Table) (s t : ℕ → Table) (
   pub fits : AllByRecursion FitsFrame asked
   pub front : given ≡ joined asked ++ held
   pub answered : Answered turn s sunk sunk' asked t 0 written
-  pub counts : served ≡ counted (length asked)
+  pub counts : served ≡ saturated (length asked)
   pub few : reads ≤ length given
   pub partial : front_of held ≡ at_front.Partial
 
@@ -62,7 +62,7 @@ module _ {Table : Type 0} {turn : Turn Table} where
     fits = all-append p.asked q.asked p.fits q.fits;
     front = front_on p.given held held' bytes (drop used held') p.asked q.asked p.front more q.front;
     answered = Answered-then s t u sunk sunk' sunk'' p.asked q.asked 0 a b p.answered q.answered;
-    counts = q.counts ∙ ap (λ (n : ℕ). counted (n + length q.asked)) p.counts ∙ omega (arith, length-append p.asked q.asked);
+    counts = q.counts ∙ ap (λ (n : ℕ). saturated (n + length q.asked)) p.counts ∙ omega (arith, length-append p.asked q.asked);
     few = omega (arith, p.few, some, length-append p.given bytes);
     partial = partial;
   }
@@ -74,7 +74,7 @@ rest_bad : (rest : List ℕ) (l : ℕ) → front_of rest ≡ at_front.Bad l → 
 rest_bad rest l e m n h = absurd cc
 
 -- a count that began at 0 is that of what was added
-from_none : (n w : ℕ) → n ≡ counted (0 + w) → n ≡ counted w
+from_none : (n w : ℕ) → n ≡ saturated (0 + w) → n ≡ saturated w
 from_none n w e = omega (arith, e)
 
 -- what was given is these frames, which were all answered, and this rest
@@ -99,7 +99,7 @@ module _ {Table : Type 0} {turn : Turn Table} where
   -- Serving ends after a read that brought nothing, and all whole frames were answered.
   ends_standing : (result : Result Served ServeFault) (s t : ℕ → Table) (left left' left'' sunk sunk' : Option (List ℕ)) (held bytes : List ℕ) (k a r pulls max : ℕ)
       → Standing turn s t left left' sunk sunk' held k a r → Consumes left' left'' bytes → bytes ≡ []
-      → ((frames : List Message) (written : List ℕ) → k ≡ counted (length frames) → front_of held ≡ at_front.Partial → EndsWhere result frames held written pulls max)
+      → ((frames : List Message) (written : List ℕ) → k ≡ saturated (length frames) → front_of held ≡ at_front.Partial → EndsWhere result frames held written pulls max)
       → (result ≡ Err fault.TooManyReads → max ≤ r)
       → Serving turn result s t left left'' sunk sunk' pulls max
   ends_standing result s t left left' left'' sunk sunk' held bytes k a r pulls max p gave none ends enough =
@@ -115,7 +115,7 @@ module _ {Table : Type 0} {turn : Turn Table} where
         ran = w.ran;
         all = λ u. w.all;
         ends = subst (λ (rest : List ℕ). EndsWhere result (messages_of p.given) rest p.answered.written pulls max) (sym w.same_rest)
-            (ends (messages_of p.given) p.answered.written (p.counts ∙ ap (λ (ms : List Message). counted (length ms)) (sym w.frames)) p.partial);
+            (ends (messages_of p.given) p.answered.written (p.counts ∙ ap (λ (ms : List Message). saturated (length ms)) (sym w.frames)) p.partial);
         enough = λ e. omega (arith, enough e, p.few);
       }
 

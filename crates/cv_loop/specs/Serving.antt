@@ -32,22 +32,22 @@ pub record ServesEach {Table : Type 0} (turn : Turn Table) (tables : ℕ → Tab
 
 -- ---- when each result is returned
 
--- How serving ended: the stream ended; a read failed; a write failed, or took nothing; an allocation failed; or serving
--- gave up, at a bad length or after the greatest number of reads.
+-- How serving ended: the stream ended; a read failed; a write failed, or took nothing; an allocation failed; or
+-- otherwise, at a bad length or after the greatest number of reads.
 pub data Ending : Type 0 where
   StreamEnded : Ending
   ReadFailed : Ending
   WriteFailed : Ending
   MemoryLacked : Ending
-  GaveUp : Ending
+  Otherwise : Ending
 
 abbrev pub ending_of : Result Served ServeFault → Ending
 ending_of (Ok served) = StreamEnded
 ending_of (Err fault.TruncatedFrame) = StreamEnded
-ending_of (Err (fault.BadLength n)) = GaveUp
+ending_of (Err (fault.BadLength n)) = Otherwise
 ending_of (Err fault.Read) = ReadFailed
 ending_of (Err (fault.Write n)) = WriteFailed
-ending_of (Err fault.TooManyReads) = GaveUp
+ending_of (Err fault.TooManyReads) = Otherwise
 ending_of (Err fault.Memory) = MemoryLacked
 
 abbrev pub met_the_end : Ending → Bool
@@ -78,17 +78,17 @@ pub record EndsSay (ending : Ending) (end reading writing : Bool) (left : Option
   pub reads : pulls ≤ max_reads
 
 -- A count in a u64, which saturates.
-abbrev pub counted : ℕ → ℕ
-counted n = min n (2 ^ 64 - 1)
+abbrev pub saturated : ℕ → ℕ
+saturated n = min n (2 ^ 64 - 1)
 
 -- When each result is returned: by the whole frames of what was given, the rest after them, the bytes that were
 -- written, and the number of pulls.
 abbrev pub EndsWhere : Result Served ServeFault → List Message → List ℕ → List ℕ → ℕ → ℕ → Type 0
-EndsWhere (Ok served) frames rest written pulls max_reads = (rest ≡ []) × (served.requests ≡ counted (length frames))
+EndsWhere (Ok served) frames rest written pulls max_reads = (rest ≡ []) × (served.requests ≡ saturated (length frames))
 EndsWhere (Err fault.TruncatedFrame) frames rest written pulls max_reads = (rest ≢ []) × (front_of rest ≡ front.Partial)
 EndsWhere (Err (fault.BadLength n)) frames rest written pulls max_reads = front_of rest ≡ front.Bad n
 EndsWhere (Err fault.Read) frames rest written pulls max_reads = front_of rest ≡ front.Partial
-EndsWhere (Err (fault.Write n)) frames rest written pulls max_reads = n ≡ counted (length written)
+EndsWhere (Err (fault.Write n)) frames rest written pulls max_reads = n ≡ saturated (length written)
 EndsWhere (Err fault.TooManyReads) frames rest written pulls max_reads = (front_of rest ≡ front.Partial) × (pulls ≡ max_reads)
 EndsWhere (Err fault.Memory) frames rest written pulls max_reads = Unit {0}
 

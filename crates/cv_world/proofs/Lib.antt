@@ -1,11 +1,10 @@
 pub mod Owned
-pub mod Buffers
 pub mod WrittenFrames
 pub mod TwoStages
-pub mod Keeping
 pub mod Changes
 pub mod Stepping
 pub mod Converting
+pub mod Descriptors
 pub mod OpeningSteps
 pub mod Leaving
 pub mod Counting

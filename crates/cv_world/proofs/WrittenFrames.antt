@@ -43,13 +43,10 @@ three_in_front b0 b1 b2 b3 x y z at p p2 q q2 r r2 end pe qe re pq qr within e1 
     ∙ append_assoc (take at b0) x (y ++ (z ++ rest))
     ∙ ap (λ (n : ℕ). take at b0 ++ (x ++ (y ++ (z ++ drop n (take end b0))))) re
 
--- what follows a prefix
-pub behind_front : (b out : List ℕ) (at : ℕ) → at ≤ length b → drop at (take at b ++ out) ≡ out
-behind_front b out at within =
-    let size : length (take at b) ≡ at = omega (arith, length-take at b) in
-    ap (λ (n : ℕ). drop n (take at b ++ out)) (sym size) ∙ drop-append_seam (take at b) out
+-- what follows bytes that others follow
+pub after_bytes : (b out c : List ℕ) (n : ℕ) → length b ≡ n → c ≡ b ++ out → drop n c ≡ out
+after_bytes b out c n size is = ap (drop n) is ∙ ap (λ (k : ℕ). drop k (b ++ out)) (sym size) ∙ drop-append_seam b out
 
--- a prefix of a prefix
-pub front_of_front : (b c x : List ℕ) (at end : ℕ) → at ≤ end → at ≤ length b → take end c ≡ take at b ++ x → take at c ≡ take at b
-front_of_front b c x at end more within e =
-    sym (take-take at end c more) ∙ ap (take at) e ∙ take-append-le at (take at b) x (omega (arith, length-take at b)) ∙ take-take at at b (omega arith)
+-- a prefix of bytes that others follow
+pub before_bytes : (b out c : List ℕ) (n : ℕ) → n ≤ length b → c ≡ b ++ out → take n c ≡ take n b
+before_bytes b out c n within is = ap (take n) is ∙ take-append-le n b out within

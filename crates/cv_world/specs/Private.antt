@@ -2,4 +2,5 @@
 pub mod Opening
 pub mod Changes
 pub mod Stages
+pub mod Frames
 pub mod Replying

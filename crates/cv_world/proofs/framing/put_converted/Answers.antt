@@ -2,7 +2,7 @@ use Rattle.std.proofs.Common.{◌≡◌, ℕ, ◌+◌, ◌-◌, List, ◌++◌, 
 use Rattle.std.proofs.lemmas.List.{length-take, length-drop}
 use Rattle.std.specs.Int.{w32, to_be_bytes}
 use Rattle.cv_world.proofs.WrittenFrames.{three_in_front}
-use Rattle.cv_world.proofs.framing.put_in_front.Goals as goal
+use Rattle.cv_world.proofs.framing.put_converted.Goals as goal
 
 pub returns-clause-frame : goal.returns-clause-frame
 returns-clause-frame c =

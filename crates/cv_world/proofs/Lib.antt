@@ -3,8 +3,8 @@ pub mod WrittenFrames
 pub mod TwoStages
 pub mod Changes
 pub mod Stepping
-pub mod Converting
 pub mod Descriptors
+pub mod Converting
 pub mod OpeningSteps
 pub mod Leaving
 pub mod Counting

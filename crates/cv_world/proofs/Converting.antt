@@ -1,17 +1,24 @@
 -- The steps of a world that convert, in terms of its callers and its conversions.
-use Rattle.std.proofs.Common.{◌≡◌, inl, inr, ◌<◌, ◌≤◌, ℕ, true, false, eqb, nat_lt, List, [], length, Option, Some, None, Result, Ok, Err, refl, sym, ◌∙◌, arith}
+use Rattle.std.proofs.Common.{◌≡◌, ◌≢◌, inl, inr, ◌<◌, ◌≤◌, ℕ, true, false, eqb, nat_lt, List, [], length, Option, Some, None, Result, Ok, Err, refl, sym, ◌∙◌, arith}
 use Rattle.std.specs.Prelude.{IsErr}
 use Rattle.std.proofs.lemmas.Bool.{cases_eq, cases_lt}
 use Rattle.std.proofs.lemmas.Bool.Decides.{nat_tests}
 use Rattle.cv_pivot.specs.Conversions.{start, Converted, IsConverted}
-use Rattle.cv_pivot.specs.Encodings.{form_reads, form_writes, form_closes, IsForm}
+use Rattle.std.specs.BTreeMap.{BTreeMap}
+use Rattle.slab.specs.Slab as slab
+use Rattle.cv_pivot.specs.Encodings.{form_of, form_reads, form_writes, form_closes, IsForm}
 use Rattle.cv_pivot.specs.declared.conversion.Conversion.{Conversion}
 use Rattle.cv_pivot.specs.declared.outcome.TooBig.{TooBig}
 use Rattle.cv_frame.specs.declared.status.Status.TheVariants as status
 use Rattle.cv_caller.specs.Tables.{Table, Descriptor, form_in, descriptor_at}
+use Rattle.cv_caller.specs.Keyed.{Keyed, place_at}
+use Rattle.cv_caller.specs.declared.place.Place.{Place}
 use Rattle.cv_world.specs.Actions.{Conv, Reset}
 use Rattle.cv_world.specs.Answers.{most_room}
 use Rattle.cv_world.specs.Turn.{Acts, Restarts, with_states}
+use Rattle.cv_world.specs.Worlds.{world_tables, keyed_in, tables_in, IsWorld}
+use Rattle.cv_world.proofs.Descriptors.{Restated, Same, found, same, restated}
+use Rattle.cv_world.proofs.Stepping.{described}
 use Rattle.cv_world.specs.declared.answer.Answer.{Answer}
 use Rattle.cv_world.specs.declared.answer.Answer.TheVariants as answers
 
@@ -46,7 +53,7 @@ reset_room T n room d h l = let t : nat_lt most_room room ≡ true = grind (arit
 
 module _ (r : Result (List ℕ) TooBig) (room : ℕ) (closing : List ℕ) (is was now : Option Conversion)
     (gives_up : room ≡ 0 → (r ≡ Ok []) × (now ≡ is)) (closes : 0 < room → length closing ≤ room → (r ≡ Ok closing) × (now ≡ is)) (too_big : 0 < room → room < length closing → IsErr r × (now ≡ was)) where
-  pub reset_kept : (bytes : List ℕ) → r ≡ Ok bytes → now ≡ is
+  reset_kept : (bytes : List ℕ) → r ≡ Ok bytes → now ≡ is
   reset_kept bytes e = elim (cases_eq room 0) [
     | inl z ↦ (gives_up z).1
     | inr a ↦ elim (cases_lt room (length closing)) [
@@ -55,7 +62,7 @@ module _ (r : Result (List ℕ) TooBig) (room : ℕ) (closing : List ℕ) (is wa
     ]
   ]
 
-  pub reset_writes : (T next : Table) (n : ℕ) (d : Descriptor) (bytes : List ℕ) → r ≡ Ok bytes → next ≡ with_states T n d start → Restarts T n d room closing next (answers.Written bytes)
+  reset_writes : (T next : Table) (n : ℕ) (d : Descriptor) (bytes : List ℕ) → r ≡ Ok bytes → next ≡ with_states T n d start → Restarts T n d room closing next (answers.Written bytes)
   reset_writes T next n d bytes e h = elim (cases_eq room 0) [
     | inl z ↦ let w : bytes ≡ [] = (let both = sym e ∙ (gives_up z).0 in cc) in rw (z, w) (h, refl)
     | inr a ↦ elim (cases_lt room (length closing)) [
@@ -66,7 +73,7 @@ module _ (r : Result (List ℕ) TooBig) (room : ℕ) (closing : List ℕ) (is wa
     ]
   ]
 
-  pub reset_refuses : (T next : Table) (n : ℕ) (d : Descriptor) (e : TooBig) → r ≡ Err e → next ≡ T → (now ≡ was) × Restarts T n d room closing next (answers.Refused status.TooBig)
+  reset_refuses : (T next : Table) (n : ℕ) (d : Descriptor) (e : TooBig) → r ≡ Err e → next ≡ T → (now ≡ was) × Restarts T n d room closing next (answers.Refused status.TooBig)
   reset_refuses T next n d e i h = elim (cases_eq room 0) [
     | inl z ↦ absurd (let both = sym i ∙ (gives_up z).0 in cc)
     | inr a ↦ elim (cases_lt room (length closing)) [
@@ -77,5 +84,38 @@ module _ (r : Result (List ℕ) TooBig) (room : ℕ) (closing : List ℕ) (is wa
   ]
 
 -- RESET restarts the descriptor, or has too little room for what closes its shift
-pub reset_acts : (T next : Table) (n room : ℕ) (d : Descriptor) (a : Answer) → descriptor_at T n ≡ Some d → room ≤ most_room → Restarts T n d room (form_closes (form_in T.charmaps d.to) d.states.writing) next a → Acts T (Reset n room) next a
+reset_acts : (T next : Table) (n room : ℕ) (d : Descriptor) (a : Answer) → descriptor_at T n ≡ Some d → room ≤ most_room → Restarts T n d room (form_closes (form_in T.charmaps d.to) d.states.writing) next a → Acts T (Reset n room) next a
 reset_acts T next n room d a h l r = let t : nat_lt most_room room ≡ false = grind (arith, nat_tests, l) in rw (h, t) r
+
+module _ (callers : BTreeMap ℕ Keyed) (s : slab.Slab Conversion) (tables : List (ℕ × Table)) (c n : ℕ) (is : tables_in callers.entries s ≡ tables)
+    (s2 : slab.Slab Conversion) (p : Place) (own : IsWorld (keyed_in callers) (slab.get s)) (mine : Some p ≡ place_at (keyed_in callers c) n) (others : (o : ℕ) → o ≢ p.key → slab.get s2 o ≡ slab.get s o)
+    (r : Result (List ℕ) TooBig) (room : ℕ) (few : room ≤ most_room)
+    (gives_up : (v : Conversion) → slab.get s p.key ≡ Some v → room ≡ 0 → (r ≡ Ok []) × (slab.get s2 p.key ≡ Some (record v { states = start })))
+    (closes : (v : Conversion) → slab.get s p.key ≡ Some v → 0 < room → length (form_closes (form_of v.to) v.states.writing) ≤ room → (r ≡ Ok (form_closes (form_of v.to) v.states.writing)) × (slab.get s2 p.key ≡ Some (record v { states = start })))
+    (too_big : (v : Conversion) → slab.get s p.key ≡ Some v → 0 < room → room < length (form_closes (form_of v.to) v.states.writing) → IsErr r × (slab.get s2 p.key ≡ slab.get s p.key)) where
+  -- a RESET that is done
+  pub reset_done : (bytes : List ℕ) → r ≡ Ok bytes
+      → Restated (keyed_in callers) (slab.get s2) (world_tables tables) (world_tables (tables_in callers.entries s2)) c n p (found callers s tables c n is p own mine).conversion start
+      × Acts (world_tables tables c) (Reset n room) (world_tables (tables_in callers.entries s2) c) (answers.Written bytes)
+  reset_done bytes e =
+      let f = found callers s tables c n is p own mine in
+      let v = f.conversion in
+      let d : Descriptor = described p v in
+      let w : Conversion = record v { states = start } in
+      let closing = form_closes (form_of v.to) v.states.writing in
+      let now = reset_kept r room closing (Some w) (slab.get s p.key) (slab.get s2 p.key) (gives_up v f.under) (closes v f.under) (too_big v f.under) bytes e in
+      let t = restated callers s tables c n is s2 p own mine others v w f.under now refl in
+      (t, reset_acts (world_tables tables c) _ n room d _ f.opens few (rw (← f.to) (reset_writes r room closing (Some w) (slab.get s p.key) (slab.get s2 p.key) (gives_up v f.under) (closes v f.under) (too_big v f.under) (world_tables tables c) _ n d bytes e t.table)))
+
+  -- a RESET with too little room
+  pub reset_refused : (fault : TooBig) → r ≡ Err fault
+      → Same (keyed_in callers) (slab.get s2) (world_tables tables) (world_tables (tables_in callers.entries s2)) c
+      × Acts (world_tables tables c) (Reset n room) (world_tables (tables_in callers.entries s2) c) (answers.Refused status.TooBig)
+  reset_refused fault e =
+      let f = found callers s tables c n is p own mine in
+      let v = f.conversion in
+      let d : Descriptor = described p v in
+      let closing = form_closes (form_of v.to) v.states.writing in
+      let refuses = reset_refuses r room closing (Some (record v { states = start })) (slab.get s p.key) (slab.get s2 p.key) (gives_up v f.under) (closes v f.under) (too_big v f.under) (world_tables tables c) in
+      let t = same callers s tables c n is s2 p own mine others (refuses (world_tables tables c) n d fault e refl).0 in
+      (t, reset_acts (world_tables tables c) _ n room d _ f.opens few (rw (← f.to) (refuses _ n d fault e t.table).1))

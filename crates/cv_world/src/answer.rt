@@ -56,7 +56,7 @@ pub(crate) fn number_piece(n: u32) -> Piece
     piece
 }
 
-fn two_numbers(a: u32, b: u32) -> Piece
+pub(crate) fn two_numbers(a: u32, b: u32) -> Piece
     ensures { result ≡ to_be_bytes w32 a ++ to_be_bytes w32 b }
 {
     let mut piece = Piece::new();

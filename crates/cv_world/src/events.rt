@@ -7,7 +7,7 @@ ghost use Rattle.cv_world.specs.Turn.{Acts};
 ghost use Rattle.cv_world.specs.Worlds.{world_tables};
 
 use crate::answer::Answer;
-use crate::op::Op;
+use crate::op::{ConvRequest, Op};
 use crate::world::World;
 use cv_frame::Status;
 use std::alloc::Global;
@@ -33,7 +33,14 @@ impl World {
                 number,
                 room,
                 input,
-            } => self.conv(alloc, caller, number, room, input),
+            } => {
+                let conv = ConvRequest {
+                    number,
+                    room,
+                    input,
+                };
+                self.conv(alloc, caller, conv)
+            }
             Op::Reset { number, room } => self.reset(caller, number, room),
             Op::Close(number) => {
                 let answer = self.close(caller, number);

@@ -2,7 +2,7 @@
 //! that they take all of a plain text. No contract says so, since what a loop leaves is converted by blocks.
 use crate::words::bytes_of;
 use cv_block::{BigEndian, LittleEndian};
-use cv_direct::{
+use cv_transcode::{
     Direct, begins_with_fours, latin1_to_utf8, utf8_to_utf16, utf16_swapped, utf16_to_utf8,
     utf32_to_utf8, utf32_to_utf16,
 };

@@ -1,21 +1,21 @@
 //! Loops that convert from one encoding to another without a buffer of characters in between.
 ghost use Rattle.std.specs.Prelude.{◌≡◌, ◌≤◌, ◌<◌, length, IfSome, MatchOption};
-ghost use Rattle.cv_direct.specs.Direct.{IsConverted};
+ghost use Rattle.cv_transcode.specs.Direct.{IsConverted};
 ghost use Rattle.cv_pivot.specs.Encodings.{form_of};
 ghost use Rattle.cv_pivot.specs.Private.Steps.FastPaths.{IsReadAs, IsWrittenAs, read_bytes, written_bytes};
-ghost use Rattle.cv_wide.specs.Private.Kept.{KeepsReading, KeepsWriting};
-ghost use Rattle.cv_wide.specs.Utf32.{utf32};
+ghost use Rattle.cv_utf16.specs.Private.Kept.{KeepsReading, KeepsWriting};
+ghost use Rattle.cv_utf16.specs.Utf32.{utf32};
 
 use crate::blocks::BlockSize;
 use crate::encoding::Encoding;
 use crate::outcome::States;
 use cv_base::{Endian, ReadState, WriteState};
 use cv_block::{BigEndian, ByteOrder, LittleEndian};
-use cv_direct::{
+use cv_transcode::{
     Direct, begins_with_fours, latin1_to_utf8, utf8_to_utf16, utf16_swapped, utf16_to_utf8,
     utf32_to_utf8, utf32_to_utf16,
 };
-use cv_wide::Order;
+use cv_utf16::Order;
 
 /// Returns the byte order in which units are read, if reading does not leave this state.
 #[inline(always)]

@@ -1,0 +1,15 @@
+use Rattle.std.proofs.Common.{◌-◌, ◌≤◌, length}
+use Rattle.cv_transcode.specs.Private.Loose.{IsConvertedLoosely}
+use Rattle.cv_transcode.proofs.mixed.fill.Given as goal
+
+abbrev pub invariant-loop-used : goal.invariant-loop-used
+invariant-loop-used g l = record {
+  within : l.used ≤ length l.text;
+  few : l.parts ≤ l.used;
+  behind : l.other ≤ l.used;
+  fit : l.wrote ≤ l.end;
+  converted : IsConvertedLoosely g.S.Source.bytes_of g.T.Target.bytes_of l.text l.fn.front 0 l.used l.wrote 48 l.front;
+}
+
+abbrev pub decreases-loop-used : goal.decreases-loop-used
+decreases-loop-used g l = length l.text - l.used

@@ -1,0 +1,43 @@
+//! Writing units that have up to two bytes in UTF-8, eight at once.
+ghost use Rattle.std.specs.Prelude.{◌≡◌, ◌+◌, ◌≤◌, ◌<◌, ℕ, length, get_or};
+ghost use Rattle.std.specs.List.{flat_map};
+ghost use Rattle.cv_transcode.specs.Private.Loose.{IsPutLoosely};
+ghost use Rattle.cv_utf8.specs.Utf8.{utf8_bytes};
+ghost use Rattle.cv_utf8.specs.Private.Utf8Pairs.{pair_of};
+
+use crate::sizes::twos;
+use cv_simd::compress_pairs;
+use std::simd::prelude::*;
+
+/// How many units are packed at once.
+const EIGHT: usize = 8;
+
+/// Two bytes for each of eight units in UTF-8. If one has a single byte, the second is 0.
+#[inline(always)]
+fn pairs(units: u16x8) -> u8x16
+    requires { (k : ℕ) → k < 8 → get_or units k 0 < 0x800 }
+    ensures { result ≡ flat_map pair_of units }
+{
+    let sixty_four = u16x8::splat(64);
+    let second = units % sixty_four * u16x8::splat(0x100);
+    let two = units / sixty_four + second + u16x8::splat(0x80c0);
+    units
+        .simd_ge(u16x8::splat(0x80))
+        .select(two, units)
+        .to_le_bytes()
+}
+
+/// Writes eight units of up to two bytes, and returns how many bytes they have.
+#[inline(always)]
+pub(crate) fn write_short(units: u16x8, out: &mut [u8], at: usize) -> usize
+    requires room { at + 16 ≤ length out.old }
+    requires short { (k : ℕ) → k < 8 → get_or units k 0 < 0x800 }
+    ensures some { 8 ≤ result }
+    ensures few { result ≤ 16 }
+    ensures put { IsPutLoosely (flat_map utf8_bytes units) out.old at result 16 out.new }
+{
+    let twos = twos(units);
+    let bytes = compress_pairs(pairs(units), twos);
+    bytes.copy_to_slice(&mut out[at..]);
+    EIGHT + twos.count_ones() as usize
+}

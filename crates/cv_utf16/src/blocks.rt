@@ -6,7 +6,7 @@ use cv_base::{
     AsciiForm, BlockCodec, Endian, Policy, ReadBlock, ReadState, Scalar, WriteState, WrittenBlock,
     write_each,
 };
-use cv_block::{read_stateless, unit_front, write_stateless};
+use cv_block::{read_stateless, unit_prefix_len, write_stateless};
 
 impl<F: WideForm> BlockCodec for EncodingScheme<F> {
     #[tactic(auto, using(cv_base::proofs::BlockLaws::nothing_read))]
@@ -42,8 +42,8 @@ impl<F: WideForm> BlockCodec for EncodingScheme<F> {
     fn unchanged(&self, reading: ReadState, writing: WriteState, input: &[u8]) -> usize {
         F::assert_form();
         match self.order.kept(reading, writing) {
-            Some(Endian::Big) => unit_front::<F::BeUnit>(input),
-            Some(Endian::Little) => unit_front::<F::LeUnit>(input),
+            Some(Endian::Big) => unit_prefix_len::<F::BeUnit>(input),
+            Some(Endian::Little) => unit_prefix_len::<F::LeUnit>(input),
             None => 0,
         }
     }

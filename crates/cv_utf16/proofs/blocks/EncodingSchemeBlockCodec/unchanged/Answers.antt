@@ -13,7 +13,7 @@ returns-in-Some-Big g c =
     spelled_unchanged (reads_in form order) (writes_in form order) _ _ (form Big)
     (reads_spelled form order c.args.reading _ _ _ kept.0 c.in-Some-Big.field-0-is refl)
     (writes_spelled form order c.args.writing _ _ _ kept.1 c.in-Some-Big.field-0-is refl)
-    c.args.input.now _ (c.unit_front.ensures.front (form Big) c.assert_form.ensures.be_unit)
+    c.args.input.now _ (c.unit_prefix_len.ensures.prefix (form Big) c.assert_form.ensures.be_unit)
 
 pub returns-in-Some-Little : goal.returns-in-Some-Little
 returns-in-Some-Little g c =
@@ -23,4 +23,4 @@ returns-in-Some-Little g c =
     spelled_unchanged (reads_in form order) (writes_in form order) _ _ (form Little)
     (reads_spelled form order c.args.reading _ _ _ kept.0 c.in-Some-Little.field-0-is refl)
     (writes_spelled form order c.args.writing _ _ _ kept.1 c.in-Some-Little.field-0-is refl)
-    c.args.input.now _ (c.unit_front-in-Some-Little.ensures.front (form Little) c.assert_form.ensures.le_unit)
+    c.args.input.now _ (c.unit_prefix_len-in-Some-Little.ensures.prefix (form Little) c.assert_form.ensures.le_unit)

@@ -1,6 +1,6 @@
 use Rattle.std.proofs.Common.{arith}
 use Rattle.cv_block.proofs.FormRuns.{written_few, written_more}
-use Rattle.cv_block.proofs.form_writing.write_front.Goals as goal
+use Rattle.cv_block.proofs.form_writing.write_all.Goals as goal
 
 pub write_some-some-requires-clause-room : goal.write_some-some-requires-clause-room
 write_some-some-requires-clause-room g c =

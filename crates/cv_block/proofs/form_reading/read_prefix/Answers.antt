@@ -1,6 +1,6 @@
 use Rattle.std.proofs.Common.{arith}
 use Rattle.cv_block.proofs.FormRuns.{read_within, read_more}
-use Rattle.cv_block.proofs.form_reading.read_front.Goals as goal
+use Rattle.cv_block.proofs.form_reading.read_prefix.Goals as goal
 
 pub read_some-some-requires-clause-within : goal.read_some-some-requires-clause-within
 read_some-some-requires-clause-within g c = omega (arith, read_within _ _ 0 _ 0 _ _ c.loop-n.invariant (omega arith))

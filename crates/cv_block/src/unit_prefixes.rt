@@ -22,9 +22,9 @@ fn are_characters<U: Unit>(input: &[u8], at: usize) -> bool
 /// stops before a block in which a unit is no character by itself. It serves every encoding in which a character of one
 /// unit has the bytes of its unit.
 #[inline(never)]
-pub fn unit_front<U: Unit>(input: &[u8]) -> usize
+pub fn unit_prefix_len<U: Unit>(input: &[u8]) -> usize
     ensures within { result ≤ length input.now }
-    ensures front { (bytes_of : BytesOf) → HasUnits U.form bytes_of
+    ensures prefix { (bytes_of : BytesOf) → HasUnits U.form bytes_of
         → IsFormPrefix bytes_of input.now result }
 {
     let size = U::size() * LANES;

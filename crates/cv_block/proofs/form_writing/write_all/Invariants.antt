@@ -1,6 +1,6 @@
 use Rattle.std.proofs.Common.{◌-◌, length}
 use Rattle.cv_block.specs.StatelessForms.{IsWrittenForm}
-use Rattle.cv_block.proofs.form_writing.write_front.Given as goal
+use Rattle.cv_block.proofs.form_writing.write_all.Given as goal
 
 abbrev pub invariant-loop-n : goal.invariant-loop-n
 invariant-loop-n g l = IsWrittenForm g.S.StatelessForm.bytes_of l.characters 0 l.fn.out 0 (record { n = l.n; used = l.used }) l.out

@@ -6,7 +6,7 @@ use cv_transcode::{
     Direct, begins_with_fours, latin1_to_utf8, utf8_to_utf16, utf16_swapped, utf16_to_utf8,
     utf32_to_utf8, utf32_to_utf16,
 };
-use cv_utf8::read_units;
+use cv_utf8::read_utf16_lanes;
 use std::alloc::Global;
 use std::test::Fail;
 
@@ -173,7 +173,7 @@ fn units_of(alloc: Global, text: &[u8]) -> Result<Vec<u8>, Fail> {
         if text.len() < 18 || at > text.len() - 18 {
             break;
         }
-        let units = read_units(text, at);
+        let units = read_utf16_lanes(text, at);
         push_units(&mut bytes, units.first.to_array().get(..units.firsts))?;
         push_units(&mut bytes, units.second.to_array().get(..units.seconds))?;
         at = at.saturating_add(units.used);

@@ -2,7 +2,7 @@
 use Rattle.std.proofs.Common.{◌≡◌, ℕ, ◌+◌, ◌<◌, ◌≤◌, List, ◌++◌, length, length-take, length-drop, take, drop, get_or, sym, ◌∙◌, ap, ap₂, subst, refl, arith, lit≤, take-append-drop}
 use Rattle.std.proofs.lemmas.List.{take_all, drop-drop, drop-take, take-take}
 use Rattle.cv_base.specs.Scalars.{AreScalars}
-use Rattle.cv_utf8.specs.Units.{AreRead}
+use Rattle.cv_utf8.specs.Utf16Lanes.{AreRead}
 use Rattle.cv_utf8.proofs.Utf8Spelled.{read_front}
 
 -- the halves of sixteen bytes

@@ -7,7 +7,7 @@ use Rattle.std.proofs.Math.Dec.{leb}
 use Rattle.std.proofs.lemmas.List.{length-map}
 use Rattle.std.proofs.lemmas.Simd.{mask_l-lt, mask_l-mod}
 use Rattle.cv_utf8.specs.Private.Utf8Pairs.{has_two}
-use Rattle.cv_utf8.specs.Private.Utf8Fours.{has_three, four_of}
+use Rattle.cv_utf8.specs.Private.Utf8Fours.{has_three, quad_of}
 use Rattle.cv_transcode.specs.Private.Middle.{front_of, last_of, marks, AreMiddle}
 
 behind_first : (v : ℕ) (vs : List ℕ) → AreMiddle (v ∷ vs) → AreMiddle vs
@@ -80,14 +80,14 @@ front_lt v h = grind arith
 last_lt : (v : ℕ) → last_of v < 65536
 last_lt v = grind arith
 
-number_bytes : (v : ℕ) → v < 0x10000 → (front_of v % 256) ∷ (front_of v / 256 % 256) ∷ (last_of v % 256) ∷ (last_of v / 256 % 256) ∷ [] ≡ four_of v
+number_bytes : (v : ℕ) → v < 0x10000 → (front_of v % 256) ∷ (front_of v / 256 % 256) ∷ (last_of v % 256) ∷ (last_of v / 256 % 256) ∷ [] ≡ quad_of v
 number_bytes v h = grind arith
 
 abbrev fourfold : ℕ → ℕ
 fourfold zero = zero
 fourfold (suc n) = suc (suc (suc (suc (fourfold n))))
 
-bytes_of_numbers : (vs : List ℕ) → AreMiddle vs → digits_l 256 (fourfold (length vs)) (number_l 65536 (flat_map numbers_of vs)) ≡ flat_map four_of vs
+bytes_of_numbers : (vs : List ℕ) → AreMiddle vs → digits_l 256 (fourfold (length vs)) (number_l 65536 (flat_map numbers_of vs)) ≡ flat_map quad_of vs
 bytes_of_numbers [] p = refl
 bytes_of_numbers (v ∷ vs) p =
     let f : ℕ = front_of v in
@@ -185,16 +185,16 @@ low_long vs long = omega (arith, length-take 4 vs, long)
 pub high_long : (vs : List ℕ) → length vs ≡ 8 → length (drop 4 vs) ≡ 4
 high_long vs long = omega (arith, length-drop 4 vs, long)
 
-four_bytes : (vs : List ℕ) → length vs ≡ 4 → AreMiddle vs → digits_l 256 16 (number_l 65536 (flat_map numbers_of vs)) ≡ flat_map four_of vs
+four_bytes : (vs : List ℕ) → length vs ≡ 4 → AreMiddle vs → digits_l 256 16 (number_l 65536 (flat_map numbers_of vs)) ≡ flat_map quad_of vs
 four_bytes vs long p = ap (λ n. digits_l 256 (fourfold n) (number_l 65536 (flat_map numbers_of vs))) (sym long) ∙ bytes_of_numbers vs p
 
 -- the bytes of the first four, from both numbers of all
-pub low_bytes : (fs ls vs : List ℕ) → fs ≡ map front_of vs → ls ≡ map last_of vs → length vs ≡ 8 → ((k : ℕ) → k < 8 → get_or vs k 0 < 0x10000) → digits_l 256 16 (number_l 65536 (pick_l 0 (fs ++ ls) low_places)) ≡ flat_map four_of (take 4 vs)
+pub low_bytes : (fs ls vs : List ℕ) → fs ≡ map front_of vs → ls ≡ map last_of vs → length vs ≡ 8 → ((k : ℕ) → k < 8 → get_or vs k 0 < 0x10000) → digits_l 256 16 (number_l 65536 (pick_l 0 (fs ++ ls) low_places)) ≡ flat_map quad_of (take 4 vs)
 low_bytes fs ls vs f l long p =
     ap (λ (xs : List ℕ). digits_l 256 16 (number_l 65536 xs)) (ap₂ (λ (a b : List ℕ). pick_l 0 (a ++ b) low_places) f l ∙ low_picked vs long) ∙ four_bytes (take 4 vs) (low_long vs long) (low_middle vs long p)
 
 -- the bytes of the other four
-pub high_bytes : (fs ls vs : List ℕ) → fs ≡ map front_of vs → ls ≡ map last_of vs → length vs ≡ 8 → ((k : ℕ) → k < 8 → get_or vs k 0 < 0x10000) → digits_l 256 16 (number_l 65536 (pick_l 0 (fs ++ ls) high_places)) ≡ flat_map four_of (drop 4 vs)
+pub high_bytes : (fs ls vs : List ℕ) → fs ≡ map front_of vs → ls ≡ map last_of vs → length vs ≡ 8 → ((k : ℕ) → k < 8 → get_or vs k 0 < 0x10000) → digits_l 256 16 (number_l 65536 (pick_l 0 (fs ++ ls) high_places)) ≡ flat_map quad_of (drop 4 vs)
 high_bytes fs ls vs f l long p =
     ap (λ (xs : List ℕ). digits_l 256 16 (number_l 65536 xs)) (ap₂ (λ (a b : List ℕ). pick_l 0 (a ++ b) high_places) f l ∙ high_picked vs long) ∙ four_bytes (drop 4 vs) (high_long vs long) (high_middle vs long p)
 

@@ -10,9 +10,9 @@ use Rattle.cv_utf16.proofs.PutTwice.{put_both}
 use Rattle.cv_transcode.specs.Direct.{IsConverted}
 use Rattle.cv_transcode.specs.Private.Windows.{IsHigh}
 use Rattle.cv_transcode.specs.declared.direct.Direct.{Direct}
-use Rattle.cv_utf8.specs.Units.{characters_of, AreRead}
+use Rattle.cv_utf8.specs.Utf16Lanes.{characters_of, AreRead}
 use Rattle.cv_utf8.specs.Utf8.{utf8_bytes}
-use Rattle.cv_utf8.specs.declared.utf8_units.Units.{Units}
+use Rattle.cv_utf8.specs.declared.read.utf16_lanes.Utf16Lanes.{Utf16Lanes}
 
 some_bytes : (c : ℕ) → 0 < length (utf8_bytes c)
 some_bytes c = grind arith
@@ -53,7 +53,7 @@ put_size bytes before at n after p =
     omega (arith, ap length p.out, length-append front (drop (at + n) before), length-append (take at before) bytes, length-take at before, length-drop (at + n) before, p.fits, p.wrote)
 
 -- the characters of one window more are converted
-pub units_more : (to : BytesOf) (text before : List ℕ) (at used n m total place : ℕ) (mid after : List ℕ) (units : Units) → IsConverted utf8_bytes to text before at (record { used = used; wrote = n }) mid → place ≡ at + n → n + m ≡ total → AreRead text used units
+pub units_more : (to : BytesOf) (text before : List ℕ) (at used n m total place : ℕ) (mid after : List ℕ) (units : Utf16Lanes) → IsConverted utf8_bytes to text before at (record { used = used; wrote = n }) mid → place ≡ at + n → n + m ≡ total → AreRead text used units
     → IsPut (flat_map to (characters_of units)) mid place m after → IsConverted utf8_bytes to text before at (record { used = used + units.used; wrote = total }) after
 units_more to text before at used n m total place mid after units p place_is total_is read put =
     let window : IsConverted utf8_bytes to (drop used text) mid (at + n) (record { used = units.used; wrote = m }) after = record { characters = characters_of units; scalars = read.scalars; begins = read.begins; uses = read.uses; put = subst (λ (i : ℕ). IsPut (flat_map to (characters_of units)) mid i m after) place_is put } in

@@ -10,12 +10,12 @@ use Rattle.cv_base.proofs.Front.{Begins-length}
 use Rattle.cv_block.specs.StatelessForms.{BytesOf}
 use Rattle.cv_transcode.specs.Private.Loose.{IsPutLoosely}
 use Rattle.cv_transcode.proofs.Putting.{put_more}
-use Rattle.cv_utf8.specs.Units.{characters_of, AreRead}
+use Rattle.cv_utf8.specs.Utf16Lanes.{characters_of, AreRead}
 use Rattle.cv_utf8.specs.Utf8.{utf8_bytes}
-use Rattle.cv_utf8.specs.declared.utf8_units.Units.{Units}
+use Rattle.cv_utf8.specs.declared.read.utf16_lanes.Utf16Lanes.{Utf16Lanes}
 
 -- the characters of both parts are put
-pub parts_put : (to : BytesOf) (units : Units) (before : List ℕ) (at : ℕ) (mid after : List ℕ) → IsPutLoosely (flat_map to (take units.firsts units.first)) before at (2 * units.firsts) 16 mid
+pub parts_put : (to : BytesOf) (units : Utf16Lanes) (before : List ℕ) (at : ℕ) (mid after : List ℕ) → IsPutLoosely (flat_map to (take units.firsts units.first)) before at (2 * units.firsts) 16 mid
     → IsPutLoosely (flat_map to (take units.seconds units.second)) mid (at + 2 * units.firsts) (2 * units.seconds) 16 after → IsPutLoosely (flat_map to (characters_of units)) before at (2 * (units.firsts + units.seconds)) 16 after
 parts_put to units before at mid after p q =
     let first : List ℕ = take units.firsts units.first in
@@ -38,7 +38,7 @@ put_back bytes before lanes at n mid after p room same back =
     }
 
 -- the characters are within the text
-pub read_within : (text : List ℕ) (at : ℕ) (units : Units) → at ≤ length text → AreRead text at units → at + units.used ≤ length text
+pub read_within : (text : List ℕ) (at : ℕ) (units : Utf16Lanes) → at ≤ length text → AreRead text at units → at + units.used ≤ length text
 read_within text at units h p = omega (arith, p.uses, Begins-length (flat_map utf8_bytes (characters_of units)) (drop at text) p.begins, length-drop at text)
 
 -- what was put is within the slice

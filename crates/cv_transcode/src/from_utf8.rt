@@ -5,7 +5,7 @@ ghost use Rattle.cv_base.specs.Places.{IsPut};
 ghost use Rattle.cv_transcode.specs.Direct.{IsConverted};
 ghost use Rattle.cv_transcode.specs.Private.Loose.{IsPutLoosely};
 ghost use Rattle.cv_transcode.specs.Private.Windows.{in_order, IsHigh};
-ghost use Rattle.cv_utf8.specs.Units.{characters_of, AreRead};
+ghost use Rattle.cv_utf8.specs.Utf16Lanes.{characters_of, AreRead};
 ghost use Rattle.cv_utf8.specs.Utf8.{utf8_bytes};
 ghost use Rattle.cv_utf16.specs.Utf16.{utf16};
 
@@ -14,7 +14,7 @@ use crate::target::{ROOM, Target};
 use crate::utf16::Utf16In;
 use cv_base::Endian;
 use cv_block::{ByteOrder, LANES, is_ascii_block};
-use cv_utf8::{Units, read_units};
+use cv_utf8::{Utf16Lanes, read_utf16_lanes};
 use std::simd::prelude::*;
 
 /// How many bytes of the text are looked at for a window: the sixteen of the window, and two after them.
@@ -69,12 +69,12 @@ fn put_eight<O: ByteOrder>(units: u16x8, n: usize, out: &mut [u8], at: usize)
 
 /// Sixteen characters of ASCII, as units in two parts.
 #[inline(always)]
-fn ascii_units(text: &[u8], at: usize) -> Units
+fn ascii_units(text: &[u8], at: usize) -> Utf16Lanes
     requires within { at + 16 ≤ length text.now }
     requires ascii { (k : ℕ) → at ≤ k → k < at + 16 → slice_index text.now k < 128 }
     ensures { AreRead text.now at result }
 {
-    Units {
+    Utf16Lanes {
         first: u8x8::from_slice(&text[at..]).cast::<u16>(),
         firsts: EIGHT,
         second: u8x8::from_slice(&text[at + EIGHT..]).cast::<u16>(),
@@ -86,7 +86,7 @@ fn ascii_units(text: &[u8], at: usize) -> Units
 /// The whole characters of up to three bytes at the start of a window, up to one that has four.
 #[inline(always)]
 #[tactic(auto, using(crate::proofs::UnitsPut::read_within))]
-fn next_units(text: &[u8], at: usize) -> Units
+fn next_units(text: &[u8], at: usize) -> Utf16Lanes
     requires { at + 18 ≤ length text.now }
     ensures read { AreRead text.now at result }
     ensures within { at + result.used ≤ length text.now }
@@ -94,12 +94,12 @@ fn next_units(text: &[u8], at: usize) -> Units
     if is_ascii_block(text, at) {
         return ascii_units(text, at);
     }
-    read_units(text, at)
+    read_utf16_lanes(text, at)
 }
 
 /// Whether each character of a window has one byte.
 #[inline(always)]
-fn are_ascii(units: &Units) -> bool
+fn are_ascii(units: &Utf16Lanes) -> bool
     requires few { units.now.firsts ≤ 8 }
     requires others { units.now.seconds ≤ 8 }
 {
@@ -108,7 +108,7 @@ fn are_ascii(units: &Units) -> bool
 
 /// Writes the characters of a window, and returns how many bytes they have. It restores the bytes after them.
 #[inline(always)]
-fn write_units<O: ByteOrder>(units: &Units, out: &mut [u8], at: usize) -> usize
+fn write_units<O: ByteOrder>(units: &Utf16Lanes, out: &mut [u8], at: usize) -> usize
     requires few { units.now.firsts ≤ 8 }
     requires others { units.now.seconds ≤ 8 }
     requires room { at + 48 ≤ length out.old }
@@ -224,7 +224,7 @@ fn may_go_on(window: usize, high: usize) -> bool
 /// Where the last character that is not ASCII ended: at `end` if one is in the window or among the characters of four
 /// bytes after it, and otherwise still at `other`.
 #[inline(always)]
-fn last_other(units: &Units, high: usize, end: usize, other: usize) -> usize
+fn last_other(units: &Utf16Lanes, high: usize, end: usize, other: usize) -> usize
     requires few { units.now.firsts ≤ 8 }
     requires others { units.now.seconds ≤ 8 }
     requires before { other ≤ end }

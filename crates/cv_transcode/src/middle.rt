@@ -4,7 +4,7 @@ ghost use Rattle.std.specs.List.{flat_map};
 ghost use Rattle.cv_transcode.specs.Private.Loose.{IsPutLoosely};
 ghost use Rattle.cv_transcode.specs.Private.Middle.{front_of, last_of, marks, AreMiddle};
 ghost use Rattle.cv_utf8.specs.Utf8.{utf8_bytes};
-ghost use Rattle.cv_utf8.specs.Private.Utf8Fours.{four_of};
+ghost use Rattle.cv_utf8.specs.Private.Utf8Fours.{quad_of};
 
 use crate::sizes::{threes, twos};
 use cv_simd::compress_triples;
@@ -45,8 +45,8 @@ fn lasts(units: u16x8) -> u16x8
 #[inline(always)]
 fn fours(units: u16x8) -> (u8x16, u8x16)
     requires { (k : ℕ) → k < 8 → get_or units k 0 < 0x10000 }
-    ensures first { result.0 ≡ flat_map four_of (take 4 units) }
-    ensures second { result.1 ≡ flat_map four_of (drop 4 units) }
+    ensures first { result.0 ≡ flat_map quad_of (take 4 units) }
+    ensures second { result.1 ≡ flat_map quad_of (drop 4 units) }
 {
     let (first, second) = fronts(units).interleave(lasts(units));
     (first.to_le_bytes(), second.to_le_bytes())
@@ -61,7 +61,7 @@ fn put_four(fours: u8x16, sizes: u64, out: &mut [u8], at: usize) -> usize
     ensures some { 4 ≤ result }
     ensures few { result ≤ 12 }
     ensures put { (units : List ℕ) → length units ≡ 4 → AreMiddle units
-        → fours ≡ flat_map four_of units → sizes ≡ marks units
+        → fours ≡ flat_map quad_of units → sizes ≡ marks units
         → IsPutLoosely (flat_map utf8_bytes units) out.old at result 16 out.new }
 {
     let bytes = compress_triples(fours, sizes);

@@ -12,7 +12,7 @@ use Rattle.cv_simd.specs.Compressed.{flags, from_triples}
 use Rattle.cv_simd.proofs.TableRows.{flags_of}
 use Rattle.cv_utf8.specs.Utf8.{utf8_bytes}
 use Rattle.cv_utf8.specs.Private.Utf8Pairs.{has_two}
-use Rattle.cv_utf8.specs.Private.Utf8Fours.{has_three, four_of}
+use Rattle.cv_utf8.specs.Private.Utf8Fours.{has_three, quad_of}
 
 -- ---- four bytes for each, as vectors compute them
 
@@ -54,14 +54,14 @@ word_lt v h = grind arith
 abbrev bytes_of : ℕ → List ℕ
 bytes_of w = (w % 256) ∷ (w / 256 % 256) ∷ (w / 256 / 256 % 256) ∷ (w / 256 / 256 / 256 % 256) ∷ []
 
-word_bytes : (v : ℕ) → v < 0x10000 → bytes_of (word v) ≡ four_of v
+word_bytes : (v : ℕ) → v < 0x10000 → bytes_of (word v) ≡ quad_of v
 word_bytes v h = grind arith
 
 abbrev fourfold : ℕ → ℕ
 fourfold zero = zero
 fourfold (suc n) = suc (suc (suc (suc (fourfold n))))
 
-bytes_of_words : (vs : List ℕ) → AreMiddle vs → digits_l 256 (fourfold (length vs)) (number_l (2 ^ 32) (map word vs)) ≡ flat_map four_of vs
+bytes_of_words : (vs : List ℕ) → AreMiddle vs → digits_l 256 (fourfold (length vs)) (number_l (2 ^ 32) (map word vs)) ≡ flat_map quad_of vs
 bytes_of_words [] p = refl
 bytes_of_words (v ∷ vs) p =
     let w : ℕ = word v in
@@ -76,7 +76,7 @@ bytes_of_words (v ∷ vs) p =
     (ap (digits_l 256 (fourfold (length vs))) left ∙ bytes_of_words vs (behind_first v vs p))
 
 -- the bytes of four lanes
-pub fours_are : (vs : List ℕ) → length vs ≡ 4 → AreMiddle vs → digits_l 256 16 (number_l (2 ^ 32) (words 4 vs)) ≡ flat_map four_of vs
+pub fours_are : (vs : List ℕ) → length vs ≡ 4 → AreMiddle vs → digits_l 256 16 (number_l (2 ^ 32) (words 4 vs)) ≡ flat_map quad_of vs
 fours_are vs long p = ap (λ l. digits_l 256 16 (number_l (2 ^ 32) l)) (words_are 4 vs long) ∙ ap (λ n. digits_l 256 (fourfold n) (number_l (2 ^ 32) (map word vs))) (sym long) ∙ bytes_of_words vs p
 
 -- ---- how many bytes they have
@@ -138,32 +138,32 @@ flags_are t vs long =
     let four : length (map t vs) ≡ 4 = length-map vs t ∙ long in
     ap (λ n. flags n (mask_l (map t vs))) (sym four) ∙ flags_of (map t vs)
 
-one_byte : (v : ℕ) → has_two v ≡ false → (has_three v ≡ false) × (four_of v ≡ v ∷ 0 ∷ 0 ∷ 0 ∷ []) × (utf8_bytes v ≡ v ∷ [])
+one_byte : (v : ℕ) → has_two v ≡ false → (has_three v ≡ false) × (quad_of v ≡ v ∷ 0 ∷ 0 ∷ 0 ∷ []) × (utf8_bytes v ≡ v ∷ [])
 one_byte v h = (grind arith, grind arith, grind arith)
 
-two_bytes : (v : ℕ) → has_two v ≡ true → has_three v ≡ false → (four_of v ≡ (0xc0 + v / 64) ∷ (0x80 + v % 64) ∷ 0 ∷ 0 ∷ []) × (utf8_bytes v ≡ (0xc0 + v / 64) ∷ (0x80 + v % 64) ∷ [])
+two_bytes : (v : ℕ) → has_two v ≡ true → has_three v ≡ false → (quad_of v ≡ (0xc0 + v / 64) ∷ (0x80 + v % 64) ∷ 0 ∷ 0 ∷ []) × (utf8_bytes v ≡ (0xc0 + v / 64) ∷ (0x80 + v % 64) ∷ [])
 two_bytes v h k = (grind arith, grind arith)
 
-three_bytes : (v : ℕ) → v < 0x10000 → has_three v ≡ true → (has_two v ≡ true) × (four_of v ≡ (0xe0 + v / 4096) ∷ (0x80 + v / 64 % 64) ∷ (0x80 + v % 64) ∷ 0 ∷ []) × (utf8_bytes v ≡ (0xe0 + v / 4096) ∷ (0x80 + v / 64 % 64) ∷ (0x80 + v % 64) ∷ [])
+three_bytes : (v : ℕ) → v < 0x10000 → has_three v ≡ true → (has_two v ≡ true) × (quad_of v ≡ (0xe0 + v / 4096) ∷ (0x80 + v / 64 % 64) ∷ (0x80 + v % 64) ∷ 0 ∷ []) × (utf8_bytes v ≡ (0xe0 + v / 4096) ∷ (0x80 + v / 64 % 64) ∷ (0x80 + v % 64) ∷ [])
 three_bytes v l h = (grind arith, grind arith, grind arith)
 
-packed_are : (vs : List ℕ) → AreMiddle vs → from_triples (map has_two vs) (map has_three vs) (flat_map four_of vs) ≡ flat_map utf8_bytes vs
+packed_are : (vs : List ℕ) → AreMiddle vs → from_triples (map has_two vs) (map has_three vs) (flat_map quad_of vs) ≡ flat_map utf8_bytes vs
 packed_are [] p = refl
 packed_are (v ∷ vs) p =
     let left : List ℕ = flat_map utf8_bytes vs in
-    let rest : List ℕ = flat_map four_of vs in
+    let rest : List ℕ = flat_map quad_of vs in
     let more : from_triples (map has_two vs) (map has_three vs) rest ≡ left = packed_are vs (behind_first v vs p) in
     elim (cases_Bool (has_three v)) [
       | inl h ↦ (
           let is = three_bytes v (p 0 (omega arith)) h in
-          ap₂ (λ (b c : Bool). from_triples (b ∷ map has_two vs) (c ∷ map has_three vs) (four_of v ++ rest)) is.0 h ∙ ap (λ (l : List ℕ). from_triples (true ∷ map has_two vs) (true ∷ map has_three vs) (l ++ rest)) is.1 ∙ ap (λ (l : List ℕ). (0xe0 + v / 4096) ∷ (0x80 + v / 64 % 64) ∷ (0x80 + v % 64) ∷ l) more ∙ sym (ap (λ (l : List ℕ). l ++ left) is.2))
+          ap₂ (λ (b c : Bool). from_triples (b ∷ map has_two vs) (c ∷ map has_three vs) (quad_of v ++ rest)) is.0 h ∙ ap (λ (l : List ℕ). from_triples (true ∷ map has_two vs) (true ∷ map has_three vs) (l ++ rest)) is.1 ∙ ap (λ (l : List ℕ). (0xe0 + v / 4096) ∷ (0x80 + v / 64 % 64) ∷ (0x80 + v % 64) ∷ l) more ∙ sym (ap (λ (l : List ℕ). l ++ left) is.2))
       | inr h ↦ elim (cases_Bool (has_two v)) [
         | inl k ↦ (
             let is = two_bytes v k h in
-            ap₂ (λ (b c : Bool). from_triples (b ∷ map has_two vs) (c ∷ map has_three vs) (four_of v ++ rest)) k h ∙ ap (λ (l : List ℕ). from_triples (true ∷ map has_two vs) (false ∷ map has_three vs) (l ++ rest)) is.0 ∙ ap (λ (l : List ℕ). (0xc0 + v / 64) ∷ (0x80 + v % 64) ∷ l) more ∙ sym (ap (λ (l : List ℕ). l ++ left) is.1))
+            ap₂ (λ (b c : Bool). from_triples (b ∷ map has_two vs) (c ∷ map has_three vs) (quad_of v ++ rest)) k h ∙ ap (λ (l : List ℕ). from_triples (true ∷ map has_two vs) (false ∷ map has_three vs) (l ++ rest)) is.0 ∙ ap (λ (l : List ℕ). (0xc0 + v / 64) ∷ (0x80 + v % 64) ∷ l) more ∙ sym (ap (λ (l : List ℕ). l ++ left) is.1))
         | inr k ↦ (
             let is = one_byte v k in
-            ap₂ (λ (b c : Bool). from_triples (b ∷ map has_two vs) (c ∷ map has_three vs) (four_of v ++ rest)) k h ∙ ap (λ (l : List ℕ). from_triples (false ∷ map has_two vs) (false ∷ map has_three vs) (l ++ rest)) is.1 ∙ ap (λ (l : List ℕ). v ∷ l) more ∙ sym (ap (λ (l : List ℕ). l ++ left) is.2))
+            ap₂ (λ (b c : Bool). from_triples (b ∷ map has_two vs) (c ∷ map has_three vs) (quad_of v ++ rest)) k h ∙ ap (λ (l : List ℕ). from_triples (false ∷ map has_two vs) (false ∷ map has_three vs) (l ++ rest)) is.1 ∙ ap (λ (l : List ℕ). v ∷ l) more ∙ sym (ap (λ (l : List ℕ). l ++ left) is.2))
       ]
     ]
 
@@ -178,7 +178,7 @@ pub part_middle : (characters values : List ℕ) (n : ℕ) → values ≡ take 4
 part_middle characters values n e p k h = rw (e, get_or-take, get_or-drop) (p k h)
 
 -- packed, they begin with the bytes of the characters
-pub begin_packed : (vs fours packed : List ℕ) (sizes : ℕ) → length vs ≡ 4 → AreMiddle vs → fours ≡ flat_map four_of vs → sizes ≡ marks vs → take (4 + count_ones sizes) packed ≡ from_triples (flags 4 sizes) (flags 4 (sizes / 16)) fours → take (4 + count_ones sizes) packed ≡ flat_map utf8_bytes vs
+pub begin_packed : (vs fours packed : List ℕ) (sizes : ℕ) → length vs ≡ 4 → AreMiddle vs → fours ≡ flat_map quad_of vs → sizes ≡ marks vs → take (4 + count_ones sizes) packed ≡ from_triples (flags 4 sizes) (flags 4 (sizes / 16)) fours → take (4 + count_ones sizes) packed ≡ flat_map utf8_bytes vs
 begin_packed vs fours packed sizes long p is bits front =
     let high : sizes / 16 ≡ mask_l (map has_three vs) = omega (arith, bits, four_bits has_two vs long) in
     let twos : flags 4 sizes ≡ map has_two vs = ap (flags 4) bits ∙ flags_low (mask_l (map has_two vs)) (mask_l (map has_three vs)) ∙ flags_are has_two vs long in

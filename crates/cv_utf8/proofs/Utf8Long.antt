@@ -43,16 +43,16 @@ long_at size text at word number small unit is some = elim is [
 ]
 
 -- A text begins with the bytes of the first n characters, and each has `size` bytes.
-pub record Begun (size : ℕ) (text numbers : List ℕ) (n : ℕ) : Type 0 where
+pub record Starting (size : ℕ) (text numbers : List ℕ) (n : ℕ) : Type 0 where
   pub begins : Begins (flat_map utf8_bytes (take n numbers)) text
   pub uses : length (flat_map utf8_bytes (take n numbers)) ≡ size * n
   pub scalars : AreScalars (take n numbers)
 
 -- if each character is at its offset, a text begins with all of them
-pub begun : (size : ℕ) (text numbers : List ℕ) (n : ℕ) → n ≤ length numbers → ((k : ℕ) → k < n → IsLongAt size text (size * k) (get_or numbers k 0)) → Begun size text numbers n
-begun size text numbers zero h at = record { begins = tt; uses = sym (mul-zero size); scalars = tt }
-begun size text numbers (suc n) h at =
-    let before = begun size text numbers n (omega arith) (λ k l. at k (omega arith)) in
+pub starts_mask : (size : ℕ) (text numbers : List ℕ) (n : ℕ) → n ≤ length numbers → ((k : ℕ) → k < n → IsLongAt size text (size * k) (get_or numbers k 0)) → Starting size text numbers n
+starts_mask size text numbers zero h at = record { begins = tt; uses = sym (mul-zero size); scalars = tt }
+starts_mask size text numbers (suc n) h at =
+    let before = starts_mask size text numbers n (omega arith) (λ k l. at k (omega arith)) in
     let c = get_or numbers n 0 in
     let here = at n (omega arith) in
     let inside : n < length numbers = omega arith in
@@ -69,7 +69,7 @@ pub long_read : (size : ℕ) → size ≤ 4 → (text : List ℕ) (at : ℕ) (be
     → AreWordsOf size (take (length text - at) (drop at text)) words 16 → AreNumbersOf size words numbers 16 → more ≤ 16 → ((k : ℕ) → k < more → 0 < get_or numbers k 0) → n + 16 ≤ length before
     → take (n + 16) after ≡ take n before ++ numbers → length after ≡ length before → IsReadForm utf8_bytes text at before n (record { n = more; used = size * more }) after
 long_read size small text at before n more words numbers after long units threes few some room stand same =
-    let b = begun size (drop at text) numbers more (omega arith) (λ k l. long_at size (drop at text) (size * k) (get_or words k 0) (get_or numbers k 0) small (rw take_rest at units k (omega arith)) (threes k (omega arith)) (some k l)) in
+    let b = starts_mask size (drop at text) numbers more (omega arith) (λ k l. long_at size (drop at text) (size * k) (get_or words k 0) (get_or numbers k 0) small (rw take_rest at units k (omega arith)) (threes k (omega arith)) (some k l)) in
     let front = take more numbers in
     let long_front : length front ≡ more = length-take-le more numbers (omega arith) in
     let place : length (take n before ++ front) ≡ n + more = omega (arith, length-append (take n before) front, length-take-le n before (omega arith), long_front) in

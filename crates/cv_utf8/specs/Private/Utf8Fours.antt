@@ -6,8 +6,8 @@ abbrev pub has_three : ℕ → Bool
 has_three c = not (nat_lt c 0x800)
 
 -- four bytes for a character of up to three: its bytes, and then zeros
-abbrev pub four_of : ℕ → List ℕ
-four_of c =
+abbrev pub quad_of : ℕ → List ℕ
+quad_of c =
     if nat_lt c 0x80 then c ∷ 0 ∷ 0 ∷ 0 ∷ []
     else if nat_lt c 0x800 then (0xc0 + c / 64) ∷ (0x80 + c % 64) ∷ 0 ∷ 0 ∷ []
     else (0xe0 + c / 4096) ∷ (0x80 + c / 64 % 64) ∷ (0x80 + c % 64) ∷ 0 ∷ []

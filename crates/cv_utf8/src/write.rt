@@ -1,0 +1,4 @@
+//! Writing UTF-8, many characters at once.
+
+pub(crate) mod three_byte;
+pub(crate) mod two_byte;

@@ -3,7 +3,7 @@ ghost use Rattle.std.specs.Prelude.{◌≡◌, ◌≤◌, ◌<◌, length, IfSom
 ghost use Rattle.cv_transcode.specs.Direct.{IsConverted};
 ghost use Rattle.cv_pivot.specs.Encodings.{form_of};
 ghost use Rattle.cv_pivot.specs.Private.Steps.FastPaths.{IsReadAs, IsWrittenAs, read_bytes, written_bytes};
-ghost use Rattle.cv_utf16.specs.Private.Kept.{KeepsReading, KeepsWriting};
+ghost use Rattle.cv_utf16.specs.KeptStates.{KeepsReading, KeepsWriting};
 ghost use Rattle.cv_utf16.specs.Utf32.{utf32};
 
 use crate::blocks::BlockSize;

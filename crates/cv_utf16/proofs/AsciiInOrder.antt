@@ -13,7 +13,7 @@ use Rattle.cv_block.specs.Units.{HasUnits}
 use Rattle.cv_block.proofs.UnitBytes.{length-unit_of}
 use Rattle.cv_utf16.specs.declared.order.Order.{Order}
 use Rattle.cv_utf16.specs.Orders.{Form, reads_in, writes_in}
-use Rattle.cv_utf16.specs.Private.Kept.{KeepsReading, KeepsWriting}
+use Rattle.cv_utf16.specs.KeptStates.{KeepsReading, KeepsWriting}
 
 small_scalar : (c : ℕ) → c < 256 → IsScalar c
 small_scalar c h = (omega arith, λ p. absurd (omega arith))

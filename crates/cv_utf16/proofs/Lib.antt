@@ -10,7 +10,7 @@ pub mod Utf16Units
 pub mod Utf16Form
 pub mod Utf16Items
 pub mod PutTwice
-pub mod Utf16Joined
+pub mod SurrogatePairs
 pub mod Utf16Lanes
 pub mod Utf32Form
 pub mod Utf32Items

@@ -7,7 +7,7 @@ use Rattle.cv_block.specs.StatelessForms.{BytesOf}
 use Rattle.cv_block.proofs.FormBlocks.{ReadsForm, WritesForm}
 use Rattle.cv_utf16.specs.declared.order.Order.{Order}
 use Rattle.cv_utf16.specs.Orders.{Form, reads_in, writes_in}
-use Rattle.cv_utf16.specs.Private.Kept.{KeepsReading, KeepsWriting}
+use Rattle.cv_utf16.specs.KeptStates.{KeepsReading, KeepsWriting}
 
 -- a form is read as its spelling
 pub reads_spelled : (form : Form) (order : Order) (s : ReadState) (kept e : Endian) (bytes_of : BytesOf) → KeepsReading order s kept → kept ≡ e → bytes_of ≡ form e → ReadsForm (reads_in form order) s bytes_of

@@ -2,5 +2,4 @@
 pub mod AnyState
 pub mod Parts
 pub mod Forms
-pub mod Kept
-pub mod Joined
+pub mod SurrogatePairs

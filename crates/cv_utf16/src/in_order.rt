@@ -15,10 +15,10 @@ use cv_block::{BigEndian, ByteOrder, LittleEndian};
 /// Whether the first bytes are a prefix of the others.
 #[inline]
 #[tactic(auto, using(crate::proofs::StartOfText::begins_test))]
-fn begins(front: &[u8], text: &[u8]) -> bool
-    ensures { IsTrue result ↔ Begins front.now text.now }
+fn begins(prefix: &[u8], text: &[u8]) -> bool
+    ensures { IsTrue result ↔ Begins prefix.now text.now }
 {
-    text.starts_with(front)
+    text.starts_with(prefix)
 }
 
 /// What is next in a text that may begin with a mark.

@@ -6,11 +6,11 @@ mod encoding_scheme;
 mod in_order;
 pub mod laws;
 mod order;
+mod stateless_utf16;
+mod stateless_utf32;
+mod surrogate_pairs;
 mod utf16;
-mod utf16_joined;
-mod utf16_spelling;
 mod utf32;
-mod utf32_spelling;
 mod wide_form;
 
 pub use encoding_scheme::EncodingScheme;

@@ -1,6 +1,6 @@
 //! The byte order of a text.
 ghost use Rattle.std.specs.Prelude.{IfSome};
-ghost use Rattle.cv_utf16.specs.Private.Kept.{KeepsReading, KeepsWriting};
+ghost use Rattle.cv_utf16.specs.KeptStates.{KeepsReading, KeepsWriting};
 
 use cv_base::{Endian, ReadState, WriteState};
 

@@ -4,7 +4,7 @@ ghost use Rattle.cv_utf16.specs.Private.Parts.{CanBeLow, CanBeOther};
 ghost use Rattle.cv_utf16.specs.Utf16.{utf16};
 
 use crate::encoding_scheme::EncodingScheme;
-use crate::utf16_spelling::Utf16In;
+use crate::stateless_utf16::StatelessUtf16;
 use crate::wide_form::WideForm;
 use cv_base::{AsciiForm, Endian, Item, Piece, ReadState, Scalar, character};
 use cv_block::{
@@ -44,9 +44,9 @@ fn can_be_other(endian: Endian, first: u8) -> bool
 impl WideForm for Utf16Form {
     ghost form = { utf16 };
 
-    type Be = Utf16In<BigEndian>;
+    type Be = StatelessUtf16<BigEndian>;
 
-    type Le = Utf16In<LittleEndian>;
+    type Le = StatelessUtf16<LittleEndian>;
 
     type BeUnit = Two<BigEndian>;
 

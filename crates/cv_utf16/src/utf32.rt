@@ -4,7 +4,7 @@ ghost use Rattle.cv_utf16.specs.Private.Parts.{CanBeScalar, IsThird};
 ghost use Rattle.cv_utf16.specs.Utf32.{utf32};
 
 use crate::encoding_scheme::EncodingScheme;
-use crate::utf32_spelling::Utf32In;
+use crate::stateless_utf32::StatelessUtf32;
 use crate::wide_form::WideForm;
 use cv_base::{AsciiForm, Endian, Item, Piece, ReadState, Scalar};
 use cv_block::{BigEndian, ByteOrder, Four, LittleEndian};
@@ -44,9 +44,9 @@ fn can_be_scalar(endian: Endian, part: &[u8]) -> bool
 impl WideForm for Utf32Form {
     ghost form = { utf32 };
 
-    type Be = Utf32In<BigEndian>;
+    type Be = StatelessUtf32<BigEndian>;
 
-    type Le = Utf32In<LittleEndian>;
+    type Le = StatelessUtf32<LittleEndian>;
 
     type BeUnit = Four<BigEndian>;
 

@@ -6,11 +6,11 @@ use cv_block::{ByteOrder, Converted, Four, StatelessForm, read_units, write_unit
 use std::marker::PhantomData;
 
 /// UTF-32 in a byte order.
-pub struct Utf32In<O> {
+pub struct StatelessUtf32<O> {
     order: PhantomData<O>,
 }
 
-impl<O: ByteOrder> StatelessForm for Utf32In<O> {
+impl<O: ByteOrder> StatelessForm for StatelessUtf32<O> {
     ghost bytes_of = { utf32 O.endian };
 
     const RESUME_SIZE: usize = 4;

@@ -6,7 +6,7 @@ ghost use Rattle.cv_block.specs.Units.{AreScalarsBelow};
 ghost use Rattle.cv_block.specs.PackedWords.{AreWords, AreSizes};
 ghost use Rattle.cv_utf16.specs.Utf16.{utf16};
 
-use crate::utf16_joined::read_joined;
+use crate::surrogate_pairs::read_paired;
 use cv_base::{Endian, Scalar};
 use cv_block::{
     ByteOrder, Converted, LANES, PackedWords, StatelessForm, Two, from_surrogates, is_high, is_low,
@@ -50,8 +50,8 @@ fn words(endian: Endian, values: u32x16) -> u32x16
     match endian {
         Endian::Big => {
             let byte = u32x16::splat(0x100);
-            let front = first / byte + first % byte * byte;
-            front + (second / byte + second % byte * byte) * u32x16::splat(0x1_0000)
+            let lead = first / byte + first % byte * byte;
+            lead + (second / byte + second % byte * byte) * u32x16::splat(0x1_0000)
         }
         Endian::Little => first + second * u32x16::splat(0x1_0000),
     }
@@ -69,11 +69,11 @@ fn sizes(values: u32x16) -> u32x16
 }
 
 /// UTF-16 in a byte order.
-pub struct Utf16In<O> {
+pub struct StatelessUtf16<O> {
     order: PhantomData<O>,
 }
 
-impl<O: ByteOrder> PackedWords for Utf16In<O> {
+impl<O: ByteOrder> PackedWords for StatelessUtf16<O> {
     ghost bytes_of = { utf16 O.endian };
 
     #[inline(always)]
@@ -87,7 +87,7 @@ impl<O: ByteOrder> PackedWords for Utf16In<O> {
     }
 }
 
-impl<O: ByteOrder> StatelessForm for Utf16In<O> {
+impl<O: ByteOrder> StatelessForm for StatelessUtf16<O> {
     ghost bytes_of = { utf16 O.endian };
 
     const RESUME_SIZE: usize = 0;
@@ -126,7 +126,7 @@ impl<O: ByteOrder> StatelessForm for Utf16In<O> {
         if single.n > 0 {
             return single;
         }
-        read_joined::<O>(input, at, buffer, n)
+        read_paired::<O>(input, at, buffer, n)
     }
 
     #[inline(always)]
@@ -142,6 +142,6 @@ impl<O: ByteOrder> StatelessForm for Utf16In<O> {
         if units.n > 0 {
             return units;
         }
-        write_words::<Utf16In<O>>(characters, n, out, at)
+        write_words::<StatelessUtf16<O>>(characters, n, out, at)
     }
 }

@@ -1,6 +1,6 @@
 use Rattle.std.proofs.Common.{◌≡◌, ◌+◌, ◌≤◌, ◌++◌, length, take}
-use Rattle.cv_utf16.specs.Private.Joined.{without_low}
-use Rattle.cv_utf16.proofs.utf16_joined.put_joined.Given as goal
+use Rattle.cv_utf16.specs.Private.SurrogatePairs.{without_low}
+use Rattle.cv_utf16.proofs.surrogate_pairs.put_paired.Given as goal
 
 abbrev pub invariant-loop-k : goal.invariant-loop-k
 invariant-loop-k l = record {

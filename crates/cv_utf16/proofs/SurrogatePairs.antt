@@ -16,7 +16,7 @@ use Rattle.cv_block.specs.Units.{IsUnitAt}
 use Rattle.cv_block.proofs.UnitBytes.{one_number}
 use Rattle.cv_block.proofs.UnitRuns.{flat_map-more}
 use Rattle.cv_block.proofs.FormRuns.{AreScalars-append}
-use Rattle.cv_utf16.specs.Private.Joined.{IsJoined, AreJoined, unless_low, without_low}
+use Rattle.cv_utf16.specs.Private.SurrogatePairs.{IsPaired, ArePaired, unless_low, without_low}
 use Rattle.cv_utf16.specs.Utf16.{utf16}
 use Rattle.cv_utf16.proofs.Utf16Units.{one_spelled, pair_spelled}
 
@@ -76,7 +76,7 @@ record Before (e : Endian) (text numbers : List ℕ) (m u : ℕ) : Type 0 where
   other : (IsLowUnit u → ⊥) → IsFront e text (without_low (take m numbers)) (2 * m)
 
 -- what was read before the unit after a high surrogate
-after_high : (e : Endian) (text numbers : List ℕ) (m u : ℕ) → m < length numbers → (j : IsJoined e text (2 * m) (get_or numbers m 0)) → j.next ≡ u → Before e text numbers m j.unit → IsHighUnit j.unit → Before e text numbers (m + 1) u
+after_high : (e : Endian) (text numbers : List ℕ) (m u : ℕ) → m < length numbers → (j : IsPaired e text (2 * m) (get_or numbers m 0)) → j.next ≡ u → Before e text numbers m j.unit → IsHighUnit j.unit → Before e text numbers (m + 1) u
 after_high e text numbers m u h j is before high =
     let c = get_or numbers m 0 in
     let pair : IsPair j.unit j.next c = j.pair high in
@@ -90,7 +90,7 @@ after_high e text numbers m u h j is before high =
     }
 
 -- what was read before the unit after another unit
-after_other : (e : Endian) (text numbers : List ℕ) (m u : ℕ) → m < length numbers → (j : IsJoined e text (2 * m) (get_or numbers m 0)) → j.next ≡ u → Before e text numbers m j.unit → (IsHighUnit j.unit → ⊥) → Before e text numbers (m + 1) u
+after_other : (e : Endian) (text numbers : List ℕ) (m u : ℕ) → m < length numbers → (j : IsPaired e text (2 * m) (get_or numbers m 0)) → j.next ≡ u → Before e text numbers m j.unit → (IsHighUnit j.unit → ⊥) → Before e text numbers (m + 1) u
 after_other e text numbers m u h j is before never =
     let c = get_or numbers m 0 in
     let same : c ≡ j.unit = j.alone never in
@@ -107,16 +107,16 @@ after_other e text numbers m u h j is before never =
     }
 
 -- what was read before each unit
-all_before : (e : Endian) (text numbers : List ℕ) (m u first : ℕ) → m ≤ length numbers → AreJoined e text numbers (length numbers) → IsUnitAt (Two e) text 0 first → (IsLowUnit first → ⊥) → IsUnitAt (Two e) text (2 * m) u → Before e text numbers m u
-all_before e text numbers zero u first h joined here never unit =
+all_before : (e : Endian) (text numbers : List ℕ) (m u first : ℕ) → m ≤ length numbers → ArePaired e text numbers (length numbers) → IsUnitAt (Two e) text 0 first → (IsLowUnit first → ⊥) → IsUnitAt (Two e) text (2 * m) u → Before e text numbers m u
+all_before e text numbers zero u first h paired here never unit =
     let same : u ≡ first = one_number (Two e) text u first unit.stands here.stands in
     record { low = λ f. absurd (never (ap (λ x. x / 0x400) (sym same) ∙ f)); other = λ f. record { scalars = tt; begins = tt; uses = refl } }
-all_before e text numbers (suc m) u first h joined here never unit =
+all_before e text numbers (suc m) u first h paired here never unit =
     let inside : m < length numbers = omega arith in
-    let j = joined m inside in
+    let j = paired m inside in
     let there = subst (λ x. IsUnitAt (Two e) text x u) (let g : 2 * suc m ≡ 2 * m + 2 = omega arith in g) unit in
     let is : j.next ≡ u = one_number (Two e) (drop (2 * m + 2) text) j.next u j.behind.stands there.stands in
-    let before = all_before e text numbers m j.unit first (omega arith) joined here never j.here in
+    let before = all_before e text numbers m j.unit first (omega arith) paired here never j.here in
     let next : m + 1 ≡ suc m = omega arith in
     subst (λ x. Before e text numbers x u) next (elim (cases_eq (j.unit / 0x400) 0x36) [
       | inl high ↦ after_high e text numbers m u inside j is before high
@@ -129,11 +129,11 @@ end true low b = b.low (low.0 refl)
 end false low b = b.other (λ f. (let g : false ≡ true = low.1 f in cc g))
 
 -- many units are read
-pub joined_read : (e : Endian) (text : List ℕ) (at : ℕ) (before : List ℕ) (n more : ℕ) (numbers after : List ℕ) (first last : ℕ) (is_low : Bool) → length numbers ≡ 16 → AreJoined e (take (length text - at) (drop at text)) numbers 16 → IsUnitAt (Two e) (take (length text - at) (drop at text)) 0 first
+pub paired_read : (e : Endian) (text : List ℕ) (at : ℕ) (before : List ℕ) (n more : ℕ) (numbers after : List ℕ) (first last : ℕ) (is_low : Bool) → length numbers ≡ 16 → ArePaired e (take (length text - at) (drop at text)) numbers 16 → IsUnitAt (Two e) (take (length text - at) (drop at text)) 0 first
     → (IsLowUnit first → ⊥) → IsUnitAt (Two e) (take (length text - at) (drop at text)) 32 last → (IsTrue is_low ↔ (IsLowUnit last)) → n + 16 ≤ length before → more ≤ 16 → more ≡ length (without_low numbers) → take (n + more) after ≡ take n before ++ without_low numbers → length after ≡ length before
     → IsReadForm (utf16 e) text at before n (record { n = more; used = 32 + 2 * bool_byte is_low }) after
-joined_read e text at before n more numbers after first last is_low long joined here never unit low room few counts stand same =
-    let b = all_before e _ numbers 16 last first (omega arith) (rw long joined) here never unit in
+paired_read e text at before n more numbers after first last is_low long paired here never unit low room few counts stand same =
+    let b = all_before e _ numbers 16 last first (omega arith) (rw long paired) here never unit in
     let all : take 16 numbers ≡ numbers = take_all 16 numbers (omega arith) in
     let front : IsFront e (take (length text - at) (drop at text)) (without_low numbers) (32 + 2 * bool_byte is_low) = rw all at (end is_low low b) in
     record {

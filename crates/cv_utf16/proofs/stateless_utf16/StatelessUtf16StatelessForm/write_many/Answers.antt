@@ -2,7 +2,7 @@ use Rattle.std.proofs.Common.{arith}
 use Rattle.cv_block.proofs.FormRuns.{written_after_none}
 use Rattle.cv_utf16.specs.Utf16.{utf16}
 use Rattle.cv_utf16.proofs.Utf16Units.{one_unit}
-use Rattle.cv_utf16.proofs.utf16_spelling.Utf16InStatelessForm.write_many.Goals as goal
+use Rattle.cv_utf16.proofs.stateless_utf16.StatelessUtf16StatelessForm.write_many.Goals as goal
 
 pub returns-then-units-gt0-clause-written : goal.returns-then-units-gt0-clause-written
 returns-then-units-gt0-clause-written g c = c.write_units-units.ensures.written (utf16 g.O.ByteOrder.endian) (one_unit g.O.ByteOrder.endian)

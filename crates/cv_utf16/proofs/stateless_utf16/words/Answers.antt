@@ -6,8 +6,8 @@ use Rattle.cv_base.specs.declared.endian.Endian.TheVariants.{Big, Little}
 use Rattle.cv_utf16.specs.Utf16.{utf16}
 use Rattle.cv_block.proofs.Lanes.{none_zero}
 use Rattle.cv_utf16.proofs.Utf16Lanes.{lane_big, lane_little, big_at, big_begins, little_at, little_begins}
-use Rattle.cv_utf16.proofs.utf16_spelling.words.Goals as goal
-use Rattle.cv_utf16.proofs.utf16_spelling.words.Goals.{in-Big, in-Little}
+use Rattle.cv_utf16.proofs.stateless_utf16.words.Goals as goal
+use Rattle.cv_utf16.proofs.stateless_utf16.words.Goals.{in-Big, in-Little}
 
 pub returns : goal.returns
 returns c k h =

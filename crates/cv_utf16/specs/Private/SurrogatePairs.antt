@@ -9,7 +9,7 @@ use Rattle.cv_block.specs.Units.{IsUnitAt}
 
 -- A number is that of a high surrogate joined with the low one after it, or that of another unit that no low one
 -- follows.
-pub record IsJoined (endian : Endian) (text : List ℕ) (at number : ℕ) : Type 0 where
+pub record IsPaired (endian : Endian) (text : List ℕ) (at number : ℕ) : Type 0 where
   pub unit : ℕ
   pub next : ℕ
   pub here : IsUnitAt (Two endian) text at unit
@@ -19,8 +19,8 @@ pub record IsJoined (endian : Endian) (text : List ℕ) (at number : ℕ) : Type
   pub alone : (IsHighUnit unit → ⊥) → number ≡ unit
 
 -- The first n numbers are those of units, one after the other.
-abbrev pub AreJoined : Endian → List ℕ → List ℕ → ℕ → Type 0
-AreJoined endian text numbers n = (k : ℕ) → k < n → IsJoined endian text (2 * k) (get_or numbers k 0)
+abbrev pub ArePaired : Endian → List ℕ → List ℕ → ℕ → Type 0
+ArePaired endian text numbers n = (k : ℕ) → k < n → IsPaired endian text (2 * k) (get_or numbers k 0)
 
 -- The first n numbers are those of characters, or low surrogates.
 abbrev pub AreScalarsOrLow : List ℕ → ℕ → Type 0

@@ -3,7 +3,7 @@ use Rattle.cv_base.specs.Items.{Begins}
 use Rattle.cv_base.specs.declared.endian.Endian.{Endian}
 use Rattle.cv_block.proofs.FrontOfAWord.{front_stands}
 use Rattle.cv_utf16.specs.Utf16.{utf16}
-use Rattle.cv_utf16.proofs.utf16_spelling.Utf16InStatelessForm.write_at.Goals as goal
+use Rattle.cv_utf16.proofs.stateless_utf16.StatelessUtf16StatelessForm.write_at.Goals as goal
 
 pub returns-clause-stand : goal.returns-clause-stand
 returns-clause-stand g c =

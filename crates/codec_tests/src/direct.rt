@@ -3,7 +3,7 @@
 use crate::words::bytes_of;
 use cv_block::{BigEndian, LittleEndian};
 use cv_transcode::{
-    Direct, begins_with_fours, latin1_to_utf8, utf8_to_utf16, utf16_swapped, utf16_to_utf8,
+    Run, begins_with_supplementary, latin1_to_utf8, utf8_to_utf16, utf16_swapped, utf16_to_utf8,
     utf32_to_utf8, utf32_to_utf16,
 };
 use cv_utf8::read_utf16_lanes;
@@ -60,7 +60,7 @@ fn room(alloc: Global) -> Result<Vec<u8>, Fail> {
 
 /// Whether a loop took a text but for at most `left` bytes at its end, and wrote a prefix of `wanted` that lacks at
 /// most twice as many.
-fn is_taken(run: Option<Direct>, text: &[u8], left: usize, out: &[u8], wanted: &[u8]) -> bool {
+fn is_taken(run: Option<Run>, text: &[u8], left: usize, out: &[u8], wanted: &[u8]) -> bool {
     let Some(run) = run else {
         return false;
     };
@@ -159,9 +159,9 @@ fn utf8_to_utf16_takes_text(rt: HostRuntime) -> Result<(), Fail> {
 #[test]
 fn five_of_four_bytes_are_seen(rt: HostRuntime) -> Result<(), Fail> {
     let faces = repeated(rt.alloc(), "f09f9880")?;
-    assert!(rt; begins_with_fours(&faces));
+    assert!(rt; begins_with_supplementary(&faces));
     let mixed = repeated(rt.alloc(), MIXED)?;
-    assert!(rt; !begins_with_fours(&mixed));
+    assert!(rt; !begins_with_supplementary(&mixed));
     Ok(())
 }
 

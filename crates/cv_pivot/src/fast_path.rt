@@ -1,6 +1,6 @@
 //! Loops that convert from one encoding to another without a buffer of characters in between.
 ghost use Rattle.std.specs.Prelude.{◌≡◌, ◌≤◌, ◌<◌, length, IfSome, MatchOption};
-ghost use Rattle.cv_transcode.specs.Direct.{IsConverted};
+ghost use Rattle.cv_transcode.specs.Runs.{IsConverted};
 ghost use Rattle.cv_pivot.specs.Encodings.{form_of};
 ghost use Rattle.cv_pivot.specs.Private.Steps.FastPaths.{IsReadAs, IsWrittenAs, read_bytes, written_bytes};
 ghost use Rattle.cv_utf16.specs.KeptStates.{KeepsReading, KeepsWriting};
@@ -12,7 +12,7 @@ use crate::outcome::States;
 use cv_base::{Endian, ReadState, WriteState};
 use cv_block::{BigEndian, ByteOrder, LittleEndian};
 use cv_transcode::{
-    Direct, begins_with_fours, latin1_to_utf8, utf8_to_utf16, utf16_swapped, utf16_to_utf8,
+    Run, begins_with_supplementary, latin1_to_utf8, utf8_to_utf16, utf16_swapped, utf16_to_utf8,
     utf32_to_utf8, utf32_to_utf16,
 };
 use cv_utf16::Order;
@@ -116,12 +116,7 @@ pub(crate) const MIN_ROOM: usize = 256;
 
 /// Converts from UTF-32 in a byte order, if the loop takes any characters.
 #[inline(always)]
-fn from_utf32<O: ByteOrder>(
-    to: WrittenForm,
-    rest: &[u8],
-    out: &mut [u8],
-    at: usize,
-) -> Option<Direct>
+fn from_utf32<O: ByteOrder>(to: WrittenForm, rest: &[u8], out: &mut [u8], at: usize) -> Option<Run>
     requires { at ≤ length out.old }
     ensures some { IfSome result (λ run. 0 < run.used) }
     ensures run { MatchOption result (out.new ≡ out.old) (λ run.
@@ -171,7 +166,7 @@ impl FastPath {
         rest.len() >= self.least_input()
             && match self.from {
                 ReadForm::Latin1 | ReadForm::Utf16(_) => true,
-                ReadForm::Utf8 => !begins_with_fours(rest),
+                ReadForm::Utf8 => !begins_with_supplementary(rest),
                 ReadForm::Utf32(_) => size.is_short(),
             }
     }
@@ -191,7 +186,7 @@ impl FastPath {
     /// Converts the characters at the start of a text, if there is such a loop and it takes any. Kept out of line, so
     /// that the step that calls it stays small.
     #[inline(never)]
-    pub(crate) fn run(self, rest: &[u8], out: &mut [u8], at: usize) -> Option<Direct>
+    pub(crate) fn run(self, rest: &[u8], out: &mut [u8], at: usize) -> Option<Run>
         requires { at ≤ length out.old }
         ensures some { IfSome result (λ run. 0 < run.used) }
         ensures run { MatchOption result (out.new ≡ out.old) (λ run.

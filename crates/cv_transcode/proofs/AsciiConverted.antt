@@ -8,7 +8,7 @@ use Rattle.cv_base.specs.declared.ascii_form.AsciiForm.{AsciiForm}
 use Rattle.cv_block.specs.AsciiRuns.{IsRunBelow, characters_in, units_of}
 use Rattle.cv_block.specs.StatelessForms.{BytesOf}
 use Rattle.cv_block.proofs.AsciiRuns.{length-run, run_begins, run_is_below}
-use Rattle.cv_transcode.specs.Direct.{IsConverted}
+use Rattle.cv_transcode.specs.Runs.{IsConverted}
 
 -- A spelling has the unit of each character of ASCII.
 abbrev pub SpellsAscii : AsciiForm → BytesOf → Type 0

@@ -7,9 +7,9 @@ use Rattle.cv_base.specs.Places.{IsPut}
 use Rattle.cv_block.specs.StatelessForms.{BytesOf}
 use Rattle.cv_block.proofs.FormRuns.{AreScalars-append}
 use Rattle.cv_utf16.proofs.PutTwice.{put_both}
-use Rattle.cv_transcode.specs.Direct.{IsConverted}
-use Rattle.cv_transcode.specs.Private.Windows.{IsHigh}
-use Rattle.cv_transcode.specs.declared.direct.Direct.{Direct}
+use Rattle.cv_transcode.specs.Runs.{IsConverted}
+use Rattle.cv_transcode.specs.Private.Windows.{IsSupplementary}
+use Rattle.cv_transcode.specs.declared.run.Run.{Run}
 use Rattle.cv_utf8.specs.Utf16Lanes.{characters_of, AreRead}
 use Rattle.cv_utf8.specs.Utf8.{utf8_bytes}
 use Rattle.cv_utf8.specs.declared.read.utf16_lanes.Utf16Lanes.{Utf16Lanes}
@@ -30,7 +30,7 @@ none_converted_exactly from to text before at h =
     }
 
 -- a run is converted, and then another that begins at its end
-pub joined : (from to : BytesOf) (text before : List ℕ) (at : ℕ) (r1 r2 : Direct) (mid after : List ℕ) → IsConverted from to text before at r1 mid → IsConverted from to (drop r1.used text) mid (at + r1.wrote) r2 after
+pub joined : (from to : BytesOf) (text before : List ℕ) (at : ℕ) (r1 r2 : Run) (mid after : List ℕ) → IsConverted from to text before at r1 mid → IsConverted from to (drop r1.used text) mid (at + r1.wrote) r2 after
     → IsConverted from to text before at (record { used = r1.used + r2.used; wrote = r1.wrote + r2.wrote }) after
 joined from to text before at r1 r2 mid after p q =
     let a = p.characters in
@@ -60,21 +60,21 @@ units_more to text before at used n m total place mid after units p place_is tot
     subst (λ (i : ℕ). IsConverted utf8_bytes to text before at (record { used = used + units.used; wrote = i }) after) total_is (joined utf8_bytes to text before at (record { used = used; wrote = n }) (record { used = units.used; wrote = m }) mid after p window)
 
 -- one character of four bytes more is converted
-pub high_more : (to : BytesOf) (text before : List ℕ) (at used c : ℕ) (mid after : List ℕ) → IsConverted utf8_bytes to text before at (record { used = used; wrote = used }) mid → IsHigh utf8_bytes (drop used text) c
+pub supplementary_more : (to : BytesOf) (text before : List ℕ) (at used c : ℕ) (mid after : List ℕ) → IsConverted utf8_bytes to text before at (record { used = used; wrote = used }) mid → IsSupplementary utf8_bytes (drop used text) c
     → IsPut (to c) mid (at + used) 4 after → IsConverted utf8_bytes to text before at (record { used = used + 4; wrote = used + 4 }) after
-high_more to text before at used c mid after p is put =
+supplementary_more to text before at used c mid after p is put =
     let from : utf8_bytes c ++ [] ≡ utf8_bytes c = append-nil (utf8_bytes c) in
     let out : to c ++ [] ≡ to c = append-nil (to c) in
     let one : IsConverted utf8_bytes to (drop used text) mid (at + used) (record { used = 4; wrote = 4 }) after = record { characters = c ∷ []; scalars = (is.scalar, tt); begins = rw from (is.begins); uses = sym (ap length from ∙ is.size); put = rw out put } in
     joined utf8_bytes to text before at (record { used = used; wrote = used }) (record { used = 4; wrote = 4 }) mid after p one
 
 -- one run more is converted, whose text is given as a slice
-pub run_more : (to : BytesOf) (text before : List ℕ) (at used n high total place : ℕ) (mid after : List ℕ) → IsConverted utf8_bytes to text before at (record { used = used; wrote = n }) mid → place ≡ at + n → n + high ≡ total
-    → IsConverted utf8_bytes to (take (length text - used) (drop used text)) mid place (record { used = high; wrote = high }) after → IsConverted utf8_bytes to text before at (record { used = used + high; wrote = total }) after
-run_more to text before at used n high total place mid after p place_is total_is q =
-    let slice : IsConverted utf8_bytes to (drop used text) mid place (record { used = high; wrote = high }) after = subst (λ (x : List ℕ). IsConverted utf8_bytes to x mid place (record { used = high; wrote = high }) after) (rest_is used text) q in
-    let there : IsConverted utf8_bytes to (drop used text) mid (at + n) (record { used = high; wrote = high }) after = subst (λ (i : ℕ). IsConverted utf8_bytes to (drop used text) mid i (record { used = high; wrote = high }) after) place_is slice in
-    subst (λ (i : ℕ). IsConverted utf8_bytes to text before at (record { used = used + high; wrote = i }) after) total_is (joined utf8_bytes to text before at (record { used = used; wrote = n }) (record { used = high; wrote = high }) mid after p there)
+pub run_more : (to : BytesOf) (text before : List ℕ) (at used n supplementary total place : ℕ) (mid after : List ℕ) → IsConverted utf8_bytes to text before at (record { used = used; wrote = n }) mid → place ≡ at + n → n + supplementary ≡ total
+    → IsConverted utf8_bytes to (take (length text - used) (drop used text)) mid place (record { used = supplementary; wrote = supplementary }) after → IsConverted utf8_bytes to text before at (record { used = used + supplementary; wrote = total }) after
+run_more to text before at used n supplementary total place mid after p place_is total_is q =
+    let slice : IsConverted utf8_bytes to (drop used text) mid place (record { used = supplementary; wrote = supplementary }) after = subst (λ (x : List ℕ). IsConverted utf8_bytes to x mid place (record { used = supplementary; wrote = supplementary }) after) (rest_is used text) q in
+    let there : IsConverted utf8_bytes to (drop used text) mid (at + n) (record { used = supplementary; wrote = supplementary }) after = subst (λ (i : ℕ). IsConverted utf8_bytes to (drop used text) mid i (record { used = supplementary; wrote = supplementary }) after) place_is slice in
+    subst (λ (i : ℕ). IsConverted utf8_bytes to text before at (record { used = used + supplementary; wrote = i }) after) total_is (joined utf8_bytes to text before at (record { used = used; wrote = n }) (record { used = supplementary; wrote = supplementary }) mid after p there)
 
 no_characters : (characters : List ℕ) → length (flat_map utf8_bytes characters) ≡ 0 → characters ≡ []
 no_characters [] h = refl

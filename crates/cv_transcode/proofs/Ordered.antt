@@ -58,9 +58,9 @@ bytes_of_units e (v ∷ vs) p =
     let rest : ℕ = number_l 65536 (map (in_order e) vs) in
     let small : w < 65536 = order_lt e v few in
     let low : (w + 65536 * rest) % 256 ≡ w % 256 = omega arith in
-    let high : (w + 65536 * rest) / 256 % 256 ≡ w / 256 % 256 = omega arith in
+    let supplementary : (w + 65536 * rest) / 256 % 256 ≡ w / 256 % 256 = omega arith in
     let left : (w + 65536 * rest) / 256 / 256 ≡ rest = omega (arith, small) in
-    ap₂ (λ (a : List ℕ) (b : List ℕ). a ++ b) (ap₂ (λ (a b : ℕ). a ∷ b ∷ []) low high ∙ unit_bytes e v few ∙ sym (one_unit e v few))
+    ap₂ (λ (a : List ℕ) (b : List ℕ). a ++ b) (ap₂ (λ (a b : ℕ). a ∷ b ∷ []) low supplementary ∙ unit_bytes e v few ∙ sym (one_unit e v few))
     (ap (digits_l 256 (twice (length vs))) left ∙ bytes_of_units e vs (behind_first v vs p))
 
 -- the bytes of sixteen units

@@ -8,20 +8,20 @@ use Rattle.std.proofs.lemmas.List.{take-take, take_at}
 use Rattle.cv_base.proofs.Front.{Begins-length}
 use Rattle.cv_base.specs.Places.{IsPut}
 use Rattle.cv_block.specs.StatelessForms.{BytesOf}
-use Rattle.cv_transcode.specs.Direct.{IsConverted}
-use Rattle.cv_transcode.specs.declared.direct.Direct.{Direct}
-use Rattle.cv_transcode.specs.Private.Loose.{IsPutLoosely, IsConvertedLoosely}
-use Rattle.cv_transcode.specs.Private.Windows.{AreFirst, IsHigh, IsWindow}
+use Rattle.cv_transcode.specs.Runs.{IsConverted}
+use Rattle.cv_transcode.specs.declared.run.Run.{Run}
+use Rattle.cv_transcode.specs.Private.Slack.{IsPutWithSlack, IsConvertedWithSlack}
+use Rattle.cv_transcode.specs.Private.Windows.{AreFirst, IsSupplementary, IsWindow}
 use Rattle.cv_transcode.proofs.Converting.{all_converted, part_more}
 use Rattle.cv_transcode.proofs.Putting.{further, put_copied, put_exactly}
 
 -- if some bytes after the result may be anything, so may more of them
-pub looser : (bytes before : List ℕ) (at n loose more : ℕ) (after : List ℕ) → IsPutLoosely bytes before at n loose after → loose ≤ more → IsPutLoosely bytes before at n more after
-looser bytes before at n loose more after p h = record {
+pub more_slack : (bytes before : List ℕ) (at n slack more : ℕ) (after : List ℕ) → IsPutWithSlack bytes before at n slack after → slack ≤ more → IsPutWithSlack bytes before at n more after
+more_slack bytes before at n slack more after p h = record {
   wrote = p.wrote;
   fits = p.fits;
   stand = p.stand;
-  behind = further before after (at + n + loose) (at + n + more) (omega arith) p.behind;
+  behind = further before after (at + n + slack) (at + n + more) (omega arith) p.behind;
   size = p.size;
 }
 
@@ -32,10 +32,10 @@ zeros_long to (suc k) z e = omega (arith, length-append (to 0) (flat_map to (rep
 -- What was written for some units and for zeros after them, without the zeros.
 pub record IsCut (to : BytesOf) (units before : List ℕ) (at n cut : ℕ) (after : List ℕ) : Type 0 where
   pub enough : cut ≤ n
-  pub put : IsPutLoosely (flat_map to units) before at (n - cut) 48 after
+  pub put : IsPutWithSlack (flat_map to units) before at (n - cut) 48 after
 
 -- the zeros are cut off
-pub zeros_cut : (to : BytesOf) (units before : List ℕ) (k z at n : ℕ) (after : List ℕ) → z ≡ length (to 0) → z ≤ 2 → k ≤ 16 → IsPutLoosely (flat_map to (units ++ replicate k 0)) before at n 16 after → IsCut to units before at n (k * z) after
+pub zeros_cut : (to : BytesOf) (units before : List ℕ) (k z at n : ℕ) (after : List ℕ) → z ≡ length (to 0) → z ≤ 2 → k ≤ 16 → IsPutWithSlack (flat_map to (units ++ replicate k 0)) before at n 16 after → IsCut to units before at n (k * z) after
 zeros_cut to units before k z at n after e few h p =
     let bytes : List ℕ = flat_map to units in
     let zeros : List ℕ = flat_map to (replicate k 0) in
@@ -59,15 +59,15 @@ zeros_cut to units before k z at n after e few h p =
     }
 
 -- one character from U+10000 on more is converted
-pub high_more : (from to : BytesOf) (text before : List ℕ) (at used c : ℕ) (mid after : List ℕ) → IsConvertedLoosely from to text before at used used 0 mid → IsHigh from (drop used text) c → IsPut (to c) mid (at + used) 4 after → IsConvertedLoosely from to text before at (used + 4) (used + 4) 0 after
-high_more from to text before at used c mid after p high put =
+pub supplementary_more : (from to : BytesOf) (text before : List ℕ) (at used c : ℕ) (mid after : List ℕ) → IsConvertedWithSlack from to text before at used used 0 mid → IsSupplementary from (drop used text) c → IsPut (to c) mid (at + used) 4 after → IsConvertedWithSlack from to text before at (used + 4) (used + 4) 0 after
+supplementary_more from to text before at used c mid after p supplementary put =
     let read : flat_map from (c ∷ []) ≡ from c = append-nil (from c) in
     let written : flat_map to (c ∷ []) ≡ to c = append-nil (to c) in
-    part_more from to text before at used 4 used 4 0 0 (at + used) mid after (c ∷ []) p refl (high.scalar, tt) (rw read high.begins) (rw read (sym high.size)) (rw written (put_exactly (to c) mid (at + used) 4 after put.wrote put.fits put.out)) (omega arith)
+    part_more from to text before at used 4 used 4 0 0 (at + used) mid after (c ∷ []) p refl (supplementary.scalar, tt) (rw read supplementary.begins) (rw read (sym supplementary.size)) (rw written (put_exactly (to c) mid (at + used) 4 after put.wrote put.fits put.out)) (omega arith)
 
 -- the first characters of a window are converted
-pub first_converted : (from to : BytesOf) (text before : List ℕ) (at used n loose : ℕ) (after units : List ℕ) → AreFirst from used text units → IsPutLoosely (flat_map to units) before at n loose after → IsConvertedLoosely from to text before at used n loose after
-first_converted from to text before at used n loose after units first put = record {
+pub first_converted : (from to : BytesOf) (text before : List ℕ) (at used n slack : ℕ) (after units : List ℕ) → AreFirst from used text units → IsPutWithSlack (flat_map to units) before at n slack after → IsConvertedWithSlack from to text before at used n slack after
+first_converted from to text before at used n slack after units first put = record {
   characters = units;
   scalars = first.scalars;
   begins = first.begins;
@@ -76,35 +76,35 @@ first_converted from to text before at used n loose after units first put = reco
 }
 
 -- the characters of a whole window are converted
-pub whole_converted : (from to : BytesOf) (text before : List ℕ) (at size n : ℕ) (after units : List ℕ) → IsWindow from size text units → IsPutLoosely (flat_map to units) before at n 16 after → IsConvertedLoosely from to text before at size n 48 after
+pub whole_converted : (from to : BytesOf) (text before : List ℕ) (at size n : ℕ) (after units : List ℕ) → IsWindow from size text units → IsPutWithSlack (flat_map to units) before at n 16 after → IsConvertedWithSlack from to text before at size n 48 after
 whole_converted from to text before at size n after units window put = record {
   characters = units;
   scalars = window.scalars;
   begins = window.begins;
   uses = window.uses;
-  put = looser (flat_map to units) before at n 16 48 after put (omega arith);
+  put = more_slack (flat_map to units) before at n 16 48 after put (omega arith);
 }
 
 -- text is converted, and then more of it
-pub converted_more : (from to : BytesOf) (text before : List ℕ) (at used n first size m loose more place : ℕ) (mid after : List ℕ) → IsConvertedLoosely from to text before at used n first mid → place ≡ at + n → IsConvertedLoosely from to (drop used text) mid place size m loose after → loose ≤ more → first ≤ m + more
-    → IsConvertedLoosely from to text before at (used + size) (n + m) more after
-converted_more from to text before at used n first size m loose more place mid after p e q wider enough =
-    part_more from to text before at used size n m first more place mid after q.characters p e q.scalars q.begins q.uses (looser (flat_map to q.characters) mid place m loose more after q.put wider) enough
+pub converted_more : (from to : BytesOf) (text before : List ℕ) (at used n first size m slack more place : ℕ) (mid after : List ℕ) → IsConvertedWithSlack from to text before at used n first mid → place ≡ at + n → IsConvertedWithSlack from to (drop used text) mid place size m slack after → slack ≤ more → first ≤ m + more
+    → IsConvertedWithSlack from to text before at (used + size) (n + m) more after
+converted_more from to text before at used n first size m slack more place mid after p e q wider enough =
+    part_more from to text before at used size n m first more place mid after q.characters p e q.scalars q.begins q.uses (more_slack (flat_map to q.characters) mid place m slack more after q.put wider) enough
 
 -- what was converted is within the text
-pub loosely_within : (from to : BytesOf) (text before : List ℕ) (at used n loose : ℕ) (after : List ℕ) → IsConvertedLoosely from to text before at used n loose after → used ≤ length text
-loosely_within from to text before at used n loose after p = omega (arith, p.uses, Begins-length (flat_map from p.characters) text p.begins)
+pub slack_within : (from to : BytesOf) (text before : List ℕ) (at used n slack : ℕ) (after : List ℕ) → IsConvertedWithSlack from to text before at used n slack after → used ≤ length text
+slack_within from to text before at used n slack after p = omega (arith, p.uses, Begins-length (flat_map from p.characters) text p.begins)
 
 -- what a run converted is within the text
-pub converted_within : (from to : BytesOf) (text before : List ℕ) (at : ℕ) (run : Direct) (after : List ℕ) → IsConverted from to text before at run after → run.used ≤ length text
+pub converted_within : (from to : BytesOf) (text before : List ℕ) (at : ℕ) (run : Run) (after : List ℕ) → IsConverted from to text before at run after → run.used ≤ length text
 converted_within from to text before at run after p = omega (arith, p.uses, Begins-length (flat_map from p.characters) text p.begins)
 
 -- what the first bytes of a text were converted to, copied from a buffer
-pub copied : (from to : BytesOf) (text none front before : List ℕ) (at used n loose : ℕ) (after : List ℕ) → IsConvertedLoosely from to text none 0 used n loose front → at + n ≤ length before → after ≡ take at before ++ take n front ++ drop (at + n) before → IsConverted from to text before at (record { used = used; wrote = n }) after
-copied from to text none front before at used n loose after p fits out = all_converted from to text before at used n after (record {
+pub copied : (from to : BytesOf) (text none front before : List ℕ) (at used n slack : ℕ) (after : List ℕ) → IsConvertedWithSlack from to text none 0 used n slack front → at + n ≤ length before → after ≡ take at before ++ take n front ++ drop (at + n) before → IsConverted from to text before at (record { used = used; wrote = n }) after
+copied from to text none front before at used n slack after p fits out = all_converted from to text before at used n after (record {
   characters = p.characters;
   scalars = p.scalars;
   begins = p.begins;
   uses = p.uses;
-  put = put_copied (flat_map to p.characters) none front before at n loose after p.put fits out;
+  put = put_copied (flat_map to p.characters) none front before at n slack after p.put fits out;
 })

@@ -8,7 +8,7 @@ use Rattle.std.proofs.lemmas.List.{drop-drop, take_at, drop_at}
 use Rattle.std.proofs.lemmas.Simd.{put_chunk_is, length-put_chunk}
 use Rattle.cv_base.specs.Places.{IsPut}
 use Rattle.cv_utf8.specs.Utf8.{utf8_bytes}
-use Rattle.cv_transcode.specs.Private.Loose.{IsPutLoosely}
+use Rattle.cv_transcode.specs.Private.Slack.{IsPutWithSlack}
 
 -- bytes that stay from an index on stay from a later one on
 pub further : (before after : List ℕ) (i j : ℕ) → i ≤ j → drop i after ≡ drop i before → drop j after ≡ drop j before
@@ -17,21 +17,21 @@ further before after i j h e =
     ap (λ n. drop n after) (sym there) ∙ sym (drop-drop (j - i) i after) ∙ ap (drop (j - i)) e ∙ drop-drop (j - i) i before ∙ ap (λ n. drop n before) there
 
 -- bytes are put, and then others after them
-pub put_more : (xs ys before : List ℕ) (at n first m loose place : ℕ) (mid after : List ℕ) → IsPutLoosely xs before at n first mid → place ≡ at + n → IsPutLoosely ys mid place m loose after → first ≤ m + loose → IsPutLoosely (xs ++ ys) before at (n + m) loose after
-put_more xs ys before at n first m loose place mid after p e q enough =
+pub put_more : (xs ys before : List ℕ) (at n first m slack place : ℕ) (mid after : List ℕ) → IsPutWithSlack xs before at n first mid → place ≡ at + n → IsPutWithSlack ys mid place m slack after → first ≤ m + slack → IsPutWithSlack (xs ++ ys) before at (n + m) slack after
+put_more xs ys before at n first m slack place mid after p e q enough =
     let there : at + (n + m) ≡ place + m = omega (arith, e) in
-    let end : at + (n + m) + loose ≡ place + m + loose = omega (arith, e) in
+    let end : at + (n + m) + slack ≡ place + m + slack = omega (arith, e) in
     record {
       wrote = omega (arith, length-append xs ys, p.wrote, q.wrote);
       fits = omega (arith, q.fits, p.size, e);
       stand = ap (λ i. take i after) there ∙ q.stand ∙ ap (λ (x : List ℕ). x ++ ys) (ap (λ i. take i mid) e ∙ p.stand) ∙ append_assoc (take at before) xs ys;
-      behind = ap (λ i. drop i after) end ∙ q.behind ∙ further before mid (at + n + first) (place + m + loose) (omega (arith, e, enough)) p.behind ∙ ap (λ i. drop i before) (sym end);
+      behind = ap (λ i. drop i after) end ∙ q.behind ∙ further before mid (at + n + first) (place + m + slack) (omega (arith, e, enough)) p.behind ∙ ap (λ i. drop i before) (sym end);
       size = q.size ∙ p.size;
     }
 
 -- the first bytes of a vector are put, and the others may be anything
-pub put_part : (bytes lanes out : List ℕ) (at n wide loose : ℕ) → length lanes ≡ wide → at + wide ≤ length out → n ≤ wide → wide ≤ n + loose → take n lanes ≡ bytes → IsPutLoosely bytes out at n loose (put_chunk at out lanes)
-put_part bytes lanes out at n wide loose long room few most front =
+pub put_part : (bytes lanes out : List ℕ) (at n wide slack : ℕ) → length lanes ≡ wide → at + wide ≤ length out → n ≤ wide → wide ≤ n + slack → take n lanes ≡ bytes → IsPutWithSlack bytes out at n slack (put_chunk at out lanes)
+put_part bytes lanes out at n wide slack long room few most front =
     let rest : List ℕ = drop (length lanes) (drop at out) in
     let is : put_chunk at out lanes ≡ take at out ++ (lanes ++ rest) = put_chunk_is at out lanes (omega (arith, long)) in
     let parts : put_chunk at out lanes ≡ (take at out ++ bytes) ++ (drop n lanes ++ rest) =
@@ -45,16 +45,16 @@ put_part bytes lanes out at n wide loose long room few most front =
       wrote = sym size;
       fits = omega arith;
       stand = ap (take (at + n)) parts ∙ take_at (take at out ++ bytes) (drop n lanes ++ rest) (at + n) prefix;
-      behind = further out (put_chunk at out lanes) (at + wide) (at + n + loose) (omega arith) behind;
+      behind = further out (put_chunk at out lanes) (at + wide) (at + n + slack) (omega arith) behind;
       size = length-put_chunk at out lanes;
     }
 
 -- the first bytes of a vector are put, and at most sixteen others may be anything
-pub put_front : (bytes lanes out : List ℕ) (at n wide : ℕ) → length lanes ≡ wide → at + wide ≤ length out → n ≤ wide → wide ≤ n + 16 → take n lanes ≡ bytes → IsPutLoosely bytes out at n 16 (put_chunk at out lanes)
+pub put_front : (bytes lanes out : List ℕ) (at n wide : ℕ) → length lanes ≡ wide → at + wide ≤ length out → n ≤ wide → wide ≤ n + 16 → take n lanes ≡ bytes → IsPutWithSlack bytes out at n 16 (put_chunk at out lanes)
 put_front bytes lanes out at n wide long room few most front = put_part bytes lanes out at n wide 16 long room few most front
 
 -- bytes were put, and nothing else changed
-pub put_exactly : (bytes before : List ℕ) (at n : ℕ) (after : List ℕ) → n ≡ length bytes → at + n ≤ length before → after ≡ take at before ++ bytes ++ drop (at + n) before → IsPutLoosely bytes before at n 0 after
+pub put_exactly : (bytes before : List ℕ) (at n : ℕ) (after : List ℕ) → n ≡ length bytes → at + n ≤ length before → after ≡ take at before ++ bytes ++ drop (at + n) before → IsPutWithSlack bytes before at n 0 after
 put_exactly bytes before at n after wrote fits out =
     let front : List ℕ = take at before ++ bytes in
     let long : length front ≡ at + n = omega (arith, length-append (take at before) bytes, length-take at before, wrote) in
@@ -68,14 +68,14 @@ put_exactly bytes before at n after wrote fits out =
     }
 
 -- the first bytes of a buffer, copied
-pub put_copied : (bytes none front before : List ℕ) (at n loose : ℕ) (after : List ℕ) → IsPutLoosely bytes none 0 n loose front → at + n ≤ length before → after ≡ take at before ++ take n front ++ drop (at + n) before → IsPutLoosely bytes before at n 0 after
-put_copied bytes none front before at n loose after p fits out =
+pub put_copied : (bytes none front before : List ℕ) (at n slack : ℕ) (after : List ℕ) → IsPutWithSlack bytes none 0 n slack front → at + n ≤ length before → after ≡ take at before ++ take n front ++ drop (at + n) before → IsPutWithSlack bytes before at n 0 after
+put_copied bytes none front before at n slack after p fits out =
     let start : 0 + n ≡ n = omega arith in
     let is : take n front ≡ bytes = ap (λ i. take i front) (sym start) ∙ p.stand in
     put_exactly bytes before at n after p.wrote fits (out ∙ ap (λ (x : List ℕ). take at before ++ x ++ drop (at + n) before) is)
 
 -- bytes were put if no bytes after them may be anything
-pub put_whole : (bytes before : List ℕ) (at n : ℕ) (after : List ℕ) → IsPutLoosely bytes before at n 0 after → IsPut bytes before at n after
+pub put_whole : (bytes before : List ℕ) (at n : ℕ) (after : List ℕ) → IsPutWithSlack bytes before at n 0 after → IsPut bytes before at n after
 put_whole bytes before at n after p =
     let end : at + n + 0 ≡ at + n = omega arith in
     record {
@@ -85,10 +85,10 @@ put_whole bytes before at n after p =
     }
 
 -- the bytes of the first units are put, and then those of the others
-pub put_both : (bytes_of : ℕ → List ℕ) (units first second before : List ℕ) (k at n m : ℕ) (mid after : List ℕ) → first ≡ take k units → second ≡ drop k units → IsPutLoosely (flat_map bytes_of first) before at n 16 mid → IsPutLoosely (flat_map bytes_of second) mid (at + n) m 16 after → IsPutLoosely (flat_map bytes_of units) before at (n + m) 16 after
+pub put_both : (bytes_of : ℕ → List ℕ) (units first second before : List ℕ) (k at n m : ℕ) (mid after : List ℕ) → first ≡ take k units → second ≡ drop k units → IsPutWithSlack (flat_map bytes_of first) before at n 16 mid → IsPutWithSlack (flat_map bytes_of second) mid (at + n) m 16 after → IsPutWithSlack (flat_map bytes_of units) before at (n + m) 16 after
 put_both bytes_of units first second before k at n m mid after e f p q =
     let bytes : flat_map bytes_of first ++ flat_map bytes_of second ≡ flat_map bytes_of units = sym (flat_map-append bytes_of first second) ∙ ap (flat_map bytes_of) (ap₂ (λ (x y : List ℕ). x ++ y) e f ∙ take-append-drop k units) in
-    subst (λ (x : List ℕ). IsPutLoosely x before at (n + m) 16 after) bytes (put_more (flat_map bytes_of first) (flat_map bytes_of second) before at n 16 m 16 (at + n) mid after p refl q (omega arith))
+    subst (λ (x : List ℕ). IsPutWithSlack x before at (n + m) 16 after) bytes (put_more (flat_map bytes_of first) (flat_map bytes_of second) before at n 16 m 16 (at + n) mid after p refl q (omega arith))
 
 -- units of ASCII, as bytes
 pub ascii_are : (units : List ℕ) → ((k : ℕ) → k < length units → get_or units k 0 < 0x80) → map (λ (u : ℕ). u) units ≡ flat_map utf8_bytes units

@@ -8,24 +8,24 @@ use Rattle.std.specs.List.{flat_map}
 use Rattle.std.proofs.lemmas.Grind.{flat_map-append}
 use Rattle.cv_base.proofs.Front.{Begins-length}
 use Rattle.cv_block.specs.StatelessForms.{BytesOf}
-use Rattle.cv_transcode.specs.Private.Loose.{IsPutLoosely}
+use Rattle.cv_transcode.specs.Private.Slack.{IsPutWithSlack}
 use Rattle.cv_transcode.proofs.Putting.{put_more}
 use Rattle.cv_utf8.specs.Utf16Lanes.{characters_of, AreRead}
 use Rattle.cv_utf8.specs.Utf8.{utf8_bytes}
 use Rattle.cv_utf8.specs.declared.read.utf16_lanes.Utf16Lanes.{Utf16Lanes}
 
 -- the characters of both parts are put
-pub parts_put : (to : BytesOf) (units : Utf16Lanes) (before : List ℕ) (at : ℕ) (mid after : List ℕ) → IsPutLoosely (flat_map to (take units.firsts units.first)) before at (2 * units.firsts) 16 mid
-    → IsPutLoosely (flat_map to (take units.seconds units.second)) mid (at + 2 * units.firsts) (2 * units.seconds) 16 after → IsPutLoosely (flat_map to (characters_of units)) before at (2 * (units.firsts + units.seconds)) 16 after
+pub parts_put : (to : BytesOf) (units : Utf16Lanes) (before : List ℕ) (at : ℕ) (mid after : List ℕ) → IsPutWithSlack (flat_map to (take units.firsts units.first)) before at (2 * units.firsts) 16 mid
+    → IsPutWithSlack (flat_map to (take units.seconds units.second)) mid (at + 2 * units.firsts) (2 * units.seconds) 16 after → IsPutWithSlack (flat_map to (characters_of units)) before at (2 * (units.firsts + units.seconds)) 16 after
 parts_put to units before at mid after p q =
     let first : List ℕ = take units.firsts units.first in
     let second : List ℕ = take units.seconds units.second in
     let size : 2 * units.firsts + 2 * units.seconds ≡ 2 * (units.firsts + units.seconds) = omega arith in
     let both = put_more (flat_map to first) (flat_map to second) before at (2 * units.firsts) 16 (2 * units.seconds) 16 (at + 2 * units.firsts) mid after p refl q (omega arith) in
-    rw (flat_map-append to first second) (subst (λ n. IsPutLoosely (flat_map to first ++ flat_map to second) before at n 16 after) size both)
+    rw (flat_map-append to first second) (subst (λ n. IsPutWithSlack (flat_map to first ++ flat_map to second) before at n 16 after) size both)
 
 -- bytes are put, and the sixteen bytes after them are restored
-pub put_back : (bytes before lanes : List ℕ) (at n : ℕ) (mid after : List ℕ) → IsPutLoosely bytes before at n 16 mid → at + n + 16 ≤ length before → lanes ≡ take 16 (drop (at + n) before) → after ≡ put_chunk (at + n) mid lanes → IsPut bytes before at n after
+pub put_back : (bytes before lanes : List ℕ) (at n : ℕ) (mid after : List ℕ) → IsPutWithSlack bytes before at n 16 mid → at + n + 16 ≤ length before → lanes ≡ take 16 (drop (at + n) before) → after ≡ put_chunk (at + n) mid lanes → IsPut bytes before at n after
 put_back bytes before lanes at n mid after p room same back =
     let rest : List ℕ = drop (at + n) before in
     let long : length lanes ≡ 16 = ap length same ∙ (let l : length (take 16 rest) ≡ 16 = omega (arith, length-take 16 rest, length-drop (at + n) before) in l) in

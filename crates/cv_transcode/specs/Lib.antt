@@ -1,3 +1,3 @@
 -- Conversions from one Unicode form to another.
-pub mod Direct
+pub mod Runs
 pub mod Private

@@ -1,4 +1,4 @@
 -- What the contracts of private functions say, which no public contract cites.
-pub mod Loose
+pub mod Slack
 pub mod Middle
 pub mod Windows

@@ -2,16 +2,16 @@
 ghost use Rattle.std.specs.Prelude.{◌≡◌, ◌+◌, ◌*◌, ◌≤◌, ◌<◌, ℕ, length, take, slice_index, IfSome, IsTrue, MatchOption, map};
 ghost use Rattle.std.specs.List.{flat_map};
 ghost use Rattle.cv_base.specs.Places.{IsPut};
-ghost use Rattle.cv_transcode.specs.Direct.{IsConverted};
-ghost use Rattle.cv_transcode.specs.Private.Loose.{IsPutLoosely};
-ghost use Rattle.cv_transcode.specs.Private.Windows.{in_order, IsHigh};
+ghost use Rattle.cv_transcode.specs.Runs.{IsConverted};
+ghost use Rattle.cv_transcode.specs.Private.Slack.{IsPutWithSlack};
+ghost use Rattle.cv_transcode.specs.Private.Windows.{in_order, IsSupplementary};
 ghost use Rattle.cv_utf8.specs.Utf16Lanes.{characters_of, AreRead};
 ghost use Rattle.cv_utf8.specs.Utf8.{utf8_bytes};
 ghost use Rattle.cv_utf16.specs.Utf16.{utf16};
 
-use crate::direct::Direct;
-use crate::target::{ROOM, Target};
-use crate::utf16::Utf16In;
+use crate::run::Run;
+use crate::utf16::Utf16Window;
+use crate::window_writer::{ROOM, WindowWriter};
 use cv_base::Endian;
 use cv_block::{ByteOrder, LANES, is_ascii_block};
 use cv_utf8::{Utf16Lanes, read_utf16_lanes};
@@ -25,23 +25,23 @@ const EIGHT: usize = 8;
 
 /// After so many bytes of ASCII the loop ends: the caller has a faster way for them, but to end costs as much as a few
 /// windows.
-const MANY_ASCII: usize = 128;
+const ASCII_BYTES: usize = 128;
 
 /// How many bytes of characters of four bytes are converted in a row at most.
-const MANY_HIGH: usize = 64;
+const SUPPLEMENTARY_BYTES: usize = 64;
 
 /// The least byte that may begin a character of four bytes.
 const FOUR_BYTES: u8 = 0xf0;
 
 /// How many bytes four such characters have.
-const FOUR_FOURS: usize = 16;
+const FOUR_CHARACTERS: usize = 16;
 
 /// Returns whether five characters of four bytes likely follow each other at the start of a text, to judge by their
 /// first bytes. So many are faster by blocks, which read sixteen of them at once.
 #[inline(always)]
-pub fn begins_with_fours(text: &[u8]) -> bool {
-    text.len() > FOUR_FOURS
-        && text[0] & text[4] & text[8] & text[12] & text[FOUR_FOURS] >= FOUR_BYTES
+pub fn begins_with_supplementary(text: &[u8]) -> bool {
+    text.len() > FOUR_CHARACTERS
+        && text[0] & text[4] & text[8] & text[12] & text[FOUR_CHARACTERS] >= FOUR_BYTES
 }
 
 /// Eight units as numbers that are written with the low byte first: big-endian ones have their bytes swapped.
@@ -60,8 +60,8 @@ fn ordered<O: ByteOrder>(units: u16x8) -> u16x8
 fn put_eight<O: ByteOrder>(units: u16x8, n: usize, out: &mut [u8], at: usize)
     requires few { n ≤ 8 }
     requires room { at + 16 ≤ length out.old }
-    ensures { (loose : ℕ) → 16 ≤ 2 * n + loose
-        → IsPutLoosely (flat_map (utf16 O.endian) (take n units)) out.old at (2 * n) loose out.new }
+    ensures { (slack : ℕ) → 16 ≤ 2 * n + slack
+        → IsPutWithSlack (flat_map (utf16 O.endian) (take n units)) out.old at (2 * n) slack out.new }
 {
     let bytes = ordered::<O>(units).to_le_bytes();
     bytes.copy_to_slice(&mut out[at..]);
@@ -126,9 +126,9 @@ fn write_units<O: ByteOrder>(units: &Utf16Lanes, out: &mut [u8], at: usize) -> u
 
 /// The character of four bytes at the start of a text, if there is one.
 #[inline(always)]
-fn high(text: &[u8]) -> Option<u32>
+fn supplementary(text: &[u8]) -> Option<u32>
     requires { 4 ≤ length text.now }
-    ensures { IfSome result (λ c. IsHigh utf8_bytes text.now c) }
+    ensures { IfSome result (λ c. IsSupplementary utf8_bytes text.now c) }
 {
     let first = text[0] as u32;
     let second = text[1] as u32;
@@ -137,8 +137,8 @@ fn high(text: &[u8]) -> Option<u32>
     if first / 8 != 30 || (second / 64) * 16 + (third / 64) * 4 + fourth / 64 != 42 {
         return None;
     }
-    let front = first % 8 * 0x4_0000 + second % 64 * 0x1000;
-    let number = front + third % 64 * 64 + fourth % 64;
+    let high = first % 8 * 0x4_0000 + second % 64 * 0x1000;
+    let number = high + third % 64 * 64 + fourth % 64;
     if number < 0x1_0000 || number >= 0x11_0000 {
         return None;
     }
@@ -146,22 +146,22 @@ fn high(text: &[u8]) -> Option<u32>
 }
 
 /// Converts the characters of four bytes at the start of a text, and returns how many bytes they have, which is the
-/// same in UTF-16. It converts at most `MANY_HIGH` bytes.
+/// same in UTF-16. It converts at most `SUPPLEMENTARY_BYTES` bytes.
 #[inline(always)]
-fn convert_high<O: ByteOrder>(text: &[u8], out: &mut [u8], at: usize) -> usize
+fn convert_supplementary<O: ByteOrder>(text: &[u8], out: &mut [u8], at: usize) -> usize
     requires { at ≤ length out.old }
     ensures within { result ≤ length text.now }
     ensures room { at + result ≤ length out.new }
     ensures converted { IsConverted utf8_bytes (utf16 O.endian) text.now out.old at
         (record { used = result; wrote = result }) out.new }
 {
-    let most = text.len().min(out.len() - at).min(MANY_HIGH);
+    let most = text.len().min(out.len() - at).min(SUPPLEMENTARY_BYTES);
     let mut used = 0;
     while most - used >= 4 {
-        let Some(value) = high(&text[used..]) else {
+        let Some(value) = supplementary(&text[used..]) else {
             break;
         };
-        Utf16In::<O>::write_high(value, out, at + used);
+        Utf16Window::<O>::write_supplementary(value, out, at + used);
         used += 4;
     }
     used
@@ -169,7 +169,7 @@ fn convert_high<O: ByteOrder>(text: &[u8], out: &mut [u8], at: usize) -> usize
 
 /// Whether none of sixteen bytes begins a character of four bytes.
 #[inline(always)]
-fn have_no_fours(text: &[u8]) -> bool
+fn have_no_supplementary(text: &[u8]) -> bool
     requires { 16 ≤ length text.now }
 {
     u8x16::from_slice(text)
@@ -185,15 +185,15 @@ fn have_no_fours(text: &[u8]) -> bool
 fn are_apart(before: &[u8]) -> bool {
     let n = before.len();
     n >= LANES
-        && have_no_fours(&before[n - LANES..])
-        && (n < 2 * LANES || have_no_fours(&before[n - 2 * LANES..]))
+        && have_no_supplementary(&before[n - LANES..])
+        && (n < 2 * LANES || have_no_supplementary(&before[n - 2 * LANES..]))
 }
 
 /// Converts the characters of four bytes after a window that used `window` bytes, and returns how many bytes they have.
 /// It does so only if the window ended early, and if these characters are few, or apart from others.
 #[inline(always)]
 #[tactic(auto, using(crate::proofs::Joined::none_converted_exactly))]
-fn convert_behind<O: ByteOrder>(
+fn convert_after<O: ByteOrder>(
     window: usize,
     before: &[u8],
     text: &[u8],
@@ -206,31 +206,31 @@ fn convert_behind<O: ByteOrder>(
     ensures converted { IsConverted utf8_bytes (utf16 O.endian) text.now out.old at
         (record { used = result; wrote = result }) out.new }
 {
-    if window >= LANES || begins_with_fours(text) && !are_apart(before) {
+    if window >= LANES || begins_with_supplementary(text) && !are_apart(before) {
         return 0;
     }
-    convert_high::<O>(text, out, at)
+    convert_supplementary::<O>(text, out, at)
 }
 
-/// Whether the loop may go on after a window that used `window` bytes, and after `high` bytes of characters of four
-/// bytes.
+/// Whether the loop may go on after a window that used `window` bytes, and after `supplementary` bytes of characters of
+/// four bytes.
 #[inline(always)]
-fn may_go_on(window: usize, high: usize) -> bool
-    ensures { IsTrue result → 0 < window + high }
+fn may_go_on(window: usize, supplementary: usize) -> bool
+    ensures { IsTrue result → 0 < window + supplementary }
 {
-    window >= LANES || (high > 0 && high < MANY_HIGH)
+    window >= LANES || (supplementary > 0 && supplementary < SUPPLEMENTARY_BYTES)
 }
 
 /// Where the last character that is not ASCII ended: at `end` if one is in the window or among the characters of four
 /// bytes after it, and otherwise still at `other`.
 #[inline(always)]
-fn last_other(units: &Utf16Lanes, high: usize, end: usize, other: usize) -> usize
+fn last_other(units: &Utf16Lanes, supplementary: usize, end: usize, other: usize) -> usize
     requires few { units.now.firsts ≤ 8 }
     requires others { units.now.seconds ≤ 8 }
     requires before { other ≤ end }
     ensures { result ≤ end }
 {
-    if high == 0 && are_ascii(units) {
+    if supplementary == 0 && are_ascii(units) {
         return other;
     }
     end
@@ -241,7 +241,7 @@ fn last_other(units: &Utf16Lanes, high: usize, end: usize, other: usize) -> usiz
 /// or before several characters of four bytes in a row that are near others: the caller has faster ways for them. All
 /// other bytes of the slice stay. Returns `None` if it converted none.
 #[inline(never)]
-pub fn utf8_to_utf16<O: ByteOrder>(text: &[u8], out: &mut [u8], at: usize) -> Option<Direct>
+pub fn utf8_to_utf16<O: ByteOrder>(text: &[u8], out: &mut [u8], at: usize) -> Option<Run>
     requires { at ≤ length out.old }
     ensures some { IfSome result (λ run. 0 < run.used) }
     ensures run { MatchOption result (out.new ≡ out.old) (λ run.
@@ -252,23 +252,23 @@ pub fn utf8_to_utf16<O: ByteOrder>(text: &[u8], out: &mut [u8], at: usize) -> Op
     let mut other = 0;
     let mut on = true;
     while on
-        && used - other < MANY_ASCII
+        && used - other < ASCII_BYTES
         && text.len() - used >= WINDOW
         && out.len() - end >= ROOM
     {
         let units = next_units(text, used);
         end += write_units::<O>(&units, out, end);
         used += units.used;
-        let high = convert_behind::<O>(units.used, &text[..used], &text[used..], out, end);
-        end += high;
-        used += high;
-        other = last_other(&units, high, used, other);
-        on = may_go_on(units.used, high);
+        let supplementary = convert_after::<O>(units.used, &text[..used], &text[used..], out, end);
+        end += supplementary;
+        used += supplementary;
+        other = last_other(&units, supplementary, used, other);
+        on = may_go_on(units.used, supplementary);
     }
     if used == 0 {
         return None;
     }
-    Some(Direct {
+    Some(Run {
         used,
         wrote: end - at,
     })

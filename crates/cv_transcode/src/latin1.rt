@@ -2,14 +2,14 @@
 ghost use Rattle.std.specs.Prelude.{[], ◌∷◌};
 ghost use Rattle.cv_base.specs.declared.ascii_form.AsciiForm.{AsciiForm};
 
-use crate::source::Source;
+use crate::window_reader::WindowReader;
 use cv_base::AsciiForm;
 use std::simd::prelude::*;
 
 /// ISO-8859-1: each byte is the character with its value.
-pub(crate) struct Latin1Bytes;
+pub(crate) struct Latin1Window;
 
-impl Source for Latin1Bytes {
+impl WindowReader for Latin1Window {
     ghost bytes_of = { λ c. c ∷ [] };
 
     ghost window_size = { 16 };
@@ -32,12 +32,12 @@ impl Source for Latin1Bytes {
     }
 
     #[inline(always)]
-    fn high(_text: &[u8]) -> Option<u32> {
+    fn supplementary(_text: &[u8]) -> Option<u32> {
         None
     }
 
     #[inline(always)]
-    fn is_dense(_marks: u64) -> bool {
+    fn is_dense(_mask: u64) -> bool {
         true
     }
 

@@ -1,7 +1,7 @@
 //! Writing units that have up to three bytes in UTF-8, eight at once.
 ghost use Rattle.std.specs.Prelude.{◌≡◌, ◌+◌, ◌≤◌, ◌<◌, ℕ, List, length, get_or, map, take, drop};
 ghost use Rattle.std.specs.List.{flat_map};
-ghost use Rattle.cv_transcode.specs.Private.Loose.{IsPutLoosely};
+ghost use Rattle.cv_transcode.specs.Private.Slack.{IsPutWithSlack};
 ghost use Rattle.cv_transcode.specs.Private.Middle.{front_of, last_of, marks, AreMiddle};
 ghost use Rattle.cv_utf8.specs.Utf8.{utf8_bytes};
 ghost use Rattle.cv_utf8.specs.Private.Utf8Fours.{quad_of};
@@ -62,7 +62,7 @@ fn put_four(fours: u8x16, sizes: u64, out: &mut [u8], at: usize) -> usize
     ensures few { result ≤ 12 }
     ensures put { (units : List ℕ) → length units ≡ 4 → AreMiddle units
         → fours ≡ flat_map quad_of units → sizes ≡ marks units
-        → IsPutLoosely (flat_map utf8_bytes units) out.old at result 16 out.new }
+        → IsPutWithSlack (flat_map utf8_bytes units) out.old at result 16 out.new }
 {
     let bytes = compress_triples(fours, sizes);
     bytes.copy_to_slice(&mut out[at..]);
@@ -76,7 +76,7 @@ pub(crate) fn write_middle(units: u16x8, out: &mut [u8], at: usize) -> usize
     requires middle { (k : ℕ) → k < 8 → get_or units k 0 < 0x10000 }
     ensures some { 8 ≤ result }
     ensures few { result ≤ 24 }
-    ensures put { IsPutLoosely (flat_map utf8_bytes units) out.old at result 16 out.new }
+    ensures put { IsPutWithSlack (flat_map utf8_bytes units) out.old at result 16 out.new }
 {
     let (first, second) = fours(units);
     let twos = twos(units);

@@ -1,13 +1,14 @@
 //! Conversions of text that has characters from U+10000 on among others.
 ghost use Rattle.std.specs.Prelude.{◌≡◌, ◌+◌, ◌≤◌, ◌<◌, ℕ, IfSome, IsTrue, MatchOption, length, get_or, take};
 ghost use Rattle.std.specs.List.{flat_map};
-ghost use Rattle.cv_transcode.specs.Direct.{IsConverted};
-ghost use Rattle.cv_transcode.specs.Private.Loose.{IsPutLoosely, IsConvertedLoosely};
+ghost use Rattle.cv_transcode.specs.Runs.{IsConverted};
+ghost use Rattle.cv_transcode.specs.Private.Slack.{IsPutWithSlack, IsConvertedWithSlack};
 
-use crate::direct::{Direct, convert};
-use crate::runs::convert_ascii;
-use crate::source::{Source, count_characters, first_units, surrogates};
-use crate::target::{ROOM, Target, copy_front};
+use crate::ascii_runs::convert_ascii;
+use crate::run::Run;
+use crate::window_reader::{WindowReader, count_characters, first_units, surrogates};
+use crate::window_writer::{ROOM, WindowWriter, copy_prefix};
+use crate::windows::convert;
 use cv_block::LANES;
 use std::simd::prelude::*;
 
@@ -15,11 +16,11 @@ use std::simd::prelude::*;
 const BUFFER: usize = 512;
 
 /// How many parts of mixed text are converted at least, however small they are.
-const FEW: usize = 4;
+const MIN_PARTS: usize = 4;
 
 /// After so many bytes of ASCII, which are eight windows, mixed text from UTF-32 to UTF-8 ends. The buffer has room for
 /// 29 windows of ASCII.
-const MANY_ASCII: usize = 512;
+const ASCII_BYTES: usize = 512;
 
 /// How many bytes a window of UTF-32 has.
 const WIDE: usize = 64;
@@ -27,20 +28,25 @@ const WIDE: usize = 64;
 /// Converts the characters from U+10000 on at the start of a text, up to index `end` of the output, and returns how
 /// many bytes they have, which is the same in both encodings.
 #[inline(always)]
-fn convert_highs<S: Source, T: Target>(text: &[u8], out: &mut [u8], at: usize, end: usize) -> usize
+fn convert_supplementary<S: WindowReader, T: WindowWriter>(
+    text: &[u8],
+    out: &mut [u8],
+    at: usize,
+    end: usize,
+) -> usize
     requires room { at ≤ end }
     requires within { end ≤ length out.old }
     ensures fit { at + result ≤ end }
-    ensures converted { IsConvertedLoosely S.bytes_of T.bytes_of text.now out.old at
+    ensures converted { IsConvertedWithSlack S.bytes_of T.bytes_of text.now out.old at
         result result 0 out.new }
 {
     let most = text.len().min(end - at);
     let mut used = 0;
     while most - used >= 4 {
-        let Some(value) = S::high(&text[used..]) else {
+        let Some(value) = S::supplementary(&text[used..]) else {
             break;
         };
-        T::write_high(value, out, at + used);
+        T::write_supplementary(value, out, at + used);
         used += 4;
     }
     used
@@ -49,12 +55,12 @@ fn convert_highs<S: Source, T: Target>(text: &[u8], out: &mut [u8], at: usize, e
 /// Writes the first `n` of sixteen units, and returns how many bytes they have. It may also change up to 48 bytes after
 /// them.
 #[inline(always)]
-fn write_first<T: Target>(units: u16x16, n: usize, out: &mut [u8], at: usize) -> usize
+fn write_first<T: WindowWriter>(units: u16x16, n: usize, out: &mut [u8], at: usize) -> usize
     requires few { n ≤ 16 }
     requires room { at + 64 ≤ length out.old }
     requires middle { (k : ℕ) → k < 16 → get_or units k 0 < 0x10000 }
     ensures few { result ≤ 48 }
-    ensures put { IsPutLoosely (flat_map T.bytes_of (take n units)) out.old at result 48 out.new }
+    ensures put { IsPutWithSlack (flat_map T.bytes_of (take n units)) out.old at result 48 out.new }
 {
     let wrote = T::write_window(first_units(units, n), out, at);
     wrote - (LANES - n) * T::zero_size()
@@ -63,53 +69,53 @@ fn write_first<T: Target>(units: u16x16, n: usize, out: &mut [u8], at: usize) ->
 /// Converts a window up to its first surrogate, and then the characters from U+10000 on, up to index `end` of the
 /// output. It may also change up to 48 bytes after what it writes.
 #[inline(always)]
-fn convert_window<S: Source, T: Target>(
+fn convert_window<S: WindowReader, T: WindowWriter>(
     text: &[u8],
     out: &mut [u8],
     at: usize,
     end: usize,
-) -> Direct
+) -> Run
     requires window { S.window_size ≤ length text.now }
     requires room { at + 64 ≤ end }
     requires within { end ≤ length out.old }
     ensures fit { at + result.wrote ≤ end }
-    ensures converted { IsConvertedLoosely S.bytes_of T.bytes_of text.now out.old at
+    ensures converted { IsConvertedWithSlack S.bytes_of T.bytes_of text.now out.old at
         result.used result.wrote 48 out.new }
 {
     let size = S::window_size();
     let units = S::window(text);
     let n = count_characters(units);
     if n == LANES {
-        return Direct {
+        return Run {
             used: size,
             wrote: T::write_window(units, out, at),
         };
     }
     let used = n * (size / LANES);
     let wrote = write_first::<T>(units, n, out, at);
-    let highs = convert_highs::<S, T>(&text[used..], out, at + wrote, end);
-    Direct {
-        used: used + highs,
-        wrote: wrote + highs,
+    let supplementary = convert_supplementary::<S, T>(&text[used..], out, at + wrote, end);
+    Run {
+        used: used + supplementary,
+        wrote: wrote + supplementary,
     }
 }
 
 /// Whether the window at the start of a text may have characters from U+10000 on, but only few. It affects speed only.
 #[inline(always)]
-fn is_mixed<S: Source>(text: &[u8]) -> bool
+fn is_mixed<S: WindowReader>(text: &[u8]) -> bool
     ensures { IsTrue result → S.window_size ≤ length text.now }
 {
     if text.len() < S::window_size() {
         return false;
     }
-    let marks = surrogates(S::window(text));
-    marks != 0 && !S::is_dense(marks)
+    let mask = surrogates(S::window(text));
+    mask != 0 && !S::is_dense(mask)
 }
 
 /// Where the last part ended that was not ASCII, after a part that wrote `wrote` bytes. Only from UTF-32 to UTF-8 does
 /// any part count as ASCII: from UTF-16 ASCII soon fills the buffer, and in UTF-16 it has the size of other text.
 #[inline(always)]
-fn last_other<S: Source, T: Target>(wrote: usize, used: usize, other: usize) -> usize
+fn last_other<S: WindowReader, T: WindowWriter>(wrote: usize, used: usize, other: usize) -> usize
     requires { other ≤ used }
     ensures { result ≤ used }
 {
@@ -122,11 +128,11 @@ fn last_other<S: Source, T: Target>(wrote: usize, used: usize, other: usize) -> 
 /// Converts windows into a buffer, up to its index `end`, and returns what was converted. It ends early if the windows
 /// have many parts for their bytes, or after much ASCII.
 #[inline(always)]
-fn fill<S: Source, T: Target>(text: &[u8], front: &mut [u8], end: usize) -> Direct
-    requires { end ≤ length front.old }
+fn fill<S: WindowReader, T: WindowWriter>(text: &[u8], buffer: &mut [u8], end: usize) -> Run
+    requires { end ≤ length buffer.old }
     ensures fit { result.wrote ≤ end }
-    ensures converted { IsConvertedLoosely S.bytes_of T.bytes_of text.now front.old 0
-        result.used result.wrote 48 front.new }
+    ensures converted { IsConvertedWithSlack S.bytes_of T.bytes_of text.now buffer.old 0
+        result.used result.wrote 48 buffer.new }
 {
     let size = S::window_size();
     let part_size = S::part_size(T::zero_size());
@@ -136,10 +142,10 @@ fn fill<S: Source, T: Target>(text: &[u8], front: &mut [u8], end: usize) -> Dire
     let mut other = 0;
     while text.len() - used >= size
         && end - wrote >= ROOM
-        && parts <= FEW + used / part_size
-        && used - other < MANY_ASCII
+        && parts <= MIN_PARTS + used / part_size
+        && used - other < ASCII_BYTES
     {
-        let run = convert_window::<S, T>(&text[used..], front, wrote, end);
+        let run = convert_window::<S, T>(&text[used..], buffer, wrote, end);
         used += run.used;
         wrote += run.wrote;
         if run.used == 0 {
@@ -148,45 +154,53 @@ fn fill<S: Source, T: Target>(text: &[u8], front: &mut [u8], end: usize) -> Dire
         parts += 1;
         other = last_other::<S, T>(run.wrote, used, other);
     }
-    Direct { used, wrote }
+    Run { used, wrote }
 }
 
 /// Converts the windows at the start of a text with their characters from U+10000 on, as many as a buffer takes, if
 /// there are any. Kept out of line, since a function clears its buffers on entry.
 #[inline(never)]
-fn convert_mixed<S: Source, T: Target>(text: &[u8], out: &mut [u8], at: usize) -> Option<Direct>
+fn convert_mixed<S: WindowReader, T: WindowWriter>(
+    text: &[u8],
+    out: &mut [u8],
+    at: usize,
+) -> Option<Run>
     requires { at ≤ length out.old }
     ensures some { IfSome result (λ run. 0 < run.used) }
     ensures run { MatchOption result (out.new ≡ out.old) (λ run.
         IsConverted S.bytes_of T.bytes_of text.now out.old at run out.new) }
 {
     let room = BUFFER.min(out.len() - at);
-    let mut front = [0u8; BUFFER];
-    let run = fill::<S, T>(text, &mut front, room);
+    let mut buffer = [0u8; BUFFER];
+    let run = fill::<S, T>(text, &mut buffer, room);
     if run.used == 0 {
         return None;
     }
-    copy_front(&front, run.wrote, out, at);
+    copy_prefix(&buffer, run.wrote, out, at);
     Some(run)
 }
 
 /// Converts the windows at the start of a text, as `convert` does, if there are any.
 #[inline(always)]
-fn convert_plain<S: Source, T: Target>(text: &[u8], out: &mut [u8], at: usize) -> Direct
+fn convert_plain<S: WindowReader, T: WindowWriter>(text: &[u8], out: &mut [u8], at: usize) -> Run
     requires { at ≤ length out.old }
     ensures none { result.used ≡ 0 → out.new ≡ out.old }
     ensures run { IsConverted S.bytes_of T.bytes_of text.now out.old at result out.new }
 {
     match convert::<S, T>(text, out, at) {
         Some(run) => run,
-        None => Direct { used: 0, wrote: 0 },
+        None => Run { used: 0, wrote: 0 },
     }
 }
 
 /// Converts the windows at the start of a text, and then mixed text. Returns what was converted, and whether windows go
 /// on after it. They do not if mixed text ended before its buffer was full: its parts were small, or ASCII follows.
 #[inline(always)]
-fn convert_both<S: Source, T: Target>(text: &[u8], out: &mut [u8], at: usize) -> (Direct, bool)
+fn convert_both<S: WindowReader, T: WindowWriter>(
+    text: &[u8],
+    out: &mut [u8],
+    at: usize,
+) -> (Run, bool)
     requires { at ≤ length out.old }
     ensures none { result.0.used ≡ 0 → out.new ≡ out.old }
     ensures more { IsTrue result.1 → 0 < result.0.used }
@@ -200,7 +214,7 @@ fn convert_both<S: Source, T: Target>(text: &[u8], out: &mut [u8], at: usize) ->
     let Some(mixed) = convert_mixed::<S, T>(rest, out, at + plain.wrote) else {
         return (plain, false);
     };
-    let run = Direct {
+    let run = Run {
         used: plain.used + mixed.used,
         wrote: plain.wrote + mixed.wrote,
     };
@@ -211,7 +225,11 @@ fn convert_both<S: Source, T: Target>(text: &[u8], out: &mut [u8], at: usize) ->
 /// Converts what `convert_both` does, and then a run of ASCII if windows do not go on. Returns what was converted, and
 /// whether windows go on after it.
 #[inline(always)]
-fn convert_some<S: Source, T: Target>(text: &[u8], out: &mut [u8], at: usize) -> (Direct, bool)
+fn convert_some<S: WindowReader, T: WindowWriter>(
+    text: &[u8],
+    out: &mut [u8],
+    at: usize,
+) -> (Run, bool)
     requires { at ≤ length out.old }
     ensures none { result.0.used ≡ 0 → out.new ≡ out.old }
     ensures more { IsTrue result.1 → 0 < result.0.used }
@@ -222,7 +240,7 @@ fn convert_some<S: Source, T: Target>(text: &[u8], out: &mut [u8], at: usize) ->
         return (both, true);
     }
     let ascii = convert_ascii::<S, T>(&text[both.used..], out, at + both.wrote);
-    let run = Direct {
+    let run = Run {
         used: both.used + ascii.used,
         wrote: both.wrote + ascii.wrote,
     };
@@ -233,11 +251,11 @@ fn convert_some<S: Source, T: Target>(text: &[u8], out: &mut [u8], at: usize) ->
 /// if `convert` ends for another reason, or if characters from U+10000 on are many. Returns `None` if it converted
 /// none.
 #[inline(always)]
-pub(crate) fn convert_all<S: Source, T: Target>(
+pub(crate) fn convert_all<S: WindowReader, T: WindowWriter>(
     text: &[u8],
     out: &mut [u8],
     at: usize,
-) -> Option<Direct>
+) -> Option<Run>
     requires { at ≤ length out.old }
     ensures some { IfSome result (λ run. 0 < run.used) }
     ensures run { MatchOption result (out.new ≡ out.old) (λ run.
@@ -256,5 +274,5 @@ pub(crate) fn convert_all<S: Source, T: Target>(
     if used == 0 {
         return None;
     }
-    Some(Direct { used, wrote })
+    Some(Run { used, wrote })
 }

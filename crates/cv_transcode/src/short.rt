@@ -1,7 +1,7 @@
 //! Writing units that have up to two bytes in UTF-8, eight at once.
 ghost use Rattle.std.specs.Prelude.{◌≡◌, ◌+◌, ◌≤◌, ◌<◌, ℕ, length, get_or};
 ghost use Rattle.std.specs.List.{flat_map};
-ghost use Rattle.cv_transcode.specs.Private.Loose.{IsPutLoosely};
+ghost use Rattle.cv_transcode.specs.Private.Slack.{IsPutWithSlack};
 ghost use Rattle.cv_utf8.specs.Utf8.{utf8_bytes};
 ghost use Rattle.cv_utf8.specs.Private.Utf8Pairs.{pair_of};
 
@@ -34,7 +34,7 @@ pub(crate) fn write_short(units: u16x8, out: &mut [u8], at: usize) -> usize
     requires short { (k : ℕ) → k < 8 → get_or units k 0 < 0x800 }
     ensures some { 8 ≤ result }
     ensures few { result ≤ 16 }
-    ensures put { IsPutLoosely (flat_map utf8_bytes units) out.old at result 16 out.new }
+    ensures put { IsPutWithSlack (flat_map utf8_bytes units) out.old at result 16 out.new }
 {
     let twos = twos(units);
     let bytes = compress_pairs(pairs(units), twos);

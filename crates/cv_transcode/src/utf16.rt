@@ -6,8 +6,8 @@ ghost use Rattle.cv_block.specs.Units.{AreUnits};
 ghost use Rattle.cv_transcode.specs.Private.Windows.{in_order};
 ghost use Rattle.cv_utf16.specs.Utf16.{utf16};
 
-use crate::source::Source;
-use crate::target::Target;
+use crate::window_reader::WindowReader;
+use crate::window_writer::WindowWriter;
 use cv_base::{AsciiForm, Endian};
 use cv_block::{
     ByteOrder, LANES, from_surrogates, is_high, is_low, lead_surrogate, trail_surrogate,
@@ -53,7 +53,7 @@ fn ordered<O: ByteOrder>(units: u16x16) -> u16x16
 }
 
 /// The most runs of surrogates in a window for which windows are faster than blocks.
-const MOST_RUNS: u32 = 4;
+const MAX_RUNS: u32 = 4;
 
 /// The least average size of parts, in bytes, for which windows are faster than blocks if the target is UTF-8.
 const PART: usize = 20;
@@ -62,11 +62,11 @@ const PART: usize = 20;
 const SHORT_PART: usize = 8;
 
 /// UTF-16 in a byte order.
-pub(crate) struct Utf16In<O> {
+pub(crate) struct Utf16Window<O> {
     order: PhantomData<O>,
 }
 
-impl<O: ByteOrder> Source for Utf16In<O> {
+impl<O: ByteOrder> WindowReader for Utf16Window<O> {
     ghost bytes_of = { utf16 O.endian };
 
     ghost window_size = { 32 };
@@ -89,19 +89,19 @@ impl<O: ByteOrder> Source for Utf16In<O> {
     }
 
     #[inline(always)]
-    fn high(text: &[u8]) -> Option<u32> {
-        let high = O::two(text, 0);
-        let low = O::two(text, 2);
-        if !is_high(high) || !is_low(low) {
+    fn supplementary(text: &[u8]) -> Option<u32> {
+        let lead = O::two(text, 0);
+        let trail = O::two(text, 2);
+        if !is_high(lead) || !is_low(trail) {
             return None;
         }
-        Some(from_surrogates(high, low))
+        Some(from_surrogates(lead, trail))
     }
 
     #[inline(always)]
-    fn is_dense(marks: u64) -> bool {
-        let begins = marks & !(marks % 0x8000 * 2);
-        begins.count_ones() > MOST_RUNS
+    fn is_dense(mask: u64) -> bool {
+        let begins = mask & !(mask % 0x8000 * 2);
+        begins.count_ones() > MAX_RUNS
     }
 
     #[inline(always)]
@@ -110,7 +110,7 @@ impl<O: ByteOrder> Source for Utf16In<O> {
     }
 }
 
-impl<O: ByteOrder> Target for Utf16In<O> {
+impl<O: ByteOrder> WindowWriter for Utf16Window<O> {
     ghost bytes_of = { utf16 O.endian };
 
     ghost form = { Two O.endian };
@@ -133,7 +133,7 @@ impl<O: ByteOrder> Target for Utf16In<O> {
     }
 
     #[inline(always)]
-    fn write_high(value: u32, out: &mut [u8], at: usize) {
+    fn write_supplementary(value: u32, out: &mut [u8], at: usize) {
         O::write_two(out, at, lead_surrogate(value));
         O::write_two(out, at + 2, trail_surrogate(value));
     }

@@ -5,7 +5,7 @@ ghost use Rattle.cv_block.specs.Units.{AreUnits};
 ghost use Rattle.cv_transcode.specs.Private.Windows.{IsNarrow, AreNarrow};
 ghost use Rattle.cv_utf16.specs.Utf32.{utf32};
 
-use crate::source::Source;
+use crate::window_reader::WindowReader;
 use cv_base::AsciiForm;
 use cv_block::{ByteOrder, LANES};
 use std::marker::PhantomData;
@@ -57,7 +57,7 @@ fn narrowed(numbers: &[u32; LANES]) -> u16x16
 }
 
 /// The most characters from U+10000 on in a window for which windows are faster than blocks.
-const MOST_MARKS: u32 = 2;
+const MAX_SUPPLEMENTARY: u32 = 2;
 
 /// The least average size of parts, in bytes, for which windows are faster than blocks if the target is UTF-8.
 const PART: usize = 48;
@@ -66,11 +66,11 @@ const PART: usize = 48;
 const SHORT_PART: usize = 40;
 
 /// UTF-32 in a byte order.
-pub(crate) struct Utf32In<O> {
+pub(crate) struct Utf32Window<O> {
     order: PhantomData<O>,
 }
 
-impl<O: ByteOrder> Source for Utf32In<O> {
+impl<O: ByteOrder> WindowReader for Utf32Window<O> {
     ghost bytes_of = { utf32 O.endian };
 
     ghost window_size = { 64 };
@@ -93,7 +93,7 @@ impl<O: ByteOrder> Source for Utf32In<O> {
     }
 
     #[inline(always)]
-    fn high(text: &[u8]) -> Option<u32> {
+    fn supplementary(text: &[u8]) -> Option<u32> {
         let number = O::four(text, 0);
         if number >= 0x1_0000 && number < 0x11_0000 {
             Some(number)
@@ -103,8 +103,8 @@ impl<O: ByteOrder> Source for Utf32In<O> {
     }
 
     #[inline(always)]
-    fn is_dense(marks: u64) -> bool {
-        marks.count_ones() > MOST_MARKS
+    fn is_dense(mask: u64) -> bool {
+        mask.count_ones() > MAX_SUPPLEMENTARY
     }
 
     #[inline(always)]

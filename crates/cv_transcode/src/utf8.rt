@@ -2,12 +2,12 @@
 ghost use Rattle.std.specs.Prelude.{◌≡◌, ◌+◌, ◌≤◌, ◌<◌, ℕ, IsTrue, length, get_or, take, drop};
 ghost use Rattle.std.specs.List.{flat_map};
 ghost use Rattle.cv_base.specs.declared.ascii_form.AsciiForm.{AsciiForm};
-ghost use Rattle.cv_transcode.specs.Private.Loose.{IsPutLoosely};
+ghost use Rattle.cv_transcode.specs.Private.Slack.{IsPutWithSlack};
 ghost use Rattle.cv_utf8.specs.Utf8.{utf8_bytes};
 
 use crate::middle::write_middle;
 use crate::short::write_short;
-use crate::target::Target;
+use crate::window_writer::WindowWriter;
 use cv_base::AsciiForm;
 use cv_base::place::write_slice;
 use cv_block::LANES;
@@ -23,7 +23,7 @@ pub(crate) fn are_below(units: u16x16, limit: u16) -> bool
 
 /// The first eight of sixteen units.
 #[inline(always)]
-fn first_of(units: u16x16) -> u16x8
+fn first_eight(units: u16x16) -> u16x8
     ensures { result ≡ take 8 units }
 {
     units.extract::<0, 8>()
@@ -31,7 +31,7 @@ fn first_of(units: u16x16) -> u16x8
 
 /// The last eight of sixteen units.
 #[inline(always)]
-fn second_of(units: u16x16) -> u16x8
+fn last_eight(units: u16x16) -> u16x8
     ensures { result ≡ drop 8 units }
 {
     units.extract::<8, 8>()
@@ -42,16 +42,16 @@ fn second_of(units: u16x16) -> u16x8
 fn write_ascii(units: u16x16, out: &mut [u8], at: usize)
     requires room { at + 16 ≤ length out.old }
     requires ascii { (k : ℕ) → k < 16 → get_or units k 0 < 0x80 }
-    ensures { IsPutLoosely (flat_map utf8_bytes units) out.old at 16 16 out.new }
+    ensures { IsPutWithSlack (flat_map utf8_bytes units) out.old at 16 16 out.new }
 {
     let bytes = units.cast::<u8>();
     bytes.copy_to_slice(&mut out[at..]);
 }
 
 /// UTF-8.
-pub(crate) struct Utf8Bytes;
+pub(crate) struct Utf8Window;
 
-impl Target for Utf8Bytes {
+impl WindowWriter for Utf8Window {
     ghost bytes_of = { utf8_bytes };
 
     ghost form = { AsciiForm.Byte };
@@ -67,8 +67,8 @@ impl Target for Utf8Bytes {
             write_ascii(units, out, at);
             return LANES;
         }
-        let first = first_of(units);
-        let second = second_of(units);
+        let first = first_eight(units);
+        let second = last_eight(units);
         if are_below(units, 0x800) {
             let n = write_short(first, out, at);
             return n + write_short(second, out, at + n);
@@ -83,7 +83,7 @@ impl Target for Utf8Bytes {
     }
 
     #[inline(always)]
-    fn write_high(value: u32, out: &mut [u8], at: usize) {
+    fn write_supplementary(value: u32, out: &mut [u8], at: usize) {
         let first = (0xf0 + value / 0x4_0000) as u8;
         let second = (0x80 + value / 0x1000 % 64) as u8;
         let third = (0x80 + value / 64 % 64) as u8;

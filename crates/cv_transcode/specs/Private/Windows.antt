@@ -48,7 +48,7 @@ abbrev pub AreNarrow : List ℕ → List ℕ → ℕ → Type 0
 AreNarrow numbers units n = (k : ℕ) → k < n → IsNarrow (get_or numbers k 0) (get_or units k 0)
 
 -- A character from U+10000 on is at the start of a text, and has four bytes.
-pub record IsHigh (bytes_of : BytesOf) (text : List ℕ) (c : ℕ) : Type 0 where
+pub record IsSupplementary (bytes_of : BytesOf) (text : List ℕ) (c : ℕ) : Type 0 where
   pub scalar : IsScalar c
   pub above : 0x10000 ≤ c
   pub begins : Begins (bytes_of c) text

@@ -1,5 +1,5 @@
 use Rattle.std.proofs.Common.{◌≤◌, ◌+◌, ◌-◌, cond, length}
-use Rattle.cv_transcode.specs.Direct.{IsConverted}
+use Rattle.cv_transcode.specs.Runs.{IsConverted}
 use Rattle.cv_utf8.specs.Utf8.{utf8_bytes}
 use Rattle.cv_utf16.specs.Utf16.{utf16}
 use Rattle.cv_transcode.proofs.from_utf8.utf8_to_utf16.Given as goal

@@ -1,5 +1,5 @@
 use Rattle.std.proofs.Common.{◌-◌, ◌≤◌, length}
-use Rattle.cv_transcode.specs.Private.Loose.{IsConvertedLoosely}
+use Rattle.cv_transcode.specs.Private.Slack.{IsConvertedWithSlack}
 use Rattle.cv_transcode.proofs.mixed.fill.Given as goal
 
 abbrev pub invariant-loop-used : goal.invariant-loop-used
@@ -8,7 +8,7 @@ invariant-loop-used g l = record {
   few : l.parts ≤ l.used;
   behind : l.other ≤ l.used;
   fit : l.wrote ≤ l.end;
-  converted : IsConvertedLoosely g.S.Source.bytes_of g.T.Target.bytes_of l.text l.fn.front 0 l.used l.wrote 48 l.front;
+  converted : IsConvertedWithSlack g.S.WindowReader.bytes_of g.T.WindowWriter.bytes_of l.text l.fn.buffer 0 l.used l.wrote 48 l.buffer;
 }
 
 abbrev pub decreases-loop-used : goal.decreases-loop-used

@@ -3,7 +3,6 @@ ghost use Rattle.std.specs.Prelude.{◌≡◌, ◌≤◌, ◌<◌, length, IfSom
 ghost use Rattle.cv_transcode.specs.Runs.{IsConverted};
 ghost use Rattle.cv_pivot.specs.Encodings.{form_of};
 ghost use Rattle.cv_pivot.specs.Private.Steps.FastPaths.{IsReadAs, IsWrittenAs, read_bytes, written_bytes};
-ghost use Rattle.cv_utf16.specs.KeptStates.{KeepsReading, KeepsWriting};
 ghost use Rattle.cv_utf16.specs.Utf32.{utf32};
 
 use crate::blocks::BlockSize;
@@ -15,36 +14,6 @@ use cv_transcode::{
     Run, begins_with_supplementary, latin1_to_utf8, utf8_to_utf16, utf16_swapped, utf16_to_utf8,
     utf32_to_utf8, utf32_to_utf16,
 };
-use cv_utf16::Order;
-
-/// Returns the byte order in which units are read, if reading does not leave this state.
-#[inline(always)]
-fn kept_reading(order: Order, state: ReadState) -> Option<Endian>
-    ensures { IfSome result (λ endian. KeepsReading order state endian) }
-{
-    match (order, state) {
-        (Order::Be, ReadState::Start) => Some(Endian::Big),
-        (Order::Le, ReadState::Start) => Some(Endian::Little),
-        (Order::Marked, ReadState::Big) => Some(Endian::Big),
-        (Order::Marked, ReadState::Little) => Some(Endian::Little),
-        (Order::Be | Order::Le, ReadState::Big | ReadState::Little) => None,
-        (Order::Marked, ReadState::Start) | (_, ReadState::Shifted(_)) => None,
-    }
-}
-
-/// Returns the byte order in which units are written, if writing does not leave this state.
-#[inline(always)]
-fn kept_writing(order: Order, state: WriteState) -> Option<Endian>
-    ensures { IfSome result (λ endian. KeepsWriting order state endian) }
-{
-    match (order, state) {
-        (Order::Be, WriteState::Start) => Some(Endian::Big),
-        (Order::Le, WriteState::Start) => Some(Endian::Little),
-        (Order::Marked, WriteState::Marked) => Some(Endian::Big),
-        (Order::Be | Order::Le, WriteState::Marked) => None,
-        (Order::Marked, WriteState::Start) | (_, WriteState::Shifted(_)) => None,
-    }
-}
 
 /// The form of the characters that a loop reads.
 #[derive(Clone, Copy)]
@@ -77,8 +46,8 @@ impl ReadForm {
                 ReadState::Start => Some(ReadForm::Utf8),
                 ReadState::Big | ReadState::Little | ReadState::Shifted(_) => None,
             },
-            Encoding::Utf16(order) => Some(ReadForm::Utf16(kept_reading(*order, state)?)),
-            Encoding::Utf32(order) => Some(ReadForm::Utf32(kept_reading(*order, state)?)),
+            Encoding::Utf16(order) => Some(ReadForm::Utf16(order.kept_reading(state)?)),
+            Encoding::Utf32(order) => Some(ReadForm::Utf32(order.kept_reading(state)?)),
             Encoding::Ascii | Encoding::Utf7 | Encoding::Charmap(_) => None,
         }
     }
@@ -95,7 +64,7 @@ impl WrittenForm {
                 WriteState::Start => Some(WrittenForm::Utf8),
                 WriteState::Marked | WriteState::Shifted(_) => None,
             },
-            Encoding::Utf16(order) => Some(WrittenForm::Utf16(kept_writing(*order, state)?)),
+            Encoding::Utf16(order) => Some(WrittenForm::Utf16(order.kept_writing(state)?)),
             Encoding::Ascii | Encoding::Latin1 | Encoding::Utf32(_) => None,
             Encoding::Utf7 | Encoding::Charmap(_) => None,
         }

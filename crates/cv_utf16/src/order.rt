@@ -17,9 +17,9 @@ pub enum Order {
 }
 
 impl Order {
-    /// The byte order in which characters are read in this state, if the state stays.
-    #[inline]
-    pub(crate) fn kept_reading(self, state: ReadState) -> Option<Endian>
+    /// Returns the byte order in which characters are read in this state, if reading does not leave it.
+    #[inline(always)]
+    pub fn kept_reading(self, state: ReadState) -> Option<Endian>
         ensures { IfSome result (λ endian. KeepsReading self state endian) }
     {
         match (self, state) {
@@ -27,20 +27,22 @@ impl Order {
             (Order::Le, ReadState::Start) => Some(Endian::Little),
             (Order::Marked, ReadState::Big) => Some(Endian::Big),
             (Order::Marked, ReadState::Little) => Some(Endian::Little),
-            _ => None,
+            (Order::Be | Order::Le, ReadState::Big | ReadState::Little) => None,
+            (Order::Marked, ReadState::Start) | (_, ReadState::Shifted(_)) => None,
         }
     }
 
-    /// The byte order in which characters are written in this state, if the state stays.
-    #[inline]
-    pub(crate) fn kept_writing(self, state: WriteState) -> Option<Endian>
+    /// Returns the byte order in which characters are written in this state, if writing does not leave it.
+    #[inline(always)]
+    pub fn kept_writing(self, state: WriteState) -> Option<Endian>
         ensures { IfSome result (λ endian. KeepsWriting self state endian) }
     {
         match (self, state) {
             (Order::Be, WriteState::Start) => Some(Endian::Big),
             (Order::Le, WriteState::Start) => Some(Endian::Little),
             (Order::Marked, WriteState::Marked) => Some(Endian::Big),
-            _ => None,
+            (Order::Be | Order::Le, WriteState::Marked) => None,
+            (Order::Marked, WriteState::Start) | (_, WriteState::Shifted(_)) => None,
         }
     }
 

@@ -1,5 +1,6 @@
 -- A run of ASCII that is converted, unit by unit.
-use Rattle.std.proofs.Common.{◌≡◌, ℕ, ◌+◌, ◌*◌, ◌<◌, ◌≤◌, List, [], ◌∷◌, ◌++◌, length, take, drop, refl, sym, ◌∙◌, ap, ap₂, arith}
+use Rattle.std.proofs.Common.{◌≡◌, ℕ, ◌+◌, ◌*◌, ◌<◌, ◌≤◌, List, [], ◌∷◌, ◌++◌, length, take, drop, refl, sym, ◌∙◌, ap}
+use Rattle.std.proofs.Common.{ap₂, arith}
 use Rattle.std.specs.List.{flat_map}
 use Rattle.cv_base.specs.Ascii.{AreBelow}
 use Rattle.cv_base.specs.Scalars.{AreScalars}
@@ -16,15 +17,21 @@ SpellsAscii form bytes_of = (c : ℕ) → c < 128 → bytes_of c ≡ unit_of for
 
 ascii_scalars : (characters : List ℕ) → AreBelow 128 characters → AreScalars characters
 ascii_scalars [] h = tt
-ascii_scalars (c ∷ characters) h = ((omega (arith, h.0), λ p. absurd (omega (arith, h.0, p))), ascii_scalars characters h.1)
+ascii_scalars (c ∷ characters) h =
+    ((omega (arith, h.0), λ p. absurd (omega (arith, h.0, p))), ascii_scalars characters h.1)
 
-ascii_bytes : (form : AsciiForm) (bytes_of : BytesOf) → SpellsAscii form bytes_of → (characters : List ℕ) → AreBelow 128 characters → flat_map bytes_of characters ≡ units_of form characters
+ascii_bytes : (form : AsciiForm) (bytes_of : BytesOf) → SpellsAscii form bytes_of → (characters : List ℕ)
+    → AreBelow 128 characters → flat_map bytes_of characters ≡ units_of form characters
 ascii_bytes form bytes_of spells [] h = refl
-ascii_bytes form bytes_of spells (c ∷ characters) h = ap₂ (λ (x y : List ℕ). x ++ y) (spells c h.0) (ascii_bytes form bytes_of spells characters h.1)
+ascii_bytes form bytes_of spells (c ∷ characters) h = ap₂ (λ (x y : List ℕ). x ++ y) (spells c h.0)
+    (ascii_bytes form bytes_of spells characters h.1)
 
 -- the first n units of a text, which are ASCII and were written in another form, are converted
-pub ascii_converted : (form target : AsciiForm) (from to : BytesOf) → SpellsAscii form from → SpellsAscii target to → (text before : List ℕ) (at n : ℕ) (after : List ℕ) → unit_size form * n ≤ length text → at + unit_size target * n ≤ length before
-    → IsRunBelow 128 form text n → after ≡ take at before ++ units_of target (characters_in form text n) ++ drop (at + unit_size target * n) before
+pub ascii_converted : (form target : AsciiForm) (from to : BytesOf) → SpellsAscii form from → SpellsAscii target to
+    → (text before : List ℕ) (at n : ℕ) (after : List ℕ) → unit_size form * n ≤ length text
+    → at + unit_size target * n ≤ length before
+    → IsRunBelow 128 form text n → after ≡ take at before ++ units_of target (characters_in form text n)
+    ++ drop (at + unit_size target * n) before
     → IsConverted from to text before at (record { used = unit_size form * n; wrote = unit_size target * n }) after
 ascii_converted form target from to reads writes text before at n after within fits run out =
     let characters = characters_in form text n in

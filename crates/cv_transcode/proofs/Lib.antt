@@ -1,8 +1,7 @@
 pub mod Lanes
-pub mod Putting
-pub mod Fours
+pub mod SixteenUnits
 pub mod Ordered
-pub mod Windows
+pub mod ReadWindows
 pub mod Converting
 pub mod UnitsPut
 pub mod Joined

@@ -3,7 +3,7 @@ ghost use Rattle.std.specs.Prelude.{◌≡◌, ◌+◌, ◌*◌, ◌≤◌, ◌<
 ghost use Rattle.std.specs.List.{flat_map};
 ghost use Rattle.cv_base.specs.Places.{IsPut};
 ghost use Rattle.cv_transcode.specs.Runs.{IsConverted};
-ghost use Rattle.cv_transcode.specs.Private.Slack.{IsPutWithSlack};
+ghost use Rattle.cv_block.specs.Slack.{IsPutWithSlack};
 ghost use Rattle.cv_transcode.specs.Private.Windows.{in_order, IsSupplementary};
 ghost use Rattle.cv_utf8.specs.Utf16Lanes.{characters_of, AreRead};
 ghost use Rattle.cv_utf8.specs.Utf8.{utf8_bytes};
@@ -14,7 +14,7 @@ use crate::utf16::Utf16Window;
 use crate::window_writer::{ROOM, WindowWriter};
 use cv_base::Endian;
 use cv_block::{ByteOrder, LANES, is_ascii_block};
-use cv_utf8::{Utf16Lanes, read_utf16_lanes};
+use cv_utf8::{Utf16Lanes, read_utf16_lanes, supplementary_at};
 use std::simd::prelude::*;
 
 /// How many bytes of the text are looked at for a window: the sixteen of the window, and two after them.
@@ -46,6 +46,7 @@ pub fn begins_with_supplementary(text: &[u8]) -> bool {
 
 /// Eight units as numbers that are written with the low byte first: big-endian ones have their bytes swapped.
 #[inline(always)]
+#[tactic(auto, using(cv_block::proofs::Lanes::divisors))]
 fn ordered<O: ByteOrder>(units: u16x8) -> u16x8
     ensures { result ≡ map (in_order O.endian) units }
 {
@@ -130,19 +131,11 @@ fn supplementary(text: &[u8]) -> Option<u32>
     requires { 4 ≤ length text.now }
     ensures { IfSome result (λ c. IsSupplementary utf8_bytes text.now c) }
 {
-    let first = text[0] as u32;
-    let second = text[1] as u32;
-    let third = text[2] as u32;
-    let fourth = text[3] as u32;
-    if first / 8 != 30 || (second / 64) * 16 + (third / 64) * 4 + fourth / 64 != 42 {
+    if text[0] < FOUR_BYTES {
         return None;
     }
-    let high = first % 8 * 0x4_0000 + second % 64 * 0x1000;
-    let number = high + third % 64 * 64 + fourth % 64;
-    if number < 0x1_0000 || number >= 0x11_0000 {
-        return None;
-    }
-    Some(number)
+    let (c, _) = supplementary_at(text, 0)?;
+    Some(c.value())
 }
 
 /// Converts the characters of four bytes at the start of a text, and returns how many bytes they have, which is the

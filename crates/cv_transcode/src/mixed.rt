@@ -2,7 +2,8 @@
 ghost use Rattle.std.specs.Prelude.{◌≡◌, ◌+◌, ◌≤◌, ◌<◌, ℕ, IfSome, IsTrue, MatchOption, length, get_or, take};
 ghost use Rattle.std.specs.List.{flat_map};
 ghost use Rattle.cv_transcode.specs.Runs.{IsConverted};
-ghost use Rattle.cv_transcode.specs.Private.Slack.{IsPutWithSlack, IsConvertedWithSlack};
+ghost use Rattle.cv_block.specs.Slack.{IsPutWithSlack};
+ghost use Rattle.cv_transcode.specs.Private.Slack.{IsConvertedWithSlack};
 
 use crate::ascii_runs::convert_ascii;
 use crate::run::Run;

@@ -33,6 +33,7 @@ fn units_of<O: ByteOrder>(text: &[u8]) -> u16x16
 
 /// The units with their bytes swapped.
 #[inline(always)]
+#[tactic(auto, using(cv_block::proofs::Lanes::divisors))]
 fn swapped(units: u16x16) -> u16x16
     requires { (k : ℕ) → k < 16 → get_or units k 0 < 0x10000 }
     ensures { result ≡ map (in_order Big) units }

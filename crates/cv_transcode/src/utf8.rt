@@ -2,15 +2,14 @@
 ghost use Rattle.std.specs.Prelude.{◌≡◌, ◌+◌, ◌≤◌, ◌<◌, ℕ, IsTrue, length, get_or, take, drop};
 ghost use Rattle.std.specs.List.{flat_map};
 ghost use Rattle.cv_base.specs.declared.ascii_form.AsciiForm.{AsciiForm};
-ghost use Rattle.cv_transcode.specs.Private.Slack.{IsPutWithSlack};
+ghost use Rattle.cv_block.specs.Slack.{IsPutWithSlack};
 ghost use Rattle.cv_utf8.specs.Utf8.{utf8_bytes};
 
-use crate::middle::write_middle;
-use crate::short::write_short;
 use crate::window_writer::WindowWriter;
 use cv_base::AsciiForm;
 use cv_base::place::write_slice;
 use cv_block::LANES;
+use cv_utf8::{write_three_byte, write_two_byte};
 use std::simd::prelude::*;
 
 /// Whether each of the units is below a limit.
@@ -70,11 +69,11 @@ impl WindowWriter for Utf8Window {
         let first = first_eight(units);
         let second = last_eight(units);
         if are_below(units, 0x800) {
-            let n = write_short(first, out, at);
-            return n + write_short(second, out, at + n);
+            let n = write_two_byte(first, out, at);
+            return n + write_two_byte(second, out, at + n);
         }
-        let n = write_middle(first, out, at);
-        n + write_middle(second, out, at + n)
+        let n = write_three_byte(first, out, at);
+        n + write_three_byte(second, out, at + n)
     }
 
     #[inline(always)]

@@ -53,6 +53,7 @@ pub(crate) trait WindowReader {
 
 /// Whether none of sixteen units is a surrogate.
 #[inline(always)]
+#[tactic(auto, using(cv_block::proofs::Lanes::divisors))]
 pub(crate) fn are_characters(units: u16x16) -> bool
     requires { (k : ℕ) → k < 16 → get_or units k 0 < 0x10000 }
     ensures { IsTrue result → AreScalarsBelow units 16 }
@@ -63,6 +64,7 @@ pub(crate) fn are_characters(units: u16x16) -> bool
 
 /// Which of sixteen units are surrogates, as bits, the lowest for the first.
 #[inline(always)]
+#[tactic(auto, using(cv_block::proofs::Lanes::divisors))]
 pub(crate) fn surrogates(units: u16x16) -> u64
     ensures { result ≡ mask_l (map is_surrogate units) }
 {

@@ -6,7 +6,7 @@ ghost use Rattle.cv_base.specs.Scalars.{IsScalar};
 ghost use Rattle.cv_base.specs.Units.{unit_of};
 ghost use Rattle.cv_base.specs.declared.ascii_form.AsciiForm.{AsciiForm};
 ghost use Rattle.cv_block.specs.StatelessForms.{BytesOf};
-ghost use Rattle.cv_transcode.specs.Private.Slack.{IsPutWithSlack};
+ghost use Rattle.cv_block.specs.Slack.{IsPutWithSlack};
 
 use cv_base::AsciiForm;
 use std::simd::prelude::*;

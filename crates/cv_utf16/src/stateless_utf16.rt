@@ -40,6 +40,7 @@ fn bytes_of(endian: Endian, value: u32) -> [u8; 4]
 
 /// The words of sixteen characters, as `bytes_of` computes them.
 #[inline(always)]
+#[tactic(auto, using(cv_block::proofs::Lanes::divisors))]
 fn words(endian: Endian, values: u32x16) -> u32x16
     requires { AreScalarsBelow values 16 }
     ensures { AreWords (utf16 endian) values result 16 }

@@ -19,7 +19,7 @@ use Rattle.cv_utf7.specs.Private.ItemSteps.{IsUnit, IsPartial}
 use Rattle.cv_utf7.specs.declared.read.base64_unit.Base64Unit.{Base64Unit}
 use Rattle.cv_utf7.proofs.Digits.{digits-bits, digit_bits-append, digit_bits-cut, AreDigits-append}
 use Rattle.cv_utf7.proofs.ShiftItems.{by_kind, unit_of, unit_no_stop, unit_some, one_in_range, pair_after, surrogate_ill}
-use Rattle.cv_utf7.proofs.FewDigits.{quotient_is, front_of, stop_leads, front_at, stop_zero, few_ill, few_ends, few_low}
+use Rattle.cv_utf7.proofs.FewDigits.{quotient_is, front_of, stop_leads, front_at, few_ill, few_ends, few_low}
 
 -- Bytes can be added to digits whose bits begin those of a character.
 grow : (p : Bits) (x : List ℕ) (c : ℕ) (rest : List Bool) → IsScalar c → AreDigits x → (bits_of p ++ digit_bits x) ++ rest ≡ character_bits c → length rest % 2 ≡ 0 → CanGrow utf7_reads (read.Shifted p) x

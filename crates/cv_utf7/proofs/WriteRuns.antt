@@ -4,13 +4,14 @@ use Rattle.std.proofs.lemmas.List.{drop-drop, take-append-drop, ext_get_or, set_
 use Rattle.cv_base.specs.Chains.{Output, output, output_for}
 use Rattle.cv_base.specs.declared.state.WriteState.{WriteState}
 use Rattle.cv_base.specs.declared.state.WriteState.TheVariants as write
+use Rattle.cv_block.proofs.Slack.{further}
 use Rattle.cv_utf7.specs.Sets.{is_direct}
 use Rattle.cv_utf7.specs.Utf7.{utf7_writes, writes_at_start}
 use Rattle.cv_utf7.specs.Private.WriteSteps.{written_to, WritesOn}
 use Rattle.cv_utf7.specs.declared.write.sequences.WriteProgress.{WriteProgress}
 use Rattle.cv_utf7.proofs.ReadRuns.{front_of_put}
 use Rattle.cv_utf7.proofs.Writes.{start_direct}
-use Rattle.cv_utf7.proofs.WriteSteps.{bytes_in, later, put_one, writes_more}
+use Rattle.cv_utf7.proofs.WriteSteps.{bytes_in, put_one, writes_more}
 
 append_one : (a : List ℕ) (x : ℕ) (b : List ℕ) → a ++ x ∷ b ≡ a ++ (x ∷ []) ++ b
 append_one a x b = sym (append_assoc a (x ∷ []) b)
@@ -67,7 +68,7 @@ writes_direct characters k at r many before after h w f d s b l =
       few = omega arith;
       fits = omega arith;
       stand = s ∙ ap (λ (x : List ℕ). take at before ++ x) (sym (ap (λ (x : Output). x.bytes) o));
-      behind = later (at + many) (at + r + (length characters - (k + r))) after before (omega arith) b;
+      behind = further before after (at + many) (at + r + (length characters - (k + r))) (omega arith) b;
       size = l;
     }
 

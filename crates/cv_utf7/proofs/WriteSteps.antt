@@ -1,7 +1,7 @@
 -- Steps of writing a block, one after another.
 use Rattle.std.proofs.Common.{◌≡◌, ℕ, ◌+◌, ◌-◌, ◌<◌, ◌≤◌, List, [], ◌∷◌, ◌++◌, length, take, drop, get_or, refl, sym, ◌∙◌, ap, subst, arith, append_assoc, append-nil, add-zero, length-append, length-take, length-drop, Some, Option, inl, inr}
 use Rattle.std.proofs.lemmas.Bool.{cases_Bool}
-use Rattle.std.proofs.lemmas.List.{drop-drop, drop_more, drop_all, take-append-drop, take_at, drop_at}
+use Rattle.std.proofs.lemmas.List.{drop_more, drop_all, take-append-drop, take_at, drop_at}
 use Rattle.std.specs.Prelude.{◌==◌, ◌⊎◌}
 use Rattle.cv_base.specs.Scalars.{question}
 use Rattle.cv_base.specs.Chains.{Output, output, written, put_or, substituted, followed, output_for}
@@ -13,6 +13,7 @@ use Rattle.cv_base.specs.declared.place.Put.TheVariants.{Wrote, Lacks, NoRoom}
 use Rattle.cv_base.specs.declared.state.Bits.{Bits}
 use Rattle.cv_base.specs.declared.state.WriteState.{WriteState}
 use Rattle.cv_base.specs.declared.state.WriteState.TheVariants as write
+use Rattle.cv_block.proofs.Slack.{further}
 use Rattle.cv_utf7.specs.Sets.{is_direct}
 use Rattle.cv_utf7.specs.BitLists.{bits_of, character_bits}
 use Rattle.cv_utf7.proofs.CodeUnits.{character_length}
@@ -67,12 +68,6 @@ one_written t c =
     let e : written utf7_writes t (Some c) ≡ output (bytes_in t c).0 0 (bytes_in t c).1 = ap (put_or (substituted t (utf7_writes t question))) (all_written t c) in
     rw e (rw (append-nil, add-zero) refl)
 
--- what is the same from one index on is the same from a later one
-pub later : (i j : ℕ) (a b : List ℕ) → i ≤ j → drop i a ≡ drop i b → drop j a ≡ drop j b
-later i j a b h e =
-    let place : i + (j - i) ≡ j = omega arith in
-    ap (λ (k : ℕ). drop k a) (sym place) ∙ sym (drop-drop (j - i) i a) ∙ ap (drop (j - i)) e ∙ drop-drop (j - i) i b ∙ ap (λ (k : ℕ). drop k b) place
-
 -- a step of writing continues another
 pub writes_more : {characters : List ℕ} {from middle to : WriteProgress} {before now after : List ℕ} → WritesOn characters from before middle now → WritesOn characters middle now to after → WritesOn characters from before to after
 writes_more {characters = characters} {from = from} {middle = middle} {to = to} {before = before} {now = now} p q =
@@ -92,7 +87,7 @@ writes_more {characters = characters} {from = from} {middle = middle} {to = to} 
       few = omega (arith, p.few, q.few, length-append p.run q.run);
       fits = omega (arith, q.fits, p.size);
       stand = q.stand ∙ ap (λ (x : List ℕ). x ++ then.bytes) p.stand ∙ append_assoc (take from.end before) first.bytes then.bytes ∙ ap (λ (x : List ℕ). take from.end before ++ x) (sym (ap (λ (o : Output). o.bytes) all));
-      behind = q.behind ∙ later (middle.end + (length characters - middle.n)) (to.end + (length characters - to.n)) now before (omega (arith, q.some, q.counts, q.within)) p.behind;
+      behind = q.behind ∙ further before now (middle.end + (length characters - middle.n)) (to.end + (length characters - to.n)) (omega (arith, q.some, q.counts, q.within)) p.behind;
       size = q.size ∙ p.size;
     }
 
@@ -134,7 +129,7 @@ put_one characters from n before next after h e f l p =
       few = omega (arith, bytes_most from.next c);
       fits = l;
       stand = ap (take (from.end + n)) p ∙ take_at (take from.end before ++ b.0) (drop (from.end + n) before) (from.end + n) long ∙ ap (λ (x : List ℕ). take from.end before ++ x) (sym (ap (λ (x : Output). x.bytes) o));
-      behind = later (from.end + n) (from.end + n + (length characters - (from.n + 1))) after before (omega arith) (ap (drop (from.end + n)) p ∙ drop_at (take from.end before ++ b.0) (drop (from.end + n) before) (from.end + n) long);
+      behind = further before after (from.end + n) (from.end + n + (length characters - (from.n + 1))) (omega arith) (ap (drop (from.end + n)) p ∙ drop_at (take from.end before ++ b.0) (drop (from.end + n) before) (from.end + n) long);
       size = ap length p ∙ simp (length-append, length-take, length-drop) (omega arith);
     }
 

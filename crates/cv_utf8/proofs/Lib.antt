@@ -5,7 +5,10 @@ pub mod Utf8ReadBack
 pub mod Utf8Lanes
 pub mod Utf8AnyBits
 pub mod Utf8Pairs
+pub mod Utf8Sizes
+pub mod Utf8Quads
 pub mod Utf8Fours
+pub mod Utf8Written
 pub mod Utf8Short
 pub mod Utf8ShortLanes
 pub mod Utf8PutStarting

@@ -1,14 +1,11 @@
 -- Characters of UTF-8 that all have three bytes, or all four, one after the other.
-use Rattle.std.proofs.Common.{◌^◌, w64, Bool, true, false, cond, map, ◌≡◌, ℕ, ◌+◌, ◌-◌, ◌*◌, ◌<◌, ◌≤◌, inl, inr, List, [], ◌∷◌, ◌++◌, length, take, drop, get_or, refl, sym, ◌∙◌, ap, arith, zero, suc, length-append}
+use Rattle.std.proofs.Common.{◌^◌, w64, map, ◌≡◌, ℕ, ◌+◌, ◌-◌, ◌*◌, ◌<◌, ◌≤◌, inl, inr, List, [], ◌∷◌, ◌++◌, length, take, drop, get_or, sym, ◌∙◌, ap, arith, zero, suc, length-append}
 use Rattle.std.proofs.Math.Dec.{ltb}
 use Rattle.std.proofs.Math.Nat.{mul-suc, mul-zero}
 use Rattle.std.proofs.Math.Seq.{take-suc}
-use Rattle.std.specs.Int.{bit_at, trailing_zeros}
+use Rattle.std.specs.Int.{trailing_zeros}
 use Rattle.std.specs.Simd.Lanes.{mask_l}
 use Rattle.std.proofs.lemmas.Bool.{ltb-false}
-use Rattle.std.proofs.lemmas.List.{get_or-map}
-use Rattle.std.proofs.lemmas.Nat.Bits.{bit_at-zero, bit_at-trailing_zeros}
-use Rattle.std.proofs.lemmas.Simd.{bit_mask_l}
 use Rattle.std.proofs.lemmas.List.{append_assoc, length-take-le, take-append-drop, take-take, take_at, take_rest}
 use Rattle.std.specs.List.{flat_map}
 use Rattle.cv_base.proofs.Front.{Begins-join, Begins-trans, Begins-take}
@@ -21,6 +18,7 @@ use Rattle.cv_block.specs.StatelessForms.{IsReadForm}
 use Rattle.cv_block.specs.Units.{IsUnitAt}
 use Rattle.cv_block.proofs.UnitRuns.{flat_map-more}
 use Rattle.cv_block.proofs.FormRuns.{AreScalars-append}
+use Rattle.cv_block.proofs.Lanes.{fails_before}
 use Rattle.cv_utf8.specs.Utf8.{utf8_bytes}
 use Rattle.cv_utf8.specs.Private.Utf8Long.{AreWordsOf, IsNumberOf, AreNumbersOf}
 
@@ -86,21 +84,9 @@ long_read size small text at before n more words numbers after long units threes
       size = same;
     }
 
-abbrev one_if : Bool → ℕ
-one_if b = cond b 1 0
-
-unset : (b : Bool) → one_if b ≡ 0 → b ≡ false
-unset true e = cc
-unset false e = refl
-
-low_zeros : (m k : ℕ) → m < 2 ^ 64 → k < trailing_zeros w64 m → bit_at m k ≡ 0
-low_zeros zero k h l = bit_at-zero k
-low_zeros (suc m) k h l = (bit_at-trailing_zeros w64 (suc m) (omega arith) h).2 k l
-
 -- the numbers before the first that is 0 are above 0
-pub before_zero : (numbers : List ℕ) (m k : ℕ) → m < 2 ^ 64 → m ≡ mask_l (map (λ a. ltb a 1) numbers) → k < length numbers → k < trailing_zeros w64 m → 0 < get_or numbers k 0
+pub before_zero : (numbers : List ℕ) (m k : ℕ) → m < 2 ^ 64 → m ≡ mask_l (map (λ a. ltb a 1) numbers)
+    → k < length numbers → k < trailing_zeros w64 m → 0 < get_or numbers k 0
 before_zero numbers m k small is within l =
-    let bit = sym (bit_mask_l (map (λ a. ltb a 1) numbers) k) ∙ ap (λ x. bit_at x k) (sym is) ∙ low_zeros m k small l in
-    let at = sym (get_or-map (λ a. ltb a 1) numbers k 0 false (omega arith)) ∙ unset _ bit in
-    let above : 1 ≤ get_or numbers k 0 = ltb-false _ _ at in
+    let above : 1 ≤ get_or numbers k 0 = ltb-false _ _ (fails_before (λ a. ltb a 1) numbers m k small is within l) in
     omega arith

@@ -2,11 +2,11 @@
 use Rattle.std.proofs.Common.{◌≡◌, ◌^◌, ℕ, ◌+◌, ◌-◌, ◌*◌, ◌/◌, ◌%◌, ◌<◌, ◌≤◌, ◌⊎◌, inl, inr, Bool, cond, Fits, List, [], ◌∷◌, ◌++◌, length, take, drop, get_or, map, refl, sym, ◌∙◌, ap, ap₂, subst, arith, lit<, zero, suc, w8, length-append, length-drop}
 use Rattle.std.specs.Prelude.{replicate}
 use Rattle.std.specs.List.{flat_map}
-use Rattle.std.specs.Simd.Lanes.{Each1, Each2, top, zip2, sel_l, number_l, digits_l}
+use Rattle.std.specs.Simd.Lanes.{Each1, top, zip2, sel_l, number_l, digits_l}
 use Rattle.std.proofs.Math.Dec.{ltb, eqb}
 use Rattle.std.proofs.lemmas.List.{drop-drop, get_or-drop, get_or_append_left, get_or-append_right}
 use Rattle.std.proofs.lemmas.List.Concat.{flat_map-append}
-use Rattle.std.proofs.lemmas.Simd.{Each1-all, Each2-splat, swz_l, get_or_wider, get_or-chunk}
+use Rattle.std.proofs.lemmas.Simd.{swz_l, get_or_wider, get_or-chunk}
 use Rattle.cv_base.proofs.Front.{Begins-join}
 use Rattle.cv_base.specs.Items.{Begins}
 use Rattle.cv_block.proofs.FormRuns.{AreScalars-append}
@@ -159,10 +159,6 @@ number_is f l g h = grind arith
 pub number_at : (fs ls : List ℕ) (k : ℕ) → length fs ≡ 8 → length ls ≡ 8 → get_or fs k 0 < 0x10000 → get_or ls k 0 < 256 → k < 8
     → IsThreeOf (get_or fs k 0 % 256) (get_or fs k 0 / 256) (get_or ls k 0) (get_or (numbers_of 8 fs ls) k 0)
 number_at fs ls k e f g h l = rw (numbers_at 8 fs ls k e f l) (number_is (get_or fs k 0) (get_or ls k 0) g h)
-
--- no lane divides by zero
-pub none_zero : (k : ℕ) → 0 < k → (xs : List ℕ) → Each2 (λ (a b : ℕ). 0 < b) xs (replicate 8 k)
-none_zero k h xs = Each2-splat (λ (a b : ℕ). 0 < b) xs 8 k (Each1-all (λ a. 0 < k) (λ a. h) xs)
 
 -- ---- eight characters of a text
 

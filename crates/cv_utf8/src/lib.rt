@@ -8,5 +8,8 @@ mod stateless_utf8;
 mod utf8;
 mod write;
 
+pub use read::character::supplementary_at;
 pub use read::utf16_lanes::{Utf16Lanes, read_utf16_lanes};
 pub use utf8::Utf8;
+pub use write::three_byte::write_three_byte;
+pub use write::two_byte::write_two_byte;

@@ -9,8 +9,7 @@ ghost use Rattle.cv_utf8.specs.Utf8.{utf8_bytes};
 
 use crate::read::character::{inner_at, last_at};
 use crate::read::windows::read_many;
-use crate::write::three_byte::write_three_byte;
-use crate::write::two_byte::write_two_byte;
+use crate::write::characters::{write_up_to_three, write_up_to_two};
 use cv_base::Scalar;
 use cv_block::{Converted, LANES, PackedWords, StatelessForm, write_words};
 use std::simd::prelude::*;
@@ -65,6 +64,7 @@ fn any_bits(characters: &[Scalar], n: usize) -> u32
 
 /// The bytes of sixteen characters, each as `word` computes them.
 #[inline(always)]
+#[tactic(auto, using(cv_block::proofs::Lanes::divisors))]
 fn words(values: u32x16) -> u32x16
     requires { AreScalarsBelow values 16 }
     ensures { AreWords utf8_bytes values result 16 }
@@ -164,10 +164,10 @@ impl StatelessForm for StatelessUtf8 {
             return write_words::<StatelessUtf8>(characters, n, out, at);
         }
         if any_bits >= 0x800 {
-            return write_three_byte(characters, n, out, at);
+            return write_up_to_three(characters, n, out, at);
         }
         if any_bits >= 0x80 {
-            return write_two_byte(characters, n, out, at);
+            return write_up_to_two(characters, n, out, at);
         }
         out[at..at + LANES].copy_from_slice(&narrowed(characters, n));
         Converted {

@@ -1,22 +1,15 @@
--- Writes that may also change some bytes after those that are wanted.
-use Rattle.std.specs.Prelude.{◌≡◌, ℕ, ◌+◌, ◌≤◌, List, ◌++◌, take, drop, length}
+-- Conversions that may also change some bytes after those that are wanted.
+use Rattle.std.specs.Prelude.{◌≡◌, ℕ, List, length}
 use Rattle.std.specs.List.{flat_map}
 use Rattle.cv_base.specs.Scalars.{AreScalars}
 use Rattle.cv_base.specs.Items.{Begins}
+use Rattle.cv_block.specs.Slack.{IsPutWithSlack}
 use Rattle.cv_block.specs.StatelessForms.{BytesOf}
-
--- These n bytes were written into a slice from index `at` on. The next `slack` bytes may be anything, and all others
--- stayed.
-pub record IsPutWithSlack (bytes before : List ℕ) (at n slack : ℕ) (after : List ℕ) : Type 0 where
-  pub wrote : n ≡ length bytes
-  pub fits : at + n ≤ length before
-  pub stand : take (at + n) after ≡ take at before ++ bytes
-  pub behind : drop (at + n + slack) after ≡ drop (at + n + slack) before
-  pub size : length after ≡ length before
 
 -- The characters of the first `used` bytes of a text in one spelling were written in another, as n bytes from index
 -- `at` on.
-pub record IsConvertedWithSlack (from to : BytesOf) (text before : List ℕ) (at used n slack : ℕ) (after : List ℕ) : Type 0 where
+pub record IsConvertedWithSlack (from to : BytesOf) (text before : List ℕ) (at used n slack : ℕ) (after : List ℕ) : Type
+    0 where
   pub characters : List ℕ
   pub scalars : AreScalars characters
   pub begins : Begins (flat_map from characters) text

@@ -45,13 +45,14 @@ fn three_at(input: &[u8], at: usize) -> Option<(Scalar, usize)>
     Some((Scalar::known(number), 3))
 }
 
-/// The character of four bytes at `at`, and its length, or `None` if the bytes are ill-formed. The first byte is at
-/// least F0.
+/// Returns the character from U+10000 on at index `at`, and its length, which is 4, or `None` if the bytes are
+/// ill-formed. The first byte is at least F0.
 #[inline(always)]
-fn four_at(input: &[u8], at: usize) -> Option<(Scalar, usize)>
+pub fn supplementary_at(input: &[u8], at: usize) -> Option<(Scalar, usize)>
     requires within { at + 4 ≤ length input.now }
     requires first { 0xf0 ≤ get_or input.now at 0 }
-    ensures { IfSome result (λ read. IsFormAt utf8_bytes input.now at read.0 read.1) }
+    ensures character { IfSome result (λ read. IsFormAt utf8_bytes input.now at read.0 read.1) }
+    ensures above { IfSome result (λ read. 0x10000 ≤ read.0) }
 {
     let first = input[at] as u32;
     let second = input[at + 1] as u32;
@@ -84,7 +85,7 @@ pub(crate) fn inner_at(input: &[u8], at: usize) -> Option<(Scalar, usize)>
     if first < 0xf0 {
         return three_at(input, at);
     }
-    four_at(input, at)
+    supplementary_at(input, at)
 }
 
 /// Returns the next character and its length, or `None` if no bytes are left, or those that are left are ill-formed or
@@ -109,7 +110,7 @@ pub(crate) fn last_at(input: &[u8], at: usize) -> Option<(Scalar, usize)>
         return three_at(input, at);
     }
     if first >= 0xf0 && left >= 4 {
-        return four_at(input, at);
+        return supplementary_at(input, at);
     }
     None
 }

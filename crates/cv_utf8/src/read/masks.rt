@@ -51,6 +51,7 @@ fn two_byte_mask(input: &[u8], at: usize) -> u64
 /// Returns the high bytes of the numbers of characters of three bytes, from their first and second bytes. A surrogate
 /// has 0 instead.
 #[inline(always)]
+#[tactic(auto, using(cv_block::proofs::Lanes::divisors))]
 pub(crate) fn three_high(first: u8x16, second: u8x16) -> u8x16
     ensures long { length result ≡ 16 }
     ensures bytes { (k : ℕ) → k < 16 → get_or result k 0

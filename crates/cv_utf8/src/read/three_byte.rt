@@ -43,6 +43,7 @@ fn parts(text: &[u8], at: usize) -> u16x8
 /// The numbers of eight characters of three bytes, from their first two bytes and their third, or 0 for an ill-formed
 /// one.
 #[inline(always)]
+#[tactic(auto, using(cv_block::proofs::Lanes::divisors))]
 fn numbers_of(fronts: u16x8, lasts: u16x8) -> u16x8
     requires { (k : ℕ) → k < 8 → get_or lasts k 0 < 256 }
     ensures long { length result ≡ 8 }
@@ -56,18 +57,18 @@ fn numbers_of(fronts: u16x8, lasts: u16x8) -> u16x8
     let high = first % u16x8::splat(16) * u16x8::splat(4096);
     let numbers = high + second % sixty_four * sixty_four + lasts % sixty_four;
     let zero = u16x8::splat(0);
-    let starts_mask = (first / u16x8::splat(16))
+    let after_first = (first / u16x8::splat(16))
         .simd_eq(u16x8::splat(14))
         .select(numbers, zero);
-    let followed = (second / sixty_four)
+    let after_second = (second / sixty_four)
         .simd_eq(u16x8::splat(2))
-        .select(starts_mask, zero);
-    let ended = (lasts / sixty_four)
+        .select(after_first, zero);
+    let after_third = (lasts / sixty_four)
         .simd_eq(u16x8::splat(2))
-        .select(followed, zero);
+        .select(after_second, zero);
     let scalars = (numbers / u16x8::splat(0x800))
         .simd_eq(u16x8::splat(27))
-        .select(zero, ended);
+        .select(zero, after_third);
     numbers.simd_lt(u16x8::splat(0x800)).select(zero, scalars)
 }
 

@@ -24,6 +24,7 @@ fn numbers_of(low: u8x16, high: u8x16) -> [u16; LANES]
 
 /// The low bytes of the numbers of characters of one or two bytes, from their first and second bytes.
 #[inline(always)]
+#[tactic(auto, using(cv_block::proofs::Lanes::divisors))]
 fn short_low(first: u8x16, second: u8x16) -> u8x16
     ensures { (k : ℕ) → k < 16 → get_or result k 0
         ≡ short_of (get_or first k 0) (get_or second k 0) % 256 }
@@ -34,6 +35,7 @@ fn short_low(first: u8x16, second: u8x16) -> u8x16
 
 /// The high bytes of the numbers of characters of one or two bytes, from their first bytes: 0 if the byte is below C0.
 #[inline(always)]
+#[tactic(auto, using(cv_block::proofs::Lanes::divisors))]
 fn short_high(first: u8x16) -> u8x16
     ensures long { length result ≡ 16 }
     ensures bytes { (k : ℕ) → k < 16 → get_or result k 0 ≡ short_of (get_or first k 0) 0 / 256 }
@@ -70,6 +72,7 @@ fn read_short(input: &[u8], at: usize, buffer: &mut [Scalar], n: usize) -> Conve
 
 /// The low bytes of the numbers of characters of up to three bytes, from their first, second and third bytes.
 #[inline(always)]
+#[tactic(auto, using(cv_block::proofs::Lanes::divisors))]
 fn low_bytes(first: u8x16, second: u8x16, third: u8x16) -> u8x16
     ensures { (k : ℕ) → k < 16 → get_or result k 0
         ≡ whole_of (get_or first k 0) (get_or second k 0) (get_or third k 0) % 256 }

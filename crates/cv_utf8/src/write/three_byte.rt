@@ -1,100 +1,88 @@
-//! Writing characters that have up to three bytes in UTF-8, four at once.
-ghost use Rattle.std.specs.Prelude.{◌≡◌, ◌+◌, ◌*◌, ◌≤◌, ◌<◌, ℕ, length, take, drop, get_or, map};
+//! Writing units that have up to three bytes in UTF-8, eight at once.
+ghost use Rattle.std.specs.Prelude.{◌≡◌, ◌+◌, ◌≤◌, ◌<◌, ℕ, List, length, get_or, map, take, drop};
 ghost use Rattle.std.specs.List.{flat_map};
-ghost use Rattle.std.specs.Simd.Lanes.{mask_l};
-ghost use Rattle.cv_block.specs.StatelessForms.{IsWrittenForm};
+ghost use Rattle.cv_block.specs.Slack.{IsPutWithSlack};
 ghost use Rattle.cv_utf8.specs.Utf8.{utf8_bytes};
-ghost use Rattle.cv_utf8.specs.Private.Utf8Pairs.{has_two};
-ghost use Rattle.cv_utf8.specs.Private.Utf8Fours.{has_three, quad_of};
+ghost use Rattle.cv_utf8.specs.Private.ThreeByte.{quad_of, first_two_of, third_of, size_bits, AreThreeByte};
 
-use cv_base::Scalar;
-use cv_block::{Converted, LANES};
+use crate::write::size_masks::{three_byte_mask, two_byte_mask};
 use cv_simd::compress_triples;
 use std::simd::prelude::*;
 
-/// How many characters are packed at once.
+/// How many units are packed at once.
 const FOUR: usize = 4;
 
-/// The numbers of four characters.
+/// The first two bytes of each unit, the first as the low byte. If it has a single byte, the second is 0.
 #[inline(always)]
-fn numbers_of(characters: &[Scalar], n: usize) -> [u32; FOUR]
-    requires { n + 4 ≤ length characters.now }
-    ensures { result ≡ take 4 (drop n characters.now) }
+#[tactic(auto, using(cv_block::proofs::Lanes::divisors))]
+fn first_bytes(units: u16x8) -> u16x8
+    requires { (k : ℕ) → k < 8 → get_or units k 0 < 0x10000 }
+    ensures { result ≡ map first_two_of units }
 {
-    let mut numbers = [0; FOUR];
-    for lane in 0..FOUR {
-        numbers[lane] = characters[n + lane].value();
-    }
-    numbers
+    let sixty_four = u16x8::splat(64);
+    let byte = u16x8::splat(0x100);
+    let sixes = units / sixty_four;
+    let two = sixes + units % sixty_four * byte + u16x8::splat(0x80c0);
+    let second = sixes % sixty_four * byte;
+    let three = units / u16x8::splat(4096) + second + u16x8::splat(0x80e0);
+    let up_to_two = units.simd_ge(u16x8::splat(0x80)).select(two, units);
+    units.simd_ge(u16x8::splat(0x800)).select(three, up_to_two)
 }
 
-/// Four bytes for each of four characters: its bytes in UTF-8, and then zeros.
+/// The third byte of each unit, or 0 if it has none.
 #[inline(always)]
-fn quads(numbers: u32x4) -> u8x16
-    requires { (k : ℕ) → k < 4 → get_or numbers k 0 < 0x10000 }
-    ensures { result ≡ flat_map quad_of numbers }
+#[tactic(auto, using(cv_block::proofs::Lanes::divisors))]
+fn third_bytes(units: u16x8) -> u16x8
+    ensures { result ≡ map third_of units }
 {
-    let sixty_four = u32x4::splat(64);
-    let last = numbers % sixty_four * u32x4::splat(0x1_0000);
-    let second = numbers / sixty_four % sixty_four * u32x4::splat(0x100);
-    let bits = numbers / u32x4::splat(4096) + second + last;
-    let two = bits / u32x4::splat(0x100) + u32x4::splat(0x80c0);
-    let three = bits + u32x4::splat(0x80_80e0);
-    let up_to_two = numbers.simd_ge(u32x4::splat(0x80)).select(two, numbers);
-    numbers
-        .simd_ge(u32x4::splat(0x800))
-        .select(three, up_to_two)
-        .to_le_bytes()
+    let last = units % u16x8::splat(64) + u16x8::splat(0x80);
+    units
+        .simd_ge(u16x8::splat(0x800))
+        .select(last, u16x8::splat(0))
 }
 
-/// A mask of eight bits. The lower four say which of four characters have two bytes or more, the higher four which have
-/// three. The lowest bit of each four is that of the first character.
+/// Four bytes for each of eight units: its bytes, and then zeros. The first result is for the first four units, the
+/// second for the others.
 #[inline(always)]
-fn sizes(numbers: u32x4) -> u64
-    ensures few { result < 256 }
-    ensures bits { result ≡ mask_l (map has_two numbers) + 16 * mask_l (map has_three numbers) }
+fn quads(units: u16x8) -> (u8x16, u8x16)
+    requires { (k : ℕ) → k < 8 → get_or units k 0 < 0x10000 }
+    ensures first { result.0 ≡ flat_map quad_of (take 4 units) }
+    ensures second { result.1 ≡ flat_map quad_of (drop 4 units) }
 {
-    let two_byte_mask = numbers.simd_ge(u32x4::splat(0x80)).to_bitmask();
-    let three_byte_mask = numbers.simd_ge(u32x4::splat(0x800)).to_bitmask();
-    two_byte_mask + 16 * three_byte_mask
+    let (first, second) = first_bytes(units).interleave(third_bytes(units));
+    (first.to_le_bytes(), second.to_le_bytes())
 }
 
-/// Writes four characters of up to three bytes, and returns how many bytes they have. The bytes after them, up to
-/// sixteen in all, may be anything.
+/// Writes four units of up to three bytes, given four bytes for each and bits for their sizes, and returns how many
+/// bytes they have.
 #[inline(always)]
-fn write_four(characters: &[Scalar], n: usize, out: &mut [u8], at: usize) -> usize
-    requires within { n + 4 ≤ length characters.now }
+fn put_quads(quads: u8x16, sizes: u64, out: &mut [u8], at: usize) -> usize
     requires room { at + 16 ≤ length out.old }
-    requires middle { (k : ℕ) → k < 4 → get_or characters.now (n + k) 0 < 0x10000 }
-    ensures few { result ≤ 16 }
-    ensures written { IsWrittenForm utf8_bytes characters.now n out.old at
-        (record { n = 4; used = result }) out.new }
+    requires sizes { sizes < 256 }
+    ensures some { 4 ≤ result }
+    ensures few { result ≤ 12 }
+    ensures put { (units : List ℕ) → length units ≡ 4 → AreThreeByte units
+        → quads ≡ flat_map quad_of units → sizes ≡ size_bits units
+        → IsPutWithSlack (flat_map utf8_bytes units) out.old at result 16 out.new }
 {
-    let numbers = u32x4::from_array(numbers_of(characters, n));
-    let sizes = sizes(numbers);
-    let bytes = compress_triples(quads(numbers), sizes).to_array();
-    out[at..at + 16].copy_from_slice(&bytes);
+    let bytes = compress_triples(quads, sizes);
+    bytes.copy_to_slice(&mut out[at..]);
     FOUR + sizes.count_ones() as usize
 }
 
-/// Writes sixteen characters of up to three bytes. There is room for 64 bytes from `at` on, and those after the
-/// characters may be overwritten.
+/// Writes eight units of up to three bytes into a slice from index `at` on, and returns how many bytes they have. It
+/// may also change up to sixteen bytes after them.
 #[inline(always)]
-pub(crate) fn write_three_byte(
-    characters: &[Scalar],
-    n: usize,
-    out: &mut [u8],
-    at: usize,
-) -> Converted
-    requires within { n + 16 ≤ length characters.now }
-    requires room { at + 64 ≤ length out.old }
-    requires middle { (k : ℕ) → k < 16 → get_or characters.now (n + k) 0 < 0x10000 }
-    ensures many { result.n ≤ 16 }
-    ensures written { IsWrittenForm utf8_bytes characters.now n out.old at result out.new }
+pub fn write_three_byte(units: u16x8, out: &mut [u8], at: usize) -> usize
+    requires room { at + 32 ≤ length out.old }
+    requires middle { (k : ℕ) → k < 8 → get_or units k 0 < 0x10000 }
+    ensures some { 8 ≤ result }
+    ensures few { result ≤ 24 }
+    ensures put { IsPutWithSlack (flat_map utf8_bytes units) out.old at result 16 out.new }
 {
-    let mut used = 0;
-    for quarter in 0..4 {
-        used += write_four(characters, n + FOUR * quarter, out, at + used);
-    }
-    Converted { n: LANES, used }
+    let (first, second) = quads(units);
+    let two_or_more = two_byte_mask(units);
+    let three = three_byte_mask(units);
+    let n = put_quads(first, two_or_more % 16 + 16 * (three % 16), out, at);
+    n + put_quads(second, two_or_more / 16 + 16 * (three / 16), out, at + n)
 }

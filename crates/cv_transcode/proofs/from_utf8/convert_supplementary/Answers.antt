@@ -10,10 +10,12 @@ loop-used-preserved g c =
     let i = c.loop-used.invariant in
     let used = c.loop-used.used in
     let put = c.write_supplementary.ensures in
-    let is = subst (λ (x : List ℕ). IsSupplementary utf8_bytes x c.in-Some.value) (rest_is used c.args.text.now) c.in-Some.ensures in
+    let is = subst (λ (x : List ℕ). IsSupplementary utf8_bytes x c.in-Some.value) (rest_is used c.args.text.now)
+    c.in-Some.ensures in
     record {
       fit = omega (arith, c.loop-used-test.true);
       within = i.within;
       room = omega (arith, i.room, put_size _ _ _ _ _ put);
-      converted = supplementary_more _ c.args.text.now c.args.out.now c.args.at used c.in-Some.value _ _ i.converted is put;
+      converted = supplementary_more _ c.args.text.now c.args.out.now c.args.at used c.in-Some.value _ _ i.converted is
+          put;
     }

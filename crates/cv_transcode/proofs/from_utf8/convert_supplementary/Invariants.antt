@@ -9,7 +9,8 @@ invariant-loop-used g l = record {
   fit : l.used ≤ l.most;
   within : l.most ≤ length l.text;
   room : l.at + l.most ≤ length l.out;
-  converted : IsConverted utf8_bytes (utf16 g.O.ByteOrder.endian) l.text l.fn.out l.at (record { used = l.used; wrote = l.used }) l.out;
+  converted : IsConverted utf8_bytes (utf16 g.O.ByteOrder.endian) l.text l.fn.out l.at
+      (record { used = l.used; wrote = l.used }) l.out;
 }
 
 abbrev pub decreases-loop-used : goal.decreases-loop-used

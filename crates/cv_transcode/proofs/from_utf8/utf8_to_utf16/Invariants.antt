@@ -10,7 +10,8 @@ invariant-loop-on g l = record {
   room : l.end ≤ length l.out;
   from : l.at ≤ l.end;
   other : l.other ≤ l.used;
-  converted : IsConverted utf8_bytes (utf16 g.O.ByteOrder.endian) l.text l.fn.out l.at (record { used = l.used; wrote = l.end - l.at }) l.out;
+  converted : IsConverted utf8_bytes (utf16 g.O.ByteOrder.endian) l.text l.fn.out l.at
+      (record { used = l.used; wrote = l.end - l.at }) l.out;
 }
 
 abbrev pub decreases-loop-on : goal.decreases-loop-on

@@ -7,7 +7,8 @@ invariant-loop-on g l = record {
   within : l.used ≤ length l.text;
   room : l.at + l.wrote ≤ length l.out;
   none : l.used ≡ 0 → l.out ≡ l.fn.out;
-  converted : IsConverted g.S.WindowReader.bytes_of g.T.WindowWriter.bytes_of l.text l.fn.out l.at (record { used = l.used; wrote = l.wrote }) l.out;
+  converted : IsConverted g.S.WindowReader.bytes_of g.T.WindowWriter.bytes_of l.text l.fn.out l.at
+      (record { used = l.used; wrote = l.wrote }) l.out;
 }
 
 abbrev pub decreases-loop-on : goal.decreases-loop-on

@@ -17,4 +17,5 @@ overflow_add-run g c =
     omega (arith, few, more, length-drop c.convert_plain-plain.result.used c.args.text.now)
 
 pub returns-clause-run : goal.returns-clause-run
-returns-clause-run g c = joined _ _ c.args.text.now c.args.out.now c.args.at c.convert_plain-plain.result c.in-Some.mixed _ _ c.convert_plain-plain.ensures.run (rw take_rest at c.in-Some.ensures.run)
+returns-clause-run g c = joined _ _ c.args.text.now c.args.out.now c.args.at c.convert_plain-plain.result
+    c.in-Some.mixed _ _ c.convert_plain-plain.ensures.run (rw take_rest at c.in-Some.ensures.run)

@@ -17,4 +17,5 @@ overflow_add-run g c =
     omega (arith, few, more, length-drop c.convert_both-on.result.0.used c.args.text.now)
 
 pub returns-clause-run : goal.returns-clause-run
-returns-clause-run g c = joined _ _ c.args.text.now c.args.out.now c.args.at c.convert_both-on.result.0 c.convert_ascii-ascii.result _ _ c.convert_both-on.ensures.run (rw take_rest at c.convert_ascii-ascii.ensures.run)
+returns-clause-run g c = joined _ _ c.args.text.now c.args.out.now c.args.at c.convert_both-on.result.0
+    c.convert_ascii-ascii.result _ _ c.convert_both-on.ensures.run (rw take_rest at c.convert_ascii-ascii.ensures.run)

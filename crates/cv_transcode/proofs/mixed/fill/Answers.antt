@@ -25,7 +25,8 @@ loop-used-preserved g c =
       few = omega (arith, i.few, c.if-run-eq0.false);
       behind = c.last_other-other.ensures;
       fit = c.convert_window-run.ensures.fit;
-      converted = converted_more from to c.args.text.now c.args.buffer.now 0 used wrote 48 more.used more.wrote 48 48 wrote c.loop-used.buffer c.convert_window-run.new.out i.converted place run (omega arith) (omega arith);
+      converted = converted_more from to c.args.text.now c.args.buffer.now 0 used wrote 48 more.used more.wrote 48 48
+          wrote c.loop-used.buffer c.convert_window-run.new.out i.converted place run (omega arith) (omega arith);
     }
 
 pub returns-then-run-eq0-clause-converted : goal.returns-then-run-eq0-clause-converted
@@ -35,4 +36,6 @@ returns-then-run-eq0-clause-converted g c =
     let wrote = c.loop-used.wrote in
     let more = c.convert_window-run.result in
     let place : wrote ≡ 0 + wrote = omega arith in
-    converted_more g.S.WindowReader.bytes_of g.T.WindowWriter.bytes_of c.args.text.now c.args.buffer.now 0 used wrote 48 more.used more.wrote 48 48 wrote c.loop-used.buffer c.convert_window-run.new.out i.converted place (rw take_rest at c.convert_window-run.ensures.converted) (omega arith) (omega arith)
+    converted_more g.S.WindowReader.bytes_of g.T.WindowWriter.bytes_of c.args.text.now c.args.buffer.now 0 used wrote 48
+    more.used more.wrote 48 48 wrote c.loop-used.buffer c.convert_window-run.new.out i.converted place
+    (rw take_rest at c.convert_window-run.ensures.converted) (omega arith) (omega arith)

@@ -8,7 +8,8 @@ invariant-loop-used g l = record {
   few : l.parts ≤ l.used;
   behind : l.other ≤ l.used;
   fit : l.wrote ≤ l.end;
-  converted : IsConvertedWithSlack g.S.WindowReader.bytes_of g.T.WindowWriter.bytes_of l.text l.fn.buffer 0 l.used l.wrote 48 l.buffer;
+  converted : IsConvertedWithSlack g.S.WindowReader.bytes_of g.T.WindowWriter.bytes_of l.text l.fn.buffer 0 l.used
+      l.wrote 48 l.buffer;
 }
 
 abbrev pub decreases-loop-used : goal.decreases-loop-used

@@ -7,4 +7,5 @@ pub returns-in-Big : goal.returns-in-Big
 returns-in-Big g c = c.swapped.ensures ∙ ap (λ e. map (in_order e) c.args.units) (sym c.in-Big.is ∙ c.order.ensures)
 
 pub returns-in-Little : goal.returns-in-Little
-returns-in-Little g c = little_are c.args.units ∙ ap (λ e. map (in_order e) c.args.units) (sym c.in-Little.is ∙ c.order.ensures)
+returns-in-Little g c = little_are c.args.units ∙ ap (λ e. map (in_order e) c.args.units) (sym c.in-Little.is
+    ∙ c.order.ensures)

@@ -1,10 +1,6 @@
-use Rattle.std.proofs.Common.{arith, lit<, ◌<◌}
-use Rattle.std.proofs.lemmas.Simd.{Each1-all, Each2-splat}
+use Rattle.std.proofs.Common.{arith}
 use Rattle.cv_transcode.proofs.Marks.{marks_are}
 use Rattle.cv_transcode.proofs.window_reader.surrogates.Goals as goal
-
-pub nonzero_div-parts : goal.nonzero_div-parts
-nonzero_div-parts c = Each2-splat (λ a b. 0 < b) c.args.units 16 0x800 (Each1-all (λ a. 0 < 0x800) (λ a. lit< tt) c.args.units)
 
 pub returns : goal.returns
 returns c = marks_are c.args.units (omega arith)

@@ -9,7 +9,8 @@ invariant-loop-used g l = record {
   room : l.end + 64 ≤ length l.out;
   from : l.at ≤ l.end;
   window : IsWindow g.S.WindowReader.bytes_of g.S.WindowReader.window_size (drop l.used l.text) l.units;
-  converted : IsConvertedWithSlack g.S.WindowReader.bytes_of g.T.WindowWriter.bytes_of l.text l.fn.out l.at l.used (l.end - l.at) 16 l.out;
+  converted : IsConvertedWithSlack g.S.WindowReader.bytes_of g.T.WindowWriter.bytes_of l.text l.fn.out l.at l.used
+      (l.end - l.at) 16 l.out;
 }
 
 abbrev pub decreases-loop-used : goal.decreases-loop-used

@@ -1,10 +1,9 @@
-use Rattle.std.proofs.Common.{◌≡◌, ℕ, List, arith, get_or, lit<, ap, sym, ◌∙◌, subst}
+use Rattle.std.proofs.Common.{◌≡◌, ℕ, List, arith, get_or, ap, sym, ◌∙◌, subst}
 use Rattle.std.specs.Int.{to_le_bytes, w32}
 use Rattle.cv_base.specs.Items.{Begins}
 use Rattle.cv_base.specs.declared.endian.Endian.{Endian}
 use Rattle.cv_base.specs.declared.endian.Endian.TheVariants.{Big, Little}
 use Rattle.cv_utf16.specs.Utf16.{utf16}
-use Rattle.cv_block.proofs.Lanes.{none_zero}
 use Rattle.cv_utf16.proofs.Utf16Lanes.{lane_big, lane_little, big_at, big_begins, little_at, little_begins}
 use Rattle.cv_utf16.proofs.stateless_utf16.words.Goals as goal
 use Rattle.cv_utf16.proofs.stateless_utf16.words.Goals.{in-Big, in-Little}
@@ -20,21 +19,3 @@ returns c k h =
           let word : get_or c.match-endian.result k 0 ≡ lane_little v = ap (λ (x : List ℕ). get_or x k 0) w.result-is ∙ little_at 16 c.args.values k (omega arith) h in
           subst (λ (e : Endian). Begins (utf16 e v) (to_le_bytes w32 (get_or c.match-endian.result k 0))) (sym w.in-Little.is) (subst (λ (x : ℕ). Begins (utf16 Little v) (to_le_bytes w32 x)) (sym word) (little_begins v (c.requires k h))))
     ]
-
-pub nonzero_div-high : goal.nonzero_div-high
-nonzero_div-high c = none_zero 0x400 (lit< tt) _
-
-pub nonzero_rem-second : goal.nonzero_rem-second
-nonzero_rem-second c = none_zero 0x400 (lit< tt) _
-
-pub nonzero_div-front : goal.nonzero_div-front
-nonzero_div-front c = none_zero 0x100 (lit< tt) _
-
-pub nonzero_rem-front : goal.nonzero_rem-front
-nonzero_rem-front c = none_zero 0x100 (lit< tt) _
-
-pub nonzero_div-result : goal.nonzero_div-result
-nonzero_div-result c = none_zero 0x100 (lit< tt) _
-
-pub nonzero_rem-result : goal.nonzero_rem-result
-nonzero_rem-result c = none_zero 0x100 (lit< tt) _

@@ -1,7 +1,6 @@
 use Rattle.std.proofs.Common.{arith, rules}
 use Rattle.cv_utf16.proofs.SurrogatePairs.{put_more}
 use Rattle.cv_utf16.proofs.surrogate_pairs.put_paired.Goals as goal
-use Rattle.cv_utf16.proofs.surrogate_pairs.put_paired.Goals.{then-low, else-low}
 
 pub loop-k-preserved : goal.loop-k-preserved
 loop-k-preserved c =

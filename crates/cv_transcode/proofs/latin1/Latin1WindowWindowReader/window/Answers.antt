@@ -1,4 +1,4 @@
-use Rattle.cv_transcode.proofs.Windows.{bytes_window}
+use Rattle.cv_transcode.proofs.ReadWindows.{bytes_window}
 use Rattle.cv_transcode.proofs.latin1.Latin1WindowWindowReader.window.Goals as goal
 
 pub returns : goal.returns

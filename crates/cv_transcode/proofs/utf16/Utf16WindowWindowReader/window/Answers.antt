@@ -1,4 +1,4 @@
-use Rattle.cv_transcode.proofs.Windows.{units_read}
+use Rattle.cv_transcode.proofs.ReadWindows.{units_read}
 use Rattle.cv_transcode.proofs.utf16.Utf16WindowWindowReader.window.Goals as goal
 
 pub returns : goal.returns

@@ -14,7 +14,7 @@ returns-in-Err-clause-well_formed c =
     let short = rw (take_rest input c.loop-most.n) at c.short_prefix_len-short.ensures.well_formed in
     let n = c.loop-most.n + c.short_prefix_len-short.result in
     let before = more_well_formed input c.loop-most.n c.short_prefix_len-short.result c.loop-most.invariant.well_formed short in
-    let part = rw (take_rest input n) at c.uncut_part-part.ensures.front in
+    let part = rw (take_rest input n) at c.uncut_part-part.ensures.prefix in
     let front = c.in-Err.ensures.cases.1 in
     rw c.valid_up_to.ensures (front_well_formed input c.uncut_part-part.result.now n c.in-Err.fault.valid_up_to before part (omega (arith, front.short)) front.front)
 
@@ -24,7 +24,7 @@ loop-most-preserved c =
     let short = rw (take_rest input c.loop-most.n) at c.short_prefix_len-short.ensures.well_formed in
     let n = c.loop-most.n + c.short_prefix_len-short.result in
     let before = more_well_formed input c.loop-most.n c.short_prefix_len-short.result c.loop-most.invariant.well_formed short in
-    let part = rw (take_rest input n) at c.uncut_part-part.ensures.front in
+    let part = rw (take_rest input n) at c.uncut_part-part.ensures.prefix in
     record {
       within = omega (arith, c.uncut_part-part.ensures.within, c.short_prefix_len-short.ensures.within);
       well_formed = part_well_formed input c.uncut_part-part.result.now n before part c.in-Ok.ensures.cases.1;

@@ -1,10 +1,5 @@
-use Rattle.std.proofs.Common.{lit<}
-use Rattle.cv_block.proofs.Lanes.{none_zero}
 use Rattle.cv_utf8.proofs.Utf8WindowLanes.{short_high_at, short_highs_long}
 use Rattle.cv_utf8.proofs.read.windows.short_high.Goals as goal
-
-pub nonzero_div-result : goal.nonzero_div-result
-nonzero_div-result c = none_zero 4 (lit< tt) _
 
 pub returns-clause-long : goal.returns-clause-long
 returns-clause-long c = short_highs_long 16 c.args.first c.fits-first.0

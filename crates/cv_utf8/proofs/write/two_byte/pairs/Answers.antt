@@ -1,13 +1,6 @@
-use Rattle.std.proofs.Common.{arith, lit<, ◌<◌}
-use Rattle.std.proofs.lemmas.Simd.{Each1-all, Each2-splat}
+use Rattle.std.proofs.Common.{arith}
 use Rattle.cv_utf8.proofs.Utf8Pairs.{pairs_are}
 use Rattle.cv_utf8.proofs.write.two_byte.pairs.Goals as goal
 
-pub nonzero_rem-second : goal.nonzero_rem-second
-nonzero_rem-second c = Each2-splat (λ a b. 0 < b) c.args.numbers 8 64 (Each1-all (λ a. 0 < 64) (λ a. lit< tt) c.args.numbers)
-
-pub nonzero_div-two : goal.nonzero_div-two
-nonzero_div-two c = Each2-splat (λ a b. 0 < b) c.args.numbers 8 64 (Each1-all (λ a. 0 < 64) (λ a. lit< tt) c.args.numbers)
-
 pub returns : goal.returns
-returns c = pairs_are c.args.numbers (omega arith) (λ k h. c.requires k (omega arith))
+returns c = pairs_are c.args.units (omega arith) c.requires

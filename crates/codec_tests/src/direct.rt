@@ -2,11 +2,11 @@
 //! that they take all of a plain text. No contract says so, since what a loop leaves is converted by blocks.
 use crate::words::bytes_of;
 use cv_block::{BigEndian, LittleEndian};
-use cv_direct::{
-    Direct, begins_with_fours, latin1_to_utf8, utf8_to_utf16, utf16_swapped, utf16_to_utf8,
+use cv_transcode::{
+    Run, begins_with_supplementary, latin1_to_utf8, utf8_to_utf16, utf16_swapped, utf16_to_utf8,
     utf32_to_utf8, utf32_to_utf16,
 };
-use cv_utf8::read_units;
+use cv_utf8::read_utf16_lanes;
 use std::alloc::Global;
 use std::test::Fail;
 
@@ -60,7 +60,7 @@ fn room(alloc: Global) -> Result<Vec<u8>, Fail> {
 
 /// Whether a loop took a text but for at most `left` bytes at its end, and wrote a prefix of `wanted` that lacks at
 /// most twice as many.
-fn is_taken(run: Option<Direct>, text: &[u8], left: usize, out: &[u8], wanted: &[u8]) -> bool {
+fn is_taken(run: Option<Run>, text: &[u8], left: usize, out: &[u8], wanted: &[u8]) -> bool {
     let Some(run) = run else {
         return false;
     };
@@ -159,9 +159,9 @@ fn utf8_to_utf16_takes_text(rt: HostRuntime) -> Result<(), Fail> {
 #[test]
 fn five_of_four_bytes_are_seen(rt: HostRuntime) -> Result<(), Fail> {
     let faces = repeated(rt.alloc(), "f09f9880")?;
-    assert!(rt; begins_with_fours(&faces));
+    assert!(rt; begins_with_supplementary(&faces));
     let mixed = repeated(rt.alloc(), MIXED)?;
-    assert!(rt; !begins_with_fours(&mixed));
+    assert!(rt; !begins_with_supplementary(&mixed));
     Ok(())
 }
 
@@ -173,7 +173,7 @@ fn units_of(alloc: Global, text: &[u8]) -> Result<Vec<u8>, Fail> {
         if text.len() < 18 || at > text.len() - 18 {
             break;
         }
-        let units = read_units(text, at);
+        let units = read_utf16_lanes(text, at);
         push_units(&mut bytes, units.first.to_array().get(..units.firsts))?;
         push_units(&mut bytes, units.second.to_array().get(..units.seconds))?;
         at = at.saturating_add(units.used);

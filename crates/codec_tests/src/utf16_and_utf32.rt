@@ -2,7 +2,7 @@
 use crate::items::read_items;
 use crate::writing::write_lines;
 use cv_base::{AsciiForm, Codec, Endian, ReadState, WriteState};
-use cv_wide::{Order, Utf16, Utf32};
+use cv_utf16::{Order, Utf16, Utf32};
 use std::test::Fail;
 
 const UTF16: &str = r#"

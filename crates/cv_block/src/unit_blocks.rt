@@ -8,7 +8,7 @@ use crate::limited_units::{BLOCK, are_blocks_below};
 use crate::unit::{Byte, Unit};
 
 /// How many blocks are tested and written at once while a run has that many left: 64 units with one branch.
-const AT_ONCE: usize = 4;
+const BLOCKS_PER_TEST: usize = 4;
 
 /// The lowest byte of the unit at index `at`. If the unit is a character below 256, this is the character.
 #[inline(always)]
@@ -139,7 +139,7 @@ pub(crate) fn take_all_blocks<R: CodeLimit, From: Unit, To: Unit>(
     if !From::takes_many() {
         return take_blocks::<R, From, To, 1>(rest, most, out, at);
     }
-    let n = take_blocks::<R, From, To, AT_ONCE>(rest, most, out, at);
+    let n = take_blocks::<R, From, To, BLOCKS_PER_TEST>(rest, most, out, at);
     let behind = &rest[From::size() * n..];
     n + take_blocks::<R, From, To, 1>(behind, most - n, out, at + To::size() * n)
 }

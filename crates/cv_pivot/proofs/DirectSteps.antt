@@ -13,8 +13,8 @@ use Rattle.cv_base.proofs.AllWritten.{none_allowed}
 use Rattle.cv_base.proofs.BlockLaws.{AreRead, read_block_of}
 use Rattle.cv_block.specs.StatelessForms.{BytesOf}
 use Rattle.cv_block.proofs.FormBlocks.{WritesForm, scalars_read, spelled_written}
-use Rattle.cv_direct.specs.Direct.{IsConverted}
-use Rattle.cv_direct.specs.declared.direct.Direct.{Direct}
+use Rattle.cv_transcode.specs.Runs.{IsConverted}
+use Rattle.cv_transcode.specs.declared.run.Run.{Run}
 use Rattle.cv_utf8.specs.Utf8.{utf8_bytes}
 use Rattle.cv_utf8.proofs.Utf8Spelled.{utf8_reads_spelled}
 use Rattle.cv_pivot.specs.declared.outcome.States.{States}
@@ -25,8 +25,8 @@ use Rattle.cv_pivot.specs.declared.fast_path.ReadForm.{ReadForm}
 use Rattle.cv_pivot.specs.declared.fast_path.ReadForm.TheVariants as read_form
 use Rattle.cv_pivot.specs.declared.fast_path.WrittenForm.{WrittenForm}
 use Rattle.cv_pivot.specs.declared.fast_path.WrittenForm.TheVariants as written_form
-use Rattle.cv_wide.specs.Utf16.{utf16}
-use Rattle.cv_wide.specs.Utf32.{utf32}
+use Rattle.cv_utf16.specs.Utf16.{utf16}
+use Rattle.cv_utf16.specs.Utf32.{utf32}
 use Rattle.cv_pivot.proofs.BlockSteps.{block_takes}
 
 -- In this state characters at the start of a text read as they are spelled.
@@ -57,7 +57,7 @@ writes_all (written_form.Utf16 endian) to t p = rw p.1 (p.2 utf16)
 -- what a loop converted that reads and writes these encodings' forms
 pub fast_takes : (form : ReadForm) (target : WrittenForm) (from to : Form) (policy : Policy) (states : States)
     → IsReadAs form from states.reading → IsWrittenAs target to states.writing
-    → (rest before : List ℕ) (at : ℕ) (run : Direct) (after : List ℕ) → ((k : ℕ) → get_or rest k 0 < 256)
+    → (rest before : List ℕ) (at : ℕ) (run : Run) (after : List ℕ) → ((k : ℕ) → get_or rest k 0 < 256)
     → 0 < run.used → IsConverted (read_bytes form) (written_bytes target) rest before at run after
     → TakesSome (form_reads from) (form_writes to) policy states rest before at
     (record { read = run.used; written = run.wrote; replaced = 0 }) states after

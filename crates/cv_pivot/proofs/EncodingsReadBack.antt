@@ -1,9 +1,9 @@
 -- Each encoding reads back the texts that it writes.
 use Rattle.cv_base.specs.ReadBack.{ReadsBack}
 use Rattle.cv_base.proofs.SingleByteLaws.{bytes_back}
-use Rattle.cv_wide.specs.Utf16.{utf16}
-use Rattle.cv_wide.specs.Utf32.{utf32}
-use Rattle.cv_wide.proofs.FormReadBack.{form_reads_back as utf_reads_back}
+use Rattle.cv_utf16.specs.Utf16.{utf16}
+use Rattle.cv_utf16.specs.Utf32.{utf32}
+use Rattle.cv_utf16.proofs.FormReadBack.{form_reads_back as utf_reads_back}
 use Rattle.cv_utf8.proofs.Utf8ReadBack.{utf8_reads_back}
 use Rattle.cv_utf7.proofs.ReadBack.{utf7_reads_back}
 use Rattle.cv_trie.proofs.MapReadBack.{maps_back}

@@ -10,7 +10,7 @@ use Rattle.cv_base.specs.declared.state.ReadState.{ReadState}
 use Rattle.cv_base.specs.declared.state.ReadState.TheVariants as read
 use Rattle.cv_base.specs.declared.state.WriteState.{WriteState}
 use Rattle.cv_base.specs.declared.state.WriteState.TheVariants as write
-use Rattle.cv_wide.specs.declared.order.Order.TheVariants.{Be, Le, Marked}
+use Rattle.cv_utf16.specs.declared.order.Order.TheVariants.{Be, Le, Marked}
 use Rattle.cv_charmap.specs.Entries.{Pair}
 use Rattle.cv_trie.specs.Charmaps.{as_written}
 use Rattle.cv_pivot.specs.Conversions.{start}

@@ -2,8 +2,8 @@
 -- alone. (POSIX iconv() calls other encodings state-dependent.)
 use Rattle.std.specs.Prelude.{◌≡◌, ℕ, List}
 use Rattle.cv_base.specs.declared.policy.Policy.{Policy}
-use Rattle.cv_wide.specs.declared.order.Order.{Order}
-use Rattle.cv_wide.specs.declared.order.Order.TheVariants.{Be, Le, Marked}
+use Rattle.cv_utf16.specs.declared.order.Order.{Order}
+use Rattle.cv_utf16.specs.declared.order.Order.TheVariants.{Be, Le, Marked}
 use Rattle.cv_pivot.specs.Conversions.{start, Converted, IsConverted}
 use Rattle.cv_pivot.specs.Encodings.{Builtin, Ascii, Latin1, Utf8, Utf16, Utf32, Utf7, Form, Own, Mapped, form_reads, form_writes}
 

@@ -9,7 +9,7 @@ use cv_base::{
 use cv_trie::Charmap;
 use cv_utf7::Utf7;
 use cv_utf8::Utf8;
-use cv_wide::{Order, Utf16, Utf32};
+use cv_utf16::{Order, Utf16, Utf32};
 use std::alloc::AllocError;
 use std::sync::Arc;
 

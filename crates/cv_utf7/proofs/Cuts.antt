@@ -12,7 +12,7 @@ use Rattle.cv_base.specs.Units.{high_unit, low_unit}
 use Rattle.cv_utf7.specs.Utf7.{minus, written_bits, last_digit, utf7_closes}
 use Rattle.cv_utf7.specs.PendingBits.{pending_of}
 use Rattle.cv_utf7.proofs.PendingBits.{pending_is}
-use Rattle.cv_utf7.specs.declared.cut.Cut.{Cut}
+use Rattle.cv_utf7.specs.declared.write.base64_digits.Base64Digits.{Base64Digits}
 
 digits_six : (l r : List Bool) → length l ≡ 6 → (digits (l ++ r) ≡ digit_of (number l) ∷ digits r) × (over (l ++ r) ≡ over r)
 digits_six [] r e = absurd (omega arith)
@@ -112,12 +112,12 @@ pair_behind pending c h k =
     ap (λ (t : List Bool). bits_of pending ++ t) (two_units c h) ∙ sym (bits-split pending.count 32 (pending.value * 4294967296 + (high_unit c * 65536 + low_unit c)) ∙ rw (e, f, s) refl)
 
 -- a cut of a character of one code unit after pending bits
-pub cut_unit : (pending : Bits) (c : ℕ) (cut : Cut) → c < 0x10000 → pending.count + 16 ≡ 6 * cut.n + cut.next.count → cut.value ≡ (pending.value * 65536 + c) / 2 ^ cut.next.count → cut.next.value ≡ (pending.value * 65536 + c) % 2 ^ cut.next.count
+pub cut_unit : (pending : Bits) (c : ℕ) (cut : Base64Digits) → c < 0x10000 → pending.count + 16 ≡ 6 * cut.n + cut.next.count → cut.value ≡ (pending.value * 65536 + c) / 2 ^ cut.next.count → cut.next.value ≡ (pending.value * 65536 + c) % 2 ^ cut.next.count
     → written_bits (bits_of pending ++ character_bits c) ≡ (digits (bits (6 * cut.n) cut.value), write.Shifted cut.next)
 cut_unit pending c cut h e v w = cut_is _ cut.n cut.next.count (pending.value * 65536 + c) cut.value cut.next (unit_behind pending c h ∙ ap (λ (k : ℕ). bits k (pending.value * 65536 + c)) e) refl v w
 
 -- a cut of a character of two code units after pending bits
-pub cut_pair : (pending : Bits) (c : ℕ) (cut : Cut) → 0x10000 ≤ c → c < 0x110000 → pending.count + 32 ≡ 6 * cut.n + cut.next.count → cut.value ≡ (pending.value * 4294967296 + (high_unit c * 65536 + low_unit c)) / 2 ^ cut.next.count → cut.next.value ≡ (pending.value * 4294967296 + (high_unit c * 65536 + low_unit c)) % 2 ^ cut.next.count
+pub cut_pair : (pending : Bits) (c : ℕ) (cut : Base64Digits) → 0x10000 ≤ c → c < 0x110000 → pending.count + 32 ≡ 6 * cut.n + cut.next.count → cut.value ≡ (pending.value * 4294967296 + (high_unit c * 65536 + low_unit c)) / 2 ^ cut.next.count → cut.next.value ≡ (pending.value * 4294967296 + (high_unit c * 65536 + low_unit c)) % 2 ^ cut.next.count
     → written_bits (bits_of pending ++ character_bits c) ≡ (digits (bits (6 * cut.n) cut.value), write.Shifted cut.next)
 cut_pair pending c cut h k e v w = cut_is _ cut.n cut.next.count (pending.value * 4294967296 + (high_unit c * 65536 + low_unit c)) cut.value cut.next (pair_behind pending c h k ∙ ap (λ (m : ℕ). bits m (pending.value * 4294967296 + (high_unit c * 65536 + low_unit c))) e) refl v w
 
@@ -168,24 +168,24 @@ pub closing_some : (pending : Bits) (d : ℕ) → last_digit (bits_of pending) �
 closing_some pending d e = ap (λ (w : List ℕ). w ++ minus ∷ []) e
 
 -- the digits of a cut of two
-pub spell_2 : (cut : Cut) → cut.n ≡ 2 → digits (bits (6 * cut.n) cut.value) ≡ digit_of (cut.value / 64 % 64) ∷ digit_of (cut.value / 1 % 64) ∷ []
+pub spell_2 : (cut : Base64Digits) → cut.n ≡ 2 → digits (bits (6 * cut.n) cut.value) ≡ digit_of (cut.value / 64 % 64) ∷ digit_of (cut.value / 1 % 64) ∷ []
 spell_2 cut e = ap (λ (n : ℕ). digits (bits (6 * n) cut.value)) e ∙ digits_2 cut.value
 
 -- the digits of a cut of three
-pub spell_3 : (cut : Cut) → cut.n ≡ 3 → digits (bits (6 * cut.n) cut.value) ≡ digit_of (cut.value / 4096 % 64) ∷ digit_of (cut.value / 64 % 64) ∷ digit_of (cut.value / 1 % 64) ∷ []
+pub spell_3 : (cut : Base64Digits) → cut.n ≡ 3 → digits (bits (6 * cut.n) cut.value) ≡ digit_of (cut.value / 4096 % 64) ∷ digit_of (cut.value / 64 % 64) ∷ digit_of (cut.value / 1 % 64) ∷ []
 spell_3 cut e = ap (λ (n : ℕ). digits (bits (6 * n) cut.value)) e ∙ digits_3 cut.value
 
 -- the digits of a cut of five
-pub spell_5 : (cut : Cut) → cut.n ≡ 5 → digits (bits (6 * cut.n) cut.value) ≡ digit_of (cut.value / 16777216 % 64) ∷ digit_of (cut.value / 262144 % 64) ∷ digit_of (cut.value / 4096 % 64) ∷ digit_of (cut.value / 64 % 64) ∷ digit_of (cut.value / 1 % 64) ∷ []
+pub spell_5 : (cut : Base64Digits) → cut.n ≡ 5 → digits (bits (6 * cut.n) cut.value) ≡ digit_of (cut.value / 16777216 % 64) ∷ digit_of (cut.value / 262144 % 64) ∷ digit_of (cut.value / 4096 % 64) ∷ digit_of (cut.value / 64 % 64) ∷ digit_of (cut.value / 1 % 64) ∷ []
 spell_5 cut e = ap (λ (n : ℕ). digits (bits (6 * n) cut.value)) e ∙ digits_5 cut.value
 
 -- a cut whose number is none of these is of six digits
-pub spell_6 : (cut : Cut) → (cut.n ≡ 2) ⊎ (cut.n ≡ 3) ⊎ (cut.n ≡ 5) ⊎ (cut.n ≡ 6) → (cut.n ≡ 2 → ⊥) → (cut.n ≡ 3 → ⊥) → (cut.n ≡ 5 → ⊥)
+pub spell_6 : (cut : Base64Digits) → (cut.n ≡ 2) ⊎ (cut.n ≡ 3) ⊎ (cut.n ≡ 5) ⊎ (cut.n ≡ 6) → (cut.n ≡ 2 → ⊥) → (cut.n ≡ 3 → ⊥) → (cut.n ≡ 5 → ⊥)
     → (cut.n ≡ 6) × (digits (bits (6 * cut.n) cut.value) ≡ digit_of (cut.value / 1073741824 % 64) ∷ digit_of (cut.value / 16777216 % 64) ∷ digit_of (cut.value / 262144 % 64) ∷ digit_of (cut.value / 4096 % 64) ∷ digit_of (cut.value / 64 % 64) ∷ digit_of (cut.value / 1 % 64) ∷ [])
 spell_6 cut o a b c = let e : cut.n ≡ 6 = elim o [ inl p ↦ absurd (a p) | inr o ↦ elim o [ inl p ↦ absurd (b p) | inr o ↦ elim o [ inl p ↦ absurd (c p) | inr p ↦ p ] ] ] in (e, ap (λ (n : ℕ). digits (bits (6 * n) cut.value)) e ∙ digits_6 cut.value)
 
 -- a cut has as many digits as it says
-pub spell_length : (cut : Cut) → length (digits (bits (6 * cut.n) cut.value)) ≡ cut.n
+pub spell_length : (cut : Base64Digits) → length (digits (bits (6 * cut.n) cut.value)) ≡ cut.n
 spell_length cut = digits_length cut.n (bits (6 * cut.n) cut.value) (length-bits (6 * cut.n) cut.value)
 
 pub ruleset spelled = (spell_2, spell_3, spell_5, spell_length)

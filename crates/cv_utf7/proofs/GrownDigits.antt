@@ -15,11 +15,11 @@ use Rattle.cv_utf7.proofs.BitStrings.{length-bits, bits-split}
 use Rattle.cv_utf7.specs.Utf7.{utf7_reads}
 use Rattle.cv_utf7.proofs.CodeUnits.{leads-long, one_unit, two_units}
 use Rattle.cv_base.specs.Units.{high_unit, low_unit}
-use Rattle.cv_utf7.specs.Private.ItemSteps.{IsUnit, IsFront}
-use Rattle.cv_utf7.specs.declared.units.Unit.{Unit}
+use Rattle.cv_utf7.specs.Private.ItemSteps.{IsUnit, IsPartial}
+use Rattle.cv_utf7.specs.declared.read.base64_unit.Base64Unit.{Base64Unit}
 use Rattle.cv_utf7.proofs.Digits.{digits-bits, digit_bits-append, digit_bits-cut, AreDigits-append}
 use Rattle.cv_utf7.proofs.ShiftItems.{by_kind, unit_of, unit_no_stop, unit_some, one_in_range, pair_after, surrogate_ill}
-use Rattle.cv_utf7.proofs.FewDigits.{quotient_is, front_of, stop_leads, front_at, stop_zero, few_ill, few_ends, few_low}
+use Rattle.cv_utf7.proofs.FewDigits.{quotient_is, front_of, stop_leads, front_at, few_ill, few_ends, few_low}
 
 -- Bytes can be added to digits whose bits begin those of a character.
 grow : (p : Bits) (x : List ℕ) (c : ℕ) (rest : List Bool) → IsScalar c → AreDigits x → (bits_of p ++ digit_bits x) ++ rest ≡ character_bits c → length rest % 2 ≡ 0 → CanGrow utf7_reads (read.Shifted p) x
@@ -54,13 +54,13 @@ in_front count value u h a b =
     let d : u / 2 ^ (16 - count) ≡ value = quotient_is u value (16 - count) a b in
     sym (ap (λ (m : ℕ). bits m u) (sym k) ∙ bits-split count (16 - count) u ∙ ap (λ (v : ℕ). bits count v ++ bits (16 - count) u) d)
 
-front_all : (p : Bits) (x : List ℕ) (n count value : ℕ) → IsFront p x n count value → length x ≤ n → take n x ≡ x
+front_all : (p : Bits) (x : List ℕ) (n count value : ℕ) → IsPartial p x n count value → length x ≤ n → take n x ≡ x
 front_all p x n count value h l = take_all n x l
 
 front_even : (p : Bits) (n count : ℕ) → count ≡ p.count + 6 * n → count % 2 ≡ 0
 front_even p n count e = omega (arith, p.even)
 
-grow_unit : (p : Bits) (x : List ℕ) (n count value u : ℕ) → IsFront p x n count value → length x ≤ n → value * 2 ^ (16 - count) ≤ u → u < value * 2 ^ (16 - count) + 2 ^ (16 - count) → u < 65536 → (u < 0xDC00) ⊎ (0xE000 ≤ u) → CanGrow utf7_reads (read.Shifted p) x
+grow_unit : (p : Bits) (x : List ℕ) (n count value u : ℕ) → IsPartial p x n count value → length x ≤ n → value * 2 ^ (16 - count) ≤ u → u < value * 2 ^ (16 - count) + 2 ^ (16 - count) → u < 65536 → (u < 0xDC00) ⊎ (0xE000 ≤ u) → CanGrow utf7_reads (read.Shifted p) x
 grow_unit p x n count value u h l a b s o =
     let t = front_all p x n count value h l in
     let e : (bits_of p ++ digit_bits x) ++ bits (16 - count) u ≡ bits 16 u = ap (λ (t : List ℕ). (bits_of p ++ digit_bits t) ++ bits (16 - count) u) (sym t) ∙ ap (λ (b : List Bool). b ++ bits (16 - count) u) h.same ∙ in_front count value u h.few a b in
@@ -81,7 +81,7 @@ grow_unit p x n count value u h l a b s o =
     ]
 
 -- no item is next if all bytes are digits, and too few for a code unit
-few_none : (p : Bits) (x : List ℕ) (n count value : ℕ) → IsFront p x n count value → length x ≤ n → NoneStands utf7_reads (read.Shifted p) x
+few_none : (p : Bits) (x : List ℕ) (n count value : ℕ) → IsPartial p x n count value → length x ≤ n → NoneStands utf7_reads (read.Shifted p) x
 few_none p x n count value h l i q = by_kind p q.bytes i ⊥ q.is_item
     (λ m. omega (arith, leads-long p q.bytes m.c (bits_of m.next) m.leads, Begins-length q.bytes x q.front, h.counts, h.few))
     (λ m. omega (arith, leads-long p q.bytes (high_unit m.c) (bits 16 (low_unit m.c) ++ bits_of m.next) m.leads, Begins-length q.bytes x q.front, h.counts, h.few))
@@ -93,11 +93,11 @@ few_none p x n count value h l i q = by_kind p q.bytes i ⊥ q.is_item
     (let same : true ≡ false = cc in true≢false same)))
 
 -- digits whose bits begin a code unit below the low surrogates are incomplete
-pub few_below : (p : Bits) (x : List ℕ) (n count value from : ℕ) → IsFront p x n count value → length x ≤ n → 0 < length x → from ≡ value * 2 ^ (16 - count) → from < 0xDC00 → IsNext utf7_reads (read.Shifted p) x item.Incomplete
+pub few_below : (p : Bits) (x : List ℕ) (n count value from : ℕ) → IsPartial p x n count value → length x ≤ n → 0 < length x → from ≡ value * 2 ^ (16 - count) → from < 0xDC00 → IsNext utf7_reads (read.Shifted p) x item.Incomplete
 few_below p x n count value from h l some e a = (some, few_none p x n count value h l, grow_unit p x n count value from h l (omega arith) (omega (arith, pow_pos (16 - count))) (omega arith) (inl a))
 
 -- digits whose bits begin a code unit above the low surrogates are incomplete
-pub few_above : (p : Bits) (x : List ℕ) (n count value to : ℕ) → IsFront p x n count value → length x ≤ n → 0 < length x → to ≡ value * 2 ^ (16 - count) + 2 ^ (16 - count) → to ≤ 65536 → 0xE000 < to → IsNext utf7_reads (read.Shifted p) x item.Incomplete
+pub few_above : (p : Bits) (x : List ℕ) (n count value to : ℕ) → IsPartial p x n count value → length x ≤ n → 0 < length x → to ≡ value * 2 ^ (16 - count) + 2 ^ (16 - count) → to ≤ 65536 → 0xE000 < to → IsNext utf7_reads (read.Shifted p) x item.Incomplete
 few_above p x n count value to h l some e s a = (
   some,
   few_none p x n count value h l,
@@ -108,18 +108,18 @@ few_above p x n count value to h l some e s a = (
 )
 
 -- a high surrogate is ill-formed if a byte that is no digit follows before a code unit is whole
-pub half_stop : (p : Bits) (x : List ℕ) (u : Unit) (n count value : ℕ) → IsUnit p x u → 0xD800 ≤ u.value → u.value < 0xDC00 → IsFront u.over (drop u.n x) n count value → n < length (drop u.n x) → is_digit (get_or (drop u.n x) n 0) ≡ false → IsNext utf7_reads (read.Shifted p) x item.Ill
+pub half_stop : (p : Bits) (x : List ℕ) (u : Base64Unit) (n count value : ℕ) → IsUnit p x u → 0xD800 ≤ u.value → u.value < 0xDC00 → IsPartial u.over (drop u.n x) n count value → n < length (drop u.n x) → is_digit (get_or (drop u.n x) n 0) ≡ false → IsNext utf7_reads (read.Shifted p) x item.Ill
 half_stop p x u n count value h a b k l d = surrogate_ill p x u h a (omega arith) (λ w c rest i j e m g. stop_leads u.over (drop u.n x) n count value w (low_unit c) rest k l d m g)
 
 -- no low surrogate begins with bits that are above all of them
-pub half_above : (p : Bits) (x : List ℕ) (u : Unit) (n count value from : ℕ) → IsUnit p x u → 0xD800 ≤ u.value → u.value < 0xDC00 → IsFront u.over (drop u.n x) n count value → from ≡ value * 2 ^ (16 - count) → 0xE000 ≤ from → IsNext utf7_reads (read.Shifted p) x item.Ill
+pub half_above : (p : Bits) (x : List ℕ) (u : Base64Unit) (n count value from : ℕ) → IsUnit p x u → 0xD800 ≤ u.value → u.value < 0xDC00 → IsPartial u.over (drop u.n x) n count value → from ≡ value * 2 ^ (16 - count) → 0xE000 ≤ from → IsNext utf7_reads (read.Shifted p) x item.Ill
 half_above p x u n count value from h a b k e l = surrogate_ill p x u h a (omega arith) (λ w c rest i j f m g. (let r = front_of u.over (drop u.n x) n count value w (low_unit c) rest k m g (omega arith) in omega (arith, r.0)))
 
 -- no low surrogate begins with bits that are below all of them
-pub half_below : (p : Bits) (x : List ℕ) (u : Unit) (n count value to : ℕ) → IsUnit p x u → 0xD800 ≤ u.value → u.value < 0xDC00 → IsFront u.over (drop u.n x) n count value → to ≡ value * 2 ^ (16 - count) + 2 ^ (16 - count) → to ≤ 0xDC00 → IsNext utf7_reads (read.Shifted p) x item.Ill
+pub half_below : (p : Bits) (x : List ℕ) (u : Base64Unit) (n count value to : ℕ) → IsUnit p x u → 0xD800 ≤ u.value → u.value < 0xDC00 → IsPartial u.over (drop u.n x) n count value → to ≡ value * 2 ^ (16 - count) + 2 ^ (16 - count) → to ≤ 0xDC00 → IsNext utf7_reads (read.Shifted p) x item.Ill
 half_below p x u n count value to h a b k e l = surrogate_ill p x u h a (omega arith) (λ w c rest i j f m g. (let r = front_of u.over (drop u.n x) n count value w (low_unit c) rest k m g (omega arith) in omega (arith, r.1)))
 
-half_grow : (p : Bits) (x : List ℕ) (u : Unit) (n count value low : ℕ) → IsUnit p x u → 0xD800 ≤ u.value → u.value < 0xDC00 → IsFront u.over (drop u.n x) n count value → length (drop u.n x) ≤ n
+half_grow : (p : Bits) (x : List ℕ) (u : Base64Unit) (n count value low : ℕ) → IsUnit p x u → 0xD800 ≤ u.value → u.value < 0xDC00 → IsPartial u.over (drop u.n x) n count value → length (drop u.n x) ≤ n
     → value * 2 ^ (16 - count) ≤ low → low < value * 2 ^ (16 - count) + 2 ^ (16 - count) → 0xDC00 ≤ low → low < 0xE000 → CanGrow utf7_reads (read.Shifted p) x
 half_grow p x u n count value low h a b k l f g d e =
     let t = front_all u.over (drop u.n x) n count value k l in
@@ -140,7 +140,7 @@ half_grow p x u n count value low h a b k l f g d e =
     (omega (arith, length-bits (16 - count) low, k.few, front_even u.over n count k.counts))
 
 -- a high surrogate and digits whose bits begin a low one are incomplete
-pub half_short : (p : Bits) (x : List ℕ) (u : Unit) (n count value from to : ℕ) → IsUnit p x u → 0xD800 ≤ u.value → u.value < 0xDC00 → IsFront u.over (drop u.n x) n count value → length (drop u.n x) ≤ n
+pub half_short : (p : Bits) (x : List ℕ) (u : Base64Unit) (n count value from to : ℕ) → IsUnit p x u → 0xD800 ≤ u.value → u.value < 0xDC00 → IsPartial u.over (drop u.n x) n count value → length (drop u.n x) ≤ n
     → from ≡ value * 2 ^ (16 - count) → to ≡ value * 2 ^ (16 - count) + 2 ^ (16 - count) → from < 0xE000 → 0xDC00 < to → IsNext utf7_reads (read.Shifted p) x item.Incomplete
 half_short p x u n count value from to h a b k l e f c d = (
   unit_some p x u h,

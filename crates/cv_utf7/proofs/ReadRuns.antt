@@ -8,7 +8,7 @@ use Rattle.cv_base.proofs.Front.{Begins-take}
 use Rattle.cv_base.specs.declared.state.ReadState.TheVariants as read
 use Rattle.cv_utf7.specs.Sets.{may_be_direct}
 use Rattle.cv_utf7.specs.Utf7.{utf7_reads}
-use Rattle.cv_utf7.specs.Private.ReadSteps.{place, ReadsOn}
+use Rattle.cv_utf7.specs.Private.ReadSteps.{read_to, ReadsOn}
 
 -- each byte may be direct
 abbrev pub AreDirect : List ℕ → Type 0
@@ -45,7 +45,7 @@ are_direct (suc k) (x ∷ text) h = (h 0 (omega arith) (omega arith), are_direct
 
 -- direct bytes are read
 pub reads_direct : (text : List ℕ) (used n k : ℕ) (before after : List ℕ) → used + k ≤ length text → n + k ≤ length after → length after ≡ length before → ((i : ℕ) → i < k → may_be_direct (get_or text (used + i) 0) ≡ true) → take (n + k) after ≡ take n before ++ take k (drop used text)
-    → ReadsOn text (place read.Start used n) before (place read.Start (used + k) (n + k)) after
+    → ReadsOn text (read_to read.Start used n) before (read_to read.Start (used + k) (n + k)) after
 reads_direct text used n k before after h f l d g =
     let bytes = take k (drop used text) in
     let long : length bytes ≡ k = simp (length-take, length-drop) (omega arith) in
@@ -68,7 +68,7 @@ front_of_put n run most before after bytes h r e =
 
 -- the first of a run of direct bytes are read
 pub reads_run : (text : List ℕ) (used n run most : ℕ) (before after : List ℕ) → used + most ≤ length text → n + most ≤ length before → length after ≡ length before → ((i : ℕ) → i < run → may_be_direct (get_or text (used + i) 0) ≡ true) → take (n + most) after ≡ take n before ++ take most (drop used text)
-    → (m : ℕ) → m ≤ run → m ≤ most → ReadsOn text (place read.Start used n) before (place read.Start (used + m) (n + m)) after
+    → (m : ℕ) → m ≤ run → m ≤ most → ReadsOn text (read_to read.Start used n) before (read_to read.Start (used + m) (n + m)) after
 reads_run text used n run most before after h l size direct put m k s =
     reads_direct text used n m before after (omega arith) (omega arith) size (λ i p. direct i (omega arith)) (front_of_put n m most before after (drop used text) (omega arith) s put)
 

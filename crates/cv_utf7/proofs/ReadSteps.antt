@@ -9,7 +9,7 @@ use Rattle.cv_base.specs.declared.state.ReadState.{ReadState}
 use Rattle.cv_base.proofs.Front.{stands_within, rest_is}
 use Rattle.cv_utf7.specs.Utf7.{utf7_reads}
 use Rattle.cv_utf7.proofs.OneItem.{utf7_readable}
-use Rattle.cv_utf7.specs.Private.ReadSteps.{place, ReadsOn}
+use Rattle.cv_utf7.specs.Private.ReadSteps.{read_to, ReadsOn}
 use Rattle.cv_base.proofs.ChainLaws.{used_bytes-append, read_state-append, characters_of-append, IsChain-append}
 
 -- nothing is read
@@ -41,7 +41,7 @@ reads_more {text = text} {from = from} {middle = middle} {before = before} p q =
     }
 
 -- the place at which reading arrived, by its parts
-pub reads_to : {text : List ℕ} {from to : ReadBlock} {before after : List ℕ} → ReadsOn text from before to after → (s : ReadState) (used n : ℕ) → to.next ≡ s → to.used ≡ used → to.n ≡ n → ReadsOn text from before (place s used n) after
+pub reads_to : {text : List ℕ} {from to : ReadBlock} {before after : List ℕ} → ReadsOn text from before to after → (s : ReadState) (used n : ℕ) → to.next ≡ s → to.used ≡ used → to.n ≡ n → ReadsOn text from before (read_to s used n) after
 reads_to {after = after} p s used n e f g = record {
   chain = p.chain;
   is_chain = p.is_chain;
@@ -71,7 +71,7 @@ pub some_used : (text : List ℕ) (s : ReadState) (used : ℕ) (i : Taken) → u
 some_used text s used i h p = let w = stands_within utf7_reads utf7_readable s (drop used text) i p in (w.0, omega (arith, w.1, length-drop used text))
 
 -- a character is read
-pub reads_character : (text : List ℕ) (at : ReadBlock) (before : List ℕ) (c k : ℕ) (next : ReadState) → at.used ≤ length text → at.n < length before → Stands utf7_reads at.next (drop at.used text) (taken k (Some c) next) → ReadsOn text at before (place next (at.used + k) (at.n + 1)) (set before at.n c)
+pub reads_character : (text : List ℕ) (at : ReadBlock) (before : List ℕ) (c k : ℕ) (next : ReadState) → at.used ≤ length text → at.n < length before → Stands utf7_reads at.next (drop at.used text) (taken k (Some c) next) → ReadsOn text at before (read_to next (at.used + k) (at.n + 1)) (set before at.n c)
 reads_character text at before c k next h l p = record {
   chain = taken k (Some c) next ∷ [];
   is_chain = (p, tt);
@@ -84,7 +84,7 @@ reads_character text at before c k next h l p = record {
 }
 
 -- a shift is read
-pub reads_shift : (text : List ℕ) (at : ReadBlock) (before : List ℕ) (k : ℕ) (next : ReadState) → at.used ≤ length text → at.n ≤ length before → Stands utf7_reads at.next (drop at.used text) (taken k None next) → ReadsOn text at before (place next (at.used + k) at.n) before
+pub reads_shift : (text : List ℕ) (at : ReadBlock) (before : List ℕ) (k : ℕ) (next : ReadState) → at.used ≤ length text → at.n ≤ length before → Stands utf7_reads at.next (drop at.used text) (taken k None next) → ReadsOn text at before (read_to next (at.used + k) at.n) before
 reads_shift text at before k next h l p = record {
   chain = taken k None next ∷ [];
   is_chain = (p, tt);
@@ -97,7 +97,7 @@ reads_shift text at before k next h l p = record {
 }
 
 -- what was read from the start is a block
-pub is_block : (text : List ℕ) (s : ReadState) (before : List ℕ) (block : ReadBlock) (after : List ℕ) → ReadsOn text (place s 0 0) before block after → IsReadBlock utf7_reads s text block after
+pub is_block : (text : List ℕ) (s : ReadState) (before : List ℕ) (block : ReadBlock) (after : List ℕ) → ReadsOn text (read_to s 0 0) before block after → IsReadBlock utf7_reads s text block after
 is_block text s before block after p = record {
   chain = p.chain;
   is_chain = p.is_chain;
@@ -109,10 +109,10 @@ is_block text s before block after p = record {
 
 -- one character more is read, if the item was looked for in `&text[at.used..]`
 pub character_more : {text : List ℕ} {from at : ReadBlock} {before now : List ℕ} → ReadsOn text from before at now → at.n < length now → (c k : ℕ) (next : ReadState) → Stands utf7_reads at.next (take (length text - at.used) (drop at.used text)) (taken k (Some c) next)
-    → ReadsOn text from before (place next (at.used + k) (at.n + 1)) (set now at.n c)
+    → ReadsOn text from before (read_to next (at.used + k) (at.n + 1)) (set now at.n c)
 character_more {text = text} {at = at} {now = now} p l c k next q = reads_more p (reads_character text at now c k next p.within l (rw rest_is at q))
 
 -- one shift more is read
 pub shift_more : {text : List ℕ} {from at : ReadBlock} {before now : List ℕ} → ReadsOn text from before at now → (k : ℕ) (next : ReadState) → Stands utf7_reads at.next (take (length text - at.used) (drop at.used text)) (taken k None next)
-    → ReadsOn text from before (place next (at.used + k) at.n) now
+    → ReadsOn text from before (read_to next (at.used + k) at.n) now
 shift_more {text = text} {at = at} {now = now} p k next q = reads_more p (reads_shift text at now k next p.within p.fits (rw rest_is at q))

@@ -17,7 +17,7 @@ use Rattle.cv_block.specs.Surrogates.{IsSurrogate, IsHighUnit, IsLowUnit, IsPair
 use Rattle.cv_utf7.proofs.Agreement.{agree-sym, agree-take, agree-drop, agree-front}
 use Rattle.cv_utf7.proofs.OneItem.{IsStop, stop_of, leads-length, leads_stop}
 use Rattle.cv_utf7.specs.Private.ItemSteps.{IsUnit}
-use Rattle.cv_utf7.specs.declared.units.Unit.{Unit}
+use Rattle.cv_utf7.specs.declared.read.base64_unit.Base64Unit.{Base64Unit}
 use Rattle.cv_utf7.proofs.Digits.{digit_bits-append, AreDigits-append, AreDigits-drop}
 
 -- an item of a shifted sequence is one of three
@@ -34,15 +34,15 @@ ill_from p x n one pair stop =
     (n, λ i q. never q.bytes i q.is_item (Begins-agree q.bytes x q.front).1, λ q. never q.bytes q.item q.is_item (agree-sym x q.bytes (Begins-agree x q.bytes q.front).1))
 
 -- the unit that is found
-pub unit_leads : (p : Bits) (x : List ℕ) (u : Unit) → IsUnit p x u → Leads p (take u.n x) u.value (bits_of u.over)
+pub unit_leads : (p : Bits) (x : List ℕ) (u : Base64Unit) → IsUnit p x u → Leads p (take u.n x) u.value (bits_of u.over)
 unit_leads p x u h = record { are_digits = h.are_digits; same = h.same }
 
 -- how many bits the digits of a code unit have
-pub unit_length : (p : Bits) (x : List ℕ) (u : Unit) → IsUnit p x u → p.count + 6 * u.n ≡ 16 + u.over.count
+pub unit_length : (p : Bits) (x : List ℕ) (u : Base64Unit) → IsUnit p x u → p.count + 6 * u.n ≡ 16 + u.over.count
 unit_length p x u h = omega (arith, leads-length p (take u.n x) u.value (bits_of u.over) (unit_leads p x u h), length-take-le u.n x h.within, length-bits u.over.count u.over.value)
 
 -- if a code unit is next, each character begins with it
-pub unit_of : (p : Bits) (x : List ℕ) (u : Unit) (w : List ℕ) (f : ℕ) (rest : List Bool) → IsUnit p x u → Leads p w f rest → Agree w x → (u.n ≤ length w) × (f % 65536 ≡ u.value % 65536) × (rest ≡ bits_of u.over ++ digit_bits (drop u.n w))
+pub unit_of : (p : Bits) (x : List ℕ) (u : Base64Unit) (w : List ℕ) (f : ℕ) (rest : List Bool) → IsUnit p x u → Leads p w f rest → Agree w x → (u.n ≤ length w) × (f % 65536 ≡ u.value % 65536) × (rest ≡ bits_of u.over ++ digit_bits (drop u.n w))
 unit_of p x u w f rest h k a =
     let l : u.n ≤ length w = omega (arith, leads-long p w f rest k, unit_length p x u h, u.over.few) in
     let t : take u.n w ≡ take u.n x = agree-take w x a u.n l h.within in
@@ -50,11 +50,11 @@ unit_of p x u w f rest h k a =
     (l, e.0, e.1)
 
 -- if a code unit is next, no sequence ends
-pub unit_no_stop : (p : Bits) (x : List ℕ) (u : Unit) (w : List ℕ) (i : Taken) → IsUnit p x u → IsStop p w i → Agree w x → ⊥
+pub unit_no_stop : (p : Bits) (x : List ℕ) (u : Base64Unit) (w : List ℕ) (i : Taken) → IsUnit p x u → IsStop p w i → Agree w x → ⊥
 unit_no_stop p x u w i h s a = leads_stop p (take u.n x) w u.value (bits_of u.over) i (unit_leads p x u h) s (agree-front w x a u.n)
 
 -- no code unit is next in an empty text
-pub unit_some : (p : Bits) (x : List ℕ) (u : Unit) → IsUnit p x u → 0 < length x
+pub unit_some : (p : Bits) (x : List ℕ) (u : Base64Unit) → IsUnit p x u → 0 < length x
 unit_some p x u h = omega (arith, unit_length p x u h, p.few, h.within)
 
 -- no scalar value is the code unit of a surrogate
@@ -62,7 +62,7 @@ pub one_in_range : (c : ℕ) (u : ℕ) → c % 65536 ≡ u % 65536 → IsScalar 
 one_in_range c u e s l m a b = omega (arith, s.1)
 
 -- a code unit that is not a surrogate is read as its character
-pub char_stands : (p : Bits) (x : List ℕ) (u : Unit) (c n : ℕ) (next : Bits) → IsUnit p x u → c ≡ u.value → n ≡ u.n → next ≡ u.over → ((0xD800 ≤ u.value) × (u.value < 0xE000) → ⊥) → Stands utf7_reads (read.Shifted p) x (taken n (Some c) (read.Shifted next))
+pub char_stands : (p : Bits) (x : List ℕ) (u : Base64Unit) (c n : ℕ) (next : Bits) → IsUnit p x u → c ≡ u.value → n ≡ u.n → next ≡ u.over → ((0xD800 ≤ u.value) × (u.value < 0xE000) → ⊥) → Stands utf7_reads (read.Shifted p) x (taken n (Some c) (read.Shifted next))
 char_stands p x u c n next h e f g s =
     let l : length (take u.n x) ≡ u.n = length-take-le u.n x h.within in
     let is : taken n (Some c) (read.Shifted next) ≡ taken (length (take u.n x)) (Some u.value) (read.Shifted u.over) = cc in
@@ -80,7 +80,7 @@ char_stands p x u c n next h e f g s =
     }
 
 -- a code unit that is no surrogate is a scalar value
-pub scalar_unit : (p : Bits) (x : List ℕ) (u : Unit) → IsUnit p x u → ((0xD800 ≤ u.value) × (u.value < 0xE000) → ⊥) → IsScalar u.value
+pub scalar_unit : (p : Bits) (x : List ℕ) (u : Base64Unit) → IsUnit p x u → ((0xD800 ≤ u.value) × (u.value < 0xE000) → ⊥) → IsScalar u.value
 scalar_unit p x u h s = (omega (arith, h.small), λ k. elim (cases_lt u.value 0xE000) [ inl m ↦ absurd (s (k, m)) | inr m ↦ m ])
 
 -- a prefix is a shorter prefix and what follows it
@@ -91,31 +91,31 @@ take-two (suc a) (suc b) [] = ap (λ (n : ℕ). let l : List ℕ = [] in take n 
 take-two (suc a) b (y ∷ x) = ap (λ (n : ℕ). take n (y ∷ x)) (let e : suc a + b ≡ suc (a + b) = omega arith in e) ∙ ap (λ (t : List ℕ). y ∷ t) (take-two a b x)
 
 -- after the code unit of a high surrogate a pair continues with its low one
-pub pair_after : (p : Bits) (x : List ℕ) (u : Unit) (w : List ℕ) (i : Taken) → IsUnit p x u → (m : IsPair p w i) → Agree w x → (high_unit m.c ≡ u.value) × Leads u.over (drop u.n w) (low_unit m.c) (bits_of m.next) × Agree (drop u.n w) (drop u.n x)
+pub pair_after : (p : Bits) (x : List ℕ) (u : Base64Unit) (w : List ℕ) (i : Taken) → IsUnit p x u → (m : IsPair p w i) → Agree w x → (high_unit m.c ≡ u.value) × Leads u.over (drop u.n w) (low_unit m.c) (bits_of m.next) × Agree (drop u.n w) (drop u.n x)
 pair_after p x u w i h m a =
     let e = unit_of p x u w (high_unit m.c) (bits 16 (low_unit m.c) ++ bits_of m.next) h m.leads a in
     (omega (arith, e.1, m.in_range, m.large, h.small), record { are_digits = AreDigits-drop u.n w m.leads.are_digits; same = sym e.2 }, agree-drop w x a u.n)
 
 -- a surrogate is ill-formed if no low one can follow
-pub surrogate_ill : (p : Bits) (x : List ℕ) (u : Unit) → IsUnit p x u → 0xD800 ≤ u.value → u.value < 0xE000 → ((w : List ℕ) (c : ℕ) (rest : List Bool) → c < 0x110000 → 0x10000 ≤ c → high_unit c ≡ u.value → Leads u.over w (low_unit c) rest → Agree w (drop u.n x) → ⊥) → IsNext utf7_reads (read.Shifted p) x item.Ill
+pub surrogate_ill : (p : Bits) (x : List ℕ) (u : Base64Unit) → IsUnit p x u → 0xD800 ≤ u.value → u.value < 0xE000 → ((w : List ℕ) (c : ℕ) (rest : List Bool) → c < 0x110000 → 0x10000 ≤ c → high_unit c ≡ u.value → Leads u.over w (low_unit c) rest → Agree w (drop u.n x) → ⊥) → IsNext utf7_reads (read.Shifted p) x item.Ill
 surrogate_ill p x u h a b pair = ill_from p x (unit_some p x u h)
     (λ w i m g. one_in_range m.c u.value (unit_of p x u w m.c (bits_of m.next) h m.leads g).1 m.scalar m.small h.small a b)
     (λ w i m g. (let e = pair_after p x u w i h m g in pair (drop u.n w) m.c (bits_of m.next) m.in_range m.large e.0 e.1 e.2))
     (λ w i m g. unit_no_stop p x u w i h m g)
 
 -- a surrogate that is no high one is ill-formed if it comes first
-pub low_first : (p : Bits) (x : List ℕ) (u : Unit) → IsUnit p x u → IsSurrogate u.value → (IsHighUnit u.value → ⊥)
+pub low_first : (p : Bits) (x : List ℕ) (u : Base64Unit) → IsUnit p x u → IsSurrogate u.value → (IsHighUnit u.value → ⊥)
     → IsNext utf7_reads (read.Shifted p) x item.Ill
 low_first p x u h s n = surrogate_ill p x u h s.0 s.1 (λ w c rest i l e k g. n (omega arith))
 
 -- a high surrogate before a code unit that is no low one is ill-formed
-pub no_low : (p : Bits) (x : List ℕ) (u v : Unit) → IsUnit p x u → IsHighUnit u.value → IsUnit u.over (drop u.n x) v
+pub no_low : (p : Bits) (x : List ℕ) (u v : Base64Unit) → IsUnit p x u → IsHighUnit u.value → IsUnit u.over (drop u.n x) v
     → (IsLowUnit v.value → ⊥) → IsNext utf7_reads (read.Shifted p) x item.Ill
 no_low p x u v h a k n = surrogate_ill p x u h (omega arith) (omega arith) (λ w c rest i l e m g.
     (let f = (unit_of u.over (drop u.n x) v w (low_unit c) rest k m g).1 in n (omega (arith, k.small))))
 
 -- a high surrogate and a low one are read as their character
-pub pair_stands : (p : Bits) (x : List ℕ) (u v : Unit) (c n : ℕ) (next : Bits) → IsUnit p x u → IsUnit u.over (drop u.n x) v
+pub pair_stands : (p : Bits) (x : List ℕ) (u v : Base64Unit) (c n : ℕ) (next : Bits) → IsUnit p x u → IsUnit u.over (drop u.n x) v
     → IsHighUnit u.value → IsLowUnit v.value → IsJoined u.value v.value c → n ≡ u.n + v.n → next ≡ v.over → Stands utf7_reads (read.Shifted p) x (taken n (Some c) (read.Shifted next))
 pair_stands p x u v c n next h k a b f g j =
     let t : take n x ≡ take u.n x ++ take v.n (drop u.n x) = ap (λ (m : ℕ). take m x) g ∙ take-two u.n v.n x in

@@ -4,29 +4,30 @@ use Rattle.std.proofs.lemmas.List.{drop-drop, take-append-drop, ext_get_or, set_
 use Rattle.cv_base.specs.Chains.{Output, output, output_for}
 use Rattle.cv_base.specs.declared.state.WriteState.{WriteState}
 use Rattle.cv_base.specs.declared.state.WriteState.TheVariants as write
+use Rattle.cv_block.proofs.Slack.{further}
 use Rattle.cv_utf7.specs.Sets.{is_direct}
 use Rattle.cv_utf7.specs.Utf7.{utf7_writes, writes_at_start}
-use Rattle.cv_utf7.specs.Private.WriteSteps.{place, WritesOn}
-use Rattle.cv_utf7.specs.declared.write_sequences.Reached.{Reached}
+use Rattle.cv_utf7.specs.Private.WriteSteps.{written_to, WritesOn}
+use Rattle.cv_utf7.specs.declared.write.sequences.WriteProgress.{WriteProgress}
 use Rattle.cv_utf7.proofs.ReadRuns.{front_of_put}
 use Rattle.cv_utf7.proofs.Writes.{start_direct}
-use Rattle.cv_utf7.proofs.WriteSteps.{bytes_in, later, put_one, writes_more}
+use Rattle.cv_utf7.proofs.WriteSteps.{bytes_in, put_one, writes_more}
 
 append_one : (a : List ℕ) (x : ℕ) (b : List ℕ) → a ++ x ∷ b ≡ a ++ (x ∷ []) ++ b
 append_one a x b = sym (append_assoc a (x ∷ []) b)
 
 -- a direct character is put
-pub writes_direct_one : (characters : List ℕ) (k at : ℕ) (before : List ℕ) → k < length characters → at < length before → is_direct (get_or characters k 0) ≡ true → WritesOn characters (place write.Start k at) before (place write.Start (k + 1) (at + 1)) (set before at (get_or characters k 0))
+pub writes_direct_one : (characters : List ℕ) (k at : ℕ) (before : List ℕ) → k < length characters → at < length before → is_direct (get_or characters k 0) ≡ true → WritesOn characters (written_to write.Start k at) before (written_to write.Start (k + 1) (at + 1)) (set before at (get_or characters k 0))
 unfolding bytes_in
 writes_direct_one characters k at before h l d =
     let e : writes_at_start (get_or characters k 0) ≡ (get_or characters k 0 ∷ [], write.Start) = start_direct (get_or characters k 0) d in
-    put_one characters (place write.Start k at) 1 before write.Start (set before at (get_or characters k 0)) h (ap (λ (w : List ℕ × WriteState). length w.0) (sym e)) (ap (λ (w : List ℕ × WriteState). w.1) (sym e)) (omega arith)
+    put_one characters (written_to write.Start k at) 1 before write.Start (set before at (get_or characters k 0)) h (ap (λ (w : List ℕ × WriteState). length w.0) (sym e)) (ap (λ (w : List ℕ × WriteState). w.1) (sym e)) (omega arith)
     (set_split before at (get_or characters k 0) l ∙ (let there : suc at ≡ at + 1 = omega arith in ap (λ (i : ℕ). take at before ++ get_or characters k 0 ∷ drop i before) there ∙ append_one (take at before) (get_or characters k 0) (drop (at + 1) before)) ∙ ap (λ (w : List ℕ × WriteState). take at before ++ w.0 ++ drop (at + 1) before) (sym e))
 
 -- one direct character more is written
-pub direct_more : {characters : List ℕ} {from : Reached} {before now : List ℕ} (m end : ℕ) → WritesOn characters from before (place write.Start m end) now → m < length characters → end < length now → (c : ℕ) → c ≡ get_or characters m 0 → is_direct c ≡ true → WritesOn characters from before (place write.Start (m + 1) (end + 1)) (set now end c)
+pub direct_more : {characters : List ℕ} {from : WriteProgress} {before now : List ℕ} (m end : ℕ) → WritesOn characters from before (written_to write.Start m end) now → m < length characters → end < length now → (c : ℕ) → c ≡ get_or characters m 0 → is_direct c ≡ true → WritesOn characters from before (written_to write.Start (m + 1) (end + 1)) (set now end c)
 direct_more {characters = characters} {from = from} {before = before} {now = now} m end p h l c e d =
-    subst (λ (x : ℕ). WritesOn characters from before (place write.Start (m + 1) (end + 1)) (set now end x)) (sym e)
+    subst (λ (x : ℕ). WritesOn characters from before (written_to write.Start (m + 1) (end + 1)) (set now end x)) (sym e)
     (writes_more p (writes_direct_one characters m end now h l (sym (ap is_direct e) ∙ d)))
 
 -- each character is written as itself
@@ -50,7 +51,7 @@ are_direct (suc n) (c ∷ characters) h = (h 0 (omega arith) (omega arith), are_
 
 -- direct characters are put; as many bytes may be overwritten as there are characters
 pub writes_direct : (characters : List ℕ) (k at r many : ℕ) (before after : List ℕ) → r ≤ many → k + many ≤ length characters → at + many ≤ length before → ((i : ℕ) → i < r → is_direct (get_or characters (k + i) 0) ≡ true)
-    → take (at + r) after ≡ take at before ++ take r (drop k characters) → drop (at + many) after ≡ drop (at + many) before → length after ≡ length before → WritesOn characters (place write.Start k at) before (place write.Start (k + r) (at + r)) after
+    → take (at + r) after ≡ take at before ++ take r (drop k characters) → drop (at + many) after ≡ drop (at + many) before → length after ≡ length before → WritesOn characters (written_to write.Start k at) before (written_to write.Start (k + r) (at + r)) after
 writes_direct characters k at r many before after h w f d s b l =
     let run = take r (drop k characters) in
     let long : length run ≡ r = simp (length-take, length-drop) (omega arith) in
@@ -67,7 +68,7 @@ writes_direct characters k at r many before after h w f d s b l =
       few = omega arith;
       fits = omega arith;
       stand = s ∙ ap (λ (x : List ℕ). take at before ++ x) (sym (ap (λ (x : Output). x.bytes) o));
-      behind = later (at + many) (at + r + (length characters - (k + r))) after before (omega arith) b;
+      behind = further before after (at + many) (at + r + (length characters - (k + r))) (omega arith) b;
       size = l;
     }
 
@@ -79,7 +80,7 @@ same_front n j a b h l e = ext_get_or 0 (take n a) (take n (drop j b)) (simp (le
 
 -- the direct characters at the start of sixteen are written if all sixteen were put
 pub writes_run : (characters bytes : List ℕ) (n at run : ℕ) (before after : List ℕ) → length bytes ≡ 16 → ((i : ℕ) → i < 16 → is_direct (get_or bytes i 0) ≡ true → get_or bytes i 0 ≡ get_or characters (n + i) 0) → n + 16 ≤ length characters → at + 16 ≤ length before
-    → run ≤ 16 → ((i : ℕ) → i < run → is_direct (get_or bytes i 0) ≡ true) → after ≡ take at before ++ take 16 bytes ++ drop (at + 16) before → WritesOn characters (place write.Start n at) before (place write.Start (n + run) (at + run)) after
+    → run ≤ 16 → ((i : ℕ) → i < run → is_direct (get_or bytes i 0) ≡ true) → after ≡ take at before ++ take 16 bytes ++ drop (at + 16) before → WritesOn characters (written_to write.Start n at) before (written_to write.Start (n + run) (at + run)) after
 writes_run characters bytes n at run before after sixteen narrowed left room few direct put =
     let same : (i : ℕ) → i < run → get_or bytes i 0 ≡ get_or characters (n + i) 0 = (λ i l. narrowed i (omega arith) (direct i l)) in
     let long : length (take at before) ≡ at = simp length-take (omega arith) in

@@ -10,8 +10,8 @@ use Rattle.std.proofs.lemmas.Bool.{ltb-true, ltb-false, le-ltb}
 use Rattle.std.specs.Int.{bit_at}
 use Rattle.cv_block.specs.StatelessForms.{IsFormAt}
 use Rattle.cv_utf8.specs.Utf8.{utf8_bytes}
-use Rattle.cv_utf8.specs.Private.Utf8Short.{is_among, is_behind, IsShort, IsShortAt, short_of, short_value, left_over}
-use Rattle.cv_utf8.specs.Private.Utf8Windows.{IsTwoAt, IsLane, AreBegun}
+use Rattle.cv_utf8.specs.Private.Utf8Short.{is_among, is_continuation, IsShort, IsShortAt, short_of, short_value, left_over}
+use Rattle.cv_utf8.specs.Private.Utf8Windows.{IsTwoAt, IsLane, AreStarting}
 
 -- ---- which bytes they are
 
@@ -26,15 +26,15 @@ among_is xs least many long =
 -- ---- a byte and the next
 
 abbrev IsBehind : ℕ → ℕ → Type 0
-IsBehind x y = (is_behind x ≡ true) × (is_behind y ≡ false)
+IsBehind x y = (is_continuation x ≡ true) × (is_continuation y ≡ false)
 
 abbrev IsOne : ℕ → ℕ → Type 0
-IsOne x y = (is_behind x ≡ false) × (is_behind y ≡ false) × (x < 128)
+IsOne x y = (is_continuation x ≡ false) × (is_continuation y ≡ false) × (x < 128)
 
 abbrev IsTwo : ℕ → ℕ → Type 0
-IsTwo x y = (is_behind x ≡ false) × (is_behind y ≡ true) × (0xc2 ≤ x) × (x ≤ 0xdf) × (0x80 ≤ y) × (y ≤ 0xbf)
+IsTwo x y = (is_continuation x ≡ false) × (is_continuation y ≡ true) × (0xc2 ≤ x) × (x ≤ 0xdf) × (0x80 ≤ y) × (y ≤ 0xbf)
 
-which : (x y : ℕ) (b c : Bool) → x < 256 → y < 256 → IsShort x y → is_behind x ≡ b → is_behind y ≡ c → IsBehind x y ⊎ (IsOne x y ⊎ IsTwo x y)
+which : (x y : ℕ) (b c : Bool) → x < 256 → y < 256 → IsShort x y → is_continuation x ≡ b → is_continuation y ≡ c → IsBehind x y ⊎ (IsOne x y ⊎ IsTwo x y)
 which x y true c h k s e f =
     let in_range : (x + (256 - 0x80)) % 256 < 0x40 = ltb-true _ _ e in
     inl (e, sym s.1 ∙ le-ltb _ _ (omega arith))
@@ -85,7 +85,7 @@ two_spelled text at v room p is =
 
 -- ---- a lane
 
-lane_of : (text : List ℕ) (at k v s : ℕ) → at + 18 ≤ length text → k < 16 → v ≡ short_value text (at + k) → s ≡ none_if (is_behind (get_or text (at + k) 0))
+lane_of : (text : List ℕ) (at k v s : ℕ) → at + 18 ≤ length text → k < 16 → v ≡ short_value text (at + k) → s ≡ none_if (is_continuation (get_or text (at + k) 0))
     → IsBehind (get_or text (at + k) 0) (get_or text (at + k + 1) 0) ⊎ (IsOne (get_or text (at + k) 0) (get_or text (at + k + 1) 0) ⊎ IsTwo (get_or text (at + k) 0) (get_or text (at + k + 1) 0))
     → IsLane text at v s (k + left_over text (at + k)) (k + 1 + left_over text (at + k + 1))
 lane_of text at k v s room l e f (inl q) =
@@ -111,13 +111,13 @@ byte_is true = refl
 byte_is false = refl
 
 -- how many bytes they have, as the code computes it
-pub all_used : (text : List ℕ) (at : ℕ) (b : Bool) → b ≡ is_behind (get_or text (at + 16) 0) → 16 + bool_byte b ≡ 16 + left_over text (at + 16)
+pub all_used : (text : List ℕ) (at : ℕ) (b : Bool) → b ≡ is_continuation (get_or text (at + 16) 0) → 16 + bool_byte b ≡ 16 + left_over text (at + 16)
 all_used text at b e = ap (λ n. 16 + n) (byte_is b ∙ ap one_if e)
 
 -- the characters that begin in the lanes are one after the other
-pub short_begun : (text : List ℕ) (at used : ℕ) (vs : List ℕ) (begun : ℕ) → at + 18 ≤ length text → ((i : ℕ) → Fits w8 (get_or text i 0)) → is_behind (get_or text at 0) ≡ false → used ≡ 16 + left_over text (at + 16) → ((k : ℕ) → k < 16 → IsShortAt text (at + k))
-    → ((k : ℕ) → k < 16 → get_or vs k 0 ≡ short_value text (at + k)) → ((k : ℕ) → k < 16 → bit_at begun k ≡ cond (is_behind (get_or text (at + k) 0)) 0 1) → AreBegun text at vs begun used
-short_begun text at used vs begun room fits begins e short are bits =
+pub short_starting : (text : List ℕ) (at used : ℕ) (vs : List ℕ) (starts_mask : ℕ) → at + 18 ≤ length text → ((i : ℕ) → Fits w8 (get_or text i 0)) → is_continuation (get_or text at 0) ≡ false → used ≡ 16 + left_over text (at + 16) → ((k : ℕ) → k < 16 → IsShortAt text (at + k))
+    → ((k : ℕ) → k < 16 → get_or vs k 0 ≡ short_value text (at + k)) → ((k : ℕ) → k < 16 → bit_at starts_mask k ≡ cond (is_continuation (get_or text (at + k) 0)) 0 1) → AreStarting text at vs starts_mask used
+short_starting text at used vs starts_mask room fits begins e short are bits =
     let here : at + 0 ≡ at = omega arith in
     let first : left_over text (at + 0) ≡ 0 = rw here (ap one_if begins) in
     record {
@@ -128,5 +128,5 @@ short_begun text at used vs begun room fits begins e short are bits =
           let x = get_or text (at + k) 0 in
           let y = get_or text (at + k + 1) 0 in
           let place : at + (k + 1) ≡ at + k + 1 = omega arith in
-          rw place (lane_of text at k (get_or vs k 0) (bit_at begun k) room l (are k l) (bits k l) (which x y (is_behind x) (is_behind y) (fits (at + k)).fits (fits (at + k + 1)).fits (short k l) refl refl));
+          rw place (lane_of text at k (get_or vs k 0) (bit_at starts_mask k) room l (are k l) (bits k l) (which x y (is_continuation x) (is_continuation y) (fits (at + k)).fits (fits (at + k + 1)).fits (short k l) refl refl));
     }

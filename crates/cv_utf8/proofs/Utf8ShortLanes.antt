@@ -8,7 +8,7 @@ use Rattle.std.proofs.lemmas.Bool.{not-true, not-false, eqb-true, cases_lt}
 use Rattle.std.proofs.lemmas.Nat.{le_or_l, le_or_r}
 use Rattle.std.proofs.lemmas.Simd.{bitmask_splat, length-chunk, get_or-chunk, leading_from_mask_l, length-zip2, get_or-zip2}
 use Rattle.std.proofs.lemmas.List.Sums.{prefix_len_passes}
-use Rattle.cv_utf8.specs.Private.Utf8Short.{is_among, is_behind, IsShortAt}
+use Rattle.cv_utf8.specs.Private.Utf8Short.{is_among, is_continuation, IsShortAt}
 
 -- ---- by how much each byte is above
 
@@ -50,7 +50,7 @@ above a b = difference (cond (is_set (ltb a b)) b a) b
 abbrev excess_if : Bool → ℕ → ℕ
 excess_if second x = above (difference x (cond (is_set second) 0xc2 0)) (cond (is_set second) 0x1d 0xbf)
 
-excess_at : (n : ℕ) (xs ys : List ℕ) (k : ℕ) → length xs ≡ n → length ys ≡ n → k < n → get_or (excess_all n xs ys) k 0 ≡ excess_if (is_behind (get_or ys k 0)) (get_or xs k 0)
+excess_at : (n : ℕ) (xs ys : List ℕ) (k : ℕ) → length xs ≡ n → length ys ≡ n → k < n → get_or (excess_all n xs ys) k 0 ≡ excess_if (is_continuation (get_or ys k 0)) (get_or xs k 0)
 excess_at zero xs ys k e f h = absurd (omega arith)
 excess_at (suc n) [] ys k e f h = cc
 excess_at (suc n) (x ∷ xs) [] k e f h = cc
@@ -89,8 +89,8 @@ excess_short text at k room fits h e =
     let place : at + 1 + k ≡ at + k + 1 = omega arith in
     let y : get_or ys k 0 ≡ get_or text (at + k + 1) 0 = get_or-chunk (at + 1) 16 text k 0 h ∙ ap (λ i. get_or text i 0) place in
     let is = excess_at 16 xs ys k (length-chunk at 16 text (omega arith)) (length-chunk (at + 1) 16 text (omega arith)) h in
-    let lane : excess_if (is_behind (get_or ys k 0)) (get_or xs k 0) ≡ 0 = sym is ∙ e in
-    short (get_or text (at + k) 0) (is_behind (get_or text (at + k + 1) 0)) (fits (at + k)).fits (rw (x, y) at lane)
+    let lane : excess_if (is_continuation (get_or ys k 0)) (get_or xs k 0) ≡ 0 = sym is ∙ e in
+    short (get_or text (at + k) 0) (is_continuation (get_or text (at + k + 1) 0)) (fits (at + k)).fits (rw (x, y) at lane)
 
 -- ---- no byte is above
 

@@ -45,8 +45,8 @@ part_is_ascii xs at k h p j l =
 part_spells_itself : (xs : List ℕ) (at k : ℕ) → at + k ≤ length xs → ((j : ℕ) → j < k → get_or xs (at + j) 0 < 128) → flat_map utf8_bytes (take k (drop at xs)) ≡ take k (drop at xs)
 part_spells_itself xs at k h p = spells_itself (take k (drop at xs)) (part_is_ascii xs at k h p)
 
-joined : (front xs : List ℕ) (n k : ℕ) → length front ≡ n → k ≤ 16 → take (n + k) (front ++ take 16 xs) ≡ front ++ take k xs
-joined front xs n k e h = subst (λ (m : ℕ). take (m + k) (front ++ take 16 xs) ≡ front ++ take k xs) e (take-append-add front (take 16 xs) k ∙ ap (λ (y : List ℕ). front ++ y) (take-take k 16 xs h))
+any_bits : (front xs : List ℕ) (n k : ℕ) → length front ≡ n → k ≤ 16 → take (n + k) (front ++ take 16 xs) ≡ front ++ take k xs
+any_bits front xs n k e h = subst (λ (m : ℕ). take (m + k) (front ++ take 16 xs) ≡ front ++ take k xs) e (take-append-add front (take 16 xs) k ∙ ap (λ (y : List ℕ). front ++ y) (take-take k 16 xs h))
 
 length-put : (before block : List ℕ) (at m : ℕ) → at + m ≤ length before → length block ≡ m → length (put_mid at m before block) ≡ length before
 length-put before block at m h e = simp (length-append, length-take, length-drop) (omega arith)
@@ -66,7 +66,7 @@ read_front text at before after n k within most p room size put =
       begins = rw same (Begins-take k (drop at text));
       uses = sym (ap length same ∙ long);
       counts = sym long;
-      stand = sym (take-take (n + k) (n + 16) after fewer) ∙ rw put (joined (take n before) (drop at text) n k front most);
+      stand = sym (take-take (n + k) (n + 16) after fewer) ∙ rw put (any_bits (take n before) (drop at text) n k front most);
       fits = omega arith;
       size = size;
     }

@@ -2,19 +2,19 @@
 use Rattle.std.proofs.Common.{◌≡◌, ◌^◌, ℕ, ◌+◌, ◌-◌, ◌*◌, ◌/◌, ◌%◌, ◌<◌, ◌≤◌, ◌⊎◌, inl, inr, Bool, cond, Fits, List, [], ◌∷◌, ◌++◌, length, take, drop, get_or, map, refl, sym, ◌∙◌, ap, ap₂, subst, arith, lit<, zero, suc, w8, length-append, length-drop}
 use Rattle.std.specs.Prelude.{replicate}
 use Rattle.std.specs.List.{flat_map}
-use Rattle.std.specs.Simd.Lanes.{Each1, Each2, top, zip2, sel_l, number_l, digits_l}
+use Rattle.std.specs.Simd.Lanes.{Each1, top, zip2, sel_l, number_l, digits_l}
 use Rattle.std.proofs.Math.Dec.{ltb, eqb}
 use Rattle.std.proofs.lemmas.List.{drop-drop, get_or-drop, get_or_append_left, get_or-append_right}
 use Rattle.std.proofs.lemmas.List.Concat.{flat_map-append}
-use Rattle.std.proofs.lemmas.Simd.{Each1-all, Each2-splat, swz_l, get_or_wider, get_or-chunk}
+use Rattle.std.proofs.lemmas.Simd.{swz_l, get_or_wider, get_or-chunk}
 use Rattle.cv_base.proofs.Front.{Begins-join}
 use Rattle.cv_base.specs.Items.{Begins}
 use Rattle.cv_block.proofs.FormRuns.{AreScalars-append}
-use Rattle.cv_utf8.specs.Units.{AreRead}
+use Rattle.cv_utf8.specs.Utf16Lanes.{AreRead}
 use Rattle.cv_utf8.specs.Utf8.{utf8_bytes}
 use Rattle.cv_utf8.specs.Private.Utf8Threes.{AreParts, AreThrees, IsThreeOf}
 use Rattle.cv_utf8.proofs.Utf8Covered.{lt_or_le}
-use Rattle.cv_utf8.proofs.Utf8Long.{IsLongAt, begun}
+use Rattle.cv_utf8.proofs.Utf8Long.{IsLongAt, starts_mask}
 
 -- ---- the bytes, spread to four each
 
@@ -24,8 +24,8 @@ places = 0 ∷ 1 ∷ 2 ∷ 128 ∷ 3 ∷ 4 ∷ 5 ∷ 128 ∷ 6 ∷ 7 ∷ 8 ∷ 1
 abbrev spread : List ℕ → List ℕ
 spread xs = swz_l w8 16 xs 0 places
 
-abbrev joined : List ℕ → List ℕ
-joined xs = digits_l 65536 8 (number_l 256 (spread xs))
+abbrev any_bits : List ℕ → List ℕ
+any_bits xs = digits_l 65536 8 (number_l 256 (spread xs))
 
 pair : (ys : List ℕ) → 2 ≤ length ys → number_l 256 (take 2 ys) ≡ get_or ys 0 0 + 256 * get_or ys 1 0
 pair [] h = absurd (omega arith)
@@ -38,7 +38,7 @@ AreBytes xs = (i : ℕ) → i < 16 → get_or xs i 0 < 256
 spread_below : (xs : List ℕ) → AreBytes xs → Each1 (λ x. x < 256) (spread xs)
 spread_below xs h = (h 0 (lit< tt), (h 1 (lit< tt), (h 2 (lit< tt), (lit< tt, (h 3 (lit< tt), (h 4 (lit< tt), (h 5 (lit< tt), (lit< tt, (h 6 (lit< tt), (h 7 (lit< tt), (h 8 (lit< tt), (lit< tt, (h 9 (lit< tt), (h 10 (lit< tt), (h 11 (lit< tt), (lit< tt, tt))))))))))))))))
 
-lane_at : (xs : List ℕ) → AreBytes xs → (j : ℕ) → j < 8 → get_or (joined xs) j 0 ≡ get_or (spread xs) (2 * j) 0 + 256 * get_or (spread xs) (2 * j + 1) 0
+lane_at : (xs : List ℕ) → AreBytes xs → (j : ℕ) → j < 8 → get_or (any_bits xs) j 0 ≡ get_or (spread xs) (2 * j) 0 + 256 * get_or (spread xs) (2 * j + 1) 0
 lane_at xs h j l =
     let s : List ℕ = spread xs in
     let rest : List ℕ = drop (2 * j) s in
@@ -46,14 +46,14 @@ lane_at xs h j l =
     let second : get_or rest 1 0 ≡ get_or s (2 * j + 1) 0 = get_or-drop (2 * j) s 1 0 in
     get_or_wider 256 2 65536 8 s j refl (spread_below xs h) l ∙ pair rest (omega (arith, length-drop (2 * j) s)) ∙ ap₂ (λ (a b : ℕ). a + 256 * b) first second
 
-front_at : (xs : List ℕ) → AreBytes xs → (k : ℕ) → k < 4 → get_or (joined xs) (2 * k) 0 ≡ get_or xs (3 * k) 0 + 256 * get_or xs (3 * k + 1) 0
+front_at : (xs : List ℕ) → AreBytes xs → (k : ℕ) → k < 4 → get_or (any_bits xs) (2 * k) 0 ≡ get_or xs (3 * k) 0 + 256 * get_or xs (3 * k + 1) 0
 front_at xs h zero l = lane_at xs h 0 (lit< tt)
 front_at xs h (suc zero) l = lane_at xs h 2 (lit< tt)
 front_at xs h (suc (suc zero)) l = lane_at xs h 4 (lit< tt)
 front_at xs h (suc (suc (suc zero))) l = lane_at xs h 6 (lit< tt)
 front_at xs h (suc (suc (suc (suc k)))) l = absurd (omega arith)
 
-last_at : (xs : List ℕ) → AreBytes xs → (k : ℕ) → k < 4 → get_or (joined xs) (2 * k + 1) 0 ≡ get_or xs (3 * k + 2) 0 + 256 * 0
+last_at : (xs : List ℕ) → AreBytes xs → (k : ℕ) → k < 4 → get_or (any_bits xs) (2 * k + 1) 0 ≡ get_or xs (3 * k + 2) 0 + 256 * 0
 last_at xs h zero l = lane_at xs h 1 (lit< tt)
 last_at xs h (suc zero) l = lane_at xs h 3 (lit< tt)
 last_at xs h (suc (suc zero)) l = lane_at xs h 5 (lit< tt)
@@ -70,7 +70,7 @@ chunk_bytes : (text : List ℕ) (at : ℕ) → ((i : ℕ) → Fits w8 (get_or te
 chunk_bytes text at fits i h = rw (in_chunk text at i h) (fits (at + i)).fits
 
 -- the lanes of sixteen bytes of a text
-pub parts_are : (text : List ℕ) (at : ℕ) → ((i : ℕ) → Fits w8 (get_or text i 0)) → AreParts text at (joined (take 16 (drop at text)))
+pub parts_are : (text : List ℕ) (at : ℕ) → ((i : ℕ) → Fits w8 (get_or text i 0)) → AreParts text at (any_bits (take 16 (drop at text)))
 parts_are text at fits =
     let xs : List ℕ = take 16 (drop at text) in
     let h = chunk_bytes text at fits in
@@ -132,8 +132,8 @@ value f l = (((f % 256 % 16 * 4096) % 2 ^ 16 + (f / 256 % 64 * 64) % 2 ^ 16) % 2
 
 abbrev number : ℕ → ℕ → ℕ
 number f l =
-    let begun : ℕ = cond (mask (eqb (f % 256 / 16) 14)) (value f l) 0 in
-    let followed : ℕ = cond (mask (eqb (f / 256 / 64) 2)) begun 0 in
+    let starts_mask : ℕ = cond (mask (eqb (f % 256 / 16) 14)) (value f l) 0 in
+    let followed : ℕ = cond (mask (eqb (f / 256 / 64) 2)) starts_mask 0 in
     let ended : ℕ = cond (mask (eqb (l / 64) 2)) followed 0 in
     cond (mask (ltb (value f l) 0x800)) 0 (cond (mask (eqb (value f l / 0x800) 27)) 0 ended)
 
@@ -159,10 +159,6 @@ number_is f l g h = grind arith
 pub number_at : (fs ls : List ℕ) (k : ℕ) → length fs ≡ 8 → length ls ≡ 8 → get_or fs k 0 < 0x10000 → get_or ls k 0 < 256 → k < 8
     → IsThreeOf (get_or fs k 0 % 256) (get_or fs k 0 / 256) (get_or ls k 0) (get_or (numbers_of 8 fs ls) k 0)
 number_at fs ls k e f g h l = rw (numbers_at 8 fs ls k e f l) (number_is (get_or fs k 0) (get_or ls k 0) g h)
-
--- no lane divides by zero
-pub none_zero : (k : ℕ) → 0 < k → (xs : List ℕ) → Each2 (λ (a b : ℕ). 0 < b) xs (replicate 8 k)
-none_zero k h xs = Each2-splat (λ (a b : ℕ). 0 < b) xs 8 k (Each1-all (λ a. 0 < k) (λ a. h) xs)
 
 -- ---- eight characters of a text
 
@@ -257,8 +253,8 @@ pub threes_read : (text : List ℕ) (at : ℕ) (first second : List ℕ) (firsts
     → ((k : ℕ) → k < firsts → 0 < get_or first k 0) → ((k : ℕ) → k < seconds → 0 < get_or second k 0) → (firsts ≡ 8) ⊎ (seconds ≡ 0)
     → AreRead text at (record { first = first; firsts = firsts; second = second; seconds = seconds; used = 3 * (firsts + seconds) })
 threes_read text at first second firsts seconds room long size are others few more some rest both =
-    let a = begun 3 (drop at text) first firsts (omega arith) (λ k l. three_at text at k (get_or first k 0) (omega arith) (are k (omega arith)) (some k l)) in
-    let b = begun 3 (drop (at + 24) text) second seconds (omega arith) (λ k l. three_at text (at + 24) k (get_or second k 0) (omega arith) (others k (omega arith)) (rest k l)) in
+    let a = starts_mask 3 (drop at text) first firsts (omega arith) (λ k l. three_at text at k (get_or first k 0) (omega arith) (are k (omega arith)) (some k l)) in
+    let b = starts_mask 3 (drop (at + 24) text) second seconds (omega arith) (λ k l. three_at text (at + 24) k (get_or second k 0) (omega arith) (others k (omega arith)) (rest k l)) in
     let front : List ℕ = take firsts first in
     let back : List ℕ = take seconds second in
     let e : flat_map utf8_bytes (front ++ back) ≡ flat_map utf8_bytes front ++ flat_map utf8_bytes back = flat_map-append utf8_bytes front back in

@@ -11,15 +11,15 @@ use Rattle.std.proofs.lemmas.Nat.Bits.{bit_at-lt, bit_at_and, bit_at_ones, bit_a
 use Rattle.std.proofs.lemmas.Nat.{one_shl}
 use Rattle.std.proofs.lemmas.Simd.{bit_mask_l, length-chunk, get_or-chunk}
 use lib.Lanes.{Each1}
-use Rattle.cv_utf8.specs.Private.Utf8Short.{is_among, is_behind, short_of}
+use Rattle.cv_utf8.specs.Private.Utf8Short.{is_among, is_continuation, short_of}
 use Rattle.cv_utf8.specs.Private.Utf8Windows.{AreMarks, IsOneAt, IsTwoAt, IsThreeAt, three_high, whole_of}
 use Rattle.cv_utf8.proofs.Utf8Marks.{one_if}
 use Rattle.cv_utf8.proofs.Utf8ShortLanes.{above, above_all}
 use Rattle.cv_utf8.proofs.Utf8Covered.{covered, firsts, firsts_of_marks, lt_or_le}
-use Rattle.cv_utf8.proofs.Utf8Begun.{begins_if, not_read}
+use Rattle.cv_utf8.proofs.Utf8Starting.{begins_if, not_read}
 
 -- the test for bytes that are no continuation bytes
-not_behind : (x : ℕ) → x < 256 → is_among 0xc0 0xc0 x ≡ not (is_behind x)
+not_behind : (x : ℕ) → x < 256 → is_among 0xc0 0xc0 x ≡ not (is_continuation x)
 not_behind x h = grind arith
 
 lane_bit : (b : Bool) → one_if (not b) ≡ cond b 0 1
@@ -27,12 +27,12 @@ lane_bit true = refl
 lane_bit false = refl
 
 -- in which lanes a character begins
-pub beginning_at : (text : List ℕ) (at m k : ℕ) → at + 16 ≤ length text → ((i : ℕ) → Fits w8 (get_or text i 0)) → m ≡ mask_l (map (is_among 0xc0 0xc0) (take 16 (drop at text))) → k < 16 → bit_at m k ≡ cond (is_behind (get_or text (at + k) 0)) 0 1
+pub beginning_at : (text : List ℕ) (at m k : ℕ) → at + 16 ≤ length text → ((i : ℕ) → Fits w8 (get_or text i 0)) → m ≡ mask_l (map (is_among 0xc0 0xc0) (take 16 (drop at text))) → k < 16 → bit_at m k ≡ cond (is_continuation (get_or text (at + k) 0)) 0 1
 beginning_at text at m k room fits e h =
     let xs : List ℕ = take 16 (drop at text) in
     let x : ℕ = get_or text (at + k) 0 in
     let lane : get_or (map (is_among 0xc0 0xc0) xs) k false ≡ is_among 0xc0 0xc0 x = get_or-map (is_among 0xc0 0xc0) xs k 0 false (omega (arith, length-chunk at 16 text room)) ∙ ap (is_among 0xc0 0xc0) (get_or-chunk at 16 text k 0 h) in
-    ap (λ n. bit_at n k) e ∙ bit_mask_l (map (is_among 0xc0 0xc0) xs) k ∙ ap one_if (lane ∙ not_behind x (fits (at + k)).fits) ∙ lane_bit (is_behind x)
+    ap (λ n. bit_at n k) e ∙ bit_mask_l (map (is_among 0xc0 0xc0) xs) k ∙ ap one_if (lane ∙ not_behind x (fits (at + k)).fits) ∙ lane_bit (is_continuation x)
 
 below : (a k u : ℕ) (b : Bool) → a < 2 → (k < u → a ≡ cond b 0 1) → k < u ⊎ u ≤ k → min a (bit_at (2 ^ u - 1) k) ≡ begins_if b (ltb k u)
 below a k u b s e (inl h) =
@@ -44,9 +44,9 @@ below a k u b s e (inr h) =
 
 -- in which lanes a complete character begins
 pub whole_beginning_at : (text : List ℕ) (at one two three used k : ℕ) → ((i : ℕ) → Fits w8 (get_or text i 0)) → AreMarks (IsOneAt text) at one → AreMarks (IsTwoAt text) at two → AreMarks (IsThreeAt text) at three → used ≡ trailing_ones w64 (covered one two three)
-    → bit_at (bit_and (firsts one two three) (2 ^ used - 1)) k ≡ begins_if (is_behind (get_or text (at + k) 0)) (ltb k used)
+    → bit_at (bit_and (firsts one two three) (2 ^ used - 1)) k ≡ begins_if (is_continuation (get_or text (at + k) 0)) (ltb k used)
 whole_beginning_at text at one two three used k fits p q r e =
-    bit_at_and (firsts one two three) (2 ^ used - 1) k ∙ below (bit_at (firsts one two three) k) k used (is_behind (get_or text (at + k) 0)) (bit_at-lt (firsts one two three) k) (firsts_of_marks text at one two three used k fits p q r e) (lt_or_le k used)
+    bit_at_and (firsts one two three) (2 ^ used - 1) k ∙ below (bit_at (firsts one two three) k) k used (is_continuation (get_or text (at + k) 0)) (bit_at-lt (firsts one two three) k) (firsts_of_marks text at one two three used k fits p q r e) (lt_or_le k used)
 
 -- a shift of 1 by at most 18 bits does not overflow
 pub lowest : (used : ℕ) → used ≤ 18 → (1 * 2 ^ used) % 2 ^ 64 ≡ 2 ^ used

@@ -1,4 +1,4 @@
-use Rattle.refusals.proofs.engines.lines.Given as goal
+use Rattle.gate_refusals.proofs.engines.lines.Given as goal
 
 -- the engine can answer the next batch
 abbrev pub invariant-loop-batch : goal.invariant-loop-batch

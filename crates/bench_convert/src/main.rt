@@ -50,7 +50,7 @@ fn bench<R: Env + Clock + Input + Print + AllocGlobal>(rt: &R) -> io::Result<()>
     let words = words_of(alloc, &owned)?;
     let Some(asked) = asked(&words) else {
         return println!(rt;
-            "bench TO FROM CALL ROUNDS substitute|strict SIZE: on standard input SIZE bytes of a charmap, which TO or FROM 'charmap' is, and the text"
+            "bench_convert TO FROM CALL ROUNDS substitute|strict SIZE: on standard input SIZE bytes of a charmap, which TO or FROM 'charmap' is, and the text"
         );
     };
     match measure(rt, &asked)? {

@@ -87,7 +87,7 @@ fn rounds_of(words: &[String]) -> Option<u64> {
 fn bench<R: Threads + Wait + Sync + Env + Clock + Print + AllocGlobal>(rt: &R) -> io::Result<()> {
     let words: Vec<String> = env::args(rt)?.collect(rt.alloc())?;
     let Some(rounds) = rounds_of(&words) else {
-        return println!(rt; "pool_bench ROUNDS: how long a pool takes for a batch");
+        return println!(rt; "bench_pool ROUNDS: how long a pool takes for a batch");
     };
     for kind in [Kind::Small, Kind::Large, Kind::Uploads] {
         for workers in WORKERS {

@@ -1,4 +1,4 @@
-use Rattle.refusals.proofs.engines.answer.Given as goal
+use Rattle.gate_refusals.proofs.engines.answer.Given as goal
 
 -- the engine can answer a request that is made again
 abbrev pub invariant-loop-request : goal.invariant-loop-request

@@ -126,7 +126,7 @@ fn rounds_of(words: &[String]) -> Option<u64> {
 fn bench<R: Env + Clock + Input + Print + AllocGlobal>(rt: &R) -> io::Result<()> {
     let words: Vec<String> = env::args(rt)?.collect(rt.alloc())?;
     let Some(rounds) = rounds_of(&words) else {
-        return println!(rt; "map_bench ROUNDS: the charmap on standard input");
+        return println!(rt; "bench_charmap_build ROUNDS: the charmap on standard input");
     };
     let mut text = Vec::new(rt.alloc());
     rt.reader().read_to_end(&mut text)?;

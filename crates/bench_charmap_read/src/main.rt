@@ -47,7 +47,7 @@ fn bench<R: Env + Clock + Input + Print + AllocGlobal>(rt: &R) -> io::Result<()>
     let words = words_of(alloc, &owned)?;
     match rounds_of(&words) {
         Some(rounds) => measure(rt, rounds),
-        None => println!(rt; "charmap_bench ROUNDS: the charmap on standard input"),
+        None => println!(rt; "bench_charmap_read ROUNDS: the charmap on standard input"),
     }
 }
 

@@ -1,11 +1,11 @@
 //! Three ways to ask an engine.
-use crate::requests::push_frame;
 use cv_base::Memory;
 use cv_frame::{Reply, Request, write_reply};
 use cv_loop::{Engine, FromReader, Served, ToWriter, serve};
 use cv_world::Replies;
 use std::alloc::{AllocError, Global};
 use std::test::Fail;
+use test_support::push_frame;
 
 /// How an engine is asked.
 #[derive(Clone, Copy, Debug)]

@@ -5,20 +5,12 @@
 #[cfg(test)]
 mod asking;
 #[cfg(test)]
-mod charmap_texts;
-#[cfg(test)]
 mod engines;
 #[cfg(test)]
 mod one_cache;
 #[cfg(test)]
-mod ops;
-#[cfg(test)]
 mod pool;
-#[cfg(test)]
-mod requests;
 #[cfg(test)]
 mod serving;
 #[cfg(test)]
 mod streams;
-#[cfg(test)]
-mod words;

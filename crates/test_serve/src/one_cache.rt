@@ -1,17 +1,16 @@
 //! The charmaps of several callers with one cache, in a world and in a pool of two workers, asked in each of three
 //! ways.
 use crate::asking::{WAYS, Way, told};
-use crate::charmap_texts::charmap_text;
-use crate::ops::{CONV, DROP, OK, OPEN, PUT};
-use crate::requests::{push_frame, request};
 use cv_cache::Cached;
 use cv_frame::Request;
+use cv_frame::ops::{CONV, DROP, OPEN, PUT};
 use cv_loop::WorldWith;
 use cv_pool::{Open, Pool};
 use std::alloc::Global;
 use std::sync::Wait;
 use std::test::Fail;
 use std::thread::Threads;
+use test_support::{OK, charmap_text, push_frame, request};
 
 /// An engine with a cache that the test can look into.
 #[derive(Drop)]

@@ -1,12 +1,12 @@
 //! Charmaps that are compiled, and the cache that holds them with their texts.
-use crate::charmap_texts::{charmap_text, text_of_size};
-use crate::words::{sides, text_of};
+use crate::words::text_of;
 use cv_cache::{Cached, Compiler, HashKeys, Maps, Plain};
 use cv_charmap::CompileFault;
 use cv_trie::Charmap;
 use std::alloc::{AllocError, Global};
 use std::sync::{Arc, Wait};
 use std::test::Fail;
+use test_support::{charmap_text, sides, text_of_size};
 
 /// The text of a charmap TOY with five mappings.
 fn toy_text(alloc: Global) -> Result<String, AllocError> {

@@ -4,7 +4,6 @@
 //! these names. `add_part TIMES TEXT` adds a text TIMES times.
 ghost use Rattle.cv_caller.specs.Keyed.{IsHeld};
 
-use crate::words::{first_word, sides};
 use cv_cache::{Compiler, Plain};
 use cv_caller::{Found, Place, Table};
 use cv_pivot::Encoding;
@@ -15,6 +14,7 @@ use std::mem::size_of;
 use std::process::Abort;
 use std::sync::Arc;
 use std::test::Fail;
+use test_support::{first_word, sides};
 
 /// Makes the call of each line, and compares the answers.
 fn call<R: Abort + AllocGlobal>(rt: &R, table: &mut Table, calls: &str) -> Result<(), Fail> {

@@ -1,5 +1,5 @@
 //! Frames of requests and replies, and the bodies of requests.
-use crate::words::{bytes_of, first_word, policy_of, sides};
+use crate::words::policy_of;
 use cv_base::Piece;
 use cv_frame::{
     Ask, Bytes, Frame, OpenBody, Reply, ReplyFrame, Status, next_reply, next_request, read_conv,
@@ -7,6 +7,7 @@ use cv_frame::{
 };
 use std::alloc::{AllocError, Global};
 use std::test::Fail;
+use test_support::{bytes_of, first_word, sides};
 
 /// Requests as scripts write them, and their frames: the length, the caller, the tag, the op and the body.
 const REQUESTS: &str = r#"

@@ -6,6 +6,7 @@ use cv_frame::{Frame, Reply, next_request, write_reply};
 use cv_world::{Replies, World};
 use std::alloc::{AllocError, Global};
 use std::test::Fail;
+use test_support::push_frame;
 
 /// The ops and bodies of requests that are no conversions. Some bodies are malformed.
 const OTHERS: [&[u8]; 20] = [
@@ -43,22 +44,6 @@ const ROOMS: [u32; 18] = [
 const SIZES: [u32; 14] = [
     0, 1, 2, 3, 5, 8, 11, 12, 64, 1_023, 1_024, 1_025, 4_100, 20_000,
 ];
-
-/// Appends the frame of a request.
-fn push_frame(
-    frames: &mut Vec<u8>,
-    caller: u32,
-    tag: u32,
-    op: u8,
-    body: &[u8],
-) -> Result<(), AllocError> {
-    let length = u32::try_from(body.len()).unwrap_or(0).saturating_add(9);
-    frames.extend_from_slice(&length.to_be_bytes())?;
-    frames.extend_from_slice(&caller.to_be_bytes())?;
-    frames.extend_from_slice(&tag.to_be_bytes())?;
-    frames.push(op)?;
-    frames.extend_from_slice(body)
-}
 
 /// Appends the frame of a CONV. About one text in three has a bad byte, and about one body in eight has neither a
 /// number nor a room.

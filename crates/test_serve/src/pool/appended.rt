@@ -3,7 +3,6 @@ use super::in_order::{convs, letters, opens};
 use super::pool_of;
 use crate::asking::{WAYS, Way, told};
 use crate::streams::{TOLD, TWO_CALLERS};
-use crate::words::sides;
 use cv_cache::Plain;
 use cv_frame::{Frame, Request, next_request};
 use cv_loop::WorldWith;
@@ -12,6 +11,7 @@ use std::alloc::{AllocError, Global};
 use std::sync::Wait;
 use std::test::Fail;
 use std::thread::Threads;
+use test_support::sides;
 
 /// The number of workers, and how many bytes each CONV has. A batch of small ones runs on the calling thread, and one
 /// of the others on several threads if there are several workers.

@@ -3,13 +3,10 @@ ghost use Rattle.std.specs.Thread.{IsSync};
 
 use super::watched::Watched;
 use crate::asking::{WAYS, Way, told};
-use crate::charmap_texts::text_of_size;
-use crate::ops::{CONV, OK, PUT};
-use crate::requests::{push_frame, request};
-use crate::words::sides;
 use cv_base::Memory;
 use cv_cache::{Compiler, Plain};
 use cv_charmap::CompileFault;
+use cv_frame::ops::{CONV, PUT};
 use cv_frame::{Reply, Request};
 use cv_loop::Engine;
 use cv_pool::{Gate, Open, Pool};
@@ -20,6 +17,7 @@ use std::sync::atomic::{AtomicU64, Ordering};
 use std::sync::{Arc, Wait};
 use std::test::Fail;
 use std::thread::{self, Threads};
+use test_support::{OK, push_frame, request, sides, text_of_size};
 
 /// How often a flag is looked at before it counts as late.
 const MOST_LOOKS: u32 = 1_000_000;

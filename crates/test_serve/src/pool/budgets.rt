@@ -1,14 +1,14 @@
 //! A pool within a budget: each worker has a part of it, and what the callers hold is reported after each batch.
 use crate::asking::{WAYS, told};
-use crate::ops::{BYE, OK, OPEN};
-use crate::requests::{push_frame, request};
 use cv_cache::Cached;
 use cv_caller::{CALLER_BYTES, DESCRIPTOR_BYTES};
 use cv_frame::Status;
+use cv_frame::ops::{BYE, OPEN};
 use cv_pool::{Open, Pool, Tallied, Tally};
 use cv_world::{Budget, Usage};
 use std::sync::atomic::{AtomicU64, Ordering};
 use std::test::Fail;
+use test_support::{OK, push_frame, request};
 
 /// The body of an OPEN from US-ASCII to UTF-8.
 const NAMES: &[u8] = b"\x05UTF-8\x08US-ASCII";

@@ -3,11 +3,9 @@ ghost use Rattle.std.specs.Thread.{IsSync};
 
 use super::watched::Watched;
 use crate::asking::{WAYS, Way, told};
-use crate::ops::CLOSE;
-use crate::requests::request;
-use crate::words::sides;
 use cv_base::Memory;
 use cv_cache::Plain;
+use cv_frame::ops::CLOSE;
 use cv_frame::{Reply, Request};
 use cv_loop::Engine;
 use cv_pool::{Gate, Pool};
@@ -17,6 +15,7 @@ use std::sync::Wait;
 use std::sync::atomic::{AtomicU64, Ordering};
 use std::test::Fail;
 use std::thread::Threads;
+use test_support::{request, sides};
 
 /// A gate that records its calls as a decimal number: two digits for each, the shard and the turn. Nothing waits at it,
 /// so no thread is started for little work.

@@ -1,15 +1,14 @@
 //! The replies to a batch are in the order of its requests, for any number of workers.
 use super::pool_of;
-use crate::ops::{CONV, OPEN};
-use crate::requests::request;
-use crate::words::sides;
 use cv_cache::{Cached, Plain};
+use cv_frame::ops::{CONV, OPEN};
 use cv_frame::{Reply, Request, Status};
 use cv_pool::{Open, Pool};
 use std::alloc::{AllocError, Global};
 use std::sync::Wait;
 use std::test::Fail;
 use std::thread::Threads;
+use test_support::{request, sides};
 
 /// The body of an OPEN from US-ASCII to UTF-8.
 const TO_UTF8: &[u8] = b"\x05UTF-8\x08US-ASCII";

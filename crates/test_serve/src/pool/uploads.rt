@@ -1,11 +1,12 @@
 //! The charmaps of two callers, in a stream that a pool serves.
 use super::pool_of;
-use crate::streams::{Slow, TOLD, TWO_CALLERS};
+use crate::streams::{TOLD, TWO_CALLERS};
 use cv_loop::{FromReader, Served, ToWriter, serve};
 use std::alloc::Global;
 use std::sync::Wait;
 use std::test::Fail;
 use std::thread::Threads;
+use test_support::Slow;
 
 #[test]
 fn a_stream_is_served_however_it_is_cut(rt: HostRuntime) -> Result<(), Fail> {

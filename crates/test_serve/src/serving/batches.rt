@@ -3,10 +3,8 @@ ghost use Rattle.cv_caller.specs.Tables.{Table as WorldTable};
 ghost use Rattle.cv_world.specs.Requests.{turn};
 ghost use Rattle.cv_world.specs.Worlds.{world_tables};
 
-use crate::ops::{CLOSE, PUT};
-use crate::requests::push_frame;
-use crate::words::sides;
 use cv_base::Memory;
+use cv_frame::ops::{CLOSE, PUT};
 use cv_frame::{Reply, Request};
 use cv_loop::{Engine, FromReader, ToWriter, serve};
 use cv_machine::Machine;
@@ -15,6 +13,7 @@ use std::alloc::Global;
 use std::io::{self, Write};
 use std::sync::atomic::{AtomicU64, Ordering};
 use std::test::Fail;
+use test_support::{push_frame, sides};
 
 /// A world that records how many requests each batch has, and how many writes were made before it.
 #[derive(Drop)]

@@ -1,8 +1,9 @@
 //! Two callers, each with a charmap of the same name. How the reader cuts their stream changes no reply.
-use crate::streams::{Narrow, Slow, TOLD, TWO_CALLERS};
+use crate::streams::{Narrow, TOLD, TWO_CALLERS};
 use cv_loop::{FromReader, ServeFault, Served, ToWriter, serve};
 use cv_world::World;
 use std::alloc::Global;
+use test_support::Slow;
 
 /// Whether the replies are right if a reader gives the first `first` bytes and then the others, at most `step` at a
 /// time.

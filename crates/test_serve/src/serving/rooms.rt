@@ -1,11 +1,10 @@
 //! How much room each read has: little at first, and more after reads that fill it.
-use crate::requests::push_frame;
-use crate::words::sides;
 use cv_loop::{FromReader, ToWriter, serve};
 use cv_world::World;
 use std::alloc::Global;
 use std::io::{self, Read};
 use std::test::Fail;
+use test_support::{push_frame, sides};
 
 /// A reader that gives its bytes, at most `step` at a time, and records how much room each read has.
 #[derive(Drop)]

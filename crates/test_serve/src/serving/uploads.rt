@@ -1,13 +1,12 @@
 //! Uploads that are served by a world with a compiler.
-use crate::ops::{BYE, PART, PUT};
-use crate::requests::request;
-use crate::words::{first_word, sides};
 use cv_cache::Plain;
+use cv_frame::ops::{BYE, PART, PUT};
 use cv_frame::{Reply, Request};
 use cv_loop::{Engine, WorldWith};
 use std::alloc::Global;
 use std::process::Abort;
 use std::test::Fail;
+use test_support::{first_word, request, sides};
 
 /// Requests, and the statuses of their replies. A `part` begins a charmap text with its name, and every `put` ends one
 /// with the same lines. An accepted charmap uses up the part, and a refused one leaves it.

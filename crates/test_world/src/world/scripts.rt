@@ -1,12 +1,13 @@
 //! Scripts of requests to a world. A line is `CALLER REQUEST = ANSWER`. The request is written as in the program's
 //! scripts, and in its text `|` means a line feed. An answer is `empty`, `number NUMBER`, `count COUNT`, `STOP LEFT
 //! COUNT OUTPUT`, `written CLOSING`, `BADMAP LINE`, or the name of another status.
-use crate::words::{bytes_of, first_word, policy_of, sides, text_of};
+use crate::words::{policy_of, text_of};
 use cv_cache::{Compiler, Plain};
 use cv_world::{Answer, Op, World};
 use std::alloc::{AllocError, Global};
 use std::process::Abort;
 use std::test::Fail;
+use test_support::{bytes_of, first_word, sides};
 
 /// Sends the requests of all lines to one new world, and compares the answers.
 pub fn ask<R: Abort + AllocGlobal>(rt: &R, script: &str) -> Result<(), Fail> {

@@ -1,9 +1,9 @@
 //! Requests as engines take them, and their frames.
-use cv_frame::Request;
+use cv_frame::{MOST_BODY, Request};
 use std::alloc::AllocError;
 
-/// The greatest size of a body in bytes.
-const LONGEST: usize = 1_048_567;
+/// The status of a reply to a request that succeeded. It is at the offset of the frame at which a request has its op.
+pub const OK: u8 = 0;
 
 /// Returns a request with this body, or with as much of it as a frame holds.
 pub fn request(caller: u32, tag: u32, op: u8, body: &[u8]) -> Request<'_> {
@@ -11,7 +11,7 @@ pub fn request(caller: u32, tag: u32, op: u8, body: &[u8]) -> Request<'_> {
         caller,
         tag,
         op,
-        body: &body[..body.len().min(LONGEST)],
+        body: &body[..body.len().min(MOST_BODY)],
     }
 }
 
@@ -23,12 +23,11 @@ pub fn push_frame(
     op: u8,
     body: &[u8],
 ) -> Result<(), AllocError> {
-    let request = request(caller, tag, op, body);
-    let length = request.body.len().min(LONGEST) as u32 + 9;
+    let body = &body[..body.len().min(MOST_BODY)];
+    let length = body.len() as u32 + 9;
     stream.extend_from_slice(&length.to_be_bytes())?;
     stream.extend_from_slice(&caller.to_be_bytes())?;
     stream.extend_from_slice(&tag.to_be_bytes())?;
     stream.push(op)?;
-    stream.extend_from_slice(request.body)?;
-    Ok(())
+    stream.extend_from_slice(body)
 }

@@ -1,12 +1,13 @@
 //! Tables of blocks. To read, a line is `INPUT USED: CHARACTERS`: how many bytes of the input are read, and as which
 //! characters. To write, a line is `CHARACTERS: COUNT BYTES STATE`: for how many characters `?` is written, the bytes
 //! of all, and the writer's state after them. Or it is `CHARACTERS: none`, if no block is written.
-use crate::words::{bytes_of, scalars_of, sides};
+use crate::words::scalars_of;
 use crate::writing::state_name;
 use cv_base::{BlockCodec, Policy, ReadState, Scalar, WriteState};
 use std::alloc::Global;
 use std::process::Abort;
 use std::test::Fail;
+use test_support::{bytes_of, sides};
 
 /// Reads the input of each line as a block, and compares the characters. The reader is in `state` before and after
 /// each.

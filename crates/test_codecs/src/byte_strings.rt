@@ -1,9 +1,9 @@
 //! A byte trie whose nodes have one edge, a few edges or many, compared with the strings that were added to it.
-use crate::words::{bytes_of, sides};
 use cv_base::Scalar;
 use cv_byte_trie::{Added, ByteTrie, Found, NONE};
 use std::alloc::{AllocError, Global};
 use std::test::Fail;
+use test_support::{bytes_of, sides};
 
 /// Adds a string. The trie takes strings of one to eight bytes.
 fn add(trie: &mut ByteTrie, bytes: &[u8]) -> Result<Added, Fail> {

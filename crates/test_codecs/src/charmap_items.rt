@@ -2,11 +2,11 @@
 use crate::blocks::{read_blocks, write_blocks};
 use crate::charmap_texts::charmap;
 use crate::items::read_items;
-use crate::words::sides;
 use crate::writing::write_lines;
 use cv_base::{Codec, Policy, ReadState, WriteState};
 use std::process::Abort;
 use std::test::Fail;
+use test_support::sides;
 
 const TOY: &str = r#"
 81fe81: char 100 2, in Start

@@ -1,9 +1,10 @@
 //! The pairs of a small charmap, compared with a list made by hand.
-use crate::words::{bytes_of, scalar_of, sides};
+use crate::words::scalar_of;
 use cv_byte_trie::Found;
 use cv_charmap::{CompileFault, Pairs, laws, read};
 use std::alloc::Global;
 use std::test::Fail;
+use test_support::{bytes_of, sides};
 
 const TOY: &[u8] = b"<code_set_name> TOY\n\
     <mb_cur_max> 2\n\

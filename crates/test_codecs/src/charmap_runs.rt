@@ -1,8 +1,9 @@
 //! Ranges whose mappings are entered together, and what ends such a run.
-use crate::words::{bytes_of, scalar_of, sides};
+use crate::words::scalar_of;
 use cv_charmap::{Pairs, read};
 use std::alloc::{AllocError, Global};
 use std::test::Fail;
+use test_support::{bytes_of, sides};
 
 /// The text of a charmap with these mappings, each of which ends with `|`. They begin in line 5.
 fn charmap(alloc: Global, mappings: &str) -> Result<Vec<u8>, AllocError> {

@@ -1,13 +1,13 @@
 //! Tables of conversions. A line is `SOURCE TARGET: CALL; CALL ..`, and the calls are made one after the other. A call
 //! is `INPUT ROOM = STOP LEFT COUNT OUTPUT` or `reset ROOM = CLOSING`. CLOSING is `TooBig` if the bytes don't fit.
 use crate::charmap_texts::charmap;
-use crate::words::{bytes_of, sides};
 use cv_base::{Memory, Policy};
 use cv_pivot::{Conversion, Encoding, builtin};
 use std::alloc::Global;
 use std::process::Abort;
 use std::sync::Arc;
 use std::test::Fail;
+use test_support::{bytes_of, sides};
 
 /// Makes the calls of each line, and compares their results.
 pub fn convert<R: Abort + AllocGlobal>(rt: &R, policy: Policy, table: &str) -> Result<(), Fail> {

@@ -1,6 +1,5 @@
 //! The loops that convert directly from one encoding to another, and the reading of UTF-8 by windows. The tests show
 //! that they take all of a plain text. No contract says so, since what a loop leaves is converted by blocks.
-use crate::words::bytes_of;
 use cv_block::{BigEndian, LittleEndian};
 use cv_direct::{
     Direct, begins_with_fours, latin1_to_utf8, utf8_to_utf16, utf16_swapped, utf16_to_utf8,
@@ -9,6 +8,7 @@ use cv_direct::{
 use cv_utf8::read_units;
 use std::alloc::Global;
 use std::test::Fail;
+use test_support::bytes_of;
 
 /// Sixteen characters of one, two and three bytes in UTF-8: `Словоa: 漢字仮名交ひらが`, as Python encodes them.
 const UTF8: &str = "d0a1d0bbd0bed0b2d0be613a20e6bca2e5ad97e4bbaee5908de4baa4e381b2e38289e3818c";

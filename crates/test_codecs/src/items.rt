@@ -1,11 +1,11 @@
 //! Tables of items. A line is `INPUT: ITEM, ITEM ..`. The items follow each other from the start of the input. An item
 //! is `char NUMBER BYTES`, `shift BYTES`, `incomplete`, `ill` or `end`. After an item `in STATE` is the reader's state
 //! after it.
-use crate::words::{bytes_of, sides};
 use cv_base::{Codec, Item, ReadState};
 use std::alloc::{AllocError, Global};
 use std::process::Abort;
 use std::test::Fail;
+use test_support::{bytes_of, sides};
 
 /// Reads the items of each line, and compares them. The reader is in `state` before the first item of a line.
 pub fn read_items<R: Abort + AllocGlobal, C: Codec>(

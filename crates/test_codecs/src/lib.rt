@@ -1,6 +1,7 @@
 //! Tests of the encodings, of charmaps and of conversions. A crate with tests is proved twice. So the tests of crates
 //! that many others use are here, and use only their public items. Proofs about nested arrays are expensive, so a table
-//! is a text: `words` reads its words, and `items`, `writing`, `blocks` and `converting` make the calls of its lines.
+//! is a text: `words` and `test_support` read its words, and `items`, `writing`, `blocks` and `converting` make the calls
+//! of its lines.
 #![tactic(auto)]
 
 #[cfg(test)]

@@ -1,9 +1,9 @@
 //! Names, scalar values and blocks, compared with values from other sources.
 use crate::blocks::{read_blocks, write_blocks};
-use crate::words::{bytes_of, sides};
 use crate::writing::write_lines;
 use cv_base::{Ascii, Latin1, Policy, ReadState, Scalar, WriteState, same_name};
 use std::test::Fail;
+use test_support::{bytes_of, sides};
 
 const NAMES: &str = r#"
 "" "": same

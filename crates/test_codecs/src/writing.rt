@@ -1,11 +1,12 @@
 //! Tables of characters that are written. A line is `CHARACTERS: BYTES STATE CLOSING`: the numbers of characters, the
 //! bytes that they are written as, the writer's state after them, and the bytes that close the text. In a line
 //! `CHARACTERS: lacking` the encoding lacks one of the characters.
-use crate::words::{bytes_of, scalar_of, sides};
+use crate::words::scalar_of;
 use cv_base::{Codec, Put, Scalar, WriteState};
 use std::alloc::Global;
 use std::process::Abort;
 use std::test::Fail;
+use test_support::{bytes_of, sides};
 
 /// Writes the characters of each line, and compares the bytes. The writer is in `state` before the first character of a
 /// line.

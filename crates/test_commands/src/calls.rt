@@ -1,11 +1,11 @@
 //! `call_over` with a peer that sends its replies in pieces, closes, fails, or takes only a part of the requests.
 use crate::tables::{Call, check_lines};
-use crate::words::sides;
 use cv_commands::call_over;
 use cv_loop::{FromReader, ToWriter};
 use std::alloc::Global;
-use std::io::{self, Cursor, ErrorKind, Read};
+use std::io::Cursor;
 use std::test::Fail;
+use test_support::{Slow, sides};
 
 const SCRIPT: &[u8] = b"7 1 open US-ASCII ISO-8859-1\n7 2 conv 0 8 41e942\n7 3 close 0\n";
 
@@ -21,27 +21,6 @@ const REPLIES: &[u8] = b"\0\0\0\x0d\0\0\0\x07\0\0\0\x01\0\0\0\0\0\
 
 /// What is in `lines` before the call, and the lines of the replies after it. They end at 7, 23, 53 and 62 bytes.
 const LINES: &[u8] = b"before\n7 1 OK 00000000\n7 2 OK 0000000000000001413f42\n7 3 OK -\n";
-
-/// A reader that gives these replies, at most `step` bytes a read, and then the end of the stream or a failure.
-#[derive(Drop)]
-struct Peer {
-    replies: &'static [u8],
-    step: usize,
-    fails: bool,
-}
-
-impl Read for Peer {
-    fn read(&mut self, buf: &mut [u8]) -> io::Result<usize> {
-        let n = self.step.min(self.replies.len()).min(buf.len());
-        if n == 0 && self.fails {
-            return Err(ErrorKind::ConnectionReset.into());
-        }
-        let (front, rest) = self.replies.split_at(n);
-        buf[..n].copy_from_slice(front);
-        self.replies = rest;
-        Ok(n)
-    }
-}
 
 /// A line is `NAME: REPLIES STEP ENDING ROOM => SENT SHOWN RESULT`. The peer sends the first REPLIES bytes of the
 /// replies, or a bad length for `bad`, in reads of at most STEP bytes. Then it closes or fails. It takes ROOM bytes.
@@ -70,17 +49,18 @@ fn replies_of(word: &str) -> Result<&'static [u8], Fail> {
 }
 
 /// The peer that the words of a line describe, and how many bytes it takes.
-fn peer_of(words: &str) -> Result<(Peer, usize), Fail> {
+fn peer_of(words: &str) -> Result<(Slow<'static>, usize), Fail> {
     let (replies, words) = sides(words, " ")?;
     let (step, words) = sides(words, " ")?;
     let (ending, room) = sides(words, " ")?;
-    let replies = replies_of(replies)?;
+    let bytes = replies_of(replies)?;
     let step = step.parse::<usize>()?;
     let room = room.parse::<usize>()?;
     let fails = ending == "fails";
     Ok((
-        Peer {
-            replies,
+        Slow {
+            bytes,
+            more: b"",
             step,
             fails,
         },

@@ -1,9 +1,9 @@
 //! Charmap texts, and what `check_text` reports for them. In a text `|` means a line feed. A text that begins with a
-//! quotation mark is written as `words::bytes_of` reads it.
-use crate::words::bytes_of;
+//! quotation mark is written as `bytes_of` reads it.
 use cv_commands::check_text;
 use std::alloc::Global;
 use std::test::Fail;
+use test_support::bytes_of;
 
 /// Returns whether `check_text` reports these words for a prefix and the text after it, and refuses them exactly if the
 /// words begin with `line `.

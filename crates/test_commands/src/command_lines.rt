@@ -1,9 +1,9 @@
 //! Command lines, and what the program reads from them.
 use crate::tables::{Call, check_lines};
-use crate::words::sides;
 use cv_command_line::{VERSION, options, usage_status};
 use std::alloc::{AllocError, Global};
 use std::test::Fail;
+use test_support::sides;
 
 /// The words of a command line. The first is the program's name.
 fn words_of(alloc: Global, line: &str) -> Result<Vec<&str>, AllocError> {

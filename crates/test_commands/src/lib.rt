@@ -1,7 +1,7 @@
 //! Tests of scripts, reply lines, charmap files, the commands and the command line. A crate with tests is proved twice.
 //! So the tests are not in the crates themselves, and show what a user of the program could see. Proofs about nested
-//! arrays are expensive, so a table is a text: `words` reads its words, and `tables` and `exchanging` make the calls of
-//! its lines.
+//! arrays are expensive, so a table is a text: `words` and `test_support` read its words, and `tables` and `exchanging`
+//! make the calls of its lines.
 #![tactic(auto)]
 
 #[cfg(test)]

@@ -2,22 +2,16 @@
 use cv_commands::{call_over, read_all, serve_stream};
 use cv_loop::{FromReader, Served, ToWriter};
 use std::alloc::{AllocError, Global};
-use std::io::{self, Read};
 use std::test::Fail;
+use test_support::Slow;
 
 /// A reader that gives one byte a read.
-#[derive(Drop)]
-struct OneByOne<'a> {
-    bytes: &'a [u8],
-}
-
-impl Read for OneByOne<'_> {
-    fn read(&mut self, buf: &mut [u8]) -> io::Result<usize> {
-        let n = self.bytes.len().min(buf.len()).min(1);
-        let (front, rest) = self.bytes.split_at(n);
-        buf[..n].copy_from_slice(front);
-        self.bytes = rest;
-        Ok(n)
+fn one_by_one(bytes: &[u8]) -> Slow<'_> {
+    Slow {
+        bytes,
+        more: b"",
+        step: 1,
+        fails: false,
     }
 }
 
@@ -44,9 +38,7 @@ const CONVERTED: &[u8] = b"\0\0\0\x15\0\0\0\x07\0\0\0\x02\0\0\0\0\0\0\0\0\0\x41\
 fn a_stream_of_many_reads_is_served(rt: HostRuntime) -> Result<(), Fail> {
     let requests = repeated(rt.alloc(), OPEN, CONV)?;
     let replies = repeated(rt.alloc(), OPENED, CONVERTED)?;
-    let mut reader = FromReader::new(OneByOne {
-        bytes: requests.as_slice(),
-    });
+    let mut reader = FromReader::new(one_by_one(&requests));
     let mut writer = ToWriter::new(Vec::new(rt.alloc()));
     let served = serve_stream(&rt, rt.alloc(), &mut reader, &mut writer, 2)?;
     assert_eq!(rt; served, Served { requests: 301 });
@@ -57,12 +49,7 @@ fn a_stream_of_many_reads_is_served(rt: HostRuntime) -> Result<(), Fail> {
 #[test]
 fn a_file_of_many_reads_is_read(rt: HostRuntime) -> Result<(), Fail> {
     let requests = repeated(rt.alloc(), OPEN, CONV)?;
-    let bytes = read_all(
-        rt.alloc(),
-        OneByOne {
-            bytes: requests.as_slice(),
-        },
-    )?;
+    let bytes = read_all(rt.alloc(), one_by_one(&requests))?;
     assert!(rt; bytes.as_slice() == requests.as_slice());
     Ok(())
 }
@@ -75,9 +62,7 @@ fn a_peer_of_many_reads_is_called(rt: HostRuntime) -> Result<(), Fail> {
         b"7 2 conv 0 8 41e942\n",
     )?;
     let replies = repeated(rt.alloc(), OPENED, CONVERTED)?;
-    let mut source = FromReader::new(OneByOne {
-        bytes: replies.as_slice(),
-    });
+    let mut source = FromReader::new(one_by_one(&replies));
     let mut sink = ToWriter::new(Vec::new(rt.alloc()));
     let mut lines = Vec::new(rt.alloc());
     call_over(rt.alloc(), &script, &mut source, &mut sink, &mut lines)?;

@@ -1,11 +1,12 @@
 //! Scripts and reply lines, compared with values from other sources.
 use crate::exchanging::exchange;
 use crate::tables::{Call, check_lines};
-use crate::words::{bytes_of, written_out};
+use crate::words::written_out;
 use cv_commands::{RunFault, ask_script, show_replies, status};
 use cv_loop::ServeFault;
 use std::alloc::Global;
 use std::test::Fail;
+use test_support::bytes_of;
 
 const SERVED: &str = "
 # two descriptors

@@ -2,22 +2,13 @@
 //! that, and `show` prints nothing. A result is the number of bytes that are written, the fault, and the exit status.
 use crate::console::{Console, piped};
 use crate::tables::{Call, check_lines};
-use crate::words::{bytes_of, sides};
 use cv_commands::{RunFault, show, status};
 use std::alloc::{AllocError, Global};
 use std::random::RandomSource;
 use std::sync::Wait;
 use std::test::Fail;
 use std::thread::Threads;
-
-/// Caller 7 opens a descriptor from ISO-8859-1 to UTF-8, which gets the number 0. Then it converts `41 e9 42`. The
-/// first request has 30 bytes, and both have 54.
-const REQUESTS: &[u8] = b"\0\0\0\x1a\0\0\0\x07\0\0\0\x01\x03\x05UTF-8\x0aISO-8859-1\
-    \0\0\0\x14\0\0\0\x07\0\0\0\x02\x04\0\0\0\0\0\0\0\x08\x41\xe9\x42";
-
-/// The first reply has 17 bytes, and both have 42.
-const REPLIES: &[u8] = b"\0\0\0\x0d\0\0\0\x07\0\0\0\x01\0\0\0\0\0\
-    \0\0\0\x15\0\0\0\x07\0\0\0\x02\0\0\0\0\0\0\0\0\0\x41\xc3\xa9\x42";
+use test_support::{REPLIES, REQUESTS, bytes_of, sides};
 
 /// The first `n` bytes, or all if there are fewer.
 fn front(bytes: &[u8], n: usize) -> &[u8] {

@@ -6,12 +6,12 @@ use crate::command_lines::{is_named, says};
 use crate::refused_uploads::is_answered;
 use crate::scripts::{gives, is_refused_at};
 use crate::streams::{Command, cut_comes_to, spoilt_comes_to};
-use crate::words::sides;
 use std::process::Abort;
 use std::random::RandomSource;
 use std::sync::Wait;
 use std::test::Fail;
 use std::thread::Threads;
+use test_support::sides;
 
 /// What is done with the left side of a line.
 #[derive(Clone, Copy)]

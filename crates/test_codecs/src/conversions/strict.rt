@@ -1,11 +1,11 @@
 //! Conversions under the strict policy, compared with bytes from other sources.
 use crate::blocks::write_blocks;
 use crate::converting::{conversion, convert, encoding};
-use crate::words::sides;
 use cv_base::{Policy, WriteState};
 use cv_pivot::{Conversion, Outcome, Stop};
 use std::alloc::{AllocError, Global};
 use std::test::Fail;
+use test_support::sides;
 
 const LACKING: &str = r#"
 UTF-8 US-ASCII: "A"c3a9"B" 9 = Lacking 3 0 "A"

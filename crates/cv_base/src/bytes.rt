@@ -4,6 +4,7 @@ ghost use Rattle.cv_base.specs.Scalars.{question};
 ghost use Rattle.cv_base.specs.Chains.{output, written};
 ghost use Rattle.cv_base.specs.Blocks.{IsReadBlock, IsWrittenBlock, MayWriteBlock};
 ghost use Rattle.cv_base.specs.SingleBytes.{byte_reads, byte_writes};
+ghost use Rattle.cv_base.specs.declared.policy.Policy.{Policy};
 ghost use Rattle.cv_base.specs.declared.state.ReadState.{ReadState};
 ghost use Rattle.cv_base.specs.declared.state.WriteState.{WriteState};
 
@@ -92,24 +93,25 @@ fn are_below(limit: u32, characters: &[Scalar]) -> bool
     any_bits < limit
 }
 
-/// Writes characters that are all below a limit. None is tested, so that LLVM vectorizes the loop.
+/// Writes characters if all are below a limit. They are tested beforehand, so that LLVM vectorizes the loop.
 #[inline(always)]
-fn narrow(_limit: u32, characters: &[Scalar], out: &mut [u8], at: usize) -> WrittenBlock
-    requires below { (k : ℕ) → k < length characters.now → slice_index characters.now k < _limit }
-    requires to { _limit ≤ 256 }
+fn narrow(limit: u32, characters: &[Scalar], out: &mut [u8], at: usize) -> Option<WrittenBlock>
     requires room { at + length characters.now ≤ length out.old }
-    ensures block { IsWrittenBlock (byte_writes _limit) WriteState.Start characters.now
+    requires to { limit ≤ 256 }
+    ensures { MayWriteBlock Policy.Strict (byte_writes limit) WriteState.Start characters.now
         out.old at result out.new }
-    ensures all { result.count ≡ 0 }
 {
+    if !are_below(limit, characters) {
+        return None;
+    }
     for k in 0..characters.len() {
         out[at + k] = characters[k].value() as u8;
     }
-    WrittenBlock {
+    Some(WrittenBlock {
         wrote: characters.len(),
         count: 0,
         next: WriteState::Start,
-    }
+    })
 }
 
 /// Writes characters below a limit, and `?` for others. All other bytes of the slice stay. It writes blocks of sixteen,
@@ -161,7 +163,6 @@ pub(crate) fn write_bytes(
 {
     match policy {
         Policy::Substitute => Some(narrow_or_substitute(limit, characters, out, at)),
-        Policy::Strict if are_below(limit, characters) => Some(narrow(limit, characters, out, at)),
-        Policy::Strict => None,
+        Policy::Strict => narrow(limit, characters, out, at),
     }
 }

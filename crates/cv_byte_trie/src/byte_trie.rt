@@ -170,7 +170,7 @@ impl ByteTrie {
         requires { 0 < length text.now }
         ensures { Finds self.now.entries text.now result }
     {
-        match walk(&self.steps, &self.entries, text) {
+        match walk(&self.steps, text) {
             Reached::Leaf { index, .. } => Found::Entry(index),
             Reached::Tail(tail) => {
                 match compare(&self.entries, tail.index, text) {
@@ -195,7 +195,7 @@ impl ByteTrie {
         ensures err { OnErr result (self.new.entries ≡ self.old.entries) }
         ensures entries { AreEntries self.new.entries }
     {
-        match walk(&self.steps, &self.entries, bytes) {
+        match walk(&self.steps, bytes) {
             Reached::Leaf { index, .. } => Ok(met(&self.entries, bytes, index)),
             Reached::Tail(tail) => {
                 match compare(&self.entries, tail.index, bytes) {
@@ -241,7 +241,7 @@ impl ByteTrie {
         ensures few { result ≤ most }
         ensures entries { AreEntries self.new.entries }
     {
-        let Reached::Vacant { node, depth } = walk(&self.steps, &self.entries, bytes) else {
+        let Reached::Vacant { node, depth } = walk(&self.steps, bytes) else {
             return 0;
         };
         if depth + 1 != bytes.len() {

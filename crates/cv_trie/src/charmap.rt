@@ -213,8 +213,8 @@ impl Codec for Charmap {
         let _ = &self.trie;
     }
 
-    fn item(&self, state: ReadState, input: &[u8]) -> Item {
-        next_item(&self.trie, state, input)
+    fn item(&self, _state: ReadState, input: &[u8]) -> Item {
+        next_item(&self.trie, input)
     }
 
     fn put_at(&self, _state: WriteState, c: Scalar, out: &mut [u8], at: usize) -> Put {

@@ -12,7 +12,7 @@ use crate::block::{ReadBlock, WrittenBlock};
 use crate::policy::Policy;
 use crate::scalar::Scalar;
 use crate::state::{ReadState, WriteState};
-use crate::substituting::{MANY, write_blocks};
+use crate::substituting::{LANES, write_blocks};
 
 /// Puts the first `n` bytes of a text into a buffer, each as the character with its value. No byte is tested, so that
 /// LLVM vectorizes the loop.
@@ -20,7 +20,7 @@ use crate::substituting::{MANY, write_blocks};
 fn widen(input: &[u8], n: usize, buffer: &mut [Scalar])
     requires text { n ≤ length input.now }
     requires room { n ≤ length buffer.old }
-    ensures front { take n buffer.new ≡ take n input.now }
+    ensures prefix { take n buffer.new ≡ take n input.now }
     ensures size { length buffer.new ≡ length buffer.old }
 {
     for k in 0..n {
@@ -130,9 +130,9 @@ fn narrow_or_substitute(
     ensures { IsWrittenBlock (byte_writes limit) WriteState.Start characters.now
         out.old at result out.new }
 {
-    let blocks = characters.len() / MANY;
+    let blocks = characters.len() / LANES;
     let mut count = write_blocks(limit, characters, blocks, out, at);
-    for k in MANY * blocks..characters.len() {
+    for k in LANES * blocks..characters.len() {
         let (byte, lacking) = byte_of(limit, characters[k]);
         out[at + k] = byte;
         count += lacking;

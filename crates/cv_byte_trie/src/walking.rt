@@ -17,7 +17,7 @@ pub(crate) struct Tail {
 
 /// Where bytes lead from the root.
 #[derive(Clone, Copy, Debug)]
-pub(crate) enum Reached {
+pub(crate) enum WalkEnd {
     /// To an entry, by its last byte, which follows `depth` others.
     Leaf { index: usize, depth: usize },
     /// To an entry, by a byte that is not its last.
@@ -29,7 +29,7 @@ pub(crate) enum Reached {
 }
 
 /// Follows a text from the root, until it leaves the nodes or ends.
-pub(crate) fn walk(steps: &Steps, text: &[u8]) -> Reached
+pub(crate) fn walk(steps: &Steps, text: &[u8]) -> WalkEnd
     requires indexed { (entries : List Entry) × IsIndexed entries steps.now }
     requires some { 0 < length text.now }
     ensures { (entries : List Entry) → IsIndexed entries steps.now
@@ -39,22 +39,22 @@ pub(crate) fn walk(steps: &Steps, text: &[u8]) -> Reached
     for depth in 0..text.len() {
         let code = steps.edge(node, text[depth]);
         if code < TAIL {
-            return Reached::Leaf {
+            return WalkEnd::Leaf {
                 index: code as usize,
                 depth,
             };
         }
         if code < NONE {
-            return Reached::Tail(Tail {
+            return WalkEnd::Tail(Tail {
                 node,
                 depth,
                 index: (code - TAIL) as usize,
             });
         }
         if code == NONE {
-            return Reached::Vacant { node, depth };
+            return WalkEnd::Vacant { node, depth };
         }
         node = code - NODE;
     }
-    Reached::Inside
+    WalkEnd::Inside
 }

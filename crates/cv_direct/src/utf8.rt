@@ -9,7 +9,7 @@ use crate::middle::write_middle;
 use crate::short::write_short;
 use crate::target::Target;
 use cv_base::AsciiForm;
-use cv_base::place::write_slice;
+use cv_base::put::write_slice;
 use cv_block::LANES;
 use std::simd::prelude::*;
 

@@ -12,16 +12,16 @@ use Rattle.cv_trie.specs.Charmaps.{map_reads}
 use Rattle.cv_trie.specs.Private.Ones.{no_character, IsOne, AreOnes}
 use Rattle.cv_trie.specs.Private.Twos.{IsTwo, row_of, two_at, AreTwos}
 use Rattle.cv_trie.specs.Private.Starts.{AreStarts, number_at}
-use Rattle.cv_trie.specs.Private.Fronts.{IsReadFront}
-use Rattle.cv_trie.proofs.Following.{front_more}
+use Rattle.cv_trie.specs.Private.Prefixes.{IsRead}
+use Rattle.cv_trie.proofs.Following.{read_more}
 use Rattle.cv_trie.proofs.OneByte.{one_stands}
 use Rattle.cv_trie.proofs.TwoBytes.{two_stands}
 
 -- ---- starts
 
 -- what is put after the rows changes none of them
-pub rows_kept : (pairs : List Entry) (ones twos after : List ℕ) (place : ℕ) → place + 128 ≡ length twos → length after ≡ length twos → ((k : ℕ) → k < place → get_or after k 0 ≡ get_or twos k 0) → AreTwos pairs ones twos → AreTwos pairs ones after
-rows_kept pairs ones twos after place behind size low t = record {
+pub rows_kept : (pairs : List Entry) (ones twos after : List ℕ) (index : ℕ) → index + 128 ≡ length twos → length after ≡ length twos → ((k : ℕ) → k < index → get_or after k 0 ≡ get_or twos k 0) → AreTwos pairs ones twos → AreTwos pairs ones after
+rows_kept pairs ones twos after index behind size low t = record {
   within = λ b l. rw size (t.within b l);
   each = λ b c lb lc l. (
       let w = t.within b lb in
@@ -64,12 +64,12 @@ pub number_scalar : (pairs : List Entry) (ones twos starts text : List ℕ) (p :
 number_scalar pairs ones twos starts text p singles doubles begins byte next low some = (read_as pairs ones twos starts text p singles doubles begins byte next low some (leads (get_or text p 0)) refl).scalar
 
 -- one more character of one or two bytes
-pub window_more : (pairs : List Entry) (ones twos starts text buffer : List ℕ) (n used k : ℕ) → AreOnes pairs ones 256 → AreTwos pairs ones twos → AreStarts ones twos starts → ((i : ℕ) → get_or text i 0 < 256) → IsReadFront pairs text (record { n = n + k; used = start_of text used k }) buffer → n + k < length buffer
-    → start_of text used k + 1 < length text → number_at twos starts text (start_of text used k) < no_character → IsReadFront pairs text (record { n = n + (k + 1); used = start_of text used (k + 1) }) (slice_set buffer (n + k) (number_at twos starts text (start_of text used k)))
+pub window_more : (pairs : List Entry) (ones twos starts text buffer : List ℕ) (n used k : ℕ) → AreOnes pairs ones 256 → AreTwos pairs ones twos → AreStarts ones twos starts → ((i : ℕ) → get_or text i 0 < 256) → IsRead pairs text (record { n = n + k; used = start_of text used k }) buffer → n + k < length buffer
+    → start_of text used k + 1 < length text → number_at twos starts text (start_of text used k) < no_character → IsRead pairs text (record { n = n + (k + 1); used = start_of text used (k + 1) }) (slice_set buffer (n + k) (number_at twos starts text (start_of text used k)))
 window_more pairs ones twos starts text buffer n used k singles doubles begins byte f room low some =
     let p = start_of text used k in
     let b = leads (get_or text p 0) in
     let next_n : n + (k + 1) ≡ n + k + 1 = omega arith in
     let read = read_as pairs ones twos starts text p singles doubles begins (byte p) (byte (p + 1)) low some b refl in
     let fits : 1 + cond b 1 0 ≤ length (drop p text) = omega (arith, length-drop p text, one_or_two b) in
-    rw (next_n, start_next text used k) (front_more pairs text buffer (n + k) p (1 + cond b 1 0) (number_at twos starts text p) f room read.stands fits)
+    rw (next_n, start_next text used k) (read_more pairs text buffer (n + k) p (1 + cond b 1 0) (number_at twos starts text p) f room read.stands fits)

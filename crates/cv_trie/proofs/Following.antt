@@ -12,14 +12,13 @@ use Rattle.cv_base.specs.declared.state.ReadState.TheVariants as read
 use Rattle.cv_base.proofs.Front.{Begins-take, Begins-length, Begins-append, Begins-same}
 use Rattle.cv_base.proofs.ChainLaws.{used_bytes-append, read_state-append, characters_of-append, IsChain-append}
 use Rattle.cv_byte_trie.specs.Entries.{Entry, bytes_at, character_at, AreEntries}
-use Rattle.cv_byte_trie.specs.Tries.{StepsBy, tails, none, HasTrie}
-use Rattle.cv_byte_trie.specs.Private.Reading.{IsAt}
+use Rattle.cv_byte_trie.specs.Tries.{StepsBy, tails, none, HasTrie, IsAt}
 use Rattle.cv_byte_trie.proofs.Followed.{leads_to_leaf, leads_to_tail, leads_to_node, tail_low}
 use Rattle.cv_byte_trie.proofs.ReadEntries.{entry_bytes}
 use Rattle.cv_trie.specs.Charmaps.{map_reads}
-use Rattle.cv_trie.specs.Private.Fronts.{IsReadFront}
+use Rattle.cv_trie.specs.Private.Prefixes.{IsRead}
 use Rattle.cv_trie.specs.Private.Followed.{IsFollowed, IsFound}
-use Rattle.cv_trie.proofs.MapLaws.{holds_place}
+use Rattle.cv_trie.proofs.MapLaws.{holds_index}
 use Rattle.cv_trie.proofs.MapItems.{pair_stands}
 
 -- a text begins at the root
@@ -33,7 +32,7 @@ root_leaf entries S count t b code byte e l = let p = t.trie.leaf 0 b code t.tri
 -- such a byte reads as the entry's character
 pub root_reads : (entries : List Entry) (b code : ℕ) → code < length entries → bytes_at entries code ≡ b ∷ [] → character_at entries code ≡ b → map_reads entries read.Start (b ∷ []) (taken 1 (Some b) read.Start)
 root_reads entries b code low bytes character =
-    let e : Contains entries (b ∷ [], b) = subst (λ (p : Entry). Contains entries p) (ap (λ (w : List ℕ). (w, character_at entries code)) bytes ∙ ap (λ (d : ℕ). (b ∷ [], d)) character) (holds_place entries code low) in
+    let e : Contains entries (b ∷ [], b) = subst (λ (p : Entry). Contains entries p) (ap (λ (w : List ℕ). (w, character_at entries code)) bytes ∙ ap (λ (d : ℕ). (b ∷ [], d)) character) (holds_index entries code low) in
     (b, e, refl)
 
 -- one byte further from a node
@@ -60,10 +59,10 @@ followed_stands entries text size code f l fits =
     subst (λ (n : ℕ). Stands (map_reads entries) read.Start text (taken n (Some (character_at entries code)) read.Start)) long (pair_stands entries read.Start text code (f.low l) front)
 
 -- the entry with whose bytes a text begins
-pub begun_found : (entries : List Entry) (text : List ℕ) (place : ℕ) (x : Entry) → place < length entries → x ≡ get_or entries place x → Begins x.0 text → IsFound entries text (length x.0) place
-begun_found entries text place x low is front = record {
+pub begun_found : (entries : List Entry) (text : List ℕ) (index : ℕ) (x : Entry) → index < length entries → x ≡ get_or entries index x → Begins x.0 text → IsFound entries text (length x.0) index
+begun_found entries text index x low is front = record {
   low = λ _. low;
-  leaf = λ _. entry_bytes entries place x low is ∙ Begins-same x.0 (take (length x.0) text) text front (Begins-take (length x.0) text) (sym (length-take-le (length x.0) text (Begins-length x.0 text front)));
+  leaf = λ _. entry_bytes entries index x low is ∙ Begins-same x.0 (take (length x.0) text) text front (Begins-take (length x.0) text) (sym (length-take-le (length x.0) text (Begins-length x.0 text front)));
 }
 
 -- one more character in a block
@@ -82,9 +81,9 @@ block_more reads text buffer n used m c b room s =
     }
 
 -- one more character is read from a text
-pub front_more : (entries : List Entry) (text buffer : List ℕ) (n used m c : ℕ) → IsReadFront entries text (record { n = n; used = used }) buffer → n < length buffer
-    → Stands (map_reads entries) read.Start (drop used text) (taken m (Some c) read.Start) → m ≤ length (drop used text) → IsReadFront entries text (record { n = n + 1; used = used + m }) (slice_set buffer n c)
-front_more entries text buffer n used m c f room s fits = record {
+pub read_more : (entries : List Entry) (text buffer : List ℕ) (n used m c : ℕ) → IsRead entries text (record { n = n; used = used }) buffer → n < length buffer
+    → Stands (map_reads entries) read.Start (drop used text) (taken m (Some c) read.Start) → m ≤ length (drop used text) → IsRead entries text (record { n = n + 1; used = used + m }) (slice_set buffer n c)
+read_more entries text buffer n used m c f room s fits = record {
   block = block_more (map_reads entries) text buffer n used m c f.block room s;
   within = omega (arith, fits, length-drop used text, f.within);
 }

@@ -23,15 +23,15 @@ bytes_begin (a ∷ own) text p (suc n) room fits same =
     rw here (refl, bytes_begin own text (suc p) n (omega arith) (omega arith) rest)
 
 -- an entry is the next item where a text has its bytes
-pub key_stands : (entries : List Entry) (x : Entry) (place : ℕ) (own text : List ℕ) (p n : ℕ) → place < length entries
-    → x ≡ get_or entries place x → length x.0 ≡ n → n ≤ length own → take (length x.0) own ≡ x.0 → p + n ≤ length text
+pub key_stands : (entries : List Entry) (x : Entry) (index : ℕ) (own text : List ℕ) (p n : ℕ) → index < length entries
+    → x ≡ get_or entries index x → length x.0 ≡ n → n ≤ length own → take (length x.0) own ≡ x.0 → p + n ≤ length text
     → ((k : ℕ) → k < n → get_or own k 0 ≡ get_or text (p + k) 0)
     → Stands (map_reads entries) read.Start (drop p text) (taken n (Some x.1) read.Start)
-key_stands entries x place own text p n low at long room is fits same =
-    let bytes : bytes_at entries place ≡ x.0 = entry_bytes entries place x low at in
-    let character : character_at entries place ≡ x.1 = entry_character entries place x low at in
-    let whole : take n own ≡ bytes_at entries place = ap (λ (m : ℕ). take m own) (sym long) ∙ is ∙ sym bytes in
-    let front : Begins (bytes_at entries place) (drop p text) =
+key_stands entries x index own text p n low at long room is fits same =
+    let bytes : bytes_at entries index ≡ x.0 = entry_bytes entries index x low at in
+    let character : character_at entries index ≡ x.1 = entry_character entries index x low at in
+    let whole : take n own ≡ bytes_at entries index = ap (λ (m : ℕ). take m own) (sym long) ∙ is ∙ sym bytes in
+    let front : Begins (bytes_at entries index) (drop p text) =
     subst (λ (w : List ℕ). Begins w (drop p text)) whole (bytes_begin own text p n room fits same) in
-    let size : length (bytes_at entries place) ≡ n = ap length bytes ∙ long in
-    rw (size, character) at (pair_stands entries read.Start (drop p text) place low front)
+    let size : length (bytes_at entries index) ≡ n = ap length bytes ∙ long in
+    rw (size, character) at (pair_stands entries read.Start (drop p text) index low front)

@@ -11,9 +11,9 @@ use Rattle.cv_byte_trie.specs.Entries.{Entry, AreEntries, bytes_at, character_at
 use Rattle.cv_trie.specs.Charmaps.{map_reads}
 use Rattle.cv_trie.specs.Private.Ones.{no_character}
 use Rattle.cv_trie.specs.Private.Twos.{IsTwo, row_of, two_at, AreRows, IsCell, AreTwos}
-use Rattle.cv_trie.specs.Private.Fronts.{IsReadFront}
-use Rattle.cv_trie.proofs.MapLaws.{holds_place}
-use Rattle.cv_trie.proofs.Following.{front_more}
+use Rattle.cv_trie.specs.Private.Prefixes.{IsRead}
+use Rattle.cv_trie.proofs.MapLaws.{holds_index}
+use Rattle.cv_trie.proofs.Following.{read_more}
 
 -- ---- numbering rows
 
@@ -120,15 +120,15 @@ two_bytes (b ∷ c ∷ []) e = refl
 two_bytes (b ∷ c ∷ d ∷ rest) e = absurd (omega arith)
 
 -- the character of one more entry is put into its cell
-pub twos_more : (pairs : List Entry) → AreEntries pairs → (ones twos : List ℕ) (size : ℕ) → AreRows ones 256 size → AreTwos pairs ones twos → (place cell v : ℕ) → place < length pairs → v ≡ character_at pairs place
-    → IsCell ones (bytes_at pairs place) cell → AreTwos pairs ones (slice_set twos cell v)
-twos_more pairs a ones twos size r t place cell v low is here =
-    let bytes = bytes_at pairs place in
+pub twos_more : (pairs : List Entry) → AreEntries pairs → (ones twos : List ℕ) (size : ℕ) → AreRows ones 256 size → AreTwos pairs ones twos → (index cell v : ℕ) → index < length pairs → v ≡ character_at pairs index
+    → IsCell ones (bytes_at pairs index) cell → AreTwos pairs ones (slice_set twos cell v)
+twos_more pairs a ones twos size r t index cell v low is here =
+    let bytes = bytes_at pairs index in
     let first = get_or bytes 0 0 in
     let second = get_or bytes 1 0 in
     let fits : row_of ones first + 384 ≤ length twos = t.within first here.first in
     let inside : cell < length twos = (let c = here.at in let s = here.second in omega arith) in
-    let entry : IsTwo pairs first second v = rw is (a.scalar place low, subst (λ (w : List ℕ). Contains pairs (w, character_at pairs place)) (two_bytes bytes here.two) (holds_place pairs place low)) in
+    let entry : IsTwo pairs first second v = rw is (a.scalar index low, subst (λ (w : List ℕ). Contains pairs (w, character_at pairs index)) (two_bytes bytes here.two) (holds_index pairs index low)) in
     record {
       within = λ b l. (let w = t.within b l in omega (arith, length-set twos cell v));
       each = λ b c lb lc l. elim (cases_eq (row_of ones b + c) cell) [
@@ -161,7 +161,7 @@ two_stands pairs text p b c character low is next two =
     record { bytes = b ∷ c ∷ []; is_item = (character, two.1, refl); front = rw (here, there) (refl, (refl, tt)) }
 
 -- one more of them
-pub two_more : (pairs : List Entry) (text buffer : List ℕ) (n used b c character : ℕ) → IsReadFront pairs text (record { n = n; used = used }) buffer → n < length buffer → used + 1 < length text
-    → b ≡ get_or text used 0 → c ≡ get_or text (used + 1) 0 → IsTwo pairs b c character → IsReadFront pairs text (record { n = n + 1; used = used + 2 }) (slice_set buffer n character)
+pub two_more : (pairs : List Entry) (text buffer : List ℕ) (n used b c character : ℕ) → IsRead pairs text (record { n = n; used = used }) buffer → n < length buffer → used + 1 < length text
+    → b ≡ get_or text used 0 → c ≡ get_or text (used + 1) 0 → IsTwo pairs b c character → IsRead pairs text (record { n = n + 1; used = used + 2 }) (slice_set buffer n character)
 two_more pairs text buffer n used b c character f room low is next two =
-    front_more pairs text buffer n used 2 character f room (two_stands pairs text used b c character low is next two) (omega (arith, length-drop used text))
+    read_more pairs text buffer n used 2 character f room (two_stands pairs text used b c character low is next two) (omega (arith, length-drop used text))

@@ -4,7 +4,7 @@ ghost use Rattle.cv_base.specs.declared.state.ReadState.{ReadState};
 ghost use Rattle.cv_trie.specs.Charmaps.{map_reads};
 
 use cv_base::{Item, ReadState};
-use cv_byte_trie::{ByteTrie, Found};
+use cv_byte_trie::{ByteTrie, Lookup};
 
 /// Returns the next item of a text, by the trie of a charmap's pairs. It is the same in every state.
 pub(crate) fn next_item(trie: &ByteTrie, input: &[u8]) -> Item
@@ -15,15 +15,15 @@ pub(crate) fn next_item(trie: &ByteTrie, input: &[u8]) -> Item
     }
     let entries = trie.entries();
     match trie.find(input) {
-        Found::Entry(place) => {
-            let entry = &entries[place];
+        Lookup::Entry(index) => {
+            let entry = &entries[index];
             Item::Char {
                 c: entry.character(),
                 n: entry.len(),
                 next: ReadState::Start,
             }
         }
-        Found::Inside => Item::Incomplete,
-        Found::Nothing => Item::Ill,
+        Lookup::Inside => Item::Incomplete,
+        Lookup::Nothing => Item::Ill,
     }
 }

@@ -4,7 +4,7 @@ ghost use Rattle.cv_trie.specs.Private.Ones.{AreOnes, IsOne, no_character};
 ghost use Rattle.cv_trie.specs.Private.Twos.{AreRows, most_cells};
 
 use crate::firsts::Firsts;
-use crate::ones::NO_CHARACTER;
+use crate::reading_singles::NO_CHARACTER;
 use cv_byte_trie::{ByteTrie, TAIL};
 use std::alloc::{AllocError, Global};
 

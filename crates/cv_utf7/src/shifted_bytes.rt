@@ -9,7 +9,7 @@ ghost use Rattle.cv_utf7.specs.Utf7.{plus, last_digit, written_bits, utf7_closes
 use crate::cut::Cut;
 use crate::items::NONE;
 use crate::sets::digit_for;
-use cv_base::place::write_slice;
+use cv_base::put::write_slice;
 use cv_base::{Bits, Piece, Put, Scalar, WriteState};
 
 /// What closes a shifted sequence.

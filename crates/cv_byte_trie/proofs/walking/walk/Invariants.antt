@@ -1,8 +1,8 @@
 use Rattle.std.proofs.Common.{List, length}
 use Rattle.cv_byte_trie.specs.Entries.{Entry}
+use Rattle.cv_byte_trie.specs.Tries.{IsAt}
 use Rattle.cv_byte_trie.specs.Tables.{edge_of}
 use Rattle.cv_byte_trie.specs.Private.Indexed.{IsIndexed}
-use Rattle.cv_byte_trie.specs.Private.Reading.{IsAt}
 use Rattle.cv_byte_trie.proofs.walking.walk.Given as goal
 
 abbrev pub invariant-loop-depth : goal.invariant-loop-depth

@@ -2,7 +2,7 @@ use Rattle.std.proofs.Common.{◌≡◌, ◌<◌, List, sym, subst, ◌∙◌, a
 use Rattle.std.proofs.lemmas.List.{length-set}
 use Rattle.cv_byte_trie.specs.Entries.{Entry, character_at}
 use Rattle.cv_byte_trie.proofs.ReadEntries.{entry_character}
-use Rattle.cv_trie.proofs.Following.{followed_stands, front_more}
+use Rattle.cv_trie.proofs.Following.{followed_stands, read_more}
 use Rattle.cv_trie.proofs.reading.read_longer.Goals as goal
 
 pub loop-n-preserved : goal.loop-n-preserved
@@ -15,7 +15,7 @@ loop-n-preserved c =
     let there = subst (λ (x : List Entry). code < length x → character_at x code ≡ c.index-entries-followed.result.1) c.entries-entries.ensures.value (λ l. entry_character c.entries-entries.result.now code c.index-entries-followed.result l c.index-entries-followed.is) in
     let character : character_at entries code ≡ c.character.result = there (f.low c.if-followed-ge-NONE.false) ∙ sym c.character.ensures in
     record {
-      read = front_more entries c.args.input.now c.loop-n.buffer c.loop-n.n c.loop-n.used c.follow-followed.result.size c.character.result i.read (omega (arith, i.few)) (rw character at s) c.follow-followed.ensures.within;
+      read = read_more entries c.args.input.now c.loop-n.buffer c.loop-n.n c.loop-n.used c.follow-followed.result.size c.character.result i.read (omega (arith, i.few)) (rw character at s) c.follow-followed.ensures.within;
       on = omega (arith, i.on);
       few = omega (arith, i.few, length-set c.loop-n.buffer c.loop-n.n c.character.result);
     }

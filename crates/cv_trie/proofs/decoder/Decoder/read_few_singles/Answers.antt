@@ -5,7 +5,7 @@ use Rattle.cv_trie.proofs.decoder.Decoder.read_few_singles.Goals as goal
 
 pub known-requires : goal.known-requires
 known-requires c =
-    let at = c.args.front.used + c.loop-k.k in
+    let at = c.args.read.used + c.loop-k.k in
     let b = get_or c.args.input.now at 0 in
     let byte : b < 256 = (let h = c.type_inv.input at in omega arith) in
     let decoder = c.args.self.now in
@@ -14,15 +14,15 @@ known-requires c =
 
 pub loop-k-preserved : goal.loop-k-preserved
 loop-k-preserved c =
-    let front = c.args.front in
+    let read = c.args.read in
     let k = c.loop-k.k in
-    let b = get_or c.args.input.now (front.used + k) 0 in
-    let byte : b < 256 = (let h = c.type_inv.input (front.used + k) in omega arith) in
+    let b = get_or c.args.input.now (read.used + k) 0 in
+    let byte : b < 256 = (let h = c.type_inv.input (read.used + k) in omega arith) in
     let pairs = c.args.self.now.trie.now.entries in
     let ones = c.args.self.now.singles.now in
     let singles = are_ones pairs ones 256 c.args.self.now.singles_are in
     record {
-      read = rw c.known.ensures (one_more pairs ones c.args.input.now c.loop-k.buffer front.n front.used k b singles
+      read = rw c.known.ensures (one_more pairs ones c.args.input.now c.loop-k.buffer read.n read.used k b singles
           c.loop-k.invariant.read (omega (arith, c.min-most.ensures, c.loop-k.auto.buffer))
           (omega (arith, c.min-most.ensures))
           refl byte (omega (arith, c.if-character-ge-NO_CHARACTER.false)));

@@ -3,7 +3,7 @@ use Rattle.std.proofs.lemmas.List.{length-drop, length-set}
 use Rattle.cv_trie.specs.Private.Ones.{IsOne}
 use Rattle.cv_trie.specs.Private.Twos.{IsTwo, two_at}
 use Rattle.cv_trie.proofs.DecoderFacts.{are_ones, are_twos}
-use Rattle.cv_trie.proofs.Following.{front_more}
+use Rattle.cv_trie.proofs.Following.{read_more}
 use Rattle.cv_trie.proofs.OneByte.{one_stands}
 use Rattle.cv_trie.proofs.TwoBytes.{two_read, two_more}
 use Rattle.cv_trie.proofs.decoder.Decoder.read_mixed.Goals as goal
@@ -24,7 +24,7 @@ loop-n-preserved-then-first-lt-NO_CHARACTER c =
     let one : IsOne pairs b character = singles b byte c.if-first-lt-NO_CHARACTER.true in
     let low : used < length text = omega arith in
     record {
-      read = rw c.known.ensures (front_more pairs text c.loop-n.buffer n used 1 character i.read (omega arith)
+      read = rw c.known.ensures (read_more pairs text c.loop-n.buffer n used 1 character i.read (omega arith)
           (one_stands pairs text used b character low refl one) (omega (arith, length-drop used text)));
       on = omega arith;
       few = omega (arith, length-set c.loop-n.buffer n c.known.result);
@@ -81,7 +81,7 @@ loop-n-preserved-then-tabled-lt-NO_CHARACTER c =
     let long = c.tabled_at-tabled.ensures c.if-tabled-lt-NO_CHARACTER.true in
     let character = c.tabled_at-tabled.result.character in
     record {
-      read = rw c.known-then-tabled-lt-NO_CHARACTER.ensures (front_more c.args.self.now.trie.now.entries text
+      read = rw c.known-then-tabled-lt-NO_CHARACTER.ensures (read_more c.args.self.now.trie.now.entries text
           c.loop-n.buffer n used c.tabled_at-tabled.result.size character i.read (omega arith) long.stands long.within);
       on = omega arith;
       few = omega (arith, length-set c.loop-n.buffer n c.known-then-tabled-lt-NO_CHARACTER.result);
@@ -97,7 +97,7 @@ loop-n-preserved c =
     let long = c.followed_at-long.ensures c.if-long-ge-NO_CHARACTER.false in
     let character = c.followed_at-long.result.character in
     record {
-      read = rw c.known-in-loop-n.ensures (front_more c.args.self.now.trie.now.entries text c.loop-n.buffer n used
+      read = rw c.known-in-loop-n.ensures (read_more c.args.self.now.trie.now.entries text c.loop-n.buffer n used
           c.followed_at-long.result.size character i.read (omega arith) long.stands long.within);
       on = omega arith;
       few = omega (arith, length-set c.loop-n.buffer n c.known-in-loop-n.result);

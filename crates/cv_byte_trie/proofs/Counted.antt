@@ -7,8 +7,7 @@ use Rattle.cv_base.specs.Items.{Begins}
 use Rattle.cv_base.proofs.Front.{Begins-take, Begins-same}
 use Rattle.cv_byte_trie.specs.Entries.{Entry}
 use Rattle.cv_byte_trie.specs.Runs.{counted, run_of}
-use Rattle.cv_byte_trie.specs.Tries.{StepsBy}
-use Rattle.cv_byte_trie.specs.Private.Reading.{IsAt}
+use Rattle.cv_byte_trie.specs.Tries.{StepsBy, IsAt}
 
 -- how many they are
 pub run_size : (bytes : List ℕ) (character n : ℕ) → length (run_of bytes character n) ≡ n

@@ -6,8 +6,8 @@ use Rattle.cv_base.specs.Items.{Begins}
 use Rattle.cv_base.proofs.Front.{Begins-trans, Begins-meet, Begins-length, Begins-take, Begins-same, Begins-refl}
 use Rattle.cv_byte_trie.specs.Entries.{Entry, bytes_at, AreEntries}
 use Rattle.cv_byte_trie.specs.Results.{MeetsNone, GoesOnBehind}
-use Rattle.cv_byte_trie.specs.Tries.{StepsBy, tails, tail_code, none, node_code, IsAlone}
-use Rattle.cv_byte_trie.specs.Private.Reading.{IsAt, IsVacant, IsTail}
+use Rattle.cv_byte_trie.specs.Tries.{StepsBy, tails, tail_code, none, node_code, IsAlone, IsAt}
+use Rattle.cv_byte_trie.specs.Private.Reading.{IsVacant, IsTail}
 use Rattle.cv_byte_trie.specs.declared.walking.Tail.{Tail}
 use Rattle.cv_byte_trie.proofs.Ways.{Begins-more, longer_by_one}
 

@@ -7,11 +7,11 @@ use Rattle.cv_base.specs.Scalars.{IsScalar}
 use Rattle.cv_base.proofs.Front.{Begins-take, Begins-front}
 use Rattle.cv_byte_trie.specs.Entries.{Entry, bytes_at, AreEntries}
 use Rattle.cv_byte_trie.specs.Results.{MeetsNone}
-use Rattle.cv_byte_trie.specs.Tries.{StepsBy, tails, none, IsAlone, HasTrie}
+use Rattle.cv_byte_trie.specs.Tries.{StepsBy, tails, none, IsAlone, HasTrie, IsAt}
 use Rattle.cv_byte_trie.specs.Tables.{edge_in, node_at, edge_at, edge_of}
 use Rattle.cv_byte_trie.specs.Private.Sound.{IsSound}
 use Rattle.cv_byte_trie.specs.Private.Growth.{IsUnchanged, SetsEdge, Splits, end_code, code_behind}
-use Rattle.cv_byte_trie.specs.Private.Reading.{IsAt, IsVacant, IsTail}
+use Rattle.cv_byte_trie.specs.Private.Reading.{IsVacant, IsTail}
 use Rattle.cv_byte_trie.specs.Private.Comparisons.{AgreeFor}
 use Rattle.cv_byte_trie.specs.Private.Indexed.{IsIndexed}
 use Rattle.cv_byte_trie.specs.declared.node.Edge.{Edge}

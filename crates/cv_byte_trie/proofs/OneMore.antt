@@ -7,9 +7,8 @@ use Rattle.cv_base.specs.Scalars.{IsScalar}
 use Rattle.cv_base.proofs.Front.{Begins-trans, Begins-meet, Begins-length, Begins-take, Begins-front, Begins-same}
 use Rattle.cv_byte_trie.specs.Entries.{Entry, no_entry, bytes_at, character_at, AreEntries}
 use Rattle.cv_byte_trie.specs.Results.{MeetsNone, GoesOnBehind}
-use Rattle.cv_byte_trie.specs.Tries.{StepsBy, tails, tail_code, none, node_code, IsAlone, IsTrie, HasTrie}
+use Rattle.cv_byte_trie.specs.Tries.{StepsBy, tails, tail_code, none, node_code, IsAlone, IsTrie, HasTrie, IsAt}
 use Rattle.cv_byte_trie.specs.Private.Growth.{end_code}
-use Rattle.cv_byte_trie.specs.Private.Reading.{IsAt}
 use Rattle.cv_byte_trie.proofs.Ways.{longer_by_one}
 use Rattle.cv_byte_trie.proofs.Followed.{begins_none, front}
 

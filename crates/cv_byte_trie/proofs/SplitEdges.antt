@@ -6,9 +6,8 @@ use Rattle.cv_base.specs.Items.{Begins}
 use Rattle.cv_base.proofs.Front.{Begins-trans, Begins-meet, Begins-length, Begins-take, Begins-front, Begins-same}
 use Rattle.cv_byte_trie.specs.Entries.{Entry, bytes_at, AreEntries}
 use Rattle.cv_byte_trie.specs.Results.{GoesOnBehind}
-use Rattle.cv_byte_trie.specs.Tries.{StepsBy, tails, tail_code, none, node_code, IsAlone, IsTrie}
+use Rattle.cv_byte_trie.specs.Tries.{StepsBy, tails, tail_code, none, node_code, IsAlone, IsTrie, IsAt}
 use Rattle.cv_byte_trie.specs.Private.Growth.{end_code, code_behind}
-use Rattle.cv_byte_trie.specs.Private.Reading.{IsAt}
 use Rattle.cv_byte_trie.proofs.Ways.{longer_by_one}
 use Rattle.cv_byte_trie.proofs.Followed.{front}
 use Rattle.cv_byte_trie.proofs.Chains.{behind_some}

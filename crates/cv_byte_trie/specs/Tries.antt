@@ -53,3 +53,11 @@ pub record IsTrie (step : StepsBy) (way : ℕ → List ℕ) (count : ℕ) (entri
 pub record HasTrie (step : StepsBy) (count : ℕ) (entries : List Entry) : Type 0 where
   pub way : ℕ → List ℕ
   pub trie : IsTrie step way count entries
+
+-- The first so many bytes of a text lead to a node.
+pub record IsAt (step : StepsBy) (count : ℕ) (entries : List Entry) (text : List ℕ) (depth node : ℕ) : Type 0 where
+  pub way : ℕ → List ℕ
+  pub trie : IsTrie step way count entries
+  pub low : node < count
+  pub at : Begins (way node) text
+  pub deep : length (way node) ≡ depth

@@ -14,7 +14,7 @@ use Rattle.lru.specs.LruCache.{LruCache, lru_cache, promoted, put_entries}
 use Rattle.lru.proofs.Splits.{Contains-head, Contains-tail, Contains-cons, Contains-nil}
 use Rattle.lru.proofs.CallerLemmas.{Contains-put_entries, Contains-promoted, Contains-take}
 use Rattle.cv_charmap.specs.Meaning.{Charmap, meaning}
-use Rattle.cv_cache.specs.declared.kept.Kept.{Kept}
+use Rattle.cv_cache.specs.declared.cached_text.CachedText.{CachedText}
 use Rattle.cv_cache.specs.declared.text_hasher.HashKeys.{HashKeys}
 use Rattle.cv_cache.specs.Held.{shown, IsRight}
 use Rattle.cv_cache.specs.Private.Numbers.{matches, IsNumberFor}
@@ -23,9 +23,9 @@ use Rattle.cv_cache.proofs.Found.{found_value}
 use Rattle.cv_cache.proofs.Distinct.{all_found, distinct_promoted, distinct_put, distinct_taken}
 
 abbrev pub Entry : Type 0
-Entry = ℕ × Kept
+Entry = ℕ × CachedText
 
-abbrev pub value_of : Kept → Charmap
+abbrev pub value_of : CachedText → Charmap
 value_of kept = arc_value kept.charmap
 
 abbrev pub text_of : Entry → List ℕ
@@ -121,7 +121,7 @@ module _ (text : List ℕ) where
   ]) none
 
   -- one was put, by the number of its text or by a new one
-  pub put_shown : (keys : HashKeys) (sum : ℕ) → sum ≡ sum_of keys text → (c : LruCache ℕ Kept) (n : ℕ) (kept : Kept) → AreRight keys c.entries → IsDistinct nat_eq (keys_of c.entries) → IsNumberFor sum text c.entries n → kept.text.items ≡ text
+  pub put_shown : (keys : HashKeys) (sum : ℕ) → sum ≡ sum_of keys text → (c : LruCache ℕ CachedText) (n : ℕ) (kept : CachedText) → AreRight keys c.entries → IsDistinct nat_eq (keys_of c.entries) → IsNumberFor sum text c.entries n → kept.text.items ≡ text
       → put_entries bytes_eq (lru_cache (map shown c.entries) c.cap) text (value_of kept) ≡ map shown (put_entries nat_eq c n kept)
   put_shown keys sum known c n kept right apart is named = (elim (find (matches sum text) c.entries) as (λ o. find (matches sum text) c.entries ≡ o → MatchOption o (lookup (nat_eq n) c.entries ≡ None) (λ e. n ≡ e.0)
       → put_entries bytes_eq (lru_cache (map shown c.entries) c.cap) text (value_of kept) ≡ map shown (put_entries nat_eq c n kept)) [
@@ -137,7 +137,7 @@ right_promoted keys es n right e has = right e (Contains-promoted (nat_eq n) es 
 pub right_taken : (keys : HashKeys) (es : List Entry) (n : ℕ) → AreRight keys es → AreRight keys (take n es)
 right_taken keys es n right e has = right e (Contains-take n es e has)
 
-pub right_put : (keys : HashKeys) (c : LruCache ℕ Kept) (n : ℕ) (kept : Kept) → AreRight keys c.entries → IsRight keys kept → AreRight keys (put_entries nat_eq c n kept)
+pub right_put : (keys : HashKeys) (c : LruCache ℕ CachedText) (n : ℕ) (kept : CachedText) → AreRight keys c.entries → IsRight keys kept → AreRight keys (put_entries nat_eq c n kept)
 right_put keys c n kept right one e has = elim (Contains-put_entries nat_eq c n kept e has) [
   | inl was ↦ right e was
   | inr put ↦ subst (IsRight keys) (sym put.0) one
@@ -146,7 +146,7 @@ right_put keys c n kept right one e has = elim (Contains-put_entries nat_eq c n 
 pub apart_taken : (es : List Entry) (n : ℕ) → AreApart es → AreApart (take n es)
 apart_taken es n apart = subst (λ xs. IsDistinct bytes_eq (keys_of xs)) (take-map shown n es) (distinct_taken bytes_eq n (map shown es) apart)
 
-pub apart_put : (text : List ℕ) (keys : HashKeys) (sum : ℕ) → sum ≡ sum_of keys text → (c : LruCache ℕ Kept) (n : ℕ) (kept : Kept) → AreRight keys c.entries → IsDistinct nat_eq (keys_of c.entries) → IsNumberFor sum text c.entries n → kept.text.items ≡ text → AreApart c.entries
+pub apart_put : (text : List ℕ) (keys : HashKeys) (sum : ℕ) → sum ≡ sum_of keys text → (c : LruCache ℕ CachedText) (n : ℕ) (kept : CachedText) → AreRight keys c.entries → IsDistinct nat_eq (keys_of c.entries) → IsNumberFor sum text c.entries n → kept.text.items ≡ text → AreApart c.entries
     → AreApart (put_entries nat_eq c n kept)
 apart_put text keys sum known c n kept right numbers is named apart =
     subst (λ xs. IsDistinct bytes_eq (keys_of xs)) (put_shown text keys sum known c n kept right numbers is named) (distinct_put bytes_eq flips text (lru_cache (map shown c.entries) c.cap) (value_of kept) apart)

@@ -41,8 +41,7 @@ entry_at hex first bytes i =
 -- the entries of a mapping in counting order, each a pair or a cause
 abbrev pub entries_of : Mapping → List (Result Pair Cause)
 entries_of (One character bytes) = Ok (bytes, character) ∷ []
-entries_of (Range first last hex bytes) =
-    map (entry_at hex first bytes) (range_with_len 0 (last + 1 - first))
+entries_of (Range first last hex bytes) = map (entry_at hex first bytes) (range_with_len 0 (last + 1 - first))
 
 -- the bytes of a mapping, those of its first character
 abbrev pub bytes_of_mapping : Mapping → List ℕ

@@ -27,8 +27,7 @@ most_digits Octal = 3
 
 -- the type of the constant whose escape character precedes the text
 abbrev pub kind_of : List ℕ → Kind
-kind_of text =
-    if begins text (codes "d") then Decimal else if begins text (codes "x") then Hexadecimal else Octal
+kind_of text = if begins text (codes "d") then Decimal else if begins text (codes "x") then Hexadecimal else Octal
 
 -- the digits at the start, at most as many as the type allows
 abbrev pub digits_at : Kind → List ℕ → List ℕ

@@ -30,8 +30,7 @@ is_begin line = begins line (codes "CHARMAP") && list_all is_blank (drop 7 line)
 
 -- whether a line ends the mappings: `END`, blanks, `CHARMAP`, and only blanks after it
 abbrev pub is_finish : List ℕ → Bool
-is_finish line =
-    begins line (codes "END") && nat_lt 0 (prefix_len is_blank (drop 3 line))
+is_finish line = begins line (codes "END") && nat_lt 0 (prefix_len is_blank (drop 3 line))
     && is_begin (after_blanks (drop 3 line))
 
 -- What a line says under the marks that hold for it. Whether it is skipped is tested first.

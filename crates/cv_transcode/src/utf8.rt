@@ -7,7 +7,7 @@ ghost use Rattle.cv_utf8.specs.Utf8.{utf8_bytes};
 
 use crate::window_writer::WindowWriter;
 use cv_base::AsciiForm;
-use cv_base::place::write_slice;
+use cv_base::put::write_slice;
 use cv_block::LANES;
 use cv_utf8::{write_three_byte, write_two_byte};
 use std::simd::prelude::*;

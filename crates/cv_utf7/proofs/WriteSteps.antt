@@ -8,8 +8,8 @@ use Rattle.cv_base.specs.Chains.{Output, output, written, put_or, substituted, f
 use Rattle.cv_base.specs.Blocks.{IsWrittenBlock}
 use Rattle.cv_base.specs.Places.{PutsAt}
 use Rattle.cv_base.specs.declared.block.WrittenBlock.{WrittenBlock}
-use Rattle.cv_base.specs.declared.place.Put.{Put}
-use Rattle.cv_base.specs.declared.place.Put.TheVariants.{Wrote, Lacks, NoRoom}
+use Rattle.cv_base.specs.declared.put.Put.{Put}
+use Rattle.cv_base.specs.declared.put.Put.TheVariants.{Wrote, Lacks, NoRoom}
 use Rattle.cv_base.specs.declared.state.Bits.{Bits}
 use Rattle.cv_base.specs.declared.state.WriteState.{WriteState}
 use Rattle.cv_base.specs.declared.state.WriteState.TheVariants as write

@@ -7,7 +7,7 @@ use crate::read::items::{item_at_start, item_in_shift};
 use crate::sets::stands;
 use crate::write::base64_digits::Base64Digits;
 use crate::write::shifted_bytes::{closing, put_closed, put_first, put_shifted};
-use cv_base::place::write_slice;
+use cv_base::put::write_slice;
 use cv_base::{Codec, Item, Piece, Put, ReadState, Scalar, WriteState};
 
 /// UTF-7 (RFC 2152). It reads the optional direct characters (set O) as themselves, and writes them in shifted

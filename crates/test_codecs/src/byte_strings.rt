@@ -1,6 +1,6 @@
 //! A byte trie whose nodes have one edge, a few edges or many, compared with the strings that were added to it.
 use cv_base::Scalar;
-use cv_byte_trie::{Added, ByteTrie, Found, NONE};
+use cv_byte_trie::{Added, ByteTrie, Lookup, NONE};
 use std::alloc::{AllocError, Global};
 use std::test::Fail;
 use test_support::{bytes_of, sides};
@@ -14,7 +14,7 @@ fn add(trie: &mut ByteTrie, bytes: &[u8]) -> Result<Added, Fail> {
 }
 
 /// What the trie finds at the start of a text.
-fn find(trie: &ByteTrie, text: &[u8]) -> Result<Found, Fail> {
+fn find(trie: &ByteTrie, text: &[u8]) -> Result<Lookup, Fail> {
     if text.is_empty() {
         return Err("an empty text".into());
     }
@@ -55,7 +55,7 @@ fn push(strings: &mut Vec<Vec<u8>>, alloc: Global, bytes: &[u8]) -> Result<(), A
 /// Whether a trie has the string at index `place`.
 fn has(trie: &ByteTrie, place: usize, string: &[u8]) -> Result<bool, Fail> {
     let bytes = trie.get(place).map(|entry| entry.bytes());
-    Ok(find(trie, string)? == Found::Entry(place) && bytes == Some(string))
+    Ok(find(trie, string)? == Lookup::Entry(place) && bytes == Some(string))
 }
 
 #[test]

@@ -1,6 +1,6 @@
 //! The pairs of a small charmap, compared with a list made by hand.
 use crate::words::scalar_of;
-use cv_byte_trie::Found;
+use cv_byte_trie::Lookup;
 use cv_charmap::{CompileFault, Pairs, laws, read};
 use std::alloc::Global;
 use std::test::Fail;
@@ -44,7 +44,7 @@ fn a_charmap_has_its_pairs_in_order(rt: HostRuntime) -> Result<(), Fail> {
     assert!(rt; pairs.get(5).is_none());
     let (name, entries) = pairs.into_parts();
     assert_eq!(rt; name.as_slice(), b"TOY".as_slice());
-    assert_eq!(rt; entries.find(b"\x82\x00\x82"), Found::Entry(3));
+    assert_eq!(rt; entries.find(b"\x82\x00\x82"), Lookup::Entry(3));
     Ok(())
 }
 

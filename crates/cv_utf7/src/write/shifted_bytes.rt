@@ -9,7 +9,7 @@ ghost use Rattle.cv_utf7.specs.Utf7.{plus, last_digit, written_bits, utf7_closes
 use crate::read::items::NONE;
 use crate::sets::digit_for;
 use crate::write::base64_digits::Base64Digits;
-use cv_base::place::write_slice;
+use cv_base::put::write_slice;
 use cv_base::{Bits, Piece, Put, Scalar, WriteState};
 
 /// What closes a shifted sequence.

@@ -1,10 +1,10 @@
 use Rattle.std.proofs.Common.{◌≡◌, ◌∷◌, [], ◌++◌, List, length, take, get_or, subst, ap, sym, ◌∙◌}
 use Rattle.std.proofs.Math.Seq.{take-append_seam}
 use Rattle.cv_byte_trie.specs.Entries.{Entry}
+use Rattle.cv_byte_trie.specs.Tries.{IsAt}
 use Rattle.cv_byte_trie.specs.Tables.{edge_of}
 use Rattle.cv_byte_trie.specs.Private.Growth.{SetsEdge, end_code}
 use Rattle.cv_byte_trie.specs.Private.Indexed.{IsIndexed}
-use Rattle.cv_byte_trie.specs.Private.Reading.{IsAt}
 use Rattle.cv_byte_trie.proofs.Followed.{vacant_meets_none}
 use Rattle.cv_byte_trie.proofs.Indexing.{indexed_unchanged, indexed_more, at_more}
 use Rattle.cv_byte_trie.proofs.entering.enter.Goals as goal

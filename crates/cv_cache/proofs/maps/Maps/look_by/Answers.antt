@@ -4,7 +4,7 @@ use Rattle.std.specs.Map.{lookup, lookup_entry}
 use Rattle.std.specs.Str.{bytes_eq}
 use Rattle.lru.specs.LruCache.{promoted}
 use Rattle.cv_charmap.specs.Meaning.{meaning}
-use Rattle.cv_cache.specs.declared.kept.Kept.{Kept}
+use Rattle.cv_cache.specs.declared.cached_text.CachedText.{CachedText}
 use Rattle.cv_cache.specs.Held.{Held, shown}
 use Rattle.cv_cache.proofs.Entries.{Entry, IsOf, found_entry, no_entry, looked_up, looked_up_none, promoted_shown, promoted_none, right_promoted, apart_promoted}
 use Rattle.cv_cache.proofs.Sizes.{used}
@@ -40,7 +40,7 @@ invariant_of-self c =
       room = c.self.invariant.room;
       right = right_promoted c.self.inside.texts.keys es c.in-Some.number c.self.invariant.right;
       distinct = apart_promoted c.args.text.now es (entry c) (is_of c) c.self.invariant.distinct;
-      counted = c.self.invariant.counted ∙ sym (used (λ (k : Kept). k.size) _ es);
+      counted = c.self.invariant.counted ∙ sym (used (λ (k : CachedText). k.size) _ es);
       light = c.self.invariant.light;
     })
 

@@ -1,7 +1,7 @@
 use Rattle.std.proofs.Common.{sym, ◌∙◌, arith}
 use Rattle.std.proofs.lemmas.Int.Digits.{digits_value_more}
-use Rattle.cv_command_line.proofs.Numbers.{number_stops, digits_more, number_done}
-use Rattle.cv_command_line.proofs.size.number_of.Goals as goal
+use Rattle.cv_cli.proofs.Numbers.{number_stops, digits_more, number_done}
+use Rattle.cv_cli.proofs.size.number_of.Goals as goal
 
 pub returns-in_err-number : goal.returns-in_err-number
 returns-in_err-number c =

@@ -1,8 +1,8 @@
 //! Sizes in bytes, as words of the command line.
 ghost use Rattle.std.specs.Prelude.{◌≡◌, ◌≤◌, ◌+◌, ◌*◌, ◌^◌, ◌<◌, length, true, IfSome, IfNone};
 ghost use Rattle.std.specs.Char.{is_ascii_digit, digit_value};
-ghost use Rattle.cv_command_line.specs.Sizes as spec;
-ghost use Rattle.cv_command_line.specs.Sizes.{number_in, unit_of, size_in};
+ghost use Rattle.cv_cli.specs.Sizes as spec;
+ghost use Rattle.cv_cli.specs.Sizes.{number_in, unit_of, size_in};
 
 /// The number with one more decimal digit. `None`: the byte is not a digit, or the number does not fit 64 bits.
 fn with_digit(number: u64, digit: u8) -> Option<u64>

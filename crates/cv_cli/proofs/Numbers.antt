@@ -8,7 +8,7 @@ use Rattle.std.proofs.lemmas.Bool.{lt-ltb, le-ltb}
 use Rattle.std.proofs.lemmas.Int.Digits.{digits_value_more}
 use Rattle.std.proofs.lemmas.List.{take_all}
 use Rattle.std.proofs.lemmas.List.Folds.{list_all_at, list_all_more}
-use Rattle.cv_command_line.specs.Sizes.{number_in}
+use Rattle.cv_cli.specs.Sizes.{number_in}
 
 value_ge : (n : ℕ) (digits : List ℕ) → n ≤ digits_value_after 10 n digits
 value_ge n [] = omega arith

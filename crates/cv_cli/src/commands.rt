@@ -4,6 +4,7 @@ ghost use Rattle.clap.specs.Values.{kind_of};
 ghost use Rattle.cv_commands.specs.Status.{status_of};
 ghost use Rattle.cv_tcp.specs.Ends.{call_status_of};
 
+use crate::flags::ADMIN_TIMEOUT;
 use crate::job::{Job, Options};
 use crate::scripts::{given_script, refuse_script};
 use crate::usage::{options, usage_status};
@@ -25,9 +26,6 @@ use std::rt::Env;
 use std::sync::Wait;
 use std::thread::Threads;
 use std::time::Clock;
-
-/// How many seconds `admin` waits for its whole answer without `--timeout`.
-const ADMIN_TIMEOUT: u32 = 5;
 
 /// The exit status of a command. A fault is written to standard error, if that is possible; the status does not depend
 /// on it.
@@ -97,7 +95,7 @@ where
     ensures { result ≤ 1 }
 {
     let alloc = rt.alloc();
-    let timeout = timeout.unwrap_or(ADMIN_TIMEOUT);
+    let timeout = timeout.unwrap_or(ADMIN_TIMEOUT.default_number());
     let mut text = Vec::new(alloc);
     let called = call_admin(rt, alloc, address, timeout, page, &mut text);
     match write_all(io::writer(rt), &text) {

@@ -1,17 +1,14 @@
 -- The size that a word of the command line gives.
-use Rattle.std.specs.Prelude.{ℕ, ◌*◌, ◌^◌, Bool, ◌&&◌, List, [], nat_lt, take, drop, codes, bytes_eq, if◌then◌else◌, Option, Some, None}
+use Rattle.std.specs.Prelude.{ℕ, ◌*◌, ◌^◌, List, [], nat_lt, take, drop, codes, bytes_eq, if◌then◌else◌}
+use Rattle.std.specs.Prelude.{Option, Some, None}
 use Rattle.std.specs.Char.{is_ascii_digit}
-use Rattle.std.specs.List.{prefix_len, list_all}
+use Rattle.std.specs.List.{prefix_len}
 use Rattle.std.specs.Option.{option_and_then}
 use Rattle.std.specs.Str.Parse.{digits_value}
 
 -- A number, if it fits 64 bits.
 abbrev pub fitting : ℕ → Option ℕ
 fitting number = if nat_lt number (2 ^ 64) then Some number else None
-
--- The number that decimal digits give: 0 without digits. `None`: there is another byte, or it does not fit 64 bits.
-unfoldable pub number_in : List ℕ → Option ℕ
-number_in digits = if list_all is_ascii_digit digits then fitting (digits_value 10 digits) else None
 
 -- What the letter after a number means: 1 without a letter, a power of 1,024 for K, M or G. It is 0 for any other.
 abbrev pub unit_of : List ℕ → ℕ
@@ -32,5 +29,5 @@ positive size = if nat_lt 0 size then fitting size else None
 -- The number that a word begins with, times the unit that follows it. Without digits, or with another unit, the product
 -- is 0: `None`.
 abbrev pub size_in : List ℕ → Option ℕ
-size_in word =
-    option_and_then (λ number. positive (number * unit_of (drop (digits_at word) word))) (number_in (take (digits_at word) word))
+size_in word = option_and_then (λ number. positive (number * unit_of (drop (digits_at word) word)))
+    (fitting (digits_value 10 (take (digits_at word) word)))

@@ -87,7 +87,7 @@ impl Flag {
         match self.values {
             Values::Listeners if !is_address(word) => Some(NO_ADDRESS),
             Values::AdminListeners if !is_admin_address(word) => Some(NO_ADDRESS),
-            Values::Sizes if size_of(word.as_bytes()).is_none() => Some(NO_SIZE),
+            Values::Sizes if size_of(word).is_none() => Some(NO_SIZE),
             _ => None,
         }
     }

@@ -119,7 +119,7 @@ pub fn options<'a>(alloc: Global, words: &'a [&'a str]) -> Result<Options<'a>, E
         return Err(no_value(alloc, flag, word, fault)?);
     }
     let workers = workers_of(&matches);
-    let stream_memory = word_of(&matches, STREAM_MEMORY).and_then(|word| size_of(word.as_bytes()));
+    let stream_memory = word_of(&matches, STREAM_MEMORY).and_then(size_of);
     let callers = number_of(&matches, CALLERS);
     if !Budget::of(stream_memory, callers).is_enough_for(workers) {
         return Err(no_share(alloc, workers)?);

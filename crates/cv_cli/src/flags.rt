@@ -1,5 +1,5 @@
-//! All flags and commands. `tools/options` makes the table of the shells' completions and the options of the manual from
-//! this page: the text above a flag is what the manual says of it, with `bold` and *italic* words.
+//! All flags and commands. `tools/options` makes the table of the shells' completions and the options of the manual
+//! from this page: the text above a flag is what the manual says of it, with `bold` and *italic* words.
 
 use crate::flag::{Flag, Subcommand, Values};
 use crate::help::{ADMINISTERING, CALLING, CHARMAPS, FRAMES, LISTENING, SCRIPTS};

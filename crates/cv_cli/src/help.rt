@@ -29,13 +29,16 @@ See iconvd(1) and iconvd-protocol(5).";
 
 /// What the help of `listen` ends with.
 pub(crate) const LISTENING: &str = "\
-ADDR is HOST:PORT for TCP, unix:PATH for a Unix socket, or fd:N for a listener that the process was given as descriptor N. `listen`
+ADDR is HOST:PORT for TCP, unix:PATH for a Unix socket, or fd:N for a listener that the process was \
+given as descriptor N. `listen`
 prints `listening ADDR` once clients can connect. At port 0 the system chooses the port, which the line then shows.
 
-TCP has no encryption and no authentication: anybody who can connect is served. Use a Unix socket to serve local users only; the umask
+TCP has no encryption and no authentication: anybody who can connect is served. Use a Unix socket \
+to serve local users only; the umask
 decides who may connect to it. The socket file of a server that has died is replaced.
 
-With --admin ADDR, which is HOST:PORT or unix:PATH, `listen` also prints `admin ADDR`. GET /health, /metrics and /streams there, or
+With --admin ADDR, which is HOST:PORT or unix:PATH, `listen` also prints `admin ADDR`. GET /health, \
+/metrics and /streams there, or
 POST /drain; `iconvd admin` does so too. Any client that can connect there can end the server.
 
 Example:
@@ -49,7 +52,8 @@ See iconvd(1) and iconvd-protocol(5).";
 
 /// What the help of `call` ends with.
 pub(crate) const CALLING: &str = "\
-ADDR is HOST:PORT for TCP, or unix:PATH for a Unix socket. If the server fails, the lines of the replies before are still printed, and
+ADDR is HOST:PORT for TCP, or unix:PATH for a Unix socket. If the server fails, the lines of the \
+replies before are still printed, and
 the exit status is 1.
 
 Example:
@@ -69,7 +73,8 @@ ADDR is what `listen` was given with --admin: HOST:PORT for TCP, or unix:PATH fo
   streams    a JSON array with an object for each stream
   drain      serve no new stream, and end after those that are there
 
-The exit status is 0 for health ok and whenever a page is printed as asked for, and 1 for health full or draining and for any fault.
+The exit status is 0 for health ok and whenever a page is printed as asked for, and 1 for health \
+full or draining and for any fault.
 
 Example:
   $ iconvd listen 127.0.0.1:7879 --admin 127.0.0.1:7880 --at-once 64 &
@@ -82,7 +87,8 @@ See iconvd(1).";
 
 /// What the help of `checkmap` ends with.
 pub(crate) const CHARMAPS: &str = "\
-FILE is a charmap file (POSIX, XBD 6.4), or - for standard input. `checkmap` prints the name of the code set and the number of
+FILE is a charmap file (POSIX, XBD 6.4), or - for standard input. `checkmap` prints the name of the \
+code set and the number of
 mappings. For an invalid file it prints the first error as `line N: CAUSE`, and the exit status is 1.
 
 Example:

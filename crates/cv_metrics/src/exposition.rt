@@ -4,15 +4,15 @@ use std::fmt::Display;
 
 /// A page of metrics.
 #[derive(Drop)]
-pub(crate) struct Page {
+pub(crate) struct Exposition {
     alloc: Global,
     text: String,
 }
 
-impl Page {
+impl Exposition {
     /// A page without metrics.
-    pub(crate) fn new(alloc: Global) -> Page {
-        Page {
+    pub(crate) fn new(alloc: Global) -> Exposition {
+        Exposition {
             alloc,
             text: String::new(alloc),
         }
@@ -25,7 +25,7 @@ impl Page {
 
     /// The text so far.
     pub(crate) fn into_text(self) -> String {
-        let Page { alloc: _, text } = self;
+        let Exposition { alloc: _, text } = self;
         text
     }
 

@@ -1,16 +1,16 @@
-//! A place at which one stream after another is served.
+//! A slot at which one stream after another is served.
 use crate::cells::{add, count_at, zeros};
 use crate::histogram::{Histogram, Times};
-use crate::outcome::Outcome;
+use crate::op_status::OpStatus;
 use crate::stream::{Peer, Stream};
 use std::alloc::{AllocError, Global};
 use std::sync::atomic::{AtomicU64, Ordering};
 use std::sync::{Mutex, Wait};
 
-/// The counters of a place, over all streams that were served there, and the stream that is being served. The thread
+/// The counters of a slot, over all streams that were served there, and the stream that is being served. The thread
 /// that serves there writes them. Any thread may read them.
 #[derive(Drop)]
-pub struct Place {
+pub struct StreamSlot {
     stream: Mutex<Option<Stream>>,
     /// When the stream began or its last byte came, in nanoseconds.
     active: AtomicU64,
@@ -26,7 +26,7 @@ pub struct Place {
     memory_bytes: AtomicU64,
 }
 
-/// The counters of a place at one time, and the stream that is being served there.
+/// The counters of a slot at one time, and the stream that is being served there.
 #[derive(Clone, Copy, Debug)]
 pub(crate) struct Now {
     pub(crate) stream: Stream,
@@ -39,15 +39,15 @@ pub(crate) struct Now {
     pub(crate) memory_bytes: u64,
 }
 
-impl Place {
-    /// A place with all counters 0 and no stream.
-    pub(crate) fn new(alloc: Global) -> Result<Place, AllocError> {
-        Ok(Place {
+impl StreamSlot {
+    /// A slot with all counters 0 and no stream.
+    pub(crate) fn new(alloc: Global) -> Result<StreamSlot, AllocError> {
+        Ok(StreamSlot {
             stream: Mutex::new(None),
             active: AtomicU64::new(0),
             received: AtomicU64::new(0),
             sent: AtomicU64::new(0),
-            outcomes: zeros(alloc, Outcome::COUNT)?,
+            outcomes: zeros(alloc, OpStatus::COUNT)?,
             conv: Histogram::new(alloc)?,
             put: Histogram::new(alloc)?,
             pending: AtomicU64::new(0),
@@ -61,7 +61,7 @@ impl Place {
         let stream = Stream {
             number,
             peer,
-            begun: now,
+            start: now,
             requests: self.requests(),
             received: self.received(),
             sent: self.sent(),
@@ -106,20 +106,20 @@ impl Place {
     }
 
     /// Counts `times` requests of this outcome.
-    pub(crate) fn answered(&self, outcome: Outcome, times: u64) {
-        add(&self.outcomes, outcome.place(), times);
+    pub(crate) fn answered(&self, outcome: OpStatus, times: u64) {
+        add(&self.outcomes, outcome.index(), times);
     }
 
     /// How many requests had the outcome with this index.
-    pub(crate) fn count_of(&self, place: usize) -> u64 {
-        count_at(&self.outcomes, place)
+    pub(crate) fn count_of(&self, index: usize) -> u64 {
+        count_at(&self.outcomes, index)
     }
 
     /// How many requests were answered.
     fn requests(&self) -> u64 {
         let mut sum: u64 = 0;
-        for place in 0..Outcome::COUNT {
-            sum = sum.wrapping_add(self.count_of(place));
+        for index in 0..OpStatus::COUNT {
+            sum = sum.wrapping_add(self.count_of(index));
         }
         sum
     }
@@ -150,7 +150,7 @@ impl Place {
         })
     }
 
-    /// Adds the histograms of this place to `conv` and `put`.
+    /// Adds the histograms of this slot to `conv` and `put`.
     pub(crate) fn add_times(&self, conv: &mut Times, put: &mut Times) {
         self.conv.add_to(conv);
         self.put.add_to(put);

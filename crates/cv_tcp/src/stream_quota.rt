@@ -1,47 +1,47 @@
-//! Turns: the rights to serve one stream each, which many threads take.
+//! How many streams are left to serve, for many threads.
 ghost use Rattle.std.specs.Prelude.{◌≡◌, ℕ, ◌+◌, ◌^◌, ◌<◌, ◌≤◌, true, false, IfOk, OnOk, vec_len};
 ghost use Rattle.std.specs.IoError.{raw_os_error};
 ghost use Rattle.cv_tcp.specs.Accepting.{is_lasting};
 
-use crate::draining::Begun;
+use crate::draining::StartedDrain;
 use std::alloc::{AllocError, Global};
 use std::io;
 use std::marker::Brand;
 use std::sync::Mutex;
 use std::sync::ledger::{Book, Ledger, Share};
 
-/// A name for the turns of one call, which says in proofs how many streams are wanted. It is nothing at run time.
-pub(crate) trait Job: Ledger {
+/// A name for the quota of one call, which says in proofs how many streams are wanted. It is nothing at run time.
+pub(crate) trait Quota: Ledger {
     ghost streams: { ℕ };
 }
 
-impl Job for Brand {
+impl Quota for Brand {
     ghost streams = { 0 };
 }
 
-/// The turns that are left, for all threads. Each thread counts those that it took.
+/// How many streams are left to serve, for all threads. Each thread counts those that it took.
 #[derive(Drop)]
-pub(crate) struct Turns<J: Job> {
+pub(crate) struct StreamQuota<Q: Quota> {
     left: u64,
     is_closed: bool,
-    taken: Book<J>,
-    ghost all: { left + taken.total ≡ J.streams },
-    ghost fits: { J.streams < 2 ^ 64 },
+    taken: Book<Q>,
+    ghost all: { left + taken.total ≡ Q.streams },
+    ghost fits: { Q.streams < 2 ^ 64 },
 }
 
-/// The turns that one thread took.
+/// The streams that one thread took.
 #[derive(Drop)]
-pub(crate) struct Slot<J: Job> {
+pub(crate) struct Slot<Q: Quota> {
     served: u64,
     cut: u64,
-    share: Share<J>,
+    share: Share<Q>,
     ghost part: { share.parts ≡ 1 },
     ghost counted: { share.amount ≡ served },
     ghost few: { cut ≤ served },
 }
 
-impl<J: Job> Slot<J> {
-    /// Notes that the stream of the last turn was cut.
+impl<Q: Quota> Slot<Q> {
+    /// Notes that the last stream was cut.
     pub(crate) fn note_cut(&mut self)
         requires { self.old.cut < self.old.served }
         ensures cut { self.new.cut ≡ self.old.cut + 1 }
@@ -51,32 +51,32 @@ impl<J: Job> Slot<J> {
     }
 }
 
-/// The turns that all slots took.
+/// The streams that all slots took.
 #[derive(Clone, Copy, Debug, PartialEq, Eq)]
 pub(crate) struct Total {
-    /// How many turns were taken.
+    /// How many streams were taken.
     pub(crate) served: u64,
-    /// How many of their streams were cut.
+    /// How many of them were cut.
     pub(crate) cut: u64,
-    /// Whether no turn is left.
+    /// Whether no stream is left.
     pub(crate) is_all: bool,
 }
 
-impl<J: Job> Turns<J> {
-    /// One turn for each wanted stream.
-    pub(crate) fn new(streams: u64, taken: Book<J>) -> Turns<J>
-        requires streams { streams ≡ J.streams }
+impl<Q: Quota> StreamQuota<Q> {
+    /// A quota of so many streams, of which none is taken yet.
+    pub(crate) fn new(streams: u64, taken: Book<Q>) -> StreamQuota<Q>
+        requires streams { streams ≡ Q.streams }
         requires none { taken.total ≡ 0 }
     {
-        Turns {
+        StreamQuota {
             left: streams,
             is_closed: false,
             taken,
         }
     }
 
-    /// Takes a turn, if one is left and the turns are not closed. It returns whether it did.
-    pub(crate) fn take(&mut self, slot: &mut Slot<J>) -> bool
+    /// Takes a stream, if one is left and the quota is not closed. It returns whether it did.
+    pub(crate) fn take(&mut self, slot: &mut Slot<Q>) -> bool
         ensures yes { result ≡ true → slot.new.served ≡ slot.old.served + 1 }
         ensures no { result ≡ false → slot.new.served ≡ slot.old.served }
         ensures cut { slot.new.cut ≡ slot.old.cut }
@@ -85,7 +85,7 @@ impl<J: Job> Turns<J> {
         if self.is_closed || self.left == 0 {
             return false;
         }
-        let Turns {
+        let StreamQuota {
             left,
             is_closed: _,
             taken,
@@ -102,12 +102,12 @@ impl<J: Job> Turns<J> {
         true
     }
 
-    /// Gives a turn back, and closes the turns: no thread takes another.
-    fn give_back(&mut self, slot: &mut Slot<J>)
+    /// Gives a stream back, and closes the quota: no thread takes another.
+    fn give_back(&mut self, slot: &mut Slot<Q>)
         requires taken { slot.old.cut < slot.old.served }
         ensures { slot.new.served + 1 ≡ slot.old.served }
     {
-        let Turns {
+        let StreamQuota {
             left,
             is_closed,
             taken,
@@ -124,8 +124,8 @@ impl<J: Job> Turns<J> {
         *served -= 1;
     }
 
-    /// Gives a turn back, and closes the turns: an accept has failed, and every later one will.
-    pub(crate) fn close(&mut self, slot: &mut Slot<J>, failure: &io::Error)
+    /// Gives a stream back, and closes the quota: an accept has failed, and every later one will.
+    pub(crate) fn close(&mut self, slot: &mut Slot<Q>, failure: &io::Error)
         requires taken { slot.old.cut < slot.old.served }
         requires lasting { is_lasting (raw_os_error failure.now) ≡ true }
         ensures { slot.new.served + 1 ≡ slot.old.served }
@@ -133,20 +133,12 @@ impl<J: Job> Turns<J> {
         self.give_back(slot);
     }
 
-    /// Gives a turn back, and closes the turns: a drain has begun.
-    pub(crate) fn drain(&mut self, slot: &mut Slot<J>, _begun: Begun)
-        requires taken { slot.old.cut < slot.old.served }
-        ensures { slot.new.served + 1 ≡ slot.old.served }
-    {
-        self.give_back(slot);
-    }
-
-    /// The turns that all slots took.
-    pub(crate) fn total(&mut self, mut slots: Vec<Mutex<Slot<J>>>, all: &mut Share<J>) -> Total
-        requires parts { all.old.parts + vec_len slots ≡ J.parts }
+    /// The streams that all slots took.
+    pub(crate) fn total(&mut self, mut slots: Vec<Mutex<Slot<Q>>>, all: &mut Share<Q>) -> Total
+        requires parts { all.old.parts + vec_len slots ≡ Q.parts }
         requires none { all.old.amount ≡ 0 }
-        ensures all { result.is_all ≡ true → result.served ≡ J.streams }
-        ensures some { result.served ≤ J.streams }
+        ensures all { result.is_all ≡ true → result.served ≡ Q.streams }
+        ensures some { result.served ≤ Q.streams }
         ensures cut { result.cut ≤ result.served }
     {
         let mut total = 0;
@@ -167,12 +159,22 @@ impl<J: Job> Turns<J> {
     }
 }
 
-/// `count` slots that have taken no turn yet.
-pub(crate) fn new_slots<J: Job>(
+impl StartedDrain {
+    /// Gives a stream back, and closes the quota: the drain has begun.
+    pub(crate) fn close<Q: Quota>(self, quota: &mut StreamQuota<Q>, slot: &mut Slot<Q>)
+        requires taken { slot.old.cut < slot.old.served }
+        ensures { slot.new.served + 1 ≡ slot.old.served }
+    {
+        quota.give_back(slot);
+    }
+}
+
+/// `count` slots that have taken no stream yet.
+pub(crate) fn new_slots<Q: Quota>(
     alloc: Global,
     count: u64,
-    all: &mut Share<J>,
-) -> Result<Vec<Mutex<Slot<J>>>, AllocError>
+    all: &mut Share<Q>,
+) -> Result<Vec<Mutex<Slot<Q>>>, AllocError>
     requires parts { count < all.old.parts }
     requires none { all.old.amount ≡ 0 }
     ensures len { IfOk result (λ slots. vec_len slots ≡ count) }

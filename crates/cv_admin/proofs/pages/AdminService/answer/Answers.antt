@@ -1,5 +1,5 @@
 -- In each arm the route is the arm's pattern.
-use Rattle.cv_admin.proofs.pages.Pages.answer.Goals as goal
+use Rattle.cv_admin.proofs.pages.AdminService.answer.Goals as goal
 
 pub returns-in-NotAllowed : goal.returns-in-NotAllowed
 returns-in-NotAllowed g c = rw c.in-NotAllowed.is c.refuse_method.ensures

@@ -6,6 +6,7 @@ ghost use Rattle.cv_tcp.specs.Ends.{call_status_of};
 
 use crate::flags::ADMIN_TIMEOUT;
 use crate::job::{Job, Options};
+use crate::runtime::Runtime;
 use crate::scripts::{given_script, refuse_script};
 use crate::usage::{options, usage_status};
 use crate::version::VERSION;
@@ -18,14 +19,7 @@ use cv_tcp::{
     call_admin, call_status, listen, listen_administered,
 };
 use std::alloc::Global;
-use std::fs::Files;
 use std::io;
-use std::net::{Net, TcpListener, TcpStream};
-use std::random::RandomSource;
-use std::rt::Env;
-use std::sync::Wait;
-use std::thread::Threads;
-use std::time::Clock;
 
 /// The exit status of a command. A fault is written to standard error, if that is possible; the status does not depend
 /// on it.
@@ -89,9 +83,7 @@ fn conclude_admin<R: Eprint>(rt: &R, done: Result<bool, AdminFault>) -> u8
 }
 
 /// `admin`: asks for a page, and prints it.
-fn admin<R>(rt: &R, address: &str, timeout: Option<u32>, page: Page) -> u8
-where
-    R: Print + Eprint + AllocGlobal + Clock + Net<Listener = TcpListener, Stream = TcpStream>,
+fn admin<R: Runtime>(rt: &R, address: &str, timeout: Option<u32>, page: Page) -> u8
     ensures { result ≤ 1 }
 {
     let alloc = rt.alloc();
@@ -105,10 +97,12 @@ where
 }
 
 /// `call`: sends a script to the server at an address, and prints the reply lines, including those from before a fault.
-fn call<R>(rt: &R, address: &str, timeout: Option<u32>, script: &[u8]) -> Result<(), CallFault>
-where
-    R: Print + AllocGlobal + Clock + Net<Listener = TcpListener, Stream = TcpStream>,
-{
+fn call<R: Runtime>(
+    rt: &R,
+    address: &str,
+    timeout: Option<u32>,
+    script: &[u8],
+) -> Result<(), CallFault> {
     let alloc = rt.alloc();
     let mut lines = Vec::new(alloc);
     let called = cv_tcp::call(rt, alloc, address, timeout, script, &mut lines);
@@ -138,10 +132,7 @@ fn terms_of(said: Options<'_>) -> Terms
 
 /// `listen`: serves the clients that connect to an address, and with `--admin` also answers the clients of the admin
 /// pages.
-fn serve<R>(rt: &R, address: &str, said: Options<'_>) -> Result<(), RunFault>
-where
-    R: Files + Print + Eprint + AllocGlobal + Clock + RandomSource + Threads + Wait + Sync,
-    R: Net<Listener = TcpListener, Stream = TcpStream>,
+fn serve<R: Runtime>(rt: &R, address: &str, said: Options<'_>) -> Result<(), RunFault>
     requires workers { (1 ≤ said.workers) × (said.workers ≤ 16) }
     requires at_once { 1 ≤ said.at_once }
 {
@@ -161,10 +152,7 @@ where
     Ok(())
 }
 
-fn perform<R>(rt: &R, said: Options<'_>) -> u8
-where
-    R: Files + Input + Print + Eprint + AllocGlobal + Clock + RandomSource + Threads + Wait + Sync,
-    R: Net<Listener = TcpListener, Stream = TcpStream>,
+fn perform<R: Runtime>(rt: &R, said: Options<'_>) -> u8
     requires workers { (1 ≤ said.workers) × (said.workers ≤ 16) }
     requires at_once { 1 ≤ said.at_once }
 {
@@ -223,21 +211,7 @@ pub fn explain<R: Print + Eprint>(rt: &R, alloc: Global, fault: &Error) -> u8
     }
 }
 
-fn obey<R>(rt: &R, alloc: Global) -> Result<u8, Error>
-where
-    R: Env
-        + Files
-        + Input
-        + Print
-        + Eprint
-        + AllocGlobal
-        + Clock
-        + RandomSource
-        + Threads
-        + Wait
-        + Sync,
-    R: Net<Listener = TcpListener, Stream = TcpStream>,
-{
+fn obey<R: Runtime>(rt: &R, alloc: Global) -> Result<u8, Error> {
     let arguments = arguments(rt, alloc)?;
     let words: Vec<&str> = arguments.iter().map(|word| word.as_str()).collect(alloc)?;
     let said = options(alloc, &words)?;
@@ -245,21 +219,7 @@ where
 }
 
 /// Runs the command of the command line, and returns the exit status.
-pub fn program<R>(rt: &R) -> u8
-where
-    R: Env
-        + Files
-        + Input
-        + Print
-        + Eprint
-        + AllocGlobal
-        + Clock
-        + RandomSource
-        + Threads
-        + Wait
-        + Sync,
-    R: Net<Listener = TcpListener, Stream = TcpStream>,
-{
+pub fn program<R: Runtime>(rt: &R) -> u8 {
     let alloc = rt.alloc();
     match obey(rt, alloc) {
         Ok(status) => status,

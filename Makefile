@@ -147,9 +147,9 @@ check-benchmark: ## iconvd-benchmark against servers that answer right and wrong
 	@tools/need 'make $@' $(C) python3 $(ZLIB) $(CHARMAPS) program
 	@program=$$(tools/checked_program iconvd) && tests/benchmark/check "$$program"
 
-check-completions: ## the table of options beside the programs' help, and what bash, zsh and fish complete by it
+check-completions: ## the table of options and the manual beside the program's flags and help, and what bash, zsh and fish complete by it
 	@tools/need 'make $@' $(C) python3 zsh fish $(ZLIB) $(CHARMAPS) program
-	@program=$$(tools/checked_program iconvd) && tests/completions/check "$$program"
+	@program=$$(tools/checked_program iconvd) && tools/count tools/options "tests/completions/check $$program"
 
 check-container: ## what a container starts, as process 1 of its own, stopped under load: no request is lost
 	@tools/need 'make $@' python3 tini unshare program

@@ -4,7 +4,8 @@ ghost use Rattle.http.specs.Request.{head_of};
 ghost use Rattle.http_header.specs.FieldValue.{is_visible_text};
 ghost use Rattle.http_uri.specs.Uri.{uri_path};
 ghost use Rattle.http_server.specs.Response.{IsBlank, IsResponse};
-ghost use Rattle.cv_admin.specs.Answers.{Answers, AnswersOn, IsPage, page_fields, NotAllowed, health_status, health_text};
+ghost use Rattle.cv_admin.specs.Answers.{Answers, AnswersOn, IsPage, page_fields, NotAllowed};
+ghost use Rattle.cv_admin.specs.Answers.{health_status, health_text};
 
 use crate::operated::{Health, Operated};
 use crate::routes::{Page, Route, route_of};
@@ -23,7 +24,7 @@ const JSON: &str = "application/json";
 
 /// The pages of a server.
 #[derive(Drop)]
-pub struct Pages<'a, O> {
+pub struct AdminService<'a, O> {
     alloc: Global,
     operated: &'a O,
 }
@@ -82,10 +83,10 @@ fn refuse_method(response: &mut Response, page: Page) -> Result<(), AllocError>
     response.add_header(HeaderName::from_static("allow"), methods)
 }
 
-impl<'a, O: Operated> Pages<'a, O> {
+impl<'a, O: Operated> AdminService<'a, O> {
     /// Makes the pages of this server.
-    pub fn new(alloc: Global, operated: &'a O) -> Pages<'a, O> {
-        Pages { alloc, operated }
+    pub fn new(alloc: Global, operated: &'a O) -> AdminService<'a, O> {
+        AdminService { alloc, operated }
     }
 
     /// Answers with a page. `Drain` begins a drain.
@@ -126,7 +127,7 @@ impl<'a, O: Operated> Pages<'a, O> {
     }
 }
 
-impl<O: Operated> Service for Pages<'_, O> {
+impl<O: Operated> Service for AdminService<'_, O> {
     ghost answers = { λ old request response new.
         Answers (head_of request).method (uri_path (head_of request).uri) response × (new ≡ old) };
 

@@ -3,15 +3,15 @@ use Rattle.std.specs.Prelude.{Option, Some, None}
 use Rattle.cv_loop.specs.declared.fault.ServeFault.TheVariants as serving
 use Rattle.cv_commands.specs.declared.fault.RunFault.{RunFault}
 use Rattle.cv_commands.specs.declared.fault.RunFault.TheVariants as run
-use Rattle.cv_metrics.specs.declared.causes.Cause.{Cause}
-use Rattle.cv_metrics.specs.declared.causes.Cause.TheVariants as cause
+use Rattle.cv_metrics.specs.declared.causes.EndCause.{EndCause}
+use Rattle.cv_metrics.specs.declared.causes.EndCause.TheVariants as cause
 use Rattle.cv_metrics.specs.declared.causes.FaultKind.{FaultKind}
 use Rattle.cv_metrics.specs.declared.causes.FaultKind.TheVariants as kind
 use Rattle.cv_tcp.specs.declared.fault.StreamFault.{StreamFault}
 use Rattle.cv_tcp.specs.declared.fault.StreamFault.TheVariants as stream
 
 -- The cause of a stream's end: its client, unless a fault or a drain ended it.
-abbrev pub cause_of : Option StreamFault → Cause
+abbrev pub cause_of : Option StreamFault → EndCause
 cause_of None = cause.Client
 cause_of (Some stream.Idle) = cause.Idle
 cause_of (Some stream.Stalled) = cause.Stalled

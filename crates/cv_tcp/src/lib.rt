@@ -31,14 +31,15 @@ mod places;
 mod reply_count;
 mod report;
 mod retrying;
+mod server_runtime;
 mod site;
 mod socket_file;
+mod stream_quota;
 mod streams;
 mod terms;
 mod text_line;
 mod ticking;
 mod timed;
-mod turns;
 mod watched;
 
 pub use address::{is_address, is_admin_address};
@@ -51,6 +52,7 @@ pub use listening::{Addresses, listen, listen_administered, listen_until_drained
 pub use log_lines::{LogFormat, LogLines};
 pub use operation::Operation;
 pub use outlet::{Outlet, StandardError};
+pub use server_runtime::ServerRuntime;
 pub use terms::{MOST_AT_ONCE, Terms, WhenFull};
 
 #[cfg(test)]

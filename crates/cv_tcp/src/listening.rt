@@ -6,16 +6,13 @@ ghost use Rattle.cv_tcp.specs.Listening.{IsEnd};
 use crate::admin_inlet::{AdminAt, AdminInlet};
 use crate::listened::{Listened, tell};
 use crate::operation::Operation;
+use crate::server_runtime::ServerRuntime;
 use crate::site::{Site, check_given, listen_at, refuse};
 use crate::terms::Terms;
 use cv_commands::RunFault;
 use log::Log;
 use std::alloc::Global;
 use std::fs::Files;
-use std::net::{Net, TcpListener, TcpStream};
-use std::random::RandomSource;
-use std::sync::Wait;
-use std::thread::Threads;
 use std::time::Clock;
 
 /// Flushes the log, and logs a drain that ended listening.
@@ -36,7 +33,7 @@ fn conclude<R: Clock, G: Log>(
 
 /// Listens as `listen` does, until all streams are served or the operation is drained. It returns which of these ended
 /// it. A drain is logged when it has ended.
-pub fn listen_until_drained<'a, R, G>(
+pub fn listen_until_drained<'a, R: ServerRuntime, G: Log + Sync>(
     rt: &'a R,
     alloc: Global,
     log: &'a G,
@@ -44,20 +41,10 @@ pub fn listen_until_drained<'a, R, G>(
     terms: Terms,
     operation: &'a Operation,
 ) -> Result<Listened, RunFault>
-where
-    R: Net<Listener = TcpListener, Stream = TcpStream>
-        + Files
-        + Print
-        + Clock
-        + RandomSource
-        + Threads
-        + Wait
-        + Sync,
-    G: Log + Sync,
     requires at_once { 1 ≤ terms.at_once }
     requires workers { (1 ≤ terms.workers) × (terms.workers ≤ 16) }
 
-    // All threads together took a turn for each wanted stream. Or a drain had begun, and they took at most as many.
+    // All threads together took as many streams as are wanted. Or a drain had begun, and they took at most as many.
     ensures end { IfOk result (λ listened. IsEnd terms.streams listened) }
 
     // The fault of a stream is not among these.
@@ -94,7 +81,7 @@ pub struct Addresses<'a> {
 /// Listens as `listen_until_drained` does, and meanwhile answers the clients of the admin pages at an address of their
 /// own. That address is printed after the other one. The pages are answered until the last stream has ended, and only
 /// if the operation counts (`Operation::counted`).
-pub fn listen_administered<'a, R, G>(
+pub fn listen_administered<'a, R: ServerRuntime, G: Log + Sync>(
     rt: &'a R,
     alloc: Global,
     log: &'a G,
@@ -102,20 +89,10 @@ pub fn listen_administered<'a, R, G>(
     terms: Terms,
     operation: &'a Operation,
 ) -> Result<Listened, RunFault>
-where
-    R: Net<Listener = TcpListener, Stream = TcpStream>
-        + Files
-        + Print
-        + Clock
-        + RandomSource
-        + Threads
-        + Wait
-        + Sync,
-    G: Log + Sync,
     requires at_once { 1 ≤ terms.at_once }
     requires workers { (1 ≤ terms.workers) × (terms.workers ≤ 16) }
 
-    // All threads together took a turn for each wanted stream. Or a drain had begun, and they took at most as many.
+    // All threads together took as many streams as are wanted. Or a drain had begun, and they took at most as many.
     ensures end { IfOk result (λ listened. IsEnd terms.streams listened) }
 
     // The fault of a stream is not among these.
@@ -144,27 +121,17 @@ where
 /// Listens at an address, prints the address on standard output, serves streams by these terms, and returns how many.
 /// Each stream has a new pool of workers; all share one cache of compiled charmaps. The fault of a stream is logged,
 /// and the next stream is served.
-pub fn listen<R, G>(
+pub fn listen<R: ServerRuntime, G: Log + Sync>(
     rt: &R,
     alloc: Global,
     log: &G,
     address: &str,
     terms: Terms,
 ) -> Result<u64, RunFault>
-where
-    R: Net<Listener = TcpListener, Stream = TcpStream>
-        + Files
-        + Print
-        + Clock
-        + RandomSource
-        + Threads
-        + Wait
-        + Sync,
-    G: Log + Sync,
     requires at_once { 1 ≤ terms.at_once }
     requires workers { (1 ≤ terms.workers) × (terms.workers ≤ 16) }
 
-    // All threads together took a turn for each wanted stream.
+    // All threads together took as many streams as are wanted.
     ensures served { IfOk result (λ n. n ≡ terms.streams) }
 
     // The fault of a stream is not among these.

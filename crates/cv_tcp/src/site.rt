@@ -10,6 +10,7 @@ use crate::inherited::Inherited;
 use crate::inlet::{Bound, Inlet, Listener};
 use crate::listened::Listened;
 use crate::operation::Operation;
+use crate::server_runtime::ServerRuntime;
 use crate::socket_file::{self, SocketAt};
 use crate::streams::{Service, serve_until_drained};
 use crate::terms::Terms;
@@ -17,13 +18,9 @@ use cv_commands::{RunFault, write_all};
 use log::{Log, error, info};
 use std::alloc::Global;
 use std::fmt::Display;
-use std::fs::Files;
 use std::io::{self, ErrorKind};
 use std::net::{Net, SocketAddr, TcpListener, TcpStream};
-use std::random::RandomSource;
 use std::sync::Wait;
-use std::thread::Threads;
-use std::time::Clock;
 
 /// Prints the address at which the program listens, in one write, and logs it.
 fn announce<R: Print, G: Log, D: Display + Drop>(
@@ -47,10 +44,10 @@ fn announce_admin<R: Print, G: Log>(site: &Site<'_, R, G>) -> Result<(), RunFaul
     let Some(admin) = site.admin else {
         return Ok(());
     };
-    let place = admin.place();
-    let line = format!(in site.alloc; "admin {place}\n")?;
+    let address = admin.address();
+    let line = format!(in site.alloc; "admin {address}\n")?;
     write_all(io::writer(site.rt), line.as_bytes())?;
-    info!(site.log; address:% = place; "admin pages");
+    info!(site.log; address:% = address; "admin pages");
     Ok(())
 }
 
@@ -81,7 +78,7 @@ pub(crate) struct Site<'a, R, G> {
 /// Prints the address at which the program listens, and serves the streams that come in there.
 fn serve_at<R, G, L, D>(site: &Site<'_, R, G>, inlet: &L, address: D) -> Result<Listened, RunFault>
 where
-    R: Print + Clock + RandomSource + Threads + Wait + Sync,
+    R: ServerRuntime,
     G: Log + Sync,
     L: Inlet + Sync,
     D: Display + Drop,
@@ -121,16 +118,10 @@ where
 }
 
 /// Listens at a TCP port and serves the streams that come in there.
-pub(crate) fn listen_tcp<R, G>(site: &Site<'_, R, G>, address: &str) -> Result<Listened, RunFault>
-where
-    R: Net<Listener = TcpListener, Stream = TcpStream>
-        + Print
-        + Clock
-        + RandomSource
-        + Threads
-        + Wait
-        + Sync,
-    G: Log + Sync,
+pub(crate) fn listen_tcp<R: ServerRuntime, G: Log + Sync>(
+    site: &Site<'_, R, G>,
+    address: &str,
+) -> Result<Listened, RunFault>
     requires at_once { 1 ≤ site.now.terms.at_once }
     requires workers { (1 ≤ site.now.terms.workers) × (site.now.terms.workers ≤ 16) }
     ensures end { IfOk result (λ listened. IsEnd site.now.terms.streams listened) }
@@ -143,10 +134,10 @@ where
 }
 
 /// Listens at a Unix socket and serves the streams that come in there. At the end the socket's file is removed.
-pub(crate) fn listen_unix<R, G>(site: &Site<'_, R, G>, path: &str) -> Result<Listened, RunFault>
-where
-    R: Net + Files + Print + Clock + RandomSource + Threads + Wait + Sync,
-    G: Log + Sync,
+pub(crate) fn listen_unix<R: ServerRuntime, G: Log + Sync>(
+    site: &Site<'_, R, G>,
+    path: &str,
+) -> Result<Listened, RunFault>
     requires at_once { 1 ≤ site.now.terms.at_once }
     requires workers { (1 ≤ site.now.terms.workers) × (site.now.terms.workers ≤ 16) }
     ensures end { IfOk result (λ listened. IsEnd site.now.terms.streams listened) }
@@ -163,14 +154,11 @@ where
 }
 
 /// Serves the streams that come in at a Unix socket.
-pub(crate) fn serve_unix<R, G>(
+pub(crate) fn serve_unix<R: ServerRuntime, G: Log + Sync>(
     site: &Site<'_, R, G>,
     listener: Listener,
     path: &str,
 ) -> Result<Listened, RunFault>
-where
-    R: Print + Clock + RandomSource + Threads + Wait + Sync,
-    G: Log + Sync,
     requires at_once { 1 ≤ site.now.terms.at_once }
     requires workers { (1 ≤ site.now.terms.workers) × (site.now.terms.workers ≤ 16) }
     ensures end { IfOk result (λ listened. IsEnd site.now.terms.streams listened) }
@@ -203,14 +191,11 @@ pub(crate) fn check_given(address: &str) -> io::Result<()> {
 }
 
 /// Serves the streams that come in at a listener that the process was given. The listener is not shut.
-pub(crate) fn listen_given<R, G>(
+pub(crate) fn listen_given<R: ServerRuntime, G: Log + Sync>(
     site: &Site<'_, R, G>,
     address: &str,
     number: Option<u16>,
 ) -> Result<Listened, RunFault>
-where
-    R: Net + Print + Clock + RandomSource + Threads + Wait + Sync,
-    G: Log + Sync,
     requires at_once { 1 ≤ site.now.terms.at_once }
     requires workers { (1 ≤ site.now.terms.workers) × (site.now.terms.workers ≤ 16) }
     ensures end { IfOk result (λ listened. IsEnd site.now.terms.streams listened) }
@@ -223,17 +208,10 @@ where
 }
 
 /// Listens at an address of any kind, and serves the streams that come in there.
-pub(crate) fn listen_at<R, G>(site: &Site<'_, R, G>, address: &str) -> Result<Listened, RunFault>
-where
-    R: Net<Listener = TcpListener, Stream = TcpStream>
-        + Files
-        + Print
-        + Clock
-        + RandomSource
-        + Threads
-        + Wait
-        + Sync,
-    G: Log + Sync,
+pub(crate) fn listen_at<R: ServerRuntime, G: Log + Sync>(
+    site: &Site<'_, R, G>,
+    address: &str,
+) -> Result<Listened, RunFault>
     requires at_once { 1 ≤ site.now.terms.at_once }
     requires workers { (1 ≤ site.now.terms.workers) × (site.now.terms.workers ≤ 16) }
     ensures end { IfOk result (λ listened. IsEnd site.now.terms.streams listened) }

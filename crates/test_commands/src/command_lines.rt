@@ -1,6 +1,6 @@
 //! Command lines, and what the program reads from them.
 use crate::tables::{Call, check_lines};
-use cv_command_line::{VERSION, options, usage_status};
+use cv_cli::{VERSION, options, usage_status};
 use std::alloc::{AllocError, Global};
 use std::test::Fail;
 use test_support::sides;

@@ -1,5 +1,5 @@
 //! What the program does if an argument is not UTF-8, or if its standard output or standard error takes nothing.
-use cv_command_line::{arguments, explain, options, usage_status};
+use cv_cli::{arguments, explain, options, usage_status};
 use std::alloc::Global;
 use std::cell::Cell;
 use std::env::FillError;

@@ -129,9 +129,9 @@ fn an_address_that_is_none_is_refused(rt: HostRuntime) -> Result<(), Fail> {
         let heard = listen(&rt, alloc, &log, address, terms(1, 1));
         assert_eq!(rt; heard, Err(RunFault::CannotListen), "at {address}");
         let said = log.into_bytes();
-        let begun = format!(in alloc; "ERROR {address}: cannot listen: ")?;
+        let start = format!(in alloc; "ERROR {address}: cannot listen: ")?;
         assert!(rt;
-            said.starts_with(begun.as_bytes()) && said.ends_with(b"\n"),
+            said.starts_with(start.as_bytes()) && said.ends_with(b"\n"),
             "at {address}"
         );
     }

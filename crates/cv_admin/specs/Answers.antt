@@ -58,5 +58,5 @@ AnswersOn (route.NotAllowed asked) = NotAllowed asked
 AnswersOn route.Nowhere = IsText 404 (codes "not found\n")
 
 -- The answer to a request with this method and this path.
-abbrev pub Answers : List ℕ → List ℕ → Response → Type 0
-Answers method path = AnswersOn (route_of method path)
+abbrev pub AnswersRequest : List ℕ → List ℕ → Response → Type 0
+AnswersRequest method path = AnswersOn (route_of method path)

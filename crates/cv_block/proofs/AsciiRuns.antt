@@ -12,23 +12,23 @@ use Rattle.cv_base.proofs.Front.{Begins-join}
 use Rattle.cv_base.specs.Units.{unit_of, unit_size}
 use Rattle.cv_base.specs.declared.ascii_form.AsciiForm.{AsciiForm}
 use Rattle.cv_base.specs.declared.ascii_form.AsciiForm.TheVariants.{Byte}
-use Rattle.cv_block.specs.AsciiRuns.{units_of, offset, IsBelowAt, IsRunBelow, characters_in}
+use Rattle.cv_block.specs.AsciiRuns.{bytes_of_units, offset, IsBelowAt, IsRunBelow, characters_in}
 use Rattle.cv_block.specs.Units.{IsUnitAt}
 use Rattle.cv_block.proofs.UnitBytes.{length-unit_of, low_byte, byte_fits, below_at}
 use Rattle.cv_base.proofs.WrittenEach.{out_more}
 
 -- the units of one character more
-pub units_of-more : (form : AsciiForm) (characters : List ℕ) (c : ℕ) → units_of form (characters ++ c ∷ []) ≡ units_of form characters ++ unit_of form c
-units_of-more form characters c = flat_map-append (unit_of form) characters (c ∷ []) ∙ ap (λ (x : List ℕ). units_of form characters ++ x) (append-nil (unit_of form c))
+pub units_of-more : (form : AsciiForm) (characters : List ℕ) (c : ℕ) → bytes_of_units form (characters ++ c ∷ []) ≡ bytes_of_units form characters ++ unit_of form c
+units_of-more form characters c = flat_map-append (unit_of form) characters (c ∷ []) ∙ ap (λ (x : List ℕ). bytes_of_units form characters ++ x) (append-nil (unit_of form c))
 
 -- how many bytes a run of units has
-pub length-run : (form target : AsciiForm) (text : List ℕ) (n : ℕ) → length (units_of target (characters_in form text n)) ≡ unit_size target * n
+pub length-run : (form target : AsciiForm) (text : List ℕ) (n : ℕ) → length (bytes_of_units target (characters_in form text n)) ≡ unit_size target * n
 unfolding characters_in
 length-run form target text zero = sym (mul-zero (unit_size target))
 length-run form target text (suc n) =
     let c = get_or text (unit_size form * n + offset form) 0 in
     let more = ap length (units_of-more target (characters_in form text n) c) in
-    omega (arith, more, length-append (units_of target (characters_in form text n)) (unit_of target c), length-unit_of target c, length-run form target text n, mul-suc (unit_size target) n)
+    omega (arith, more, length-append (bytes_of_units target (characters_in form text n)) (unit_of target c), length-unit_of target c, length-run form target text n, mul-suc (unit_size target) n)
 
 -- the unit of a character below 256 is that of its lowest byte
 unit_at : (limit : ℕ) → limit ≤ 0x100 → (form : AsciiForm) (text : List ℕ) (at : ℕ) → IsBelowAt limit form text at → Begins (unit_of form (get_or text (at + offset form) 0)) (drop at text)
@@ -53,14 +53,14 @@ run_is_below limit few form text zero p = tt
 run_is_below limit few form text (suc n) p = AreBelow-more limit (characters_in form text n) _ (run_is_below limit few form text n (λ k h. p k (omega arith))) (small_at limit few form text (unit_size form * n) (p n (omega arith)))
 
 -- the units of a run begin the text
-pub run_begins : (limit : ℕ) → limit ≤ 0x100 → (form : AsciiForm) (text : List ℕ) (n : ℕ) → unit_size form * n ≤ length text → IsRunBelow limit form text n → Begins (units_of form (characters_in form text n)) text
+pub run_begins : (limit : ℕ) → limit ≤ 0x100 → (form : AsciiForm) (text : List ℕ) (n : ℕ) → unit_size form * n ≤ length text → IsRunBelow limit form text n → Begins (bytes_of_units form (characters_in form text n)) text
 unfolding characters_in
 run_begins limit few form text zero h p = tt
 run_begins limit few form text (suc n) h p =
     let m = mul-suc (unit_size form) n in
     let before = run_begins limit few form text n (omega arith) (λ k l. p k (omega arith)) in
     let last = unit_at limit few form text (unit_size form * n) (p n (omega arith)) in
-    rw units_of-more (Begins-join (units_of form (characters_in form text n)) _ text before (rw length-run last))
+    rw units_of-more (Begins-join (bytes_of_units form (characters_in form text n)) _ text before (rw length-run last))
 
 -- units of small characters from an index on, and one more
 pub below_more : (limit : ℕ) (form : AsciiForm) (text : List ℕ) (at n place : ℕ) → place ≡ at + unit_size form * n → ((k : ℕ) → k < n → IsBelowAt limit form text (at + unit_size form * k)) → IsBelowAt limit form text place → (k : ℕ) → k < n + 1 → IsBelowAt limit form text (at + unit_size form * k)
@@ -113,7 +113,7 @@ unit_fits form k n h =
 
 -- what is in the buffer, once n units of a run were written at an index
 abbrev pub put_run : AsciiForm → AsciiForm → List ℕ → List ℕ → ℕ → ℕ → List ℕ
-put_run form target text before at n = take at before ++ units_of target (characters_in form text n) ++ drop (at + unit_size target * n) before
+put_run form target text before at n = take at before ++ bytes_of_units target (characters_in form text n) ++ drop (at + unit_size target * n) before
 
 -- no unit is written
 pub put_none : (form target : AsciiForm) (text before : List ℕ) (at : ℕ) → before ≡ put_run form target text before at 0
@@ -127,12 +127,12 @@ pub put_more : (form target : AsciiForm) (text before : List ℕ) (at n end c : 
 unfolding characters_in
 put_more form target text before at n end c now after fits e is p q =
     let characters = characters_in form text n in
-    let front : List ℕ = take at before ++ units_of target characters in
+    let front : List ℕ = take at before ++ bytes_of_units target characters in
     let behind : ℕ = at + unit_size target * n in
-    let long : behind ≡ length front = omega (arith, length-append (take at before) (units_of target characters), length-take at before, length-run form target text n) in
+    let long : behind ≡ length front = omega (arith, length-append (take at before) (bytes_of_units target characters), length-take at before, length-run form target text n) in
     let wrote : after ≡ (front ++ unit_of target c) ++ drop (behind + unit_size target) before = q ∙ rw (p, e) (rw length-unit_of at (out_more front (unit_of target c) before behind long)) in
     let places : behind + unit_size target ≡ at + unit_size target * suc n = omega (arith, mul-suc (unit_size target) n) in
-    let units : front ++ unit_of target c ≡ take at before ++ units_of target (characters ++ c ∷ []) = append_assoc (take at before) (units_of target characters) (unit_of target c) ∙ ap (λ (x : List ℕ). take at before ++ x) (sym (units_of-more target characters c)) in
+    let units : front ++ unit_of target c ≡ take at before ++ bytes_of_units target (characters ++ c ∷ []) = append_assoc (take at before) (bytes_of_units target characters) (unit_of target c) ∙ ap (λ (x : List ℕ). take at before ++ x) (sym (units_of-more target characters c)) in
     wrote ∙ rw (units, places, is) refl
 
 -- the lowest bytes of units, and of those after them
@@ -151,16 +151,16 @@ pub put_join : (form target : AsciiForm) (text before : List ℕ) (at n m place 
     → after ≡ put_run form target text before at (n + m)
 put_join form target text before at n m place end now after fits e is p q =
     let characters = characters_in form text n in
-    let more : List ℕ = units_of target (characters_in form (drop place text) m) in
-    let front : List ℕ = take at before ++ units_of target characters in
+    let more : List ℕ = bytes_of_units target (characters_in form (drop place text) m) in
+    let front : List ℕ = take at before ++ bytes_of_units target characters in
     let size = mul-add (unit_size target) n m in
-    let long : end ≡ length front = omega (arith, is, size, length-append (take at before) (units_of target characters), length-take at before, length-run form target text n) in
+    let long : end ≡ length front = omega (arith, is, size, length-append (take at before) (bytes_of_units target characters), length-take at before, length-run form target text n) in
     let now_is : now ≡ front ++ drop end before = p ∙ rw is refl in
     let wide : length more ≡ unit_size target * m = length-run form target (drop place text) m in
     let wrote : after ≡ (front ++ more) ++ drop (end + unit_size target * m) before = q ∙ rw now_is (rw wide at (out_more front more before end long)) in
     let there : end + unit_size target * m ≡ at + unit_size target * (n + m) = omega (arith, is, size) in
-    let units : units_of target characters ++ more ≡ units_of target (characters_in form text (n + m)) = sym (flat_map-append (unit_of target) characters (characters_in form (drop place text) m)) ∙ ap (units_of target) (rw e (sym (characters_join form text n m))) in
-    wrote ∙ rw (append_assoc (take at before) (units_of target characters) more, units, there) refl
+    let units : bytes_of_units target characters ++ more ≡ bytes_of_units target (characters_in form text (n + m)) = sym (flat_map-append (unit_of target) characters (characters_in form (drop place text) m)) ∙ ap (bytes_of_units target) (rw e (sym (characters_join form text n m))) in
+    wrote ∙ rw (append_assoc (take at before) (bytes_of_units target characters) more, units, there) refl
 
 -- the lowest bytes of bytes are the bytes
 pub bytes_are : (text : List ℕ) (n : ℕ) → n ≤ length text → characters_in Byte text n ≡ take n text
@@ -198,7 +198,7 @@ bytes_at limit form text at n is fits p k h =
     rw (place, is) (record { c = get_or text (at + k) 0; small = p (at + k) (omega arith) (omega arith); stands = rw (drop-cons text (at + k) 0 within) (refl, tt) })
 
 -- the bytes of a run of bytes are those of the text
-pub bytes_copied : (text : List ℕ) (n : ℕ) → n ≤ length text → units_of Byte (characters_in Byte text n) ≡ take n text
+pub bytes_copied : (text : List ℕ) (n : ℕ) → n ≤ length text → bytes_of_units Byte (characters_in Byte text n) ≡ take n text
 unfolding characters_in
 bytes_copied text zero h = refl
 bytes_copied text (suc n) h =

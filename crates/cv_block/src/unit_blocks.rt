@@ -1,7 +1,7 @@
 //! Blocks of characters below a limit: many units of one form, written at once as units of another.
 ghost use Rattle.std.specs.Prelude.{◌≡◌, ◌≤◌, ◌<◌, ◌+◌, ◌*◌, ◌++◌, length, take, drop, get_or};
 ghost use Rattle.cv_base.specs.Units.{unit_size};
-ghost use Rattle.cv_block.specs.AsciiRuns.{IsRunBelow, characters_in, offset, units_of};
+ghost use Rattle.cv_block.specs.AsciiRuns.{IsRunBelow, characters_in, offset, bytes_of_units};
 
 use crate::code_limit::CodeLimit;
 use crate::limited_units::{BLOCK, are_blocks_below};
@@ -27,7 +27,7 @@ fn write_units<From: Unit, To: Unit>(rest: &[u8], n: usize, out: &mut [u8], at: 
     requires stand { unit_size From.form * n ≤ length rest.now }
     requires fit { at + unit_size To.form * n ≤ length out.old }
     ensures { out.new
-        ≡ take at out.old ++ units_of To.form (characters_in From.form rest.now n)
+        ≡ take at out.old ++ bytes_of_units To.form (characters_in From.form rest.now n)
         ++ drop (at + unit_size To.form * n) out.old }
 {
     let mut used = 0;
@@ -61,7 +61,7 @@ fn write_block<From: Unit, To: Unit>(units: &[u8], out: &mut [u8], at: usize)
     requires stand { unit_size From.form * 16 ≤ length units.now }
     requires fit { at + unit_size To.form * 16 ≤ length out.old }
     ensures { out.new
-        ≡ take at out.old ++ units_of To.form (characters_in From.form units.now 16)
+        ≡ take at out.old ++ bytes_of_units To.form (characters_in From.form units.now 16)
         ++ drop (at + unit_size To.form * 16) out.old }
 {
     let low = low_bytes::<From>(units);
@@ -74,7 +74,7 @@ fn write_blocks<From: Unit, To: Unit, const BLOCKS: usize>(units: &[u8], out: &m
     requires stand { unit_size From.form * (16 * BLOCKS) ≤ length units.now }
     requires fit { at + unit_size To.form * (16 * BLOCKS) ≤ length out.old }
     ensures { out.new
-        ≡ take at out.old ++ units_of To.form (characters_in From.form units.now (16 * BLOCKS))
+        ≡ take at out.old ++ bytes_of_units To.form (characters_in From.form units.now (16 * BLOCKS))
         ++ drop (at + unit_size To.form * (16 * BLOCKS)) out.old }
 {
     let mut used = 0;
@@ -103,7 +103,7 @@ fn take_blocks<R: CodeLimit, From: Unit, To: Unit, const BLOCKS: usize>(
     ensures within { result ≤ most }
     ensures small { IsRunBelow R.limit From.form rest.now result }
     ensures out { out.new
-        ≡ take at out.old ++ units_of To.form (characters_in From.form rest.now result)
+        ≡ take at out.old ++ bytes_of_units To.form (characters_in From.form rest.now result)
         ++ drop (at + unit_size To.form * result) out.old }
 {
     let size = BLOCK * BLOCKS;
@@ -133,7 +133,7 @@ pub(crate) fn take_all_blocks<R: CodeLimit, From: Unit, To: Unit>(
     ensures within { result ≤ most }
     ensures small { IsRunBelow R.limit From.form rest.now result }
     ensures out { out.new
-        ≡ take at out.old ++ units_of To.form (characters_in From.form rest.now result)
+        ≡ take at out.old ++ bytes_of_units To.form (characters_in From.form rest.now result)
         ++ drop (at + unit_size To.form * result) out.old }
 {
     if !From::takes_many() {

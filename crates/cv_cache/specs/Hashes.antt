@@ -4,8 +4,8 @@ use Rattle.cv_cache.specs.declared.text_hasher.HashKeys.{HashKeys}
 use Rattle.cv_cache.specs.declared.text_hasher.TextHasher.{TextHasher}
 
 -- the hasher before the first byte
-abbrev pub start : HashKeys → TextHasher
-start keys = record { keys = keys; offset = 0; total = 0 }
+abbrev pub hash_start : HashKeys → TextHasher
+hash_start keys = record { keys = keys; offset = 0; total = 0 }
 
 -- the xor of the two halves of a 128-bit product
 unfoldable pub folded : ℕ → ℕ → ℕ

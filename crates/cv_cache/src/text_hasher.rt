@@ -2,7 +2,7 @@
 //! its texts by words (`text_sum.rt`).
 ghost use Rattle.std.specs.Prelude.{◌≡◌};
 ghost use Rattle.std.specs.List.{fold};
-ghost use Rattle.cv_cache.specs.Hashes.{start, folded, with_byte, hash_of};
+ghost use Rattle.cv_cache.specs.Hashes.{hash_start, folded, with_byte, hash_of};
 
 use std::hash::{BuildHasher, Hasher};
 use std::random::RandomSource;
@@ -43,7 +43,7 @@ impl HashKeys {
 impl BuildHasher for HashKeys {
     type Hasher = TextHasher;
 
-    ghost build_hasher = { start };
+    ghost build_hasher = { hash_start };
 
     fn build_hasher(&self) -> TextHasher {
         TextHasher {

@@ -9,7 +9,7 @@ use Rattle.std.proofs.Math.Seq.{take-set-lt}
 use Rattle.std.specs.Prelude.{slice_set}
 use Rattle.cv_lex.specs.Names.{is_scalar}
 use Rattle.cv_lex.specs.declared.cause.Cause.TheVariants.{NotScalar, Carry}
-use Rattle.cv_charmap.specs.Entries.{Pair, number_of, bytes_in, named_by, entry_at}
+use Rattle.cv_charmap.specs.Entries.{Pair, number_of, bytes_in, range_number, entry_at}
 
 -- a number in `size` bytes has that many
 pub size_in : (size n : ℕ) → length (bytes_in size n) ≡ size
@@ -27,31 +27,31 @@ number_in (suc size) n low =
 
 -- the parts of an entry that is no cause
 pub record IsEntry (hex : Bool) (first : ℕ) (bytes : List ℕ) (i : ℕ) (q : Pair) : Type 0 where
-  pub scalar : is_scalar (named_by hex (first + i)) ≡ true
+  pub scalar : is_scalar (range_number hex (first + i)) ≡ true
   pub fits : number_of bytes + i < 256 ^ length bytes
   pub bytes_are : q.0 ≡ bytes_in (length bytes) (number_of bytes + i)
-  pub character : q.1 ≡ named_by hex (first + i)
+  pub character : q.1 ≡ range_number hex (first + i)
 
 -- an entry of a range that is no cause has these parts
 pub is_entry : (hex : Bool) (first : ℕ) (bytes : List ℕ) (i : ℕ) (q : Pair) → entry_at hex first bytes i ≡ Ok q → IsEntry hex first bytes i q
 unfolding entry_at
-is_entry hex first bytes i q e = by (is_scalar (named_by hex (first + i))) (leb (256 ^ length bytes) (number_of bytes + i)) refl refl e
+is_entry hex first bytes i q e = by (is_scalar (range_number hex (first + i))) (leb (256 ^ length bytes) (number_of bytes + i)) refl refl e
   where
-    by : (s c : Bool) → is_scalar (named_by hex (first + i)) ≡ s → leb (256 ^ length bytes) (number_of bytes + i) ≡ c
-        → cond (not s) (Err NotScalar) (cond c (Err Carry) (Ok (bytes_in (length bytes) (number_of bytes + i), named_by hex (first + i)))) ≡ Ok q → IsEntry hex first bytes i q
+    by : (s c : Bool) → is_scalar (range_number hex (first + i)) ≡ s → leb (256 ^ length bytes) (number_of bytes + i) ≡ c
+        → cond (not s) (Err NotScalar) (cond c (Err Carry) (Ok (bytes_in (length bytes) (number_of bytes + i), range_number hex (first + i)))) ≡ Ok q → IsEntry hex first bytes i q
     by false c s_is c_is h = absurd (cc)
     by true true s_is c_is h = absurd (cc)
     by true false s_is c_is h =
-        let same : (bytes_in (length bytes) (number_of bytes + i), named_by hex (first + i)) ≡ q = cc in
+        let same : (bytes_in (length bytes) (number_of bytes + i), range_number hex (first + i)) ≡ q = cc in
         record { scalar = s_is; fits = leb-false (256 ^ length bytes) (number_of bytes + i) c_is; bytes_are = ap (λ (x : Pair). x.0) (sym same); character = ap (λ (x : Pair). x.1) (sym same) }
 
 -- an entry depends on the number of its character, and on the number and the size of its bytes
 same_entry : (hex : Bool) (m n : ℕ) (a b : List ℕ) (i j : ℕ) → m + i ≡ n + j → number_of a + i ≡ number_of b + j → length a ≡ length b → entry_at hex m a i ≡ entry_at hex n b j
 unfolding entry_at
 same_entry hex m n a b i j e f g =
-    ap (λ (x : ℕ). cond (not (is_scalar (named_by hex x))) (Err NotScalar) (cond (leb (256 ^ length a) (number_of a + i)) (Err Carry) (Ok (bytes_in (length a) (number_of a + i), named_by hex x)))) e
-    ∙ ap (λ (x : ℕ). cond (not (is_scalar (named_by hex (n + j)))) (Err NotScalar) (cond (leb (256 ^ length a) x) (Err Carry) (Ok (bytes_in (length a) x, named_by hex (n + j))))) f
-    ∙ ap (λ (x : ℕ). cond (not (is_scalar (named_by hex (n + j)))) (Err NotScalar) (cond (leb (256 ^ x) (number_of b + j)) (Err Carry) (Ok (bytes_in x (number_of b + j), named_by hex (n + j))))) g
+    ap (λ (x : ℕ). cond (not (is_scalar (range_number hex x))) (Err NotScalar) (cond (leb (256 ^ length a) (number_of a + i)) (Err Carry) (Ok (bytes_in (length a) (number_of a + i), range_number hex x)))) e
+    ∙ ap (λ (x : ℕ). cond (not (is_scalar (range_number hex (n + j)))) (Err NotScalar) (cond (leb (256 ^ length a) x) (Err Carry) (Ok (bytes_in (length a) x, range_number hex (n + j))))) f
+    ∙ ap (λ (x : ℕ). cond (not (is_scalar (range_number hex (n + j)))) (Err NotScalar) (cond (leb (256 ^ x) (number_of b + j)) (Err Carry) (Ok (bytes_in x (number_of b + j), range_number hex (n + j))))) g
 
 -- entries counted on from one of them
 pub counted_on : (hex : Bool) (first : ℕ) (bytes : List ℕ) (i : ℕ) (q : Pair) → entry_at hex first bytes i ≡ Ok q → (number s : ℕ) → number ≡ first + i → entry_at hex number q.0 s ≡ entry_at hex first bytes (i + s)

@@ -5,7 +5,7 @@ use Rattle.std.specs.List.{range_with_len}
 use Rattle.cv_lex.specs.Names.{is_scalar}
 use Rattle.cv_lex.specs.declared.cause.Cause.{Cause}
 use Rattle.cv_lex.specs.declared.cause.Cause.TheVariants.{Carry}
-use Rattle.cv_charmap.specs.Entries.{Pair, number_of, named_by, entry_at}
+use Rattle.cv_charmap.specs.Entries.{Pair, number_of, range_number, entry_at}
 use Rattle.cv_charmap.specs.Lists.{entered, pair_cause, entry_cause}
 use Rattle.cv_charmap.specs.Private.Runs.{entries_from, run_entries, with_entry, unless, fault}
 use Rattle.cv_charmap.specs.Private.Seen.{Enters, RunsTo}
@@ -14,10 +14,10 @@ use Rattle.cv_charmap.specs.declared.pair_list.EntryFault.TheVariants.{Faulty, M
 use Rattle.cv_charmap.specs.declared.fault.MapFault.{MapFault}
 
 -- an entry whose number does not fit its bytes
-pub entry_carries : (hex : Bool) (first : ℕ) (bytes : List ℕ) (i v n : ℕ) → v ≡ named_by hex (first + i) → is_scalar v ≡ true → n ≡ number_of bytes → leb (256 ^ length bytes) (n + i) ≡ true → entry_at hex first bytes i ≡ Err Carry
+pub entry_carries : (hex : Bool) (first : ℕ) (bytes : List ℕ) (i v n : ℕ) → v ≡ range_number hex (first + i) → is_scalar v ≡ true → n ≡ number_of bytes → leb (256 ^ length bytes) (n + i) ≡ true → entry_at hex first bytes i ≡ Err Carry
 unfolding entry_at
 entry_carries hex first bytes i v n named is number far =
-    let s : is_scalar (named_by hex (first + i)) ≡ true = ap is_scalar (sym named) ∙ is in
+    let s : is_scalar (range_number hex (first + i)) ≡ true = ap is_scalar (sym named) ∙ is in
     let f : leb (256 ^ length bytes) (number_of bytes + i) ≡ true = ap (λ (k : ℕ). leb (256 ^ length bytes) (k + i)) (sym number) ∙ far in
     rw (s, f) refl
 

@@ -26,14 +26,14 @@ reread (suc digits) n = 16 * reread digits (n / 10) + n % 10
 
 -- The character that a number of a range names: the number itself for `..`; for `...` the number that its decimal
 -- digits write in hexadecimal, of which a name has eight at most.
-abbrev pub named_by : Bool → ℕ → ℕ
-named_by hex n = if hex then n else reread 8 n
+abbrev pub range_number : Bool → ℕ → ℕ
+range_number hex n = if hex then n else reread 8 n
 
 -- The `i`th entry of a range after the first. Its bytes count up as one number, and are as many as those of the first:
 -- a number that does not fit them is at fault.
 unfoldable pub entry_at : Bool → ℕ → List ℕ → ℕ → Result Pair Cause
 entry_at hex first bytes i =
-    let character : ℕ = named_by hex (first + i) in
+    let character : ℕ = range_number hex (first + i) in
     let number : ℕ = number_of bytes + i in
     if not (is_scalar character) then Err NotScalar else
     if nat_le (256 ^ length bytes) number then Err Carry else Ok (bytes_in (length bytes) number, character)

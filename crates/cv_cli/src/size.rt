@@ -1,11 +1,11 @@
 //! Sizes in bytes, as words of the command line.
 ghost use Rattle.std.specs.Prelude.{◌≡◌, ◌*◌};
 ghost use Rattle.cv_cli.specs.Sizes as spec;
-ghost use Rattle.cv_cli.specs.Sizes.{unit_of, size_in};
+ghost use Rattle.cv_cli.specs.Sizes.{multiplier_of, size_in};
 
 /// How many bytes the letter after a number means: 1 without a letter, 0 for an unknown one.
 fn unit(letter: &[u8]) -> u64
-    ensures { result ≡ unit_of letter.now }
+    ensures { result ≡ multiplier_of letter.now }
 {
     match letter {
         b"" => 1,

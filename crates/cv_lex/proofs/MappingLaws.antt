@@ -9,7 +9,7 @@ use Rattle.std.proofs.lemmas.Bool.Decides.{nat_tests}
 use Rattle.cv_lex.specs.Words.{begins, after_blanks, numeral}
 use Rattle.cv_lex.specs.Names.{is_scalar, digits_of, symbol_of, meaning_by, character_of, range_of}
 use Rattle.cv_lex.specs.Constants.{kind_of, constant_at, numbers_within, bytes_by, bytes_of}
-use Rattle.cv_lex.specs.Mappings.{Mapping, One, Range, ◌>>=◌, name_at, encoding_at, plain, single_by, ranged_by, mapping_of}
+use Rattle.cv_lex.specs.Mappings.{Mapping, One, Range, ◌>>=◌, bracketed_name, encoding_at, plain, single_by, ranged_by, mapping_of}
 use Rattle.cv_lex.specs.declared.cause.Cause.{Cause}
 use Rattle.cv_lex.specs.declared.cause.Cause.TheVariants.{Length, Syntax, NotScalar}
 use Rattle.cv_lex.specs.declared.encoding.Kind.{Kind}
@@ -109,7 +109,7 @@ single_fit escape name rest m e =
 ranged_fit : (escape : ℕ) (hex : Bool) (name rest : List ℕ) (m : Mapping) → ranged_by escape hex name rest ≡ Ok m → IsFit m
 unfolding ranged_by
 ranged_fit escape hex name rest m e =
-    let a = bind_ok (ok_or (name_at escape rest) Syntax) _ m e in
+    let a = bind_ok (ok_or (bracketed_name escape rest) Syntax) _ m e in
     let b = bind_ok (ok_or (encoding_at a.0.1) Syntax) _ m a.2 in
     let c = bind_ok (range_of hex (plain escape name) (plain escape a.0.0)) _ m b.2 in
     let d = bind_ok (bytes_of escape b.0) _ m c.2 in
@@ -120,7 +120,7 @@ ranged_fit escape hex name rest m e =
 -- what a mapping line says
 pub mapping_fit : (escape : ℕ) (line : List ℕ) (m : Mapping) → mapping_of escape line ≡ Ok m → IsFit m
 unfolding mapping_of
-mapping_fit escape line m e = (let a = bind_ok (ok_or (name_at escape (after_blanks line)) Syntax) _ m e in by a.0 (begins a.0.1 (codes "...")) (begins a.0.1 (codes "..")) a.2)
+mapping_fit escape line m e = (let a = bind_ok (ok_or (bracketed_name escape (after_blanks line)) Syntax) _ m e in by a.0 (begins a.0.1 (codes "...")) (begins a.0.1 (codes "..")) a.2)
   where
     by : (first : List ℕ × List ℕ) (three two : Bool) → cond three (ranged_by escape false first.0 (drop 3 first.1)) (cond two (ranged_by escape true first.0 (drop 2 first.1)) (single_by escape first.0 first.1)) ≡ Ok m → IsFit m
     by first true two h = ranged_fit escape false first.0 (drop 3 first.1) m h

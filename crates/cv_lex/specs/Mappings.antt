@@ -19,9 +19,9 @@ name_from escape false (b ∷ text) =
     if b == 62 then Some ([], text) else with_byte b (name_from escape false text)
 
 -- the name at the start in angle brackets, and what follows it
-abbrev pub name_at : ℕ → List ℕ → Option (List ℕ × List ℕ)
-name_at escape [] = None
-name_at escape (b ∷ text) = if b == 60 then name_from escape false text else None
+abbrev pub bracketed_name : ℕ → List ℕ → Option (List ℕ × List ℕ)
+bracketed_name escape [] = None
+bracketed_name escape (b ∷ text) = if b == 60 then name_from escape false text else None
 
 -- A name without its escape characters: the byte after each is literal. The flag is that of `name_from`.
 abbrev pub without_escapes : ℕ → Bool → List ℕ → List ℕ
@@ -60,7 +60,7 @@ single_by escape name rest = do
 -- what a mapping says after the first name of a range
 unfoldable pub ranged_by : ℕ → Bool → List ℕ → List ℕ → Result Mapping Cause
 ranged_by escape hex first rest = do
-  last ← ok_or (name_at escape rest) Syntax
+  last ← ok_or (bracketed_name escape rest) Syntax
   encoding ← ok_or (encoding_at last.1) Syntax
   ends ← range_of hex (plain escape first) (plain escape last.0)
   bytes ← bytes_of escape encoding
@@ -69,7 +69,7 @@ ranged_by escape hex first rest = do
 -- What a mapping line says: a name, which `...` or `..` after it makes a range, and an encoding. Blanks before it are ignored.
 unfoldable pub mapping_of : ℕ → List ℕ → Result Mapping Cause
 mapping_of escape line = do
-  first ← ok_or (name_at escape (after_blanks line)) Syntax
+  first ← ok_or (bracketed_name escape (after_blanks line)) Syntax
   if begins first.1 (codes "...") then ranged_by escape false first.0 (drop 3 first.1) else
       if begins first.1 (codes "..") then ranged_by escape true first.0 (drop 2 first.1) else
       single_by escape first.0 first.1

@@ -13,7 +13,7 @@ use Rattle.cv_base.proofs.AllWritten.{none_allowed}
 use Rattle.cv_base.proofs.BlockLaws.{AreRead, read_block_of}
 use Rattle.cv_block.specs.StatelessForms.{BytesOf}
 use Rattle.cv_block.proofs.FormBlocks.{WritesForm, scalars_read, spelled_written}
-use Rattle.cv_transcode.specs.Runs.{IsConverted}
+use Rattle.cv_transcode.specs.Runs.{IsTranscoded}
 use Rattle.cv_transcode.specs.declared.run.Run.{Run}
 use Rattle.cv_utf8.specs.Utf8.{utf8_bytes}
 use Rattle.cv_utf8.proofs.Utf8Spelled.{utf8_reads_spelled}
@@ -58,7 +58,7 @@ writes_all (written_form.Utf16 endian) to t p = rw p.1 (p.2 utf16)
 pub fast_takes : (form : ReadForm) (target : WrittenForm) (from to : Form) (policy : Policy) (states : States)
     → IsReadAs form from states.reading → IsWrittenAs target to states.writing
     → (rest before : List ℕ) (at : ℕ) (run : Run) (after : List ℕ) → ((k : ℕ) → get_or rest k 0 < 256)
-    → 0 < run.used → IsConverted (read_bytes form) (written_bytes target) rest before at run after
+    → 0 < run.used → IsTranscoded (read_bytes form) (written_bytes target) rest before at run after
     → TakesSome (form_reads from) (form_writes to) policy states rest before at
     (record { read = run.used; written = run.wrote; replaced = 0 }) states after
 fast_takes form target from to policy states r w rest before at run after b some p =

@@ -1,6 +1,6 @@
 //! Loops that convert from one encoding to another without a buffer of characters in between.
 ghost use Rattle.std.specs.Prelude.{◌≡◌, ◌≤◌, ◌<◌, length, IfSome, MatchOption};
-ghost use Rattle.cv_transcode.specs.Runs.{IsConverted};
+ghost use Rattle.cv_transcode.specs.Runs.{IsTranscoded};
 ghost use Rattle.cv_pivot.specs.Encodings.{form_of};
 ghost use Rattle.cv_pivot.specs.Private.Steps.FastPaths.{IsReadAs, IsWrittenAs, read_bytes, written_bytes};
 ghost use Rattle.cv_utf16.specs.Utf32.{utf32};
@@ -89,7 +89,7 @@ fn from_utf32<O: ByteOrder>(to: WrittenForm, rest: &[u8], out: &mut [u8], at: us
     requires { at ≤ length out.old }
     ensures some { IfSome result (λ run. 0 < run.used) }
     ensures run { MatchOption result (out.new ≡ out.old) (λ run.
-        IsConverted (utf32 O.endian) (written_bytes to) rest.now out.old at run out.new) }
+        IsTranscoded (utf32 O.endian) (written_bytes to) rest.now out.old at run out.new) }
 {
     match to {
         WrittenForm::Utf8 => utf32_to_utf8::<O>(rest, out, at),
@@ -159,7 +159,7 @@ impl FastPath {
         requires { at ≤ length out.old }
         ensures some { IfSome result (λ run. 0 < run.used) }
         ensures run { MatchOption result (out.new ≡ out.old) (λ run.
-            IsConverted (read_bytes self.from) (written_bytes self.to) rest.now out.old at run out.new) }
+            IsTranscoded (read_bytes self.from) (written_bytes self.to) rest.now out.old at run out.new) }
     {
         match (self.from, self.to) {
             (ReadForm::Latin1, WrittenForm::Utf8) => latin1_to_utf8(rest, out, at),

@@ -20,12 +20,12 @@ cause_of (Some stream.Cut) = cause.Cut
 cause_of (Some (stream.Run f)) = cause.Fault
 
 -- The kind of the fault that ended a run.
-abbrev pub kind_of : RunFault → FaultKind
-kind_of (run.Serve (serving.BadLength n)) = kind.BadLength
-kind_of (run.Serve serving.TruncatedFrame) = kind.TruncatedFrame
-kind_of (run.Serve serving.Read) = kind.Read
-kind_of (run.Serve (serving.Write n)) = kind.Write
-kind_of (run.Serve serving.Memory) = kind.Memory
-kind_of run.Memory = kind.Memory
-kind_of run.AcceptFailed = kind.Accept
-kind_of fault = kind.Other
+abbrev pub fault_kind_of : RunFault → FaultKind
+fault_kind_of (run.Serve (serving.BadLength n)) = kind.BadLength
+fault_kind_of (run.Serve serving.TruncatedFrame) = kind.TruncatedFrame
+fault_kind_of (run.Serve serving.Read) = kind.Read
+fault_kind_of (run.Serve (serving.Write n)) = kind.Write
+fault_kind_of (run.Serve serving.Memory) = kind.Memory
+fault_kind_of run.Memory = kind.Memory
+fault_kind_of run.AcceptFailed = kind.Accept
+fault_kind_of fault = kind.Other

@@ -1,6 +1,6 @@
 //! Asks for the admin pages of a server.
 ghost use Rattle.std.specs.Prelude.{◌≡◌, ℕ, List, ◌++◌, IfOk, OnOk, OnErr};
-ghost use Rattle.cv_tcp.specs.Admin.{Adds};
+ghost use Rattle.cv_tcp.specs.Admin.{AppendsAnswer};
 ghost use Rattle.cv_tcp.specs.Admin as spec;
 
 use crate::connecting::connect;
@@ -82,7 +82,7 @@ fn exchange<S: Read, T: Write>(
 
 /// Appends the text of an answer, and returns whether its status is 200 or 202.
 pub(crate) fn show_response(answer: &[u8], text: &mut Vec<u8>) -> Result<bool, AdminFault>
-    ensures added { IfOk result (λ is_well. Adds answer.now is_well text.old.items text.new.items) }
+    ensures added { IfOk result (λ is_well. AppendsAnswer answer.now is_well text.old.items text.new.items) }
     ensures err { OnErr result (text.new.items ≡ text.old.items) }
 {
     let Some(said) = read_response(answer) else {

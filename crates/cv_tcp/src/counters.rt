@@ -1,6 +1,6 @@
 //! The server's board, its clock, and how a stream's end is counted.
 ghost use Rattle.std.specs.Prelude.{◌≡◌};
-ghost use Rattle.cv_tcp.specs.Counting.{cause_of, kind_of};
+ghost use Rattle.cv_tcp.specs.Counting.{cause_of, fault_kind_of};
 
 use crate::fault::StreamFault;
 use cv_commands::RunFault;
@@ -26,8 +26,8 @@ fn cause_of(fault: Option<StreamFault>) -> EndCause
 }
 
 /// The kind of the fault that ended a run.
-fn kind_of(fault: RunFault) -> FaultKind
-    ensures { result ≡ kind_of fault }
+fn fault_kind_of(fault: RunFault) -> FaultKind
+    ensures { result ≡ fault_kind_of fault }
 {
     match fault {
         RunFault::Serve(ServeFault::BadLength { .. }) => FaultKind::BadLength,
@@ -111,7 +111,7 @@ impl Counters {
     pub(crate) fn end<R: Wait>(&self, rt: &R, slot: &StreamSlot, fault: Option<StreamFault>) {
         let cause = cause_of(fault);
         let kind = match fault {
-            Some(StreamFault::Run(fault)) => Some(kind_of(fault)),
+            Some(StreamFault::Run(fault)) => Some(fault_kind_of(fault)),
             _ => None,
         };
         self.board.end(rt, slot, cause, kind);

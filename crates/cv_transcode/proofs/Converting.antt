@@ -7,7 +7,7 @@ use Rattle.cv_base.specs.Items.{Begins}
 use Rattle.cv_base.specs.Scalars.{AreScalars}
 use Rattle.cv_block.specs.StatelessForms.{BytesOf}
 use Rattle.cv_block.proofs.FormRuns.{AreScalars-append}
-use Rattle.cv_transcode.specs.Runs.{IsConverted}
+use Rattle.cv_transcode.specs.Runs.{IsTranscoded}
 use Rattle.cv_block.specs.Slack.{IsPutWithSlack}
 use Rattle.cv_transcode.specs.Private.Slack.{IsConvertedWithSlack}
 use Rattle.cv_transcode.specs.Private.Windows.{IsWindow}
@@ -47,7 +47,7 @@ window_more from to text before at used size n m slack place mid after units p p
 -- the text is converted if no bytes after the result may be anything
 pub all_converted : (from to : BytesOf) (text before : List ℕ) (at used n : ℕ) (after : List ℕ)
     → IsConvertedWithSlack from to text before at used n 0 after
-    → IsConverted from to text before at (record { used = used; wrote = n }) after
+    → IsTranscoded from to text before at (record { used = used; wrote = n }) after
 all_converted from to text before at used n after p = record {
   characters = p.characters;
   scalars = p.scalars;

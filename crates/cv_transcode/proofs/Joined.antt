@@ -9,10 +9,10 @@ use Rattle.cv_base.specs.Places.{IsPut}
 use Rattle.cv_block.specs.StatelessForms.{BytesOf}
 use Rattle.cv_block.proofs.FormRuns.{AreScalars-append}
 use Rattle.cv_utf16.proofs.PutTwice.{put_both}
-use Rattle.cv_transcode.specs.Runs.{IsConverted}
+use Rattle.cv_transcode.specs.Runs.{IsTranscoded}
 use Rattle.cv_transcode.specs.Private.Windows.{IsSupplementary}
 use Rattle.cv_transcode.specs.declared.run.Run.{Run}
-use Rattle.cv_utf8.specs.Utf16Lanes.{characters_of, AreRead}
+use Rattle.cv_utf8.specs.Utf16Lanes.{lane_characters, AreRead}
 use Rattle.cv_utf8.specs.Utf8.{utf8_bytes}
 use Rattle.cv_utf8.specs.declared.read.utf16_lanes.Utf16Lanes.{Utf16Lanes}
 
@@ -21,7 +21,7 @@ some_bytes c = grind arith
 
 -- a run without characters: nothing is used, and nothing is written
 pub none_converted_exactly : (from to : BytesOf) (text before : List ℕ) (at : ℕ) → at ≤ length before
-    → IsConverted from to text before at (record { used = 0; wrote = 0 }) before
+    → IsTranscoded from to text before at (record { used = 0; wrote = 0 }) before
 none_converted_exactly from to text before at h =
     let end : at + 0 ≡ at = omega arith in
     record {
@@ -39,8 +39,8 @@ none_converted_exactly from to text before at h =
 
 -- a run is converted, and then another that begins at its end
 pub joined : (from to : BytesOf) (text before : List ℕ) (at : ℕ) (r1 r2 : Run) (mid after : List ℕ)
-    → IsConverted from to text before at r1 mid → IsConverted from to (drop r1.used text) mid (at + r1.wrote) r2 after
-    → IsConverted from to text before at (record { used = r1.used + r2.used; wrote = r1.wrote + r2.wrote }) after
+    → IsTranscoded from to text before at r1 mid → IsTranscoded from to (drop r1.used text) mid (at + r1.wrote) r2 after
+    → IsTranscoded from to text before at (record { used = r1.used + r2.used; wrote = r1.wrote + r2.wrote }) after
 joined from to text before at r1 r2 mid after p q =
     let a = p.characters in
     let b = q.characters in
@@ -66,33 +66,33 @@ put_size bytes before at n after p =
 
 -- the characters of one window more are converted
 pub units_more : (to : BytesOf) (text before : List ℕ) (at used n m total place : ℕ) (mid after : List ℕ)
-    (units : Utf16Lanes) → IsConverted utf8_bytes to text before at (record { used = used; wrote = n }) mid
+    (units : Utf16Lanes) → IsTranscoded utf8_bytes to text before at (record { used = used; wrote = n }) mid
     → place ≡ at + n → n + m ≡ total → AreRead text used units
-    → IsPut (flat_map to (characters_of units)) mid place m after
-    → IsConverted utf8_bytes to text before at (record { used = used + units.used; wrote = total }) after
+    → IsPut (flat_map to (lane_characters units)) mid place m after
+    → IsTranscoded utf8_bytes to text before at (record { used = used + units.used; wrote = total }) after
 units_more to text before at used n m total place mid after units p place_is total_is read put =
-    let window : IsConverted utf8_bytes to (drop used text) mid (at + n) (record { used = units.used; wrote = m }) after
+    let window : IsTranscoded utf8_bytes to (drop used text) mid (at + n) (record { used = units.used; wrote = m }) after
     = record {
-      characters = characters_of units;
+      characters = lane_characters units;
       scalars = read.scalars;
       begins = read.begins;
       uses = read.uses;
-      put = subst (λ (i : ℕ). IsPut (flat_map to (characters_of units)) mid i m after) place_is put;
+      put = subst (λ (i : ℕ). IsPut (flat_map to (lane_characters units)) mid i m after) place_is put;
     } in
-    subst (λ (i : ℕ). IsConverted utf8_bytes to text before at (record { used = used + units.used; wrote = i }) after)
+    subst (λ (i : ℕ). IsTranscoded utf8_bytes to text before at (record { used = used + units.used; wrote = i }) after)
     total_is (joined utf8_bytes to text before at (record { used = used; wrote = n })
     (record { used = units.used; wrote = m }) mid after p window)
 
 -- one character of four bytes more is converted
 pub supplementary_more : (to : BytesOf) (text before : List ℕ) (at used c : ℕ) (mid after : List ℕ)
-    → IsConverted utf8_bytes to text before at (record { used = used; wrote = used }) mid
+    → IsTranscoded utf8_bytes to text before at (record { used = used; wrote = used }) mid
     → IsSupplementary utf8_bytes (drop used text) c
-    → IsPut (to c) mid (at + used) 4 after → IsConverted utf8_bytes to text before at
+    → IsPut (to c) mid (at + used) 4 after → IsTranscoded utf8_bytes to text before at
     (record { used = used + 4; wrote = used + 4 }) after
 supplementary_more to text before at used c mid after p is put =
     let from : utf8_bytes c ++ [] ≡ utf8_bytes c = append-nil (utf8_bytes c) in
     let out : to c ++ [] ≡ to c = append-nil (to c) in
-    let one : IsConverted utf8_bytes to (drop used text) mid (at + used) (record { used = 4; wrote = 4 }) after =
+    let one : IsTranscoded utf8_bytes to (drop used text) mid (at + used) (record { used = 4; wrote = 4 }) after =
     record {
       characters = c ∷ [];
       scalars = (is.scalar, tt);
@@ -106,21 +106,21 @@ supplementary_more to text before at used c mid after p is put =
 
 -- one run more is converted, whose text is given as a slice
 pub run_more : (to : BytesOf) (text before : List ℕ) (at used n supplementary total place : ℕ) (mid after : List ℕ)
-    → IsConverted utf8_bytes to text before at (record { used = used; wrote = n }) mid → place ≡ at + n
+    → IsTranscoded utf8_bytes to text before at (record { used = used; wrote = n }) mid → place ≡ at + n
     → n + supplementary ≡ total
-    → IsConverted utf8_bytes to (take (length text - used) (drop used text)) mid place
+    → IsTranscoded utf8_bytes to (take (length text - used) (drop used text)) mid place
     (record { used = supplementary; wrote = supplementary }) after
-    → IsConverted utf8_bytes to text before at (record { used = used + supplementary; wrote = total }) after
+    → IsTranscoded utf8_bytes to text before at (record { used = used + supplementary; wrote = total }) after
 run_more to text before at used n supplementary total place mid after p place_is total_is q =
-    let slice : IsConverted utf8_bytes to (drop used text) mid place
+    let slice : IsTranscoded utf8_bytes to (drop used text) mid place
     (record { used = supplementary; wrote = supplementary }) after =
-    subst (λ (x : List ℕ). IsConverted utf8_bytes to x mid place
+    subst (λ (x : List ℕ). IsTranscoded utf8_bytes to x mid place
     (record { used = supplementary; wrote = supplementary }) after) (rest_is used text) q in
-    let there : IsConverted utf8_bytes to (drop used text) mid (at + n)
+    let there : IsTranscoded utf8_bytes to (drop used text) mid (at + n)
     (record { used = supplementary; wrote = supplementary }) after =
-    subst (λ (i : ℕ). IsConverted utf8_bytes to (drop used text) mid i
+    subst (λ (i : ℕ). IsTranscoded utf8_bytes to (drop used text) mid i
     (record { used = supplementary; wrote = supplementary }) after) place_is slice in
-    subst (λ (i : ℕ). IsConverted utf8_bytes to text before at (record { used = used + supplementary; wrote = i })
+    subst (λ (i : ℕ). IsTranscoded utf8_bytes to text before at (record { used = used + supplementary; wrote = i })
     after) total_is (joined utf8_bytes to text before at (record { used = used; wrote = n })
     (record { used = supplementary; wrote = supplementary }) mid after p there)
 
@@ -131,7 +131,7 @@ no_characters (c ∷ characters) h =
 
 -- if no bytes are used, none are written
 pub nothing_used : (to : BytesOf) (text before : List ℕ) (at used n : ℕ) (after : List ℕ) → used ≡ 0
-    → IsConverted utf8_bytes to text before at (record { used = used; wrote = n }) after → after ≡ before
+    → IsTranscoded utf8_bytes to text before at (record { used = used; wrote = n }) after → after ≡ before
 nothing_used to text before at used n after e p =
     let none : p.characters ≡ [] = no_characters p.characters (sym p.uses ∙ e) in
     let put : IsPut [] before at n after = subst (λ (x : List ℕ). IsPut (flat_map to x) before at n after) none p.put in

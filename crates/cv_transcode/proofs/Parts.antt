@@ -9,7 +9,7 @@ use Rattle.std.proofs.lemmas.List.{take-take, take_at}
 use Rattle.cv_base.proofs.Front.{Begins-length}
 use Rattle.cv_base.specs.Places.{IsPut}
 use Rattle.cv_block.specs.StatelessForms.{BytesOf}
-use Rattle.cv_transcode.specs.Runs.{IsConverted}
+use Rattle.cv_transcode.specs.Runs.{IsTranscoded}
 use Rattle.cv_transcode.specs.declared.run.Run.{Run}
 use Rattle.cv_block.specs.Slack.{IsPutWithSlack}
 use Rattle.cv_transcode.specs.Private.Slack.{IsConvertedWithSlack}
@@ -118,7 +118,7 @@ slack_within from to text before at used n slack after p = omega
 
 -- what a run converted is within the text
 pub converted_within : (from to : BytesOf) (text before : List ℕ) (at : ℕ) (run : Run) (after : List ℕ)
-    → IsConverted from to text before at run after → run.used ≤ length text
+    → IsTranscoded from to text before at run after → run.used ≤ length text
 converted_within from to text before at run after p =
     omega (arith, p.uses, Begins-length (flat_map from p.characters) text p.begins)
 
@@ -126,7 +126,7 @@ converted_within from to text before at run after p =
 pub copied : (from to : BytesOf) (text none front before : List ℕ) (at used n slack : ℕ) (after : List ℕ)
     → IsConvertedWithSlack from to text none 0 used n slack front → at + n ≤ length before
     → after ≡ take at before ++ take n front ++ drop (at + n) before
-    → IsConverted from to text before at (record { used = used; wrote = n }) after
+    → IsTranscoded from to text before at (record { used = used; wrote = n }) after
 copied from to text none front before at used n slack after p fits out =
     all_converted from to text before at used n after (record {
       characters = p.characters;

@@ -11,7 +11,7 @@ use Rattle.cv_base.proofs.Front.{Begins-length}
 use Rattle.cv_block.specs.StatelessForms.{BytesOf}
 use Rattle.cv_block.specs.Slack.{IsPutWithSlack}
 use Rattle.cv_block.proofs.Slack.{put_more}
-use Rattle.cv_utf8.specs.Utf16Lanes.{characters_of, AreRead}
+use Rattle.cv_utf8.specs.Utf16Lanes.{lane_characters, AreRead}
 use Rattle.cv_utf8.specs.Utf8.{utf8_bytes}
 use Rattle.cv_utf8.specs.declared.read.utf16_lanes.Utf16Lanes.{Utf16Lanes}
 
@@ -19,7 +19,7 @@ use Rattle.cv_utf8.specs.declared.read.utf16_lanes.Utf16Lanes.{Utf16Lanes}
 pub parts_put : (to : BytesOf) (units : Utf16Lanes) (before : List ℕ) (at : ℕ) (mid after : List ℕ)
     → IsPutWithSlack (flat_map to (take units.firsts units.first)) before at (2 * units.firsts) 16 mid
     → IsPutWithSlack (flat_map to (take units.seconds units.second)) mid (at + 2 * units.firsts) (2 * units.seconds) 16
-    after → IsPutWithSlack (flat_map to (characters_of units)) before at (2 * (units.firsts + units.seconds)) 16
+    after → IsPutWithSlack (flat_map to (lane_characters units)) before at (2 * (units.firsts + units.seconds)) 16
     after
 parts_put to units before at mid after p q =
     let first : List ℕ = take units.firsts units.first in
@@ -55,7 +55,7 @@ pub read_within : (text : List ℕ) (at : ℕ) (units : Utf16Lanes) → at ≤ l
     → at + units.used ≤ length text
 read_within text at units h p =
     omega
-    (arith, p.uses, Begins-length (flat_map utf8_bytes (characters_of units)) (drop at text) p.begins, length-drop at text)
+    (arith, p.uses, Begins-length (flat_map utf8_bytes (lane_characters units)) (drop at text) p.begins, length-drop at text)
 
 -- what was put is within the slice
 pub put_within : (bytes before : List ℕ) (at n : ℕ) (after : List ℕ) → IsPut bytes before at n after

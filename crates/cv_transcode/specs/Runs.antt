@@ -8,7 +8,7 @@ use Rattle.cv_block.specs.StatelessForms.{BytesOf}
 use Rattle.cv_transcode.specs.declared.run.Run.{Run}
 
 -- The characters at the start of a text in one spelling were written in another, into a slice from index `at` on.
-pub record IsConverted (from to : BytesOf) (text before : List ℕ) (at : ℕ) (run : Run) (after : List ℕ) : Type 0 where
+pub record IsTranscoded (from to : BytesOf) (text before : List ℕ) (at : ℕ) (run : Run) (after : List ℕ) : Type 0 where
   pub characters : List ℕ
   pub scalars : AreScalars characters
   pub begins : Begins (flat_map from characters) text

@@ -1,6 +1,6 @@
 //! Runs of ASCII between windows.
 ghost use Rattle.std.specs.Prelude.{◌≡◌, ◌≤◌, length};
-ghost use Rattle.cv_transcode.specs.Runs.{IsConverted};
+ghost use Rattle.cv_transcode.specs.Runs.{IsTranscoded};
 
 use crate::run::Run;
 use crate::window_reader::WindowReader;
@@ -17,7 +17,7 @@ pub(crate) fn convert_ascii<S: WindowReader, T: WindowWriter>(
 ) -> Run
     requires { at ≤ length out.old }
     ensures none { result.used ≡ 0 → out.new ≡ out.old }
-    ensures run { IsConverted S.bytes_of T.bytes_of text.now out.old at result out.new }
+    ensures run { IsTranscoded S.bytes_of T.bytes_of text.now out.old at result out.new }
 {
     let n = take_ascii_run(S::form(), T::form(), text, out, at);
     Run {

@@ -1,6 +1,6 @@
 //! The conversions by windows of sixteen characters.
 ghost use Rattle.std.specs.Prelude.{◌≡◌, ◌≤◌, ◌<◌, [], ◌∷◌, length, IfSome, MatchOption};
-ghost use Rattle.cv_transcode.specs.Runs.{IsConverted};
+ghost use Rattle.cv_transcode.specs.Runs.{IsTranscoded};
 ghost use Rattle.cv_utf16.specs.Utf16.{utf16};
 ghost use Rattle.cv_utf16.specs.Utf32.{utf32};
 ghost use Rattle.cv_utf8.specs.Utf8.{utf8_bytes};
@@ -22,7 +22,7 @@ pub fn utf16_to_utf8<O: ByteOrder>(text: &[u8], out: &mut [u8], at: usize) -> Op
     requires { at ≤ length out.old }
     ensures some { IfSome result (λ run. 0 < run.used) }
     ensures run { MatchOption result (out.new ≡ out.old) (λ run.
-        IsConverted (utf16 O.endian) utf8_bytes text.now out.old at run out.new) }
+        IsTranscoded (utf16 O.endian) utf8_bytes text.now out.old at run out.new) }
 {
     convert_all::<Utf16Window<O>, Utf8Window>(text, out, at)
 }
@@ -39,7 +39,7 @@ pub fn utf16_swapped<O: ByteOrder, P: ByteOrder>(
     requires { at ≤ length out.old }
     ensures some { IfSome result (λ run. 0 < run.used) }
     ensures run { MatchOption result (out.new ≡ out.old) (λ run.
-        IsConverted (utf16 O.endian) (utf16 P.endian) text.now out.old at run out.new) }
+        IsTranscoded (utf16 O.endian) (utf16 P.endian) text.now out.old at run out.new) }
 {
     convert_all::<Utf16Window<O>, Utf16Window<P>>(text, out, at)
 }
@@ -52,7 +52,7 @@ pub fn utf32_to_utf8<O: ByteOrder>(text: &[u8], out: &mut [u8], at: usize) -> Op
     requires { at ≤ length out.old }
     ensures some { IfSome result (λ run. 0 < run.used) }
     ensures run { MatchOption result (out.new ≡ out.old) (λ run.
-        IsConverted (utf32 O.endian) utf8_bytes text.now out.old at run out.new) }
+        IsTranscoded (utf32 O.endian) utf8_bytes text.now out.old at run out.new) }
 {
     convert_all::<Utf32Window<O>, Utf8Window>(text, out, at)
 }
@@ -69,7 +69,7 @@ pub fn utf32_to_utf16<O: ByteOrder, P: ByteOrder>(
     requires { at ≤ length out.old }
     ensures some { IfSome result (λ run. 0 < run.used) }
     ensures run { MatchOption result (out.new ≡ out.old) (λ run.
-        IsConverted (utf32 O.endian) (utf16 P.endian) text.now out.old at run out.new) }
+        IsTranscoded (utf32 O.endian) (utf16 P.endian) text.now out.old at run out.new) }
 {
     convert_all::<Utf32Window<O>, Utf16Window<P>>(text, out, at)
 }
@@ -81,7 +81,7 @@ pub fn latin1_to_utf8(text: &[u8], out: &mut [u8], at: usize) -> Option<Run>
     requires { at ≤ length out.old }
     ensures some { IfSome result (λ run. 0 < run.used) }
     ensures run { MatchOption result (out.new ≡ out.old) (λ run.
-        IsConverted (λ c. c ∷ []) utf8_bytes text.now out.old at run out.new) }
+        IsTranscoded (λ c. c ∷ []) utf8_bytes text.now out.old at run out.new) }
 {
     convert::<Latin1Window, Utf8Window>(text, out, at)
 }

@@ -2,10 +2,10 @@
 ghost use Rattle.std.specs.Prelude.{◌≡◌, ◌+◌, ◌*◌, ◌≤◌, ◌<◌, ℕ, length, take, slice_index, IfSome, IsTrue, MatchOption, map};
 ghost use Rattle.std.specs.List.{flat_map};
 ghost use Rattle.cv_base.specs.Places.{IsPut};
-ghost use Rattle.cv_transcode.specs.Runs.{IsConverted};
+ghost use Rattle.cv_transcode.specs.Runs.{IsTranscoded};
 ghost use Rattle.cv_block.specs.Slack.{IsPutWithSlack};
 ghost use Rattle.cv_transcode.specs.Private.Windows.{in_order, IsSupplementary};
-ghost use Rattle.cv_utf8.specs.Utf16Lanes.{characters_of, AreRead};
+ghost use Rattle.cv_utf8.specs.Utf16Lanes.{lane_characters, AreRead};
 ghost use Rattle.cv_utf8.specs.Utf8.{utf8_bytes};
 ghost use Rattle.cv_utf16.specs.Utf16.{utf16};
 
@@ -113,7 +113,7 @@ fn write_units<O: ByteOrder>(units: &Utf16Lanes, out: &mut [u8], at: usize) -> u
     requires few { units.now.firsts ≤ 8 }
     requires others { units.now.seconds ≤ 8 }
     requires room { at + 48 ≤ length out.old }
-    ensures put { IsPut (flat_map (utf16 O.endian) (characters_of units.now)) out.old at
+    ensures put { IsPut (flat_map (utf16 O.endian) (lane_characters units.now)) out.old at
         result out.new }
     ensures within { at + result ≤ length out.new }
 {
@@ -145,7 +145,7 @@ fn convert_supplementary<O: ByteOrder>(text: &[u8], out: &mut [u8], at: usize) -
     requires { at ≤ length out.old }
     ensures within { result ≤ length text.now }
     ensures room { at + result ≤ length out.new }
-    ensures converted { IsConverted utf8_bytes (utf16 O.endian) text.now out.old at
+    ensures converted { IsTranscoded utf8_bytes (utf16 O.endian) text.now out.old at
         (record { used = result; wrote = result }) out.new }
 {
     let most = text.len().min(out.len() - at).min(SUPPLEMENTARY_BYTES);
@@ -196,7 +196,7 @@ fn convert_after<O: ByteOrder>(
     requires { at ≤ length out.old }
     ensures within { result ≤ length text.now }
     ensures room { at + result ≤ length out.new }
-    ensures converted { IsConverted utf8_bytes (utf16 O.endian) text.now out.old at
+    ensures converted { IsTranscoded utf8_bytes (utf16 O.endian) text.now out.old at
         (record { used = result; wrote = result }) out.new }
 {
     if window >= LANES || begins_with_supplementary(text) && !are_apart(before) {
@@ -238,7 +238,7 @@ pub fn utf8_to_utf16<O: ByteOrder>(text: &[u8], out: &mut [u8], at: usize) -> Op
     requires { at ≤ length out.old }
     ensures some { IfSome result (λ run. 0 < run.used) }
     ensures run { MatchOption result (out.new ≡ out.old) (λ run.
-        IsConverted utf8_bytes (utf16 O.endian) text.now out.old at run out.new) }
+        IsTranscoded utf8_bytes (utf16 O.endian) text.now out.old at run out.new) }
 {
     let mut used = 0;
     let mut end = at;

@@ -1,7 +1,7 @@
 //! Conversions of text that has characters from U+10000 on among others.
 ghost use Rattle.std.specs.Prelude.{◌≡◌, ◌+◌, ◌≤◌, ◌<◌, ℕ, IfSome, IsTrue, MatchOption, length, get_or, take};
 ghost use Rattle.std.specs.List.{flat_map};
-ghost use Rattle.cv_transcode.specs.Runs.{IsConverted};
+ghost use Rattle.cv_transcode.specs.Runs.{IsTranscoded};
 ghost use Rattle.cv_block.specs.Slack.{IsPutWithSlack};
 ghost use Rattle.cv_transcode.specs.Private.Slack.{IsConvertedWithSlack};
 
@@ -169,7 +169,7 @@ fn convert_mixed<S: WindowReader, T: WindowWriter>(
     requires { at ≤ length out.old }
     ensures some { IfSome result (λ run. 0 < run.used) }
     ensures run { MatchOption result (out.new ≡ out.old) (λ run.
-        IsConverted S.bytes_of T.bytes_of text.now out.old at run out.new) }
+        IsTranscoded S.bytes_of T.bytes_of text.now out.old at run out.new) }
 {
     let room = BUFFER.min(out.len() - at);
     let mut buffer = [0u8; BUFFER];
@@ -186,7 +186,7 @@ fn convert_mixed<S: WindowReader, T: WindowWriter>(
 fn convert_plain<S: WindowReader, T: WindowWriter>(text: &[u8], out: &mut [u8], at: usize) -> Run
     requires { at ≤ length out.old }
     ensures none { result.used ≡ 0 → out.new ≡ out.old }
-    ensures run { IsConverted S.bytes_of T.bytes_of text.now out.old at result out.new }
+    ensures run { IsTranscoded S.bytes_of T.bytes_of text.now out.old at result out.new }
 {
     match convert::<S, T>(text, out, at) {
         Some(run) => run,
@@ -205,7 +205,7 @@ fn convert_both<S: WindowReader, T: WindowWriter>(
     requires { at ≤ length out.old }
     ensures none { result.0.used ≡ 0 → out.new ≡ out.old }
     ensures more { IsTrue result.1 → 0 < result.0.used }
-    ensures run { IsConverted S.bytes_of T.bytes_of text.now out.old at result.0 out.new }
+    ensures run { IsTranscoded S.bytes_of T.bytes_of text.now out.old at result.0 out.new }
 {
     let plain = convert_plain::<S, T>(text, out, at);
     let rest = &text[plain.used..];
@@ -234,7 +234,7 @@ fn convert_some<S: WindowReader, T: WindowWriter>(
     requires { at ≤ length out.old }
     ensures none { result.0.used ≡ 0 → out.new ≡ out.old }
     ensures more { IsTrue result.1 → 0 < result.0.used }
-    ensures run { IsConverted S.bytes_of T.bytes_of text.now out.old at result.0 out.new }
+    ensures run { IsTranscoded S.bytes_of T.bytes_of text.now out.old at result.0 out.new }
 {
     let (both, on) = convert_both::<S, T>(text, out, at);
     if on {
@@ -260,7 +260,7 @@ pub(crate) fn convert_all<S: WindowReader, T: WindowWriter>(
     requires { at ≤ length out.old }
     ensures some { IfSome result (λ run. 0 < run.used) }
     ensures run { MatchOption result (out.new ≡ out.old) (λ run.
-        IsConverted S.bytes_of T.bytes_of text.now out.old at run out.new) }
+        IsTranscoded S.bytes_of T.bytes_of text.now out.old at run out.new) }
 {
     let mut used = 0;
     let mut wrote = 0;

@@ -1,6 +1,6 @@
 //! Conversions by windows of sixteen characters.
 ghost use Rattle.std.specs.Prelude.{◌≡◌, ◌≤◌, ◌<◌, ◌+◌, ◌^◌, length, IfSome, MatchOption};
-ghost use Rattle.cv_transcode.specs.Runs.{IsConverted};
+ghost use Rattle.cv_transcode.specs.Runs.{IsTranscoded};
 
 use crate::run::Run;
 use crate::utf8::are_below;
@@ -61,7 +61,7 @@ pub(crate) fn convert<S: WindowReader, T: WindowWriter>(
     requires { at ≤ length out.old }
     ensures some { IfSome result (λ run. 0 < run.used) }
     ensures run { MatchOption result (out.new ≡ out.old) (λ run.
-        IsConverted S.bytes_of T.bytes_of text.now out.old at run out.new) }
+        IsTranscoded S.bytes_of T.bytes_of text.now out.old at run out.new) }
 {
     let size = S::window_size();
     if text.len() < size || out.len() - at < ROOM {

@@ -9,9 +9,9 @@ use Rattle.cv_base.specs.declared.state.WriteState.TheVariants as write
 use Rattle.cv_base.proofs.AllWritten.{every_allowed}
 use Rattle.cv_utf16.specs.declared.order.Order.{Order}
 use Rattle.cv_utf16.specs.declared.order.Order.TheVariants.{Be, Le, Marked}
-use Rattle.cv_utf16.specs.Orders.{Form, writes_in}
+use Rattle.cv_utf16.specs.Orders.{OrderedForm, writes_in}
 
-in_written : (form : Form) (order : Order) (t : WriteState) (c : ℕ) → IsSome (writes_in form order t c)
+in_written : (form : OrderedForm) (order : Order) (t : WriteState) (c : ℕ) → IsSome (writes_in form order t c)
 in_written form Be t c = refl
 in_written form Le t c = refl
 in_written form Marked write.Start c = refl
@@ -19,5 +19,5 @@ in_written form Marked write.Marked c = refl
 in_written form Marked (write.Shifted bits) c = refl
 
 -- what a form writes is allowed, in each order
-pub in_allowed : (form : Form) (order : Order) (policy : Policy) (t : WriteState) (characters : List ℕ) → Allows policy (output_for (writes_in form order) t characters)
+pub in_allowed : (form : OrderedForm) (order : Order) (policy : Policy) (t : WriteState) (characters : List ℕ) → Allows policy (output_for (writes_in form order) t characters)
 in_allowed form order policy t characters = every_allowed (writes_in form order) (in_written form order) policy t characters

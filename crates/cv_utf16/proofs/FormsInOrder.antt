@@ -10,7 +10,7 @@ use Rattle.cv_base.specs.declared.state.WriteState.TheVariants as write
 use Rattle.cv_utf16.specs.declared.order.Order.{Order}
 use Rattle.cv_utf16.specs.declared.order.Order.TheVariants.{Be, Le, Marked}
 use Rattle.cv_utf16.specs.Private.Forms.{IsUnique, IsForm}
-use Rattle.cv_utf16.specs.Orders.{Form, gives, reads_first, reads_in, writes_in, mark}
+use Rattle.cv_utf16.specs.Orders.{OrderedForm, gives, reads_first, reads_in, writes_in, mark}
 
 -- at most one item is next, and it uses some bytes: characters, then marks, then each order
 one_given : (bytes_of : ℕ → List ℕ) → IsUnique bytes_of → (next : ReadState) (text a b : List ℕ) (i j : Taken) → gives bytes_of next a i → gives bytes_of next b j → Begins a text → Begins b text → i ≡ j
@@ -23,13 +23,13 @@ uses_given : (bytes_of : ℕ → List ℕ) → IsUnique bytes_of → (next : Rea
 uses_given bytes_of u next a i p = let e : i.used ≡ length a = ap (λ t. t.used) p.3 in let f : length a ≡ length (bytes_of p.0) = ap length p.2 in (omega (arith, u.some p.0), omega arith)
 
 -- no big-endian character but the mark begins a text with it
-big_alone : (form : Form) → IsForm form → (text : List ℕ) (c : ℕ) → IsScalar c → Begins (form Big c) text → Begins (form Big mark) text → form Big c ≡ form Big mark
+big_alone : (form : OrderedForm) → IsForm form → (text : List ℕ) (c : ℕ) → IsScalar c → Begins (form Big c) text → Begins (form Big mark) text → form Big c ≡ form Big mark
 big_alone form u text c s f g = ap (form Big) ((u.unique Big).one text c mark s (omega arith, λ h. omega arith) f g)
 
 same_mark : (a b w : List ℕ) (i j : Taken) (next : ReadState) → a ≡ w → b ≡ w → i ≡ taken (length a) None next → j ≡ taken (length b) None next → i ≡ j
 same_mark a b w i j next p q e f = e ∙ (let g : taken (length a) None next ≡ taken (length b) None next = cc (p, q) in g) ∙ sym f
 
-one_first : (form : Form) → IsForm form → (text a b : List ℕ) (i j : Taken) → reads_first form a i → reads_first form b j → Begins a text → Begins b text → i ≡ j
+one_first : (form : OrderedForm) → IsForm form → (text a b : List ℕ) (i j : Taken) → reads_first form a i → reads_first form b j → Begins a text → Begins b text → i ≡ j
 one_first form u text a b i j p q f g =
     elim p [
       | inl p ↦ elim q [
@@ -60,7 +60,7 @@ one_first form u text a b i j p q f g =
 uses_mark : (a w : List ℕ) (i : Taken) (next : ReadState) → 0 < length w → a ≡ w → i ≡ taken (length a) None next → (0 < i.used) × (i.used ≤ length a)
 uses_mark a w i next h p e = let f : i.used ≡ length a = ap (λ t. t.used) e in let g : length a ≡ length w = ap length p in (omega arith, omega arith)
 
-uses_first : (form : Form) → IsForm form → (a : List ℕ) (i : Taken) → reads_first form a i → (0 < i.used) × (i.used ≤ length a)
+uses_first : (form : OrderedForm) → IsForm form → (a : List ℕ) (i : Taken) → reads_first form a i → (0 < i.used) × (i.used ≤ length a)
 uses_first form u a i p = elim p [
   | inl p ↦ uses_mark a (form Big mark) i read.Big ((u.unique Big).some mark) p.0 p.1
   | inr p ↦ elim p [
@@ -69,7 +69,7 @@ uses_first form u a i p = elim p [
   ]
 ]
 
-one_in : (form : Form) → IsForm form → (order : Order) (s : ReadState) (text a b : List ℕ) (i j : Taken) → reads_in form order s a i → reads_in form order s b j → Begins a text → Begins b text → i ≡ j
+one_in : (form : OrderedForm) → IsForm form → (order : Order) (s : ReadState) (text a b : List ℕ) (i j : Taken) → reads_in form order s a i → reads_in form order s b j → Begins a text → Begins b text → i ≡ j
 one_in form u Be s = one_given (form Big) (u.unique Big) read.Start
 one_in form u Le s = one_given (form Little) (u.unique Little) read.Start
 one_in form u Marked read.Start = one_first form u
@@ -77,7 +77,7 @@ one_in form u Marked read.Big = one_given (form Big) (u.unique Big) read.Big
 one_in form u Marked read.Little = one_given (form Little) (u.unique Little) read.Little
 one_in form u Marked (read.Shifted bits) = one_first form u
 
-uses_in : (form : Form) → IsForm form → (order : Order) (s : ReadState) (a : List ℕ) (i : Taken) → reads_in form order s a i → (0 < i.used) × (i.used ≤ length a)
+uses_in : (form : OrderedForm) → IsForm form → (order : Order) (s : ReadState) (a : List ℕ) (i : Taken) → reads_in form order s a i → (0 < i.used) × (i.used ≤ length a)
 uses_in form u Be s = uses_given (form Big) (u.unique Big) read.Start
 uses_in form u Le s = uses_given (form Little) (u.unique Little) read.Start
 uses_in form u Marked read.Start = uses_first form u
@@ -86,11 +86,11 @@ uses_in form u Marked read.Little = uses_given (form Little) (u.unique Little) r
 uses_in form u Marked (read.Shifted bits) = uses_first form u
 
 -- an encoding form is readable in each order
-pub in_readable : (form : Form) → IsForm form → (order : Order) → IsReadable (reads_in form order)
+pub in_readable : (form : OrderedForm) → IsForm form → (order : Order) → IsReadable (reads_in form order)
 in_readable form u order = record { one_item = one_in form u order; uses = uses_in form u order }
 
 -- every character can be written, the substitute too
-pub in_substitutable : (form : Form) (order : Order) → CanSubstitute (writes_in form order)
+pub in_substitutable : (form : OrderedForm) (order : Order) → CanSubstitute (writes_in form order)
 in_substitutable form Be t = refl
 in_substitutable form Le t = refl
 in_substitutable form Marked write.Start = refl

@@ -12,8 +12,8 @@ use Rattle.cv_utf16.specs.declared.order.Order.{Order}
 use Rattle.cv_utf16.specs.declared.order.Order.TheVariants.{Be, Le, Marked}
 
 -- an encoding form: the bytes of each scalar, in each byte order of a unit
-abbrev pub Form : Type 0
-Form = Endian → ℕ → List ℕ
+abbrev pub OrderedForm : Type 0
+OrderedForm = Endian → ℕ → List ℕ
 
 -- the byte order mark, U+FEFF, whose bytes determine the order (Unicode 23.8)
 abbrev pub mark : ℕ
@@ -24,7 +24,7 @@ abbrev pub gives : (ℕ → List ℕ) → ReadState → List ℕ → Taken → T
 gives bytes_of next bytes item = (c : ℕ) × IsScalar c × (bytes ≡ bytes_of c) × (item ≡ taken (length bytes) (Some c) next)
 
 -- At the start of a text that may have a mark: a mark, or any other big-endian character.
-abbrev pub reads_first : Form → List ℕ → Taken → Type 0
+abbrev pub reads_first : OrderedForm → List ℕ → Taken → Type 0
 reads_first form bytes item =
     ((bytes ≡ form Big mark) × (item ≡ taken (length bytes) None read.Big))
     ⊎ (((bytes ≡ form Little mark) × (item ≡ taken (length bytes) None read.Little))
@@ -32,7 +32,7 @@ reads_first form bytes item =
 
 -- The whole byte string is one scalar in the state's order, or a mark. A state that the order doesn't use means
 -- `Start`.
-abbrev pub reads_in : Form → Order → ItemRelation
+abbrev pub reads_in : OrderedForm → Order → ItemRelation
 reads_in form Be s = gives (form Big) read.Start
 reads_in form Le s = gives (form Little) read.Start
 reads_in form Marked read.Big = gives (form Big) read.Big
@@ -41,7 +41,7 @@ reads_in form Marked other = reads_first form
 
 -- Every scalar is written in the order, and with `Marked` after the big-endian mark if it is the first. A state that
 -- the order doesn't use means `Start`.
-abbrev pub writes_in : Form → Order → Writing
+abbrev pub writes_in : OrderedForm → Order → Writing
 writes_in form Be t c = Some (form Big c, write.Start)
 writes_in form Le t c = Some (form Little c, write.Start)
 writes_in form Marked write.Marked c = Some (form Big c, write.Marked)

@@ -5,7 +5,7 @@ ghost use Rattle.cv_base.specs.Places.{IsPut};
 ghost use Rattle.cv_base.specs.declared.endian.Endian.{Endian};
 ghost use Rattle.cv_base.specs.declared.endian.Endian.TheVariants.{Big, Little};
 ghost use Rattle.cv_block.specs.Units.{HasUnits};
-ghost use Rattle.cv_utf16.specs.Orders.{Form, mark};
+ghost use Rattle.cv_utf16.specs.Orders.{OrderedForm, mark};
 ghost use Rattle.cv_utf16.specs.Private.AnyState.{always_gives};
 ghost use Rattle.cv_utf16.specs.Private.Forms.{IsForm};
 
@@ -14,7 +14,7 @@ use cv_block::{ByteOrder, StatelessForm, Unit};
 
 /// An encoding form whose units have a byte order.
 pub(crate) trait WideForm {
-    ghost form: { Form };
+    ghost form: { OrderedForm };
 
     /// Its big-endian form, for blocks.
     type Be: StatelessForm;

@@ -10,7 +10,7 @@ use Rattle.cv_base.specs.declared.ascii_form.AsciiForm.TheVariants.{Byte}
 use Rattle.cv_base.specs.declared.state.WriteState.TheVariants as write
 use Rattle.cv_base.proofs.BlockLaws.{each_byte}
 use Rattle.cv_base.proofs.Front.{Begins-take}
-use Rattle.cv_block.specs.AsciiRuns.{units_of, IsRunBelow, characters_in}
+use Rattle.cv_block.specs.AsciiRuns.{bytes_of_units, IsRunBelow, characters_in}
 use Rattle.cv_block.proofs.AsciiRuns.{length-run, run_is_below, run_begins, characters_join}
 use Rattle.cv_utf7.specs.Sets.{is_direct}
 use Rattle.cv_utf7.specs.Utf7.{utf7_writes}
@@ -18,7 +18,7 @@ use Rattle.cv_utf7.proofs.SetMembers.{written_lt}
 use Rattle.cv_utf7.proofs.WriteRuns.{AreDirect, are_direct, direct_output}
 
 -- the characters of a run are at the start of what it was written to, and so are the first of them
-first_of_run : (form : AsciiForm) (text ascii behind : List ℕ) (n run : ℕ) → run ≤ n → ascii ≡ units_of Byte (characters_in form text n) ++ behind → take run ascii ≡ characters_in form text run
+first_of_run : (form : AsciiForm) (text ascii behind : List ℕ) (n run : ℕ) → run ≤ n → ascii ≡ bytes_of_units Byte (characters_in form text n) ++ behind → take run ascii ≡ characters_in form text run
 first_of_run form text ascii behind n run few put =
     let m : ℕ = n - run in
     let first : List ℕ = characters_in form text run in
@@ -30,7 +30,7 @@ first_of_run form text ascii behind n run few put =
     ap (take run) is ∙ take_at first (more ++ behind) run long
 
 -- the direct characters at the start of a run were put
-pub direct_units : (form : AsciiForm) (text before : List ℕ) (at n run : ℕ) (ascii behind after : List ℕ) → unit_size form * n ≤ length text → IsRunBelow 128 form text n → ascii ≡ units_of Byte (characters_in form text n) ++ behind
+pub direct_units : (form : AsciiForm) (text before : List ℕ) (at n run : ℕ) (ascii behind after : List ℕ) → unit_size form * n ≤ length text → IsRunBelow 128 form text n → ascii ≡ bytes_of_units Byte (characters_in form text n) ++ behind
     → run ≤ n → ((i : ℕ) → i < run → is_direct (get_or ascii i 0) ≡ true) → at + run ≤ length before → after ≡ take at before ++ take run ascii ++ drop (at + run) before
     → IsWrittenRun utf7_writes write.Start form text before at run after
 direct_units form text before at n run ascii behind after stand small put few direct fits out =

@@ -8,13 +8,13 @@ use Rattle.cv_utf8.specs.Utf8.{utf8_bytes}
 use Rattle.cv_utf8.specs.declared.read.utf16_lanes.Utf16Lanes.{Utf16Lanes}
 
 -- the characters of both parts
-abbrev pub characters_of : Utf16Lanes → List ℕ
-characters_of units = take units.firsts units.first ++ take units.seconds units.second
+abbrev pub lane_characters : Utf16Lanes → List ℕ
+lane_characters units = take units.firsts units.first ++ take units.seconds units.second
 
 -- The bytes of the characters, `used` together, are at offset `at` of a text.
 pub record AreRead (text : List ℕ) (at : ℕ) (units : Utf16Lanes) : Type 0 where
   pub few : units.firsts ≤ 8
   pub others : units.seconds ≤ 8
-  pub scalars : AreScalars (characters_of units)
-  pub begins : Begins (flat_map utf8_bytes (characters_of units)) (drop at text)
-  pub uses : units.used ≡ length (flat_map utf8_bytes (characters_of units))
+  pub scalars : AreScalars (lane_characters units)
+  pub begins : Begins (flat_map utf8_bytes (lane_characters units)) (drop at text)
+  pub uses : units.used ≡ length (flat_map utf8_bytes (lane_characters units))

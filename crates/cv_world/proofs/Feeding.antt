@@ -17,7 +17,7 @@ use Rattle.cv_machine.proofs.Isolation.{own_table, after_own, IsOwnRun, own_even
 use Rattle.cv_machine.proofs.Outcomes.{same_outcome}
 use Rattle.cv_caller.specs.Tables.{Table, Descriptor, empty_table}
 use Rattle.cv_world.specs.Actions.{Action}
-use Rattle.cv_world.specs.Feeds.{Feed, BodiesFit, calls_after, calls_along, calls_of, source_of, target_of, AreAlike, Feeds}
+use Rattle.cv_world.specs.Feeds.{Feed, BodiesFit, calls_after, calls_along, calls_of, feed_source, feed_target, AreAlike, Feeds}
 use Rattle.cv_world.specs.Laws.{AreThere, IsSound}
 use Rattle.cv_world.specs.Requests.{AsksPut, MayTurn, action_of, drop_action, open_action, conv_action, reset_action, close_action, bye_action, turn}
 use Rattle.cv_world.specs.Worlds.{no_tables}
@@ -118,14 +118,14 @@ kept_feed feed =
 -- ---- the law
 
 -- the source of a feed is readable
-readable : (feed : Feed) → IsReadable (form_reads (source_of feed))
+readable : (feed : Feed) → IsReadable (form_reads (feed_source feed))
 readable feed =
     let table : Table = after_all no_tables feed.events feed.caller in
     let sound : IsSound table = runs_keep_tables feed.events feed.is_run feed.caller in
     let there : AreThere table.charmaps feed.descriptor = subst (λ (o : Option Descriptor). IfSome o (AreThere table.charmaps)) feed.is_open (sound.there feed.number) in
-    form_readable (source_of feed) (form_there table sound feed.descriptor.from there.1)
+    form_readable (feed_source feed) (form_there table sound feed.descriptor.from there.1)
 
-uncut : (feed : Feed) → DoesNotDependOnCuts (form_reads (source_of feed)) (form_writes (target_of feed)) feed.descriptor.policy
+uncut : (feed : Feed) → DoesNotDependOnCuts (form_reads (feed_source feed)) (form_writes (feed_target feed)) feed.descriptor.policy
 uncut feed = cuts _ _ feed.descriptor.policy (readable feed)
 
 same_feed : (from to source target : Form) (policy other : Policy) (calls : List Call) → from ≡ source → to ≡ target → policy ≡ other → IsFeed (form_reads source) (form_writes target) other start calls
@@ -133,8 +133,8 @@ same_feed : (from to source target : Form) (policy other : Policy) (calls : List
 same_feed from to source target policy other calls e f g p = rw (e, f, g) p
 
 -- a feed is one by the encodings and the policy of another that is alike
-alike : (a b : Feed) → AreAlike a b → IsFeed (form_reads (source_of a)) (form_writes (target_of a)) a.descriptor.policy start (calls_of b)
-alike a b h = same_feed (source_of a) (target_of a) (source_of b) (target_of b) a.descriptor.policy b.descriptor.policy (calls_of b) h.source h.target h.policy (kept_feed b).feed
+alike : (a b : Feed) → AreAlike a b → IsFeed (form_reads (feed_source a)) (form_writes (feed_target a)) a.descriptor.policy start (calls_of b)
+alike a b h = same_feed (feed_source a) (feed_target a) (feed_source b) (feed_target b) a.descriptor.policy b.descriptor.policy (calls_of b) h.source h.target h.policy (kept_feed b).feed
 
 -- The result of feeds does not depend on the cuts.
 pub feeds : Feeds

@@ -14,9 +14,9 @@ use Rattle.cv_machine.specs.Machine.{Outcome, When}
 use Rattle.cv_caller.specs.Tables.{Table, Descriptor, form_in, descriptor_at, with_descriptor}
 use Rattle.cv_world.specs.Actions.{Action, Conv}
 use Rattle.cv_world.specs.Answers.{most_room}
-use Rattle.cv_world.specs.Feeds.{Feed, calls_of, source_of, target_of}
+use Rattle.cv_world.specs.Feeds.{Feed, calls_of, feed_source, feed_target}
 use Rattle.cv_world.specs.Requests.{conv_action, turn}
-use Rattle.cv_world.specs.Stateless.{table_of, Stateless}
+use Rattle.cv_world.specs.Stateless.{feed_table, Stateless}
 use Rattle.cv_world.specs.Turn.{IsConversion, Convs, Acts, with_states}
 use Rattle.cv_world.specs.declared.answer.Answer.{Answer}
 use Rattle.cv_world.proofs.Feeding.{feeds}
@@ -30,9 +30,9 @@ feed_at_start from to f t policy begins e (call ∷ calls) p =
     let first = subst (λ (s : States). IsConverted (form_reads from) (form_writes to) policy s call.input call.room call.came) e p.0 in
     feed_at_start from to f t policy call.came.states (stays_at_start from to f t policy call.input call.room call.came first) calls p.1
 
-at_start : (feed : Feed) → IsStateless (source_of feed) → IsStateless (target_of feed) → feed.descriptor.states ≡ start
+at_start : (feed : Feed) → IsStateless (feed_source feed) → IsStateless (feed_target feed) → feed.descriptor.states ≡ start
 at_start feed f t =
-    sym (feeds.states feed) ∙ feed_at_start (source_of feed) (target_of feed) f t feed.descriptor.policy start refl (calls_of feed) (feeds.conversions feed)
+    sym (feeds.states feed) ∙ feed_at_start (feed_source feed) (feed_target feed) f t feed.descriptor.policy start refl (calls_of feed) (feeds.conversions feed)
 
 -- ---- one more conversion
 
@@ -57,10 +57,10 @@ conv_leaves true table next A B C a b c p = a p
 conv_leaves false table next A B C a b c (inl p) = b p
 conv_leaves false table next A B C a b c (inr p) = c p
 
-leaves : (feed : Feed) → IsStateless (source_of feed) → IsStateless (target_of feed) → (body : List ℕ) (room : ℕ) (input : List ℕ)
-    → conv_of body ≡ Some (feed.number, room, input) → (outcome : Outcome Table) → turn (table_of feed) op_conv body outcome → outcome.next ≡ table_of feed
+leaves : (feed : Feed) → IsStateless (feed_source feed) → IsStateless (feed_target feed) → (body : List ℕ) (room : ℕ) (input : List ℕ)
+    → conv_of body ≡ Some (feed.number, room, input) → (outcome : Outcome Table) → turn (feed_table feed) op_conv body outcome → outcome.next ≡ feed_table feed
 leaves feed f t body room input asked outcome p =
-    let table : Table = table_of feed in
+    let table : Table = feed_table feed in
     let d : Descriptor = feed.descriptor in
     let is : p.action ≡ Conv feed.number room input = p.asks ∙ ap conv_action asked in
     let acts : Convs table feed.number (descriptor_at table feed.number) room input outcome.next p.answer = subst (λ (a : Action). Acts table a outcome.next p.answer) is p.acts in

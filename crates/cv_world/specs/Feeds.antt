@@ -114,17 +114,17 @@ abbrev pub form_after : Feed → Named → Form
 form_after feed named = form_in (after_all no_tables feed.events feed.caller).charmaps named
 
 -- the encoding that a feed reads
-abbrev pub source_of : Feed → Form
-source_of feed = form_after feed feed.descriptor.from
+abbrev pub feed_source : Feed → Form
+feed_source feed = form_after feed feed.descriptor.from
 
 -- the encoding that a feed writes
-abbrev pub target_of : Feed → Form
-target_of feed = form_after feed feed.descriptor.to
+abbrev pub feed_target : Feed → Form
+feed_target feed = form_after feed feed.descriptor.to
 
 -- Two feeds have the same encodings and the same policy. Charmaps with the same list are the same encoding.
 pub record AreAlike (a b : Feed) : Type 0 where
-  pub source : source_of a ≡ source_of b
-  pub target : target_of a ≡ target_of b
+  pub source : feed_source a ≡ feed_source b
+  pub target : feed_target a ≡ feed_target b
   pub policy : a.descriptor.policy ≡ b.descriptor.policy
 
 -- Each call of a feed is a conversion from the states that the call before left, and the last call left those of the
@@ -133,9 +133,9 @@ pub record AreAlike (a b : Feed) : Type 0 where
 -- that are alike used the same number of bytes of it, if both ended at ill-formed bytes or both at a character that the
 -- target lacks. The requests of a stream's whole frames fit frames.
 pub record Feeds : Type 0 where
-  pub conversions : (feed : Feed) → IsFeed (form_reads (source_of feed)) (form_writes (target_of feed)) feed.descriptor.policy start (calls_of feed)
+  pub conversions : (feed : Feed) → IsFeed (form_reads (feed_source feed)) (form_writes (feed_target feed)) feed.descriptor.policy start (calls_of feed)
   pub states : (feed : Feed) → (came_of feed).states ≡ feed.descriptor.states
-  pub front : (feed : Feed) (text : List ℕ) → IsFed text (calls_of feed) → IsFront (form_reads (source_of feed)) (form_writes (target_of feed)) start text (came_of feed)
+  pub front : (feed : Feed) (text : List ℕ) → IsFed text (calls_of feed) → IsFront (form_reads (feed_source feed)) (form_writes (feed_target feed)) start text (came_of feed)
   pub same : (a b : Feed) (text : List ℕ) → AreAlike a b → IsFed text (calls_of a) → IsFed text (calls_of b) → (came_of a).used ≡ (came_of b).used → came_of a ≡ came_of b
   pub same_end : (a b : Feed) (text : List ℕ) → AreAlike a b → IsFed text (calls_of a) → IsFed text (calls_of b)
       → (EndsIll (calls_of a) × EndsIll (calls_of b)) ⊎ (EndsLacking (calls_of a) × EndsLacking (calls_of b)) → (came_of a).used ≡ (came_of b).used

@@ -4,7 +4,7 @@ use Rattle.cv_base.specs.Scalars.{IsScalar}
 use Rattle.cv_base.specs.Items.{Begins}
 use Rattle.cv_base.specs.declared.endian.Endian.{Endian}
 use Rattle.cv_base.specs.declared.endian.Endian.TheVariants.{Big, Little}
-use Rattle.cv_utf16.specs.Orders.{Form, mark}
+use Rattle.cv_utf16.specs.Orders.{OrderedForm, mark}
 
 -- Two scalars whose bytes begin one text are the same; each has some bytes, and four at most.
 pub record IsUnique (bytes_of : ℕ → List ℕ) : Type 0 where
@@ -14,7 +14,7 @@ pub record IsUnique (bytes_of : ℕ → List ℕ) : Type 0 where
 
 -- In each order the scalars are unique. The little-endian mark does not begin a text with the big-endian one, nor with
 -- another big-endian character.
-pub record IsForm (form : Form) : Type 0 where
+pub record IsForm (form : OrderedForm) : Type 0 where
   pub unique : (endian : Endian) → IsUnique (form endian)
   pub marks : (text : List ℕ) → Begins (form Big mark) text → Begins (form Little mark) text → ⊥
   pub little_alone : (text : List ℕ) (c : ℕ) → IsScalar c → Begins (form Big c) text → Begins (form Little mark) text → form Big c ≡ form Little mark

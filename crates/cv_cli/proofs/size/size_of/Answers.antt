@@ -11,17 +11,17 @@ use Rattle.std.proofs.lemmas.List.Sums.{prefix_len-le-length, prefix_len_passes,
 use Rattle.std.proofs.lemmas.Str.{IsCharBoundary-after_ascii, IsCharBoundary-start}
 use Rattle.std.proofs.lemmas.Str.Parse.{IsNumeralModel, parse_digits, numerals_by_value}
 use native.Mathlib.Numerals.{unary_clauses}
-use Rattle.cv_cli.specs.Sizes.{digits_at, size_in}
+use Rattle.cv_cli.specs.Sizes.{digit_count, size_in}
 use Rattle.cv_cli.proofs.size.size_of.Goals as goal
 
-digits_pass : (word : List ℕ) → list_all is_ascii_digit (take (digits_at word) word) ≡ true
-digits_pass word = list_all-from_AllPass is_ascii_digit (take (digits_at word) word) (λ k d l.
-    let few : k < digits_at word = omega (arith, l, length-prefix_len is_ascii_digit word) in
-    let same = sym (get_or-take (digits_at word) word k d few) in
+digits_pass : (word : List ℕ) → list_all is_ascii_digit (take (digit_count word) word) ≡ true
+digits_pass word = list_all-from_AllPass is_ascii_digit (take (digit_count word) word) (λ k d l.
+    let few : k < digit_count word = omega (arith, l, length-prefix_len is_ascii_digit word) in
+    let same = sym (get_or-take (digit_count word) word k d few) in
     subst (λ c. is_ascii_digit c ≡ true) same (prefix_len_passes is_ascii_digit word k d few))
 
 -- a text may be cut after the digits that it begins with
-cut : (word : List ℕ) (n : ℕ) → IsUtf8 word → n ≤ digits_at word → IsCharBoundary word n
+cut : (word : List ℕ) (n : ℕ) → IsUtf8 word → n ≤ digit_count word → IsCharBoundary word n
 cut word zero u within = IsCharBoundary-start word u
 cut word (suc n) u within =
     let digit = prefix_len_passes is_ascii_digit word n 0 (omega (arith, within)) in
@@ -35,7 +35,7 @@ own : IsNumeralModel (λ ds. list_all is_ascii_digit ds ≡ true) (digits_value 
 own = numerals_by_value _ (search rules)
 
 no_size : (word : List ℕ)
-    → ¬ ((0 < length (take (digits_at word) word)) × (digits_value 10 (take (digits_at word) word) < 2 ^ 64))
+    → ¬ ((0 < length (take (digit_count word) word)) × (digits_value 10 (take (digit_count word) word) < 2 ^ 64))
     → size_in word ≡ None
 no_size word none = grind (arith, none)
 

@@ -1,5 +1,5 @@
 use Rattle.std.proofs.Common.{◌≤◌, ◌+◌, ◌-◌, length}
-use Rattle.cv_transcode.specs.Runs.{IsConverted}
+use Rattle.cv_transcode.specs.Runs.{IsTranscoded}
 use Rattle.cv_utf8.specs.Utf8.{utf8_bytes}
 use Rattle.cv_utf16.specs.Utf16.{utf16}
 use Rattle.cv_transcode.proofs.from_utf8.convert_supplementary.Given as goal
@@ -9,7 +9,7 @@ invariant-loop-used g l = record {
   fit : l.used ≤ l.most;
   within : l.most ≤ length l.text;
   room : l.at + l.most ≤ length l.out;
-  converted : IsConverted utf8_bytes (utf16 g.O.ByteOrder.endian) l.text l.fn.out l.at
+  converted : IsTranscoded utf8_bytes (utf16 g.O.ByteOrder.endian) l.text l.fn.out l.at
       (record { used = l.used; wrote = l.used }) l.out;
 }
 

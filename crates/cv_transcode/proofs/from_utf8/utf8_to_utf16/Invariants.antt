@@ -1,5 +1,5 @@
 use Rattle.std.proofs.Common.{◌≤◌, ◌+◌, ◌-◌, cond, length}
-use Rattle.cv_transcode.specs.Runs.{IsConverted}
+use Rattle.cv_transcode.specs.Runs.{IsTranscoded}
 use Rattle.cv_utf8.specs.Utf8.{utf8_bytes}
 use Rattle.cv_utf16.specs.Utf16.{utf16}
 use Rattle.cv_transcode.proofs.from_utf8.utf8_to_utf16.Given as goal
@@ -10,7 +10,7 @@ invariant-loop-on g l = record {
   room : l.end ≤ length l.out;
   from : l.at ≤ l.end;
   other : l.other ≤ l.used;
-  converted : IsConverted utf8_bytes (utf16 g.O.ByteOrder.endian) l.text l.fn.out l.at
+  converted : IsTranscoded utf8_bytes (utf16 g.O.ByteOrder.endian) l.text l.fn.out l.at
       (record { used = l.used; wrote = l.end - l.at }) l.out;
 }
 

@@ -1,5 +1,5 @@
 use Rattle.std.proofs.Common.{◌≡◌, ◌+◌, ◌-◌, ◌≤◌, length}
-use Rattle.cv_transcode.specs.Runs.{IsConverted}
+use Rattle.cv_transcode.specs.Runs.{IsTranscoded}
 use Rattle.cv_transcode.proofs.mixed.convert_all.Given as goal
 
 abbrev pub invariant-loop-on : goal.invariant-loop-on
@@ -7,7 +7,7 @@ invariant-loop-on g l = record {
   within : l.used ≤ length l.text;
   room : l.at + l.wrote ≤ length l.out;
   none : l.used ≡ 0 → l.out ≡ l.fn.out;
-  converted : IsConverted g.S.WindowReader.bytes_of g.T.WindowWriter.bytes_of l.text l.fn.out l.at
+  converted : IsTranscoded g.S.WindowReader.bytes_of g.T.WindowWriter.bytes_of l.text l.fn.out l.at
       (record { used = l.used; wrote = l.wrote }) l.out;
 }
 

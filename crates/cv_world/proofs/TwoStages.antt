@@ -14,7 +14,7 @@ use Rattle.cv_pivot.specs.declared.outcome.States.{States}
 use Rattle.cv_pivot.specs.declared.outcome.Stop.TheVariants.{TooBig}
 use Rattle.cv_pivot.proofs.Stages.{join_stages, more_room}
 use Rattle.cv_world.specs.Private.Stages.{Appends, joined}
-use Rattle.cv_world.specs.declared.stages.Written.{Written}
+use Rattle.cv_world.specs.declared.stages.ConvOutcome.{ConvOutcome}
 use Rattle.cv_world.proofs.WrittenFrames.{before_bytes}
 
 -- a prefix of a vector whose bytes after an offset were borrowed, written and given back
@@ -54,7 +54,7 @@ one_stage v w text room before out held rest over len at size used o p kept long
     }
 
 -- a stage that stops for another reason than the room, in more room
-pub wider_stage : (v w : Conversion) → IsReadable (form_reads (form_of v.from)) → (text before after : List ℕ) (part room : ℕ) (o : Written) → o.stop ≢ TooBig → part ≤ room → Appends v w text part o before after
+pub wider_stage : (v w : Conversion) → IsReadable (form_reads (form_of v.from)) → (text before after : List ℕ) (part room : ℕ) (o : ConvOutcome) → o.stop ≢ TooBig → part ≤ room → Appends v w text part o before after
     → Appends v w text room o before after
 wider_stage v w r text before after part room o roomy within p = record {
   output = p.output;
@@ -64,7 +64,7 @@ wider_stage v w r text before after part room o roomy within p = record {
 }
 
 -- a stage, and a second one of what is left
-pub two_stages : (v mid w : Conversion) → IsReadable (form_reads (form_of v.from)) → (text before between after : List ℕ) (part left room used : ℕ) (a b : Written) → used + a.left ≡ length text
+pub two_stages : (v mid w : Conversion) → IsReadable (form_reads (form_of v.from)) → (text before between after : List ℕ) (part left room used : ℕ) (a b : ConvOutcome) → used + a.left ≡ length text
     → left + length between ≡ room + length before → Appends v mid text part a before between → Appends mid w (drop used text) left b between after → Appends v w text room (joined a b) before after
 two_stages v mid w r text before between after part left room used a b uses is p q =
     let second : Appends (record v { states = mid.states }) w (drop used text) left b between after = subst (λ (x : Conversion). Appends x w (drop used text) left b between after) p.kept q in
@@ -81,10 +81,10 @@ pub before_stays : (x y z more : List ℕ) → take (length x) y ≡ x → z ≡
 before_stays x y z more before is = before_bytes y more z (length x) (omega (arith, ap length before, length-take (length x) y)) is ∙ before
 
 -- what a stage appends fits in its room
-pub output_fits : (v w : Conversion) (text before after : List ℕ) (room : ℕ) (o : Written) (p : Appends v w text room o before after) → length p.output ≤ room
+pub output_fits : (v w : Conversion) (text before after : List ℕ) (room : ℕ) (o : ConvOutcome) (p : Appends v w text room o before after) → length p.output ≤ room
 output_fits v w text before after room o p = omega (arith, ap length p.converted.output, p.converted.longest.fits)
 
-pub stage_fits : (v w : Conversion) (text before after : List ℕ) (room : ℕ) (o : Written) → Appends v w text room o before after → (length before ≤ length after) × (length after ≤ length before + room)
+pub stage_fits : (v w : Conversion) (text before after : List ℕ) (room : ℕ) (o : ConvOutcome) → Appends v w text room o before after → (length before ≤ length after) × (length after ≤ length before + room)
 stage_fits v w text before after room o p =
     let size : length after ≡ length before + length p.output = ap length p.appended ∙ length-append before p.output in
     (omega (arith, size), omega (arith, size, output_fits v w text before after room o p))

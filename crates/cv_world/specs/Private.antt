@@ -2,5 +2,4 @@
 pub mod Opening
 pub mod Changes
 pub mod Stages
-pub mod Frames
 pub mod Replying

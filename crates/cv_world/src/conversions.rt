@@ -9,7 +9,7 @@ ghost use Rattle.cv_world.specs.Private.Stages.{Appends};
 
 use crate::op::ConvRequest;
 use crate::replies::Replies;
-use crate::stages::{Written, convert_in_stages};
+use crate::stages::{ConvOutcome, convert_in_stages};
 use cv_base::{Memory, Piece};
 use cv_pivot::{Conversion, TooBig};
 use slab::Slab;
@@ -34,7 +34,7 @@ fn convert(
     room: u32,
     input: &[u8],
     output: &mut Replies,
-) -> Result<Written, Memory>
+) -> Result<ConvOutcome, Memory>
     requires { length input.now ≤ MOST_BODY }
     ensures form { IsForm (form_of conversion.old.from) }
     ensures appends { IfOk result (λ o. Appends conversion.old conversion.new input.now room o output.old output.new) }
@@ -61,7 +61,7 @@ pub(crate) fn convert_in(
     key: usize,
     conv: ConvRequest<'_>,
     output: &mut Replies,
-) -> Result<Written, Memory>
+) -> Result<ConvOutcome, Memory>
     requires there { ContainsKey conversions.old key }
     requires short { length conv.input.now ≤ MOST_BODY }
     ensures form { (v : Kept) → held conversions.old key ≡ Some v → IsForm (form_of v.from) }

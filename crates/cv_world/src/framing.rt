@@ -2,7 +2,7 @@
 ghost use Rattle.std.specs.Prelude.{◌≡◌, ◌≤◌, ◌+◌, ◌++◌, OnOk, length, take, drop, vec_len, vec_capacity};
 ghost use Rattle.cv_frame.specs.Message.{spelling};
 ghost use Rattle.cv_frame.specs.declared.sizes.TheConstants.{MOST_BODY};
-ghost use Rattle.cv_world.specs.Private.Frames.{small_message, converted_message};
+ghost use Rattle.cv_world.specs.Private.Replying.{small_message, converted_message};
 
 use cv_base::{Memory, Piece};
 use cv_frame::{Reply, Status, reply_head};

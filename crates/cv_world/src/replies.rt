@@ -3,7 +3,7 @@ ghost use Rattle.std.specs.Prelude.{◌≡◌, ◌≤◌, ◌+◌, ◌*◌, ◌+
 ghost use Rattle.std.specs.Prelude.{OnOk, OnErr, IfOk};
 ghost use Rattle.cv_frame.specs.Message.{spelling};
 ghost use Rattle.cv_frame.specs.declared.sizes.TheConstants.{MOST_BODY};
-ghost use Rattle.cv_world.specs.Private.Frames.{small_message, converted_message};
+ghost use Rattle.cv_world.specs.Private.Replying.{small_message, converted_message};
 ghost use Rattle.cv_world.specs.declared.framing.TheConstants.{SMALL};
 ghost use Rattle.cv_world.specs.declared.replies.TheConstants.{SURPLUS};
 

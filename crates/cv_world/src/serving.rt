@@ -15,7 +15,7 @@ use crate::changing::{may_hold_map, may_open};
 use crate::framing::ReplyHead;
 use crate::op::{ConvRequest, Op};
 use crate::replies::Replies;
-use crate::stages::Written;
+use crate::stages::ConvOutcome;
 use crate::world::World;
 use cv_base::{Memory, Piece};
 use cv_cache::Compiler;
@@ -141,7 +141,7 @@ impl World {
         alloc: Global,
         request: &Request,
         output: &mut Replies,
-    ) -> Result<Written, Small>
+    ) -> Result<ConvOutcome, Small>
         requires { C.ready compiler.now }
         ensures { Answers (world_tables self.old) (world_tables self.new) request.now output.old output.new result }
     {
@@ -178,7 +178,7 @@ impl World {
         alloc: Global,
         request: &Request,
         output: &mut Replies,
-    ) -> Result<Written, Small>
+    ) -> Result<ConvOutcome, Small>
         requires { C.ready compiler.now }
         ensures { Answers (world_tables self.old) (world_tables self.new) request.now output.old output.new result }
     {

@@ -20,7 +20,7 @@ const GUESSES: usize = 3;
 /// What a conversion came to: why it stopped, how many bytes of the input are left, and how many characters `?`
 /// replaces.
 #[derive(Clone, Copy, Debug)]
-pub(crate) struct Written {
+pub(crate) struct ConvOutcome {
     pub(crate) stop: Stop,
     pub(crate) left: u32,
     pub(crate) count: u32,
@@ -37,11 +37,11 @@ fn has_room(stop: Stop) -> bool
 }
 
 /// Returns what a conversion in two stages came to, by the first stage and the rest.
-fn joined(first: Written, rest: Written) -> Written
+fn joined(first: ConvOutcome, rest: ConvOutcome) -> ConvOutcome
     requires { first.count + rest.count < 2 ^ 32 }
     ensures { result ≡ joined first rest }
 {
-    Written {
+    ConvOutcome {
         count: first.count + rest.count,
         ..rest
     }
@@ -78,7 +78,7 @@ pub(crate) fn convert_stage(
     input: &[u8],
     output: &mut Replies,
     room: usize,
-) -> Result<Written, Memory>
+) -> Result<ConvOutcome, Memory>
     requires small { room < 2 ^ 32 }
     requires short { length input.now ≤ MOST_BODY }
     ensures appends { IfOk result (λ o. Appends conversion.old conversion.new input.now room o output.old output.new) }
@@ -90,7 +90,7 @@ pub(crate) fn convert_stage(
     let end = at + room;
     let outcome = conversion.convert(input, &mut output.bytes[at..end]);
     output.used = end - outcome.room_left;
-    Ok(Written {
+    Ok(ConvOutcome {
         stop: outcome.stop,
         left: outcome.left as u32,
         count: outcome.count as u32,
@@ -104,7 +104,7 @@ pub(crate) fn convert_in_stages(
     input: &[u8],
     output: &mut Replies,
     size: usize,
-) -> Result<Written, Memory>
+) -> Result<ConvOutcome, Memory>
     requires small { size < 2 ^ 32 }
     requires short { length input.now ≤ MOST_BODY }
     ensures appends { IfOk result (λ o. Appends conversion.old conversion.new input.now size o output.old output.new) }
@@ -112,7 +112,7 @@ pub(crate) fn convert_in_stages(
     ensures same { OnErr result (take (length output.old) output.new ≡ output.old) }
 {
     conversion.from.assert_valid();
-    let mut sum = Written {
+    let mut sum = ConvOutcome {
         stop: Stop::TooBig,
         left: input.len() as u32,
         count: 0,

@@ -22,7 +22,7 @@ use crate::op::ConvRequest;
 use crate::opening::Opening;
 use crate::outcomes::{add_answer, drop_answer, part_answer};
 use crate::replies::Replies;
-use crate::stages::Written;
+use crate::stages::ConvOutcome;
 use cv_base::{Memory, Policy};
 use cv_caller::Place;
 use cv_charmap::CompileFault;
@@ -150,7 +150,7 @@ impl World {
         caller: u32,
         conv: ConvRequest<'_>,
         output: &mut Replies,
-    ) -> Result<Written, Status>
+    ) -> Result<ConvOutcome, Status>
         requires { length conv.input.now ≤ MOST_BODY }
         ensures done { IfOk result (λ o. IsConvOutput (world_tables self.old caller) (world_tables self.new caller) conv.entry o output.old output.new) }
         ensures refused { IfErr result (λ status. (output.new ≡ output.old)

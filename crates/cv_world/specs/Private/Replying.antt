@@ -1,20 +1,29 @@
 -- How a request is answered: by a small body, or by the output of a conversion after others.
 use Rattle.std.specs.Prelude.{◌≡◌, ◌≤◌, ◌++◌, ℕ, List, length, Result, Ok, Err}
 use Rattle.cv_caller.specs.Tables.{Table}
+use Rattle.std.specs.Int.{w32, to_be_bytes}
 use Rattle.cv_frame.specs.Message.{Message}
+use Rattle.cv_frame.specs.Status.{status_number}
 use Rattle.cv_frame.specs.declared.status.Status.{Status}
 use Rattle.cv_machine.specs.Machine.{Steps}
 use Rattle.cv_world.specs.Actions.{Action, Conv}
 use Rattle.cv_world.specs.Answers.{most_room, stop_status}
 use Rattle.cv_world.specs.Requests.{turn}
 use Rattle.cv_world.specs.Turn.{Acts}
-use Rattle.cv_world.specs.Private.Frames.{small_message, converted_message}
 use Rattle.cv_world.specs.declared.answer.Answer.{Answer}
 use Rattle.cv_world.specs.declared.answer.Answer.TheVariants.{Converted, Refused}
 use Rattle.cv_world.specs.declared.framing.ReplyHead.{ReplyHead}
 use Rattle.cv_world.specs.declared.op.ConvRequest.{ConvRequest}
 use Rattle.cv_world.specs.declared.serving.Small.{Small}
-use Rattle.cv_world.specs.declared.stages.Written.{Written}
+use Rattle.cv_world.specs.declared.stages.ConvOutcome.{ConvOutcome}
+
+-- a reply with a small body
+abbrev pub small_message : ReplyHead → List ℕ → Message
+small_message head body = record { caller = head.caller; tag = head.tag; code = status_number head.status; body = body }
+
+-- the reply of a conversion: how many bytes are left, how many characters `?` replaces, and the output
+abbrev pub converted_message : ReplyHead → ℕ → ℕ → List ℕ → Message
+converted_message head left count output = small_message head (to_be_bytes w32 left ++ (to_be_bytes w32 count ++ output))
 
 -- The answer is not that of a conversion, and so its body is small.
 abbrev pub IsSmall : Answer → Type 0
@@ -26,7 +35,7 @@ abbrev pub conversion : ConvRequest → Action
 conversion conv = Conv conv.number conv.room conv.input.now
 
 -- A CONV that is not refused appends its output.
-pub record IsConvOutput (table next : Table) (conv : ConvRequest) (o : Written) (before after : List ℕ) : Type 0 where
+pub record IsConvOutput (table next : Table) (conv : ConvRequest) (o : ConvOutcome) (before after : List ℕ) : Type 0 where
   pub output : List ℕ
   pub appended : after ≡ before ++ output
   pub fits : length output ≤ most_room
@@ -37,7 +46,7 @@ abbrev pub head_to : Message → Status → ReplyHead
 head_to m status = record { caller = m.caller; tag = m.tag; status = status }
 
 -- The reply to a request is a step: that of a conversion whose output was appended, or a small one.
-abbrev pub Answers : (ℕ → Table) → (ℕ → Table) → Message → List ℕ → List ℕ → Result Written Small → Type 0
+abbrev pub Answers : (ℕ → Table) → (ℕ → Table) → Message → List ℕ → List ℕ → Result ConvOutcome Small → Type 0
 Answers s t m before after (Ok o) = (output : List ℕ) × (after ≡ before ++ output) × (length output ≤ most_room)
     × Steps turn s m (converted_message (head_to m (stop_status o.stop)) o.left o.count output) t
 Answers s t m before after (Err small) = (after ≡ before) × Steps turn s m (small_message (head_to m small.status) small.body) t

@@ -4,7 +4,7 @@ use Rattle.cv_base.proofs.Front.{rest_is}
 use Rattle.cv_pivot.specs.Encodings.{form_of, form_reads}
 use Rattle.cv_pivot.specs.declared.conversion.Conversion.{Conversion}
 use Rattle.cv_world.specs.Private.Stages.{Appends, joined}
-use Rattle.cv_world.specs.declared.stages.Written.{Written}
+use Rattle.cv_world.specs.declared.stages.ConvOutcome.{ConvOutcome}
 use Rattle.cv_world.proofs.TwoStages.{wider_stage, two_stages, before_stays, stage_fits}
 use Rattle.cv_world.proofs.stages.convert_in_stages.Goals as goal
 
@@ -34,7 +34,7 @@ loop-guess-preserved c =
       rest = λ w o after q.
           let second : Appends mid w (drop read text) left o y after = rw (rest_is read text) at q in
           let both = two_stages v mid w readable text x y after c.loop-guess.room left c.loop-guess.size_left read part o (omega (arith, c.in_ok-part.ensures.few)) (omega (arith, fits, c.if-room-size_left.true, c.len.ensures, c.len-before.ensures)) p second in
-          let told : ℕ → Written = λ n. record o { count = n } in
+          let told : ℕ → ConvOutcome = λ n. record o { count = n } in
           rw c.joined-sum.ensures (subst (λ (n : ℕ). Appends c.args.conversion.now w c.args.input.now c.args.size (told n) c.args.output.now after) (omega arith) (i.rest w (joined part o) after both));
       kept = p.kept ∙ ap (λ (x : Conversion). let y : Conversion = record x { states = mid.states } in y) i.kept;
       before = before_stays _ _ _ _ i.before p.appended;

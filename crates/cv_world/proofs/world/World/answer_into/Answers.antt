@@ -1,8 +1,7 @@
 use Rattle.std.proofs.Common.{◌≡◌, ◌+◌, ◌++◌, ◌∙◌, ℕ, List, take, drop, ap, sym, arith}
 use Rattle.cv_frame.specs.Message.{Message, spelling}
 use Rattle.cv_world.specs.Answers.{stop_status}
-use Rattle.cv_world.specs.Private.Frames.{converted_message}
-use Rattle.cv_world.specs.Private.Replying.{head_to}
+use Rattle.cv_world.specs.Private.Replying.{converted_message, head_to}
 use Rattle.cv_world.specs.declared.framing.ReplyHead.{ReplyHead}
 use Rattle.cv_world.proofs.WrittenFrames.{after_bytes, before_bytes}
 use Rattle.cv_world.proofs.world.World.answer_into.Goals as goal

@@ -9,7 +9,6 @@ ghost use Rattle.cv_loop.specs.Private.Batches.{EndsBefore, first_kind, is_of_ki
 ghost use Rattle.cv_loop.specs.Private.Draining.{EndsBatch};
 
 use cv_base::Memory;
-use cv_frame::ops::PUT;
 use cv_frame::{Frame, Request, next_request};
 use std::alloc::Global;
 
@@ -40,7 +39,7 @@ const FRAMES_PER_BATCH: usize = 64;
 fn is_of_kind(request: &Request, uploads: bool) -> bool
     ensures { result ≡ is_of_kind uploads request.now }
 {
-    (request.op == PUT) == uploads
+    request.is_upload() == uploads
 }
 
 /// Whether the bytes begin with an upload.

@@ -23,25 +23,19 @@ between_same b c n end more same =
 pub two_parts : (c : List ℕ) (n end : ℕ) → n ≤ end → take end c ≡ take n c ++ drop n (take end c)
 two_parts c n end more = sym (take-append-drop n (take end c)) ∙ ap (λ (x : List ℕ). x ++ drop n (take end c)) (take-take n end c more)
 
--- three parts that were written one after another, before what was there already
-pub three_in_front : (b0 b1 b2 b3 x y z : List ℕ) (at p p2 q q2 r r2 end : ℕ) → p ≡ p2 → q ≡ q2 → r ≡ r2 → p ≤ q → q ≤ r → r ≤ end
-    → take p b1 ≡ take at b0 ++ x → drop p b1 ≡ drop p b0
-    → take q b2 ≡ take p2 b1 ++ y → drop q b2 ≡ drop q b1
-    → take r b3 ≡ take q2 b2 ++ z → drop r b3 ≡ drop r b2
-    → take end b3 ≡ take at b0 ++ (x ++ (y ++ (z ++ drop r2 (take end b0))))
-three_in_front b0 b1 b2 b3 x y z at p p2 q q2 r r2 end pe qe re pq qr within e1 d1 e2 d2 e3 d3 =
-    let rest : List ℕ = drop r (take end b0) in
-    let same : drop r b3 ≡ drop r b0 = d3 ∙ later_same b1 b2 q r qr d2 ∙ later_same b0 b1 p r (omega (arith, pq, qr)) d1 in
-    let front1 : take p2 b1 ≡ take at b0 ++ x = ap (λ (n : ℕ). take n b1) (sym pe) ∙ e1 in
-    let front2 : take q2 b2 ≡ (take at b0 ++ x) ++ y = ap (λ (n : ℕ). take n b2) (sym qe) ∙ e2 ∙ ap (λ (l : List ℕ). l ++ y) front1 in
-    let front3 : take r b3 ≡ ((take at b0 ++ x) ++ y) ++ z = e3 ∙ ap (λ (l : List ℕ). l ++ z) front2 in
+-- two parts that were written one after another, before what was there already
+pub two_before : (b1 b2 b3 y z : List ℕ) (p q q2 r end : ℕ) → q ≡ q2 → q ≤ r → r ≤ end
+    → take q b2 ≡ take p b1 ++ y → drop q b2 ≡ drop q b1 → take r b3 ≡ take q2 b2 ++ z → drop r b3 ≡ drop r b2
+    → take end b3 ≡ take p b1 ++ (y ++ (z ++ drop r (take end b1)))
+two_before b1 b2 b3 y z p q q2 r end qe qr within e2 d2 e3 d3 =
+    let rest : List ℕ = drop r (take end b1) in
+    let same : drop r b3 ≡ drop r b1 = d3 ∙ later_same b1 b2 q r qr d2 in
+    let first : take q2 b2 ≡ take p b1 ++ y = ap (λ (n : ℕ). take n b2) (sym qe) ∙ e2 in
     two_parts b3 r end within
-    ∙ ap (λ (l : List ℕ). take r b3 ++ l) (between_same b0 b3 r end within same)
-    ∙ ap (λ (l : List ℕ). l ++ rest) front3
-    ∙ append_assoc ((take at b0 ++ x) ++ y) z rest
-    ∙ append_assoc (take at b0 ++ x) y (z ++ rest)
-    ∙ append_assoc (take at b0) x (y ++ (z ++ rest))
-    ∙ ap (λ (n : ℕ). take at b0 ++ (x ++ (y ++ (z ++ drop n (take end b0))))) re
+    ∙ ap (λ (l : List ℕ). take r b3 ++ l) (between_same b1 b3 r end within same)
+    ∙ ap (λ (l : List ℕ). l ++ rest) (e3 ∙ ap (λ (l : List ℕ). l ++ z) first)
+    ∙ append_assoc (take p b1 ++ y) z rest
+    ∙ append_assoc (take p b1) y (z ++ rest)
 
 -- what follows bytes that others follow
 pub after_bytes : (b out c : List ℕ) (n : ℕ) → length b ≡ n → c ≡ b ++ out → drop n c ≡ out

@@ -1,14 +1,11 @@
 //! Writes frames after others, into memory that a vector has cleared already.
-ghost use Rattle.std.specs.Prelude.{◌≡◌, ◌≤◌, ◌+◌, ◌++◌, OnOk, length, take, drop, vec_len, vec_capacity};
+ghost use Rattle.std.specs.Prelude.{◌≡◌, ◌≤◌, ◌+◌, ◌++◌, ℕ, List, OnOk, length, take, drop, vec_len, vec_capacity};
 ghost use Rattle.cv_frame.specs.Message.{spelling};
-ghost use Rattle.cv_frame.specs.declared.sizes.TheConstants.{MOST_BODY};
+ghost use Rattle.cv_frame.specs.declared.sizes.TheConstants.{FRAME_HEAD, MOST_BODY};
 ghost use Rattle.cv_world.specs.Private.Replying.{small_message, converted_message};
 
 use cv_base::{Memory, Piece};
-use cv_frame::{Reply, Status, reply_head};
-
-/// How many bytes a frame has before its body.
-pub(crate) const FRAME_HEAD: usize = 13;
+use cv_frame::{FRAME_HEAD, Reply, Status, frame_head};
 
 /// How many bytes the frame of a reply has at most, if it is not that of a conversion: its body is a piece, of up to 8
 /// bytes. In the frame of a conversion's reply as many bytes precede the output.
@@ -71,36 +68,39 @@ fn put(out: &mut Vec<u8>, at: usize, bytes: &[u8])
     out[at..at + bytes.len()].copy_from_slice(bytes);
 }
 
-/// Writes a frame from offset `at` on, and returns where it ends.
-fn put_frame(out: &mut Vec<u8>, at: usize, front: &[u8; 13], head: &[u8], tail: &[u8]) -> usize
-    requires { at + (13 + (length head.now + length tail.now)) ≤ vec_len out.old }
-    ensures frame { take result out.new.items ≡ take at out.old.items ++ (front.now ++ (head.now ++ tail.now)) }
-    ensures end { result ≡ at + (13 + (length head.now + length tail.now)) }
+/// Writes what precedes the body of a reply from offset `at` on, and returns where the body begins.
+fn put_head(out: &mut Vec<u8>, at: usize, head: ReplyHead, n: usize) -> usize
+    requires body { n ≤ MOST_BODY }
+    requires within { at + FRAME_HEAD ≤ vec_len out.old }
+    ensures head { (body : List ℕ) → length body ≡ n → take result out.new.items ++ body ≡ take at out.old.items
+        ++ spelling (small_message head body) }
+    ensures rest { drop result out.new.items ≡ drop result out.old.items }
+    ensures end { result ≡ at + FRAME_HEAD }
     ensures len { vec_len out.new ≡ vec_len out.old }
 {
-    let body_at = at + FRAME_HEAD;
-    let tail_at = body_at + head.len();
-    put(out, at, front);
-    put(out, body_at, head);
-    put(out, tail_at, tail);
-    tail_at + tail.len()
+    let bytes = frame_head(head.caller, head.tag, head.status.number(), n);
+    put(out, at, &bytes);
+    at + FRAME_HEAD
 }
 
 /// Writes the frame of a reply from offset `at` on, and returns where it ends.
 pub(crate) fn put_reply(out: &mut Vec<u8>, at: usize, reply: &Reply) -> usize
-    requires { at + (13 + length reply.now.body) ≤ vec_len out.old }
+    requires { at + (FRAME_HEAD + length reply.now.body) ≤ vec_len out.old }
     ensures frame { take result out.new.items ≡ take at out.old.items ++ spelling reply.now }
     ensures end { result ≤ vec_len out.new }
 {
-    let head = reply.head.as_slice();
-    let tail = reply.tail.as_slice();
-    let front = reply_head(
-        reply.caller,
-        reply.tag,
-        reply.status,
-        head.len() + tail.len(),
-    );
-    put_frame(out, at, &front, head, tail)
+    let head = ReplyHead {
+        caller: reply.caller,
+        tag: reply.tag,
+        status: reply.status,
+    };
+    let first = reply.head.as_slice();
+    let second = reply.tail.as_slice();
+    let body_at = put_head(out, at, head, first.len() + second.len());
+    let second_at = body_at + first.len();
+    put(out, body_at, first);
+    put(out, second_at, second);
+    second_at + second.len()
 }
 
 /// Writes the frame of a reply that has a small body from offset `at` on, and returns where it ends.
@@ -110,9 +110,7 @@ pub(crate) fn put_small(out: &mut Vec<u8>, at: usize, head: ReplyHead, body: &Pi
     ensures end { result ≤ vec_len out.new }
 {
     let body = body.as_slice();
-    let front = reply_head(head.caller, head.tag, head.status, body.len());
-    let body_at = at + FRAME_HEAD;
-    put(out, at, &front);
+    let body_at = put_head(out, at, head, body.len());
     put(out, body_at, body);
     body_at + body.len()
 }
@@ -129,14 +127,12 @@ pub(crate) fn put_converted(
 )
     requires output { at + SMALL ≤ end }
     requires within { end ≤ vec_len out.old }
-    requires fits { end ≤ at + 13 + MOST_BODY }
+    requires fits { end ≤ at + FRAME_HEAD + MOST_BODY }
     ensures frame { take end out.new.items ≡ take at out.old.items
         ++ spelling (converted_message head left count (drop (at + SMALL) (take end out.old.items))) }
     ensures len { vec_len out.new ≡ vec_len out.old }
 {
-    let body_at = at + FRAME_HEAD;
-    let front = reply_head(head.caller, head.tag, head.status, end - body_at);
-    put(out, at, &front);
+    let body_at = put_head(out, at, head, end - at - FRAME_HEAD);
     put(out, body_at, &left.to_be_bytes());
     put(out, body_at + 4, &count.to_be_bytes());
 }

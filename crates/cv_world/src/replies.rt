@@ -2,16 +2,14 @@
 ghost use Rattle.std.specs.Prelude.{◌≡◌, ◌≤◌, ◌+◌, ◌*◌, ◌++◌, [], max, length, take, drop, vec_len, vec_capacity};
 ghost use Rattle.std.specs.Prelude.{OnOk, OnErr, IfOk};
 ghost use Rattle.cv_frame.specs.Message.{spelling};
-ghost use Rattle.cv_frame.specs.declared.sizes.TheConstants.{MOST_BODY};
+ghost use Rattle.cv_frame.specs.declared.sizes.TheConstants.{FRAME_HEAD, MOST_BODY};
 ghost use Rattle.cv_world.specs.Private.Replying.{small_message, converted_message};
 ghost use Rattle.cv_world.specs.declared.framing.TheConstants.{SMALL};
 ghost use Rattle.cv_world.specs.declared.replies.TheConstants.{SURPLUS};
 
-use crate::framing::{
-    FRAME_HEAD, ReplyHead, SMALL, make_long, make_room, put_converted, put_reply, put_small,
-};
+use crate::framing::{ReplyHead, SMALL, make_long, make_room, put_converted, put_reply, put_small};
 use cv_base::{Memory, Piece};
-use cv_frame::{Bytes, Reply};
+use cv_frame::{Bytes, FRAME_HEAD, Reply};
 use std::alloc::Global;
 use std::marker::Model;
 
@@ -190,7 +188,7 @@ impl Replies {
     /// Finishes the frame of a conversion, whose output was appended.
     pub(crate) fn finish_converted(&mut self, start: usize, head: ReplyHead, left: u32, count: u32)
         requires output { start + SMALL ≤ length self.old }
-        requires fits { length self.old ≤ start + 13 + MOST_BODY }
+        requires fits { length self.old ≤ start + FRAME_HEAD + MOST_BODY }
         ensures { self.new ≡ take start self.old
             ++ spelling (converted_message head left count (drop (start + SMALL) self.old)) }
     {

@@ -20,7 +20,7 @@ use crate::world::World;
 use cv_base::{Memory, Piece};
 use cv_cache::Compiler;
 use cv_charmap::CompileFault;
-use cv_frame::ops::{CONV, OPEN, PUT};
+use cv_frame::ops::{CONV, OPEN};
 use cv_frame::{Bytes, Reply, Request, Status};
 use cv_trie::Charmap;
 use std::alloc::Global;
@@ -64,7 +64,7 @@ fn read<'a, R, C: Compiler<R>>(
     ensures asks { Asks (world_tables world.now request.now.caller).part request.now.code request.now.body (asked result) }
     ensures fits { InputFits result }
 {
-    if request.op == PUT {
+    if request.is_upload() {
         Op::Put(compile_put(world, compiler, rt, alloc, request))
     } else {
         Op::read(request.op, request.body)

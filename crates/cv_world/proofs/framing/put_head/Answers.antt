@@ -1,0 +1,8 @@
+use Rattle.std.proofs.Common.{◌≡◌, ℕ, ◌+◌, List, ◌++◌, length, take, drop, ap, ◌∙◌, append_assoc, arith}
+use Rattle.cv_world.proofs.framing.put_head.Goals as goal
+
+pub returns-clause-head : goal.returns-clause-head
+returns-clause-head c = λ body long.
+    let before : List ℕ = take c.args.at c.args.out.now.items in
+    let head : List ℕ = c.frame_head-bytes.result in
+    ap (λ (x : List ℕ). x ++ body) c.put.ensures.front ∙ append_assoc before head body ∙ ap (λ (x : List ℕ). before ++ x) (c.frame_head-bytes.ensures body long)

@@ -9,15 +9,13 @@ use Rattle.cv_base.specs.declared.state.WriteState.TheVariants as write
 use Rattle.cv_base.proofs.ReadBacks.{EachReadsBack, one_item, same_written, no_closing, texts_back}
 use Rattle.cv_charmap.specs.Entries.{Pair}
 use Rattle.cv_trie.specs.Charmaps.{map_reads, as_written, map_writes, map_closes}
-
-same_pair : (p : Pair) (bytes : List ℕ) (c : ℕ) → p.0 ≡ bytes → p.1 ≡ c → p ≡ (bytes, c)
-same_pair p bytes c e f = ap (λ (x : List ℕ). let q : Pair = (x, p.1) in q) e ∙ ap (λ (d : ℕ). let q : Pair = (bytes, d) in q) f
+use Rattle.cv_trie.proofs.HeldPairs.{same_pair}
 
 -- what is written for a character is the bytes of a pair that has it
 found_in : (pairs : List Pair) (c : ℕ) (bytes : List ℕ) (next : WriteState) → option_map as_written (find (λ (p : Pair). p.1 == c) pairs) ≡ Some (bytes, next) → Contains pairs (bytes, c)
 found_in [] c bytes next e = cc
 found_in (p ∷ pairs) c bytes next e = elim (p.1 == c) as (λ (b : Bool). (p.1 == c) ≡ b → option_map as_written (cond b (Some p) (find (λ (q : Pair). q.1 == c) pairs)) ≡ Some (bytes, next) → Contains (p ∷ pairs) (bytes, c)) [
-  | true ↦ λ is h. (0, omega arith, same_pair p bytes c (same_written (λ w u. p.0 ≡ w) p.0 bytes write.Start next refl h) (eqb-true p.1 c is))
+  | true ↦ λ is h. (0, omega arith, same_pair p (bytes, c) (same_written (λ w u. p.0 ≡ w) p.0 bytes write.Start next refl h) (eqb-true p.1 c is))
   | false ↦ λ is h. (let rest = found_in pairs c bytes next h in (suc rest.0, omega (arith, rest.1), rest.2))
 ] refl e
 

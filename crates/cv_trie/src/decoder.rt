@@ -29,8 +29,8 @@ pub(crate) struct Decoder<'a> {
     pub(crate) blocks: &'a Blocks,
     ghost long: { length singles.now ≡ 256 },
     ghost within: { 0 < length rows.now → (b : ℕ) → b < 256 → row_of singles.now b + 384 ≤ length rows.now },
-    ghost singles_are: { ∥ AreOnes trie.now.entries singles.now 256 ∥₁ },
-    ghost rows_are: { 0 < length rows.now → ∥ AreTwos trie.now.entries singles.now rows.now ∥₁ },
+    ghost singles_are: { AreOnes trie.now.entries singles.now 256 },
+    ghost rows_are: { 0 < length rows.now → AreTwos trie.now.entries singles.now rows.now },
     ghost offsets_are: { 0 < length row_offsets.now → AreStarts singles.now rows.now row_offsets.now },
 }
 

@@ -1,9 +1,6 @@
 //! Characters of three and of four bytes, in blocks of cells by their first two bytes.
-ghost use Rattle.std.specs.Prelude.{◌≡◌, ◌≤◌, ◌<◌, ◌+◌, ◌*◌, ℕ, IsTrue, length, drop, slice_index, Some};
-ghost use Rattle.cv_base.specs.Scalars.{IsScalar};
-ghost use Rattle.cv_base.specs.Items.{taken, Stands};
-ghost use Rattle.cv_base.specs.declared.state.ReadState.TheVariants as read;
-ghost use Rattle.cv_trie.specs.Charmaps.{map_reads};
+ghost use Rattle.std.specs.Prelude.{◌≡◌, ◌≤◌, ◌<◌, ◌+◌, ◌*◌, ℕ, IsTrue, length, drop, slice_index};
+ghost use Rattle.cv_trie.specs.Private.Longs.{IsLong};
 ghost use Rattle.cv_trie.specs.Private.Ones.{no_character};
 ghost use Rattle.cv_trie.specs.Private.Twos.{AddsNoCharacter, most_cells};
 
@@ -179,9 +176,7 @@ pub(crate) fn character_at<C: KeyCell>(
     used: usize,
 ) -> u32
     requires { used + 4 ≤ length input.now }
-    ensures scalar { result < no_character → IsScalar result }
-    ensures stands { result < no_character → Stands (map_reads entries.now) read.Start
-        (drop used input.now) (taken C.KEY (Some result) read.Start) }
+    ensures { result < no_character → IsLong entries.now (drop used input.now) C.KEY result }
 {
     C::assert_key();
     if cell >= cells.len() {

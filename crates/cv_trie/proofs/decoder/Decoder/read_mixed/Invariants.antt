@@ -7,7 +7,6 @@ invariant-loop-n l = record {
   read : IsRead l.self.trie.now.entries l.input (record { n = l.n; used = l.used }) l.buffer;
   on : l.fn.read.n ≤ l.n;
   few : l.most ≤ length l.buffer;
-  rest : l.used ≤ length l.input;
 }
 
 abbrev pub decreases-loop-n : goal.decreases-loop-n

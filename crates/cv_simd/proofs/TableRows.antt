@@ -1,10 +1,12 @@
 -- Tables of indexes, checked against lists by computing, and what is looked up by them.
-use Rattle.std.proofs.Common.{◌≡◌, ℕ, ◌+◌, ◌*◌, ◌/◌, ◌%◌, ◌<◌, ◌≤◌, Bool, true, false, cond, ◌&&◌, List, [], ◌∷◌, ◌++◌, length, drop, get_or, get_or-drop, map, refl, sym, ◌∙◌, ap, ap₂, arith, zero, suc, w8}
+use Rattle.std.proofs.Common.{◌≡◌, ℕ, ◌+◌, ◌*◌, ◌/◌, ◌%◌, ◌<◌, ◌≤◌, Bool, true, false, cond, ◌&&◌, List, [], ◌∷◌}
+use Rattle.std.proofs.Common.{◌++◌, length, drop, get_or, get_or-drop, map, refl, sym, ◌∙◌, ap, ap₂, arith, zero, suc}
+use Rattle.std.proofs.Common.{w8, take}
 use Rattle.std.specs.Simd.Lanes.{Each1, mask_l}
 use Rattle.std.proofs.Math.Dec.{eqb, ltb, leb}
 use Rattle.std.proofs.lemmas.Bool.{and_parts, eqb-true, ltb-true, leb-true, agree_below_at}
-use Rattle.std.proofs.lemmas.List.{ext_get_or, get_or-map, length-map, drop-drop}
-use Rattle.std.proofs.lemmas.Simd.{Each1-get_or, swz_l, get_or-swz_l_below, length-swz_l}
+use Rattle.std.proofs.lemmas.List.{ext_get_or, get_or-map, length-map, drop-drop, take-map}
+use Rattle.std.proofs.lemmas.Simd.{Each1-get_or, swz_l, get_or-swz_l_below, length-swz_l, SwzOk, SwzOk-from_below}
 use Rattle.std.specs.Prelude.{count_ones}
 use Rattle.cv_simd.specs.Compressed.{flags}
 
@@ -81,6 +83,34 @@ looked_up pairs ps long small = ext_get_or 0 _ _ (length-swz_l w8 16 pairs 0 ps 
     get_or-swz_l_below w8 16 pairs 0 ps i within (Each1-get_or (λ x. x < 16) ps i 0 within small)
     ∙ ap (λ k. get_or pairs k 0) place
     ∙ sym (get_or-map (λ p. get_or pairs p 0) ps i 0 0 within))
+
+-- whether a row has sixteen indexes below 16, and begins with these
+abbrev pub is_row : List ℕ → ℕ → List ℕ → Bool
+is_row row n first = same (take n row) first && (all_below 16 row && eqb (length row) 16)
+
+-- A row has sixteen indexes below 16, and begins with these.
+pub record IsRow (row : List ℕ) (n : ℕ) (first : List ℕ) : Type 0 where
+  pub front : take n row ≡ first
+  pub below : Each1 (λ x. x < 16) row
+  pub sixteen : length row ≡ 16
+
+-- what the test tells
+pub row_is : (row : List ℕ) (n : ℕ) (first : List ℕ) → is_row row n first ≡ true → IsRow row n first
+row_is row n first h =
+    let a = and_parts (same (take n row) first) (all_below 16 row && eqb (length row) 16) h in
+    let b = and_parts (all_below 16 row) (eqb (length row) 16) a.1 in
+    record { front = same_is (take n row) first a.0; below = below_is 16 row b.0; sixteen = eqb-true (length row) 16 b.1 }
+
+-- the row can be looked up
+pub row_fits : (row : List ℕ) (n : ℕ) (first : List ℕ) → IsRow row n first → SwzOk w8 16 16 0 row
+row_fits row n first r = SwzOk-from_below w8 16 1 16 0 row refl (omega (arith, r.sixteen)) r.below
+
+-- what it finds first
+pub row_first : (row : List ℕ) (n : ℕ) (first text : List ℕ) → IsRow row n first
+    → take n (swz_l w8 16 text 0 row) ≡ at_all text first
+row_first row n first text r =
+    ap (take n) (looked_up text row r.sixteen r.below) ∙ take-map (λ p. get_or text p 0) n row
+    ∙ ap (at_all text) r.front
 
 -- no more than eight bits are set
 pub few_ones : (m : ℕ) → m < 256 → count_ones m ≤ 8

@@ -23,5 +23,6 @@ loop-byte-preserved c =
         c.step-code.ensures c.if-code-ge-TAIL.false c.index-entries-code.is in
     let is : c.index-entries-code.result.1 ≡ byte =
         sym c.character.ensures ∙ sym c.value.ensures.number ∙ c.if-value-byte.false in
+    let there = (has_pair pairs (byte ∷ [], c.index-entries-code.result.1)).0 one.1 in
     below_more (λ (b : ℕ). map_reads pairs read.Start (b ∷ []) (taken 1 (Some b) read.Start)) byte
-    c.loop-byte.invariant (byte, rw is at ((has_pair pairs _).0 one.1), refl)
+    c.loop-byte.invariant (byte, rw is at there, refl)

@@ -23,8 +23,8 @@ known-requires-then-number-lt-NO_CHARACTER c =
     let decoder = c.args.self.now in
     let text = c.args.input.now in
     let second = get_or text (i.used + 1) 0 in
-    rw (two_read decoder.singles.now decoder.rows.now _ second c.if-first-lt-NO_CHARACTER.false)
-    (two_long decoder.trie.now.entries decoder.singles.now decoder.rows.now text i.used
+    let same = two_read decoder.singles.now decoder.rows.now _ second c.if-first-lt-NO_CHARACTER.false in
+    rw same (two_long decoder.trie.now.entries decoder.singles.now decoder.rows.now text i.used
     (decoder.rows_are c.requires.rows) (let h = c.type_inv.input i.used in omega arith)
     (let h = c.type_inv.input (i.used + 1) in omega arith) (omega arith)
     (omega (arith, c.if-number-lt-NO_CHARACTER.true))).scalar

@@ -23,7 +23,7 @@ returns-clause-converted g c =
     let supplementary = c.convert_supplementary-supplementary.result in
     let first : AreFirst from (n * (c.window_size-size.result / 16)) c.args.text.now (take n units) =
     subst (λ (size : ℕ). AreFirst from (n * (size / 16)) c.args.text.now (take n units))
-    (sym c.window_size-size.ensures.size) (c.window-units.ensures.buffer n c.count_characters-n.ensures.few
+    (sym c.window_size-size.ensures.size) (c.window-units.ensures.front n c.count_characters-n.ensures.few
     c.count_characters-n.ensures.characters) in
     let part = first_converted from to c.args.text.now c.args.out.now c.args.at (n * (c.window_size-size.result / 16))
     wrote 48 c.write_first-wrote.new.out (take n units) first c.write_first-wrote.ensures.put in

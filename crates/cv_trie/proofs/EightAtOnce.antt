@@ -32,38 +32,38 @@ rows_kept pairs ones twos after index behind size low t = record {
 
 module _ (pairs : List Entry) (ones twos starts text : List ℕ) (singles : AreOnes pairs ones 256)
     (doubles : AreTwos pairs ones twos) (begins : AreStarts ones twos starts) (byte : (i : ℕ) → get_or text i 0 < 256)
-    where
-  -- if the number of the bytes at an index is a character, it is the next item
-  pub number_long : (p : ℕ) → p + 1 < length text → number_at twos starts text p < no_character
-      → IsLong pairs (drop p text) (1 + cond (leads (get_or text p 0)) 1 0) (number_at twos starts text p)
-  number_long p low some =
-      let f = get_or text p 0 in
-      let s = get_or text (p + 1) 0 in
-      let start = get_or starts f 0 in
-      elim (cases_Bool (leads f)) [
-        | inl first ↦ (
-            let least : 128 ≤ f = leb-true 128 f first in
-            let second : second_byte text p ≡ s = ap (λ (x : Bool). cond x s 0) first in
-            let e : number_at twos starts text p ≡ two_at ones twos f s = ap (λ (x : ℕ). get_or twos (start + x) 0) second
-                ∙ ap (λ (x : ℕ). get_or twos (x + s) 0) (begins.first f least (byte p)) in
-            rw (e, first) (two_long pairs ones twos text p doubles (byte p) (byte (p + 1)) low (rw e at some)))
-        | inr single ↦ (
-            let less : f < 128 = leb-false 128 f single in
-            let second : second_byte text p ≡ 0 = ap (λ (x : Bool). cond x s 0) single in
-            let cell : start + 0 ≡ start = omega arith in
-            let e : number_at twos starts text p ≡ get_or ones f 0 = ap (λ (x : ℕ). get_or twos (start + x) 0) second
-                ∙ ap (λ (x : ℕ). get_or twos x 0) cell ∙ begins.single f less in
-            rw (e, single) (one_long pairs ones text p singles (byte p) (omega arith) (rw e at some)))
-      ]
+  where
+    -- if the number of the bytes at an index is a character, it is the next item
+    pub number_long : (p : ℕ) → p + 1 < length text → number_at twos starts text p < no_character
+        → IsLong pairs (drop p text) (1 + cond (leads (get_or text p 0)) 1 0) (number_at twos starts text p)
+    number_long p low some =
+        let f = get_or text p 0 in
+        let s = get_or text (p + 1) 0 in
+        let start = get_or starts f 0 in
+        elim (cases_Bool (leads f)) [
+          | inl first ↦ (
+              let least : 128 ≤ f = leb-true 128 f first in
+              let second : second_byte text p ≡ s = ap (λ (x : Bool). cond x s 0) first in
+              let e : number_at twos starts text p ≡ two_at ones twos f s = ap (λ (x : ℕ). get_or twos (start + x) 0) second
+              ∙ ap (λ (x : ℕ). get_or twos (x + s) 0) (begins.first f least (byte p)) in
+              rw (e, first) (two_long pairs ones twos text p doubles (byte p) (byte (p + 1)) low (rw e at some)))
+          | inr single ↦ (
+              let less : f < 128 = leb-false 128 f single in
+              let second : second_byte text p ≡ 0 = ap (λ (x : Bool). cond x s 0) single in
+              let cell : start + 0 ≡ start = omega arith in
+              let e : number_at twos starts text p ≡ get_or ones f 0 = ap (λ (x : ℕ). get_or twos (start + x) 0) second
+              ∙ ap (λ (x : ℕ). get_or twos x 0) cell ∙ begins.single f less in
+              rw (e, single) (one_long pairs ones text p singles (byte p) (omega arith) (rw e at some)))
+        ]
 
-  -- one more character of one or two bytes
-  pub window_more : (buffer : List ℕ) (n used k : ℕ)
-      → IsRead pairs text (record { n = n + k; used = start_of text used k }) buffer → n + k < length buffer
-      → start_of text used k + 1 < length text → number_at twos starts text (start_of text used k) < no_character
-      → IsRead pairs text (record { n = n + (k + 1); used = start_of text used (k + 1) })
-          (slice_set buffer (n + k) (number_at twos starts text (start_of text used k)))
-  window_more buffer n used k f room low some =
-      let next_n : n + (k + 1) ≡ n + k + 1 = omega arith in
-      rw (next_n, start_next text used k)
-      (read_more pairs text buffer (n + k) (start_of text used k) _ _ f room
-      (number_long (start_of text used k) low some))
+    -- one more character of one or two bytes
+    pub window_more : (buffer : List ℕ) (n used k : ℕ)
+        → IsRead pairs text (record { n = n + k; used = start_of text used k }) buffer → n + k < length buffer
+        → start_of text used k + 1 < length text → number_at twos starts text (start_of text used k) < no_character
+        → IsRead pairs text (record { n = n + (k + 1); used = start_of text used (k + 1) })
+        (slice_set buffer (n + k) (number_at twos starts text (start_of text used k)))
+    window_more buffer n used k f room low some =
+        let next_n : n + (k + 1) ≡ n + k + 1 = omega arith in
+        rw (next_n, start_next text used k)
+        (read_more pairs text buffer (n + k) (start_of text used k) _ _ f room
+        (number_long (start_of text used k) low some))

@@ -65,12 +65,12 @@ pub found_long : (entries shown : List Entry) → shown ≡ entries → AreEntri
     → IsLong entries text size x.1
 found_long entries shown same a text size code x f l fits at =
     subst (λ (es : List Entry). IsFound es text size code → IsLong es text size x.1) same (λ g. (
-      let low = g.low l in
-      let bytes : x.0 ≡ take size text = sym (entry_bytes shown code x low at) ∙ g.leaf l in
-      let long : length x.0 ≡ size = ap length bytes ∙ length-take-le size text fits in
-      let scalar : IsScalar x.1 = rw (entry_character shown code x low at) at (a.scalar code low) in
-      let front : Begins x.0 text = rw bytes (Begins-take size text) in
-      rw long at (entry_long shown code x low at scalar text front))) f
+    let low = g.low l in
+    let bytes : x.0 ≡ take size text = sym (entry_bytes shown code x low at) ∙ g.leaf l in
+    let long : length x.0 ≡ size = ap length bytes ∙ length-take-le size text fits in
+    let scalar : IsScalar x.1 = rw (entry_character shown code x low at) at (a.scalar code low) in
+    let front : Begins x.0 text = rw bytes (Begins-take size text) in
+    rw long at (entry_long shown code x low at scalar text front))) f
 
 -- the entry with whose bytes a text begins
 pub begun_found : (entries : List Entry) (text : List ℕ) (index : ℕ) (x : Entry) → index < length entries → x ≡ get_or entries index x → Begins x.0 text → IsFound entries text (length x.0) index

@@ -37,7 +37,7 @@ pub one_more : (pairs : List Entry) (ones text buffer : List ℕ) (n used k : �
     → IsRead pairs text (record { n = n + k; used = used + k }) buffer → n + k < length buffer → used + k < length text
     → get_or text (used + k) 0 < 256 → get_or ones (get_or text (used + k) 0) 0 < no_character
     → IsRead pairs text (record { n = n + (k + 1); used = used + (k + 1) })
-        (slice_set buffer (n + k) (get_or ones (get_or text (used + k) 0) 0))
+    (slice_set buffer (n + k) (get_or ones (get_or text (used + k) 0) 0))
 one_more pairs ones text buffer n used k all f room low byte some =
     let next_n : n + (k + 1) ≡ n + k + 1 = omega arith in
     let next_used : used + (k + 1) ≡ used + k + 1 = omega arith in
@@ -52,10 +52,11 @@ one_led entries shown same a S count t b code x byte e l at =
     let leaf = root_leaf entries S count t b code byte e l in
     subst (λ (es : List Entry). code < length es → bytes_at es code ≡ b ∷ [] → HasPair es (b ∷ []) x.1) same
     (λ low bytes. (
-      let character = entry_character shown code x low at in
-      (rw character at (a.scalar code low),
+    let character = entry_character shown code x low at in (
+      rw character at (a.scalar code low),
       rw (bytes, character) at ((has_pair shown (bytes_at shown code, character_at shown code)).1
-      (holds_index shown code low))))) leaf.0 leaf.1
+          (holds_index shown code low)),
+    ))) leaf.0 leaf.1
 
 -- one more byte gets its number
 pub ones_more : (pairs : List Entry) (ones : List ℕ) (n v : ℕ) → n < length ones → AreOnes pairs ones n

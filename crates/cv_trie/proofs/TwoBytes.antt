@@ -20,9 +20,9 @@ pub rows_set : (ones : List ℕ) (n size v to : ℕ) → AreRows ones n size →
     → size ≤ to → (0 < v - no_character → size ≤ v - no_character) → AreRows (slice_set ones n v) (n + 1) to
 rows_set ones n size v to r low fits grows own =
     let here : row_of (slice_set ones n v) n ≡ v - no_character =
-        ap (λ (x : ℕ). x - no_character) (get_or-set_same ones n v 0 low) in
+    ap (λ (x : ℕ). x - no_character) (get_or-set_same ones n v 0 low) in
     let other : (b : ℕ) → b < n → row_of (slice_set ones n v) b ≡ row_of ones b = λ b lower. (
-        let ne : b ≢ n = omega arith in ap (λ (x : ℕ). x - no_character) (get_or-set_other ones n b v 0 ne)) in
+    let ne : b ≢ n = omega arith in ap (λ (x : ℕ). x - no_character) (get_or-set_other ones n b v 0 ne)) in
     record {
       some = omega (arith, r.some);
       within = λ b l. elim (cases_lt b n) [
@@ -87,9 +87,11 @@ twos_more pairs a ones twos size r t index cell v low is here =
     let second = get_or bytes 1 0 in
     let fits : row_of ones first + 384 ≤ length twos = t.within first here.first in
     let inside : cell < length twos = (let c = here.at in let s = here.second in omega arith) in
-    let entry : HasPair pairs (first ∷ second ∷ []) v = rw is (a.scalar index low,
-        subst (λ (w : List ℕ). is_member is_same pairs (w, character_at pairs index) ≡ true)
-        (two_bytes bytes here.two) ((has_pair pairs _).1 (holds_index pairs index low))) in
+    let entry : HasPair pairs (first ∷ second ∷ []) v = rw is (
+      a.scalar index low,
+      subst (λ (w : List ℕ). is_member is_same pairs (w, character_at pairs index) ≡ true)
+          (two_bytes bytes here.two) ((has_pair pairs _).1 (holds_index pairs index low)),
+    ) in
     record {
       within = λ b l. (let w = t.within b l in omega (arith, length-set twos cell v));
       each = λ b c lb lc l. elim (cases_eq (row_of ones b + c) cell) [

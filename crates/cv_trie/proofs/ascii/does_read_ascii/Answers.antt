@@ -11,7 +11,7 @@ use Rattle.cv_trie.proofs.ascii.does_read_ascii.Goals as goal
 pub bounds-entries-code : goal.bounds-entries-code
 bounds-entries-code c =
     let leaf = root_leaf c.args.trie.now.entries (edge_of c.args.trie.now.steps) _ c.assert_leads.ensures.trie
-        c.loop-byte.byte c.step-code.result (omega arith) c.step-code.ensures c.if-code-ge-TAIL.false in
+    c.loop-byte.byte c.step-code.result (omega arith) c.step-code.ensures c.if-code-ge-TAIL.false in
     rw c.entries.ensures.value leaf.0
 
 pub loop-byte-preserved : goal.loop-byte-preserved
@@ -19,10 +19,10 @@ loop-byte-preserved c =
     let pairs = c.args.trie.now.entries in
     let byte = c.loop-byte.byte in
     let one = one_led pairs _ c.entries.ensures.value c.entries.ensures.entries (edge_of c.args.trie.now.steps) _
-        c.assert_leads.ensures.trie byte c.step-code.result c.index-entries-code.result (omega arith)
-        c.step-code.ensures c.if-code-ge-TAIL.false c.index-entries-code.is in
+    c.assert_leads.ensures.trie byte c.step-code.result c.index-entries-code.result (omega arith)
+    c.step-code.ensures c.if-code-ge-TAIL.false c.index-entries-code.is in
     let is : c.index-entries-code.result.1 ≡ byte =
-        sym c.character.ensures ∙ sym c.value.ensures.number ∙ c.if-value-byte.false in
+    sym c.character.ensures ∙ sym c.value.ensures.number ∙ c.if-value-byte.false in
     let there = (has_pair pairs (byte ∷ [], c.index-entries-code.result.1)).0 one.1 in
     below_more (λ (b : ℕ). map_reads pairs read.Start (b ∷ []) (taken 1 (Some b) read.Start)) byte
     c.loop-byte.invariant (byte, rw is at there, refl)

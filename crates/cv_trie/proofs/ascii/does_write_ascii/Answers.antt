@@ -13,7 +13,7 @@ loop-character-preserved c =
     let d = c.loop-character.character in
     let index = index_of c.args.pages.now.stage1.items c.args.pages.now.stage2.items in
     let one : c.bytes.result.now ≡ d ∷ [] =
-        same_text c.bytes.result.now c.as_slice.result.now (sym (not-false _ (sym c.if-ne.ensures))) ∙ c.as_slice.ensures in
+    same_text c.bytes.result.now c.as_slice.result.now (sym (not-false _ (sym c.if-ne.ensures))) ∙ c.as_slice.ensures in
     below_more (λ (b : ℕ). map_writes entries write.Start b ≡ Some (b ∷ [], write.Start)) d c.loop-character.invariant
     (writes_entry entries index c.requires.names d c.first_index-index.result c.first_index-index.ensures
     c.if-index.false c.index-entries-index.result c.index-entries-index.is

@@ -7,7 +7,7 @@ use Rattle.cv_trie.proofs.singles.single_of.Goals as goal
 pub bounds-entries-code : goal.bounds-entries-code
 bounds-entries-code c =
     let leaf = root_leaf c.args.trie.now.entries (edge_of c.args.trie.now.steps) _ c.assert_leads.ensures.trie
-        c.args.byte c.step-code.result (omega arith) c.step-code.ensures c.if-code-lt-TAIL.true in
+    c.args.byte c.step-code.result (omega arith) c.step-code.ensures c.if-code-lt-TAIL.true in
     rw c.entries-entries.ensures.value leaf.0
 
 pub returns-then-code-lt-TAIL-clause-one : goal.returns-then-code-lt-TAIL-clause-one

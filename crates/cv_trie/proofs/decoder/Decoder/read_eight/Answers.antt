@@ -13,7 +13,7 @@ known-requires c =
     let rows : 0 < length decoder.rows.now = omega (arith, begins.within 0 (omega arith)) in
     let number = c.window_at-window.ensures.cells c.loop-k.k c.loop-k-test.true in
     let low : get_or c.window_at-window.result.cells c.loop-k.k 0 < no_character =
-        omega (arith, c.any_bits.ensures c.loop-k.k c.loop-k-test.true) in
+    omega (arith, c.any_bits.ensures c.loop-k.k c.loop-k-test.true) in
     rw number (number_long decoder.trie.now.entries _ _ _ c.args.input.now decoder.singles_are (decoder.rows_are rows)
     begins (λ i. (let h = c.type_inv.input i in omega arith)) (start_of c.args.input.now c.args.read.used c.loop-k.k)
     (omega (arith, start_le c.args.input.now c.args.read.used c.loop-k.k)) (rw number at low)).scalar
@@ -30,7 +30,7 @@ loop-k-preserved c =
     let rows : 0 < length decoder.rows.now = omega (arith, begins.within 0 (omega arith)) in
     let number = c.window_at-window.ensures.cells c.loop-k.k c.loop-k-test.true in
     let low : get_or c.window_at-window.result.cells c.loop-k.k 0 < no_character =
-        omega (arith, c.any_bits.ensures c.loop-k.k c.loop-k-test.true) in
+    omega (arith, c.any_bits.ensures c.loop-k.k c.loop-k-test.true) in
     rw (c.known.ensures, number) (window_more decoder.trie.now.entries _ _ _ c.args.input.now decoder.singles_are
     (decoder.rows_are rows) begins (λ i. (let h = c.type_inv.input i in omega arith)) c.loop-k.buffer c.args.read.n
     c.args.read.used c.loop-k.k c.loop-k.invariant (omega (arith, c.loop-k.auto.buffer))

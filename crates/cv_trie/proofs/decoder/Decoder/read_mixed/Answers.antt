@@ -10,7 +10,7 @@ loop-n-preserved-then-first-lt-NO_CHARACTER c =
     let i = c.loop-n in
     let decoder = c.args.self.now in
     let one = one_long decoder.trie.now.entries decoder.singles.now c.args.input.now i.used decoder.singles_are
-        (let h = c.type_inv.input i.used in omega arith) (omega arith) c.if-first-lt-NO_CHARACTER.true in
+    (let h = c.type_inv.input i.used in omega arith) (omega arith) c.if-first-lt-NO_CHARACTER.true in
     record {
       read = rw c.known.ensures (read_more _ c.args.input.now i.buffer i.n i.used 1 _ i.invariant.read (omega arith) one);
       on = omega arith;
@@ -37,9 +37,9 @@ loop-n-preserved-then-number-lt-NO_CHARACTER c =
     let second = get_or text (i.used + 1) 0 in
     let same = two_read decoder.singles.now decoder.rows.now _ second c.if-first-lt-NO_CHARACTER.false in
     let two = two_long decoder.trie.now.entries decoder.singles.now decoder.rows.now text i.used
-        (decoder.rows_are c.requires.rows) (let h = c.type_inv.input i.used in omega arith)
-        (let h = c.type_inv.input (i.used + 1) in omega arith) (omega arith)
-        (omega (arith, c.if-number-lt-NO_CHARACTER.true)) in
+    (decoder.rows_are c.requires.rows) (let h = c.type_inv.input i.used in omega arith)
+    (let h = c.type_inv.input (i.used + 1) in omega arith) (omega arith)
+    (omega (arith, c.if-number-lt-NO_CHARACTER.true)) in
     record {
       read = rw (c.known-then-number-lt-NO_CHARACTER.ensures, same)
           (read_more _ text i.buffer i.n i.used 2 _ i.invariant.read (omega arith) two);

@@ -9,7 +9,7 @@ loop-n-preserved-then-first-lt-NO_CHARACTER c =
     let i = c.loop-n in
     let decoder = c.args.self.now in
     let one = one_long decoder.trie.now.entries decoder.singles.now c.args.input.now i.used decoder.singles_are
-        (let h = c.type_inv.input i.used in omega arith) (omega arith) c.if-first-lt-NO_CHARACTER.true in
+    (let h = c.type_inv.input i.used in omega arith) (omega arith) c.if-first-lt-NO_CHARACTER.true in
     record {
       read = rw c.known.ensures (read_more _ c.args.input.now i.buffer i.n i.used 1 _ i.invariant.read (omega arith) one);
       on = omega arith;
@@ -21,7 +21,7 @@ pub loop-n-preserved : goal.loop-n-preserved
 loop-n-preserved c =
     let i = c.loop-n in
     let long = rw c.entries-entries.ensures.value
-        at (c.character_at-character.ensures (omega (arith, c.if-character-ge-NO_CHARACTER.false))) in
+    at (c.character_at-character.ensures (omega (arith, c.if-character-ge-NO_CHARACTER.false))) in
     record {
       read = rw c.known-in-loop-n.ensures (read_more _ c.args.input.now i.buffer i.n i.used 4 _ i.invariant.read
           (omega arith) long);

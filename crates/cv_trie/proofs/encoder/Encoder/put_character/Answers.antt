@@ -29,8 +29,8 @@ returns-then-bytes-out c =
     let index = index_of e.pages.now.stage1.items e.pages.now.stage2.items in
     let is = rw c.value.ensures.number at c.first_index-index.ensures in
     let writes = writes_entry e.entries.now index e.names c.args.c c.first_index-index.result is c.if-index.false
-        c.index-entries-index.result c.index-entries-index.is
-        ∙ ap (λ (x : List ℕ). Some (x, write.Start)) (sym c.bytes-bytes.ensures.value) in
+    c.index-entries-index.result c.index-entries-index.is
+    ∙ ap (λ (x : List ℕ). Some (x, write.Start)) (sym c.bytes-bytes.ensures.value) in
     put_by _ _ c.args.out.now c.args.out.now c.args.at put.NoRoom writes
     (record { full = omega (arith, c.if-bytes-out.true); stays = refl })
 
@@ -40,7 +40,7 @@ returns c =
     let index = index_of e.pages.now.stage1.items e.pages.now.stage2.items in
     let is = rw c.value.ensures.number at c.first_index-index.ensures in
     let writes = writes_entry e.entries.now index e.names c.args.c c.first_index-index.result is c.if-index.false
-        c.index-entries-index.result c.index-entries-index.is
-        ∙ ap (λ (x : List ℕ). Some (x, write.Start)) (sym c.bytes-bytes.ensures.value) in
+    c.index-entries-index.result c.index-entries-index.is
+    ∙ ap (λ (x : List ℕ). Some (x, write.Start)) (sym c.bytes-bytes.ensures.value) in
     put_by _ _ c.args.out.now c.put_bytes.new.out c.args.at
     (put.Wrote (length c.bytes-bytes.result.now) write.Start) writes (c.put_bytes.ensures, refl)

@@ -18,7 +18,7 @@ fn unit(letter: &[u8]) -> u64
 
 /// How many decimal digits a word begins with.
 fn digits_at(word: &str) -> usize
-    ensures { result ≡ spec.digits_at word.now }
+    ensures { result ≡ spec.digit_count word.now }
 {
     word.as_bytes()
         .iter()
